@@ -1,0 +1,2 @@
+mod FilesByName
+pub mod Written

@@ -1,0 +1,69 @@
+-- What a shelf and a sink in memory are, and what their calls do.
+use Rattle.std.specs.Prelude.{◌≡◌, ℕ, ◌+◌, ◌-◌, ◌^◌, ◌==◌, min, Bool, true, false, not, ◌||◌, nat_le, if◌then◌else◌, List, ◌++◌, length, take, Option, Some, None, option_map, is_some, Result, Ok, Err, refl}
+use Rattle.std.specs.List.{list_any}
+use Rattle.std.specs.Coded.{Coded, code_by, coded×, coded_ℕ, coded_list}
+use Rattle.std.specs.Cmp.Lexicographic.{slice_cmp}
+use Rattle.std.specs.Ordering.{nat_cmp}
+use Rattle.std.specs.FinMap as map
+use Rattle.std.specs.Global.{Vec}
+use Rattle.itv_base.specs.Outside.{Files, file_of, raised}
+use Rattle.itv_base.specs.declared.shelf.FetchFault.{FetchFault}
+use Rattle.itv_base.specs.declared.shelf.FetchFault.TheVariants.{Failed, NoMemory}
+
+-- the number of the next call, which stays at the last value of 32 bits
+abbrev pub next_call : ℕ → ℕ
+next_call calls = min (calls + 1) (2 ^ 32 - 1)
+
+-- the files, the numbers of the calls that are to fail, and how many calls and faults there were, with the name that failed last
+pub record MemShelf : Type 0 where
+  pub files : Files
+  pub failing : List ℕ
+  pub calls : ℕ
+  pub faults : ℕ
+  pub last : List ℕ
+
+abbrev pub mem_shelf_code : Coded MemShelf
+mem_shelf_code =
+    code_by (Files × (List ℕ × (ℕ × (ℕ × List ℕ)))) (coded× (map.code {R = slice_cmp nat_cmp} (coded_list coded_ℕ) (coded_list coded_ℕ)) (coded× (coded_list coded_ℕ) (coded× coded_ℕ (coded× coded_ℕ (coded_list coded_ℕ)))))
+    (λ s. (s.files, (s.failing, (s.calls, (s.faults, s.last))))) (λ p. record { files = p.0; failing = p.1.0; calls = p.1.1.0; faults = p.1.1.1.0; last = p.1.1.1.1 }) (λ _. refl)
+
+-- the next fetch fails if it asks for this name: the call is listed, or there is no such file
+abbrev pub is_refused : MemShelf → List ℕ → Bool
+is_refused s name = list_any (λ call. call == s.calls) s.failing || not (is_some (file_of s.files name))
+
+-- what a fetch answers and leaves
+abbrev pub MemFetches : MemShelf → MemShelf → List ℕ → ℕ → Result (Vec ℕ) FetchFault → Type 0
+MemFetches old new name most (Ok bytes) =
+    (is_refused old name ≡ false) × (option_map (take most) (file_of old.files name) ≡ Some bytes.items) × (new ≡ record old { calls = next_call old.calls })
+MemFetches old new name most (Err Failed) =
+    (is_refused old name ≡ true) × (new ≡ record old { calls = next_call old.calls; faults = raised old.faults; last = name })
+MemFetches old new name most (Err NoMemory) = new ≡ old
+
+-- what was written, how much may be, the call that is to fail, and how many calls and faults there were
+pub record MemSink : Type 0 where
+  pub bytes : List ℕ
+  pub room : ℕ
+  pub failing : Option ℕ
+  pub calls : ℕ
+  pub faults : ℕ
+
+-- the call with this number is the one that is to fail
+abbrev pub is_named : Option ℕ → ℕ → Bool
+is_named None calls = false
+is_named (Some call) calls = call == calls
+
+-- the next put succeeds if it is given this piece: its call isn't the named one, and the piece fits
+abbrev pub takes : MemSink → List ℕ → Bool
+takes s piece = if is_named s.failing s.calls then false else nat_le (length s.bytes + length piece) s.room
+
+-- how much of the piece goes in: nothing at the call that is to fail, else as far as it fits
+abbrev pub part_taken : MemSink → List ℕ → List ℕ
+part_taken s piece = if is_named s.failing s.calls then take 0 piece else take (s.room - length s.bytes) piece
+
+-- what a put leaves
+abbrev pub after_put : MemSink → List ℕ → MemSink
+after_put s piece = record s {
+  bytes = s.bytes ++ part_taken s piece;
+  calls = next_call s.calls;
+  faults = (if takes s piece then s.faults else raised s.faults);
+}

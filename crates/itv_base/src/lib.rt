@@ -1,0 +1,32 @@
+//! What every crate of the verifier stands on: ranges of delays, the names of events and edges, texts, and the outside.
+//! The contract of the outside: a fetch gives the first bytes of the told file, and a put appends its piece. Each fails only
+//! where its count of faults rose in the call, and a fetch that failed leaves its name as the last one.
+#![tactic(auto)]
+
+mod limits;
+mod names;
+mod range;
+mod shelf;
+mod shelf_dir;
+mod shelf_mem;
+mod sink;
+mod sink_mem;
+mod sink_out;
+mod text;
+mod texts;
+
+pub use limits::{
+    DEFAULT_BUDGET, END_LIMIT, FILE_LIMIT, MAX_BUDGET, MAX_CAUSES, MAX_CELLS, MAX_CONSTRAINTS,
+    MAX_CYCLES, MAX_EVENTS, MAX_MATRIX_EVENTS, MAX_PARTS, MAX_ROWS, MAX_SEARCH_CELLS,
+    MAX_SELF_SIZE, MAX_SHEET_NAMES, REPORT_LIMIT,
+};
+pub use names::{EdgeName, EventId, EventName, RuleKind, Side};
+pub use range::{Range, RangeFault};
+pub use shelf::{FetchFault, Shelf};
+pub use shelf_dir::ShelfDir;
+pub use shelf_mem::ShelfMem;
+pub use sink::{PutFailed, Sink, put_all};
+pub use sink_mem::SinkMem;
+pub use sink_out::SinkOut;
+pub use text::{NoMemory, Text};
+pub use texts::Texts;

@@ -1,0 +1,133 @@
+//! A shelf in memory, for tests and for generated designs.
+
+ghost use Rattle.std.specs.Prelude.{◌≡◌, ◌∷◌, ◌++◌, [], ℕ, List, Option, Some, IfOk, IfSome, OnOk, OnErr, take, option_map};
+ghost use Rattle.std.specs.FinMap as map;
+ghost use Rattle.itv_base.specs.Outside.{Files, file_of, FetchCounts};
+ghost use Rattle.itv_base.specs.Memory.{MemFetches};
+
+use crate::shelf::{FetchFault, Shelf};
+use crate::text::{NoMemory, Text};
+use std::alloc::Global;
+use std::marker::Model;
+
+// A file: its name and its bytes.
+#[derive(Drop)]
+struct Entry {
+    name: Text,
+    bytes: Vec<u8>,
+}
+
+impl Model for Entry {
+    ghost use Rattle.std.specs.Prelude.{List, ℕ};
+
+    ghost Value = { List ℕ × List ℕ };
+
+    ghost view = { λ e. (e.name, e.bytes.items) };
+}
+
+/// Files in memory by name. A fetch fails exactly where there is no file of the name, or where the number of the call, from 0,
+/// is listed.
+#[derive(Drop)]
+pub struct ShelfMem {
+    // The newest first, so that it is the first with its name.
+    files: Vec<Entry>,
+    failing: Vec<u32>,
+    calls: u32,
+    faults: u64,
+    last: Text,
+}
+
+impl Model for ShelfMem {
+    ghost use Rattle.std.specs.FinMap as map;
+    ghost use Rattle.itv_base.specs.Memory.{MemShelf, mem_shelf_code};
+
+    ghost Value = { MemShelf };
+
+    ghost coded = { mem_shelf_code };
+
+    ghost view = { λ s. record { files = map.from_entries s.files.items; failing = s.failing.items; calls = s.calls; faults = s.faults; last = s.last } };
+}
+
+impl ShelfMem {
+    /// No file, and no call that is to fail.
+    pub fn new(alloc: Global) -> Result<ShelfMem, NoMemory>
+        ensures { IfOk result (λ s. s ≡ record { files = map.empty; failing = []; calls = 0; faults = 0; last = [] }) }
+    {
+        Ok(ShelfMem {
+            files: Vec::new(alloc),
+            failing: Vec::new(alloc),
+            calls: 0,
+            faults: 0,
+            last: Text::from_text(alloc, "")?,
+        })
+    }
+
+    /// Sets the file of a name. Where memory is not found the shelf is unchanged.
+    pub fn add(&mut self, alloc: Global, name: &str, bytes: &[u8]) -> Result<(), NoMemory>
+        ensures ok { OnOk result (self.new
+            ≡ record self.old { files = map.insert self.old.files name.now bytes.now }) }
+        ensures err { OnErr result (self.new ≡ self.old) }
+    {
+        let entry = Entry {
+            name: Text::from_text(alloc, name)?,
+            bytes: Vec::from_slice(alloc, bytes)?,
+        };
+        self.files.insert(0, entry)?;
+        Ok(())
+    }
+
+    /// Lists a call that is to fail, by its number from 0. Where memory is not found the shelf is unchanged.
+    pub fn fail_call(&mut self, call: u32) -> Result<(), NoMemory>
+        ensures ok { OnOk result (self.new ≡ record self.old { failing = self.old.failing ++ call ∷ [] }) }
+        ensures err { OnErr result (self.new ≡ self.old) }
+    {
+        self.failing.push(call)?;
+        Ok(())
+    }
+}
+
+// The newest content under a name.
+fn newest<'f>(files: &'f [Entry], name: &str) -> Option<&'f [u8]>
+    ensures { option_map (λ f. f.now) result ≡ file_of (map.from_entries files.now) name.now }
+{
+    for entry in files {
+        if entry.name.as_text() == name {
+            return Some(entry.bytes.as_slice());
+        }
+    }
+    None
+}
+
+impl Shelf for ShelfMem {
+    ghost files = { λ s. Some s.files };
+
+    ghost faults = { λ s. s.faults };
+
+    ghost last = { λ s. s.last };
+
+    fn fetch(&mut self, alloc: Global, name: &str, cap: u32) -> Result<Vec<u8>, FetchFault>
+        ensures found { IfOk result (λ bytes.
+            option_map (take cap) (file_of self.old.files name.now) ≡ Some bytes.items) }
+        ensures files { Some self.new.files ≡ Some self.old.files }
+        ensures counts { FetchCounts self.old.faults self.new.faults
+            self.old.last self.new.last name.now result }
+        ensures exact { MemFetches self.old self.new name.now cap result }
+    {
+        let is_listed = self.failing.contains(&self.calls);
+        match newest(&self.files, name) {
+            Some(bytes) if !is_listed => {
+                let len = bytes.len().min(cap as usize);
+                let front = Vec::from_slice(alloc, &bytes[..len])?;
+                self.calls = self.calls.saturating_add(1);
+                Ok(front)
+            }
+            _ => {
+                let last = Text::from_text(alloc, name)?;
+                self.last = last;
+                self.calls = self.calls.saturating_add(1);
+                self.faults = self.faults.saturating_add(1);
+                Err(FetchFault::Failed)
+            }
+        }
+    }
+}

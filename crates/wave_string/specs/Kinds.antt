@@ -1,0 +1,70 @@
+-- The kind of a mark: what a wave draws where the mark stands.
+-- A wave is the list of its characters, one for each brick. Places are counted from 0.
+use Rattle.std.specs.Prelude.{ℕ, ◌+◌, ◌-◌, Bool, true, false, not, ◌&&◌, ◌==◌, nat_lt, if◌then◌else◌, List, length, take, filter, Option, None, slice_index, codes}
+use Rattle.std.specs.List.{list_any, last_or}
+use Rattle.std.specs.Option.{option_map_or}
+use Rattle.wave_string.specs.declared.class.Class.{Class}
+use Rattle.wave_string.specs.declared.class.Class.TheVariants.{PositiveClock, NegativeClock, Low, High, Bus, Floating, WeakUp, WeakDown, Unknown}
+use Rattle.wave_string.specs.declared.mark_kind.MarkKind.{MarkKind}
+use Rattle.wave_string.specs.declared.mark_kind.MarkKind.TheVariants.{Rise, Fall, Change, Steady, Bare}
+
+abbrev pub is_one_of : List ℕ → ℕ → Bool
+is_one_of characters c = list_any (λ d. d == c) characters
+
+-- the character goes on with the brick before it
+abbrev pub continues : ℕ → Bool
+continues c = is_one_of (codes ".|") c
+
+-- the class of a character that does not continue
+abbrev pub class_of : ℕ → Class
+class_of c =
+    if is_one_of (codes "pP") c then PositiveClock
+    else (if is_one_of (codes "nN") c then NegativeClock
+    else (if is_one_of (codes "0lL") c then Low
+    else (if is_one_of (codes "1hH") c then High
+    else (if is_one_of (codes "=23456789") c then Bus
+    else (if is_one_of (codes "z") c then Floating
+    else (if is_one_of (codes "u") c then WeakUp
+    else (if is_one_of (codes "d") c then WeakDown
+    else Unknown)))))))
+
+-- the character in effect at a place: the last at or before it that does not continue
+abbrev pub effective_character : List ℕ → ℕ → Option ℕ
+effective_character wave place = last_or None (filter (λ c. not (continues c)) (take (place + 1) wave))
+
+-- its class, unknown where there is no such character
+abbrev pub effective_class : List ℕ → ℕ → Class
+effective_class wave place = option_map_or class_of (effective_character wave place) Unknown
+
+-- a clock brick ends otherwise than it begins
+abbrev pub end_of : Class → Class
+end_of PositiveClock = Low
+end_of NegativeClock = High
+end_of class = class
+
+-- the transition from the end of a brick to the beginning of the next; two of bus may differ
+abbrev pub transition : Class → Class → MarkKind
+transition Low High = Rise
+transition High Low = Fall
+transition Low Low = Steady
+transition High High = Steady
+transition Floating Floating = Steady
+transition WeakUp WeakUp = Steady
+transition WeakDown WeakDown = Steady
+transition Unknown Unknown = Steady
+transition ended begun = Change
+
+-- the kind of a mark on a brick
+abbrev pub brick_kind : ℕ → ℕ → Class → Class → MarkKind
+brick_kind place c before PositiveClock = Rise
+brick_kind place c before NegativeClock = Fall
+brick_kind place c before here =
+    if place == 0 then Bare
+    else (if continues c then Steady
+    else transition (end_of before) here)
+
+abbrev pub kind_of : List ℕ → ℕ → MarkKind
+kind_of wave place =
+    if nat_lt place (length wave)
+    then brick_kind place (slice_index wave place) (effective_class wave (place - 1)) (effective_class wave place)
+    else Bare
