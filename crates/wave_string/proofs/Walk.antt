@@ -5,7 +5,7 @@ use Rattle.std.specs.Option.{option_map_or}
 use Rattle.std.specs.Str.{IsUtf8, chars}
 use Rattle.std.proofs.lemmas.Str.{chars-nil, chars_past_char, IsUtf8-past_char}
 use Rattle.std.proofs.lemmas.Bool.{cond_below, cond_above}
-use Rattle.std.proofs.lemmas.List.{get_or-drop, drop_more, take_more, length-drop}
+use Rattle.std.proofs.lemmas.List.{get_or-drop, drop_more, take_more, length-drop, nil_from_length}
 use Rattle.std.proofs.lemmas.List.Elements.{filter-append}
 use Rattle.wave_string.specs.Kinds.{continues, class_of, brick_kind, effective_class, kind_of}
 use Rattle.wave_string.specs.declared.class.Class.{Class}
@@ -75,4 +75,7 @@ kind_at_next {wave} {rest} {k} more c passed e =
     rw (passed.behind, ← (class_next k wave (chars more) c next)) (kind_of-next k wave (chars more) c next)
 
 pub kind_past_end : {wave rest : List ℕ} {k : ℕ} {before : Class} (place : ℕ) → HasPassed wave k before rest → length rest ≡ 0 → k ≤ place → Bare ≡ kind_of wave place
-kind_past_end {wave} {rest} {k} place passed empty le = ?
+kind_past_end {wave} {rest} {k} place passed empty le =
+    let none_left : drop k wave ≡ [] = passed.left ∙ ap chars (nil_from_length rest empty) ∙ chars-nil in
+    let past : length wave ≤ place = omega (arith, length-drop k wave, ap length none_left) in
+    cond_above place (length wave) _ Bare Bare past refl
