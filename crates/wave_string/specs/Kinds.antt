@@ -1,6 +1,6 @@
--- The kind of a mark: what a wave draws where the mark stands.
--- A wave is the list of its characters, one for each brick. Places are counted from 0.
-use Rattle.std.specs.Prelude.{ℕ, ◌+◌, ◌-◌, Bool, true, false, not, ◌&&◌, ◌==◌, nat_lt, if◌then◌else◌, List, length, take, filter, Option, None, slice_index, codes}
+-- The kind of a mark: what the wave of a lane draws at the mark's place.
+-- A wave is the list of its characters, one for each brick, and places are counted from 0.
+use Rattle.std.specs.Prelude.{ℕ, ◌+◌, ◌-◌, Bool, true, false, not, ◌==◌, nat_lt, if◌then◌else◌, List, length, take, filter, Option, None, slice_index, codes}
 use Rattle.std.specs.List.{list_any, last_or}
 use Rattle.std.specs.Option.{option_map_or}
 use Rattle.wave_string.specs.declared.class.Class.{Class}
@@ -11,7 +11,7 @@ use Rattle.wave_string.specs.declared.mark_kind.MarkKind.TheVariants.{Rise, Fall
 abbrev pub is_one_of : List ℕ → ℕ → Bool
 is_one_of characters c = list_any (λ d. d == c) characters
 
--- the character goes on with the brick before it
+-- the character continues the brick before it
 abbrev pub continues : ℕ → Bool
 continues c = is_one_of (codes ".|") c
 
@@ -28,21 +28,22 @@ class_of c =
     else (if is_one_of (codes "d") c then WeakDown
     else Unknown)))))))
 
--- the character in effect at a place: the last at or before it that does not continue
+-- the character in effect at a place: the last one at or before it that does not continue
 abbrev pub effective_character : List ℕ → ℕ → Option ℕ
 effective_character wave place = last_or None (filter (λ c. not (continues c)) (take (place + 1) wave))
 
--- its class, unknown where there is no such character
+-- the class of that character, unknown where there is none
 abbrev pub effective_class : List ℕ → ℕ → Class
 effective_class wave place = option_map_or class_of (effective_character wave place) Unknown
 
--- a clock brick ends otherwise than it begins
+-- the class that a brick ends with: a clock ends as it does not begin
 abbrev pub end_of : Class → Class
 end_of PositiveClock = Low
 end_of NegativeClock = High
 end_of class = class
 
--- the transition from the end of a brick to the beginning of the next; two of bus may differ
+-- From the class that ends a brick to the class that begins the next: equal levels are steady, but two values of a bus may
+-- differ. No clock ends a brick, and at a brick that one begins another rule applies.
 abbrev pub transition : Class → Class → MarkKind
 transition Low High = Rise
 transition High Low = Fall
@@ -54,7 +55,9 @@ transition WeakDown WeakDown = Steady
 transition Unknown Unknown = Steady
 transition ended begun = Change
 
--- the kind of a mark on a brick
+-- The kind at a brick, from its place, its character, and the classes in effect at the brick before it and at the brick itself.
+-- The first rule that applies: a clock has its edge at each brick, also at place 0 and where it is continued; place 0 has
+-- no brick before it; a continued brick draws no edge; any other draws the transition from the brick before it.
 abbrev pub brick_kind : ℕ → ℕ → Class → Class → MarkKind
 brick_kind place c before PositiveClock = Rise
 brick_kind place c before NegativeClock = Fall
@@ -63,8 +66,15 @@ brick_kind place c before here =
     else (if continues c then Steady
     else transition (end_of before) here)
 
-abbrev pub kind_of : List ℕ → ℕ → MarkKind
+-- The kind of the mark at a place of a wave. Past the last brick nothing is drawn.
+unfoldable pub kind_of : List ℕ → ℕ → MarkKind
 kind_of wave place =
     if nat_lt place (length wave)
     then brick_kind place (slice_index wave place) (effective_class wave (place - 1)) (effective_class wave place)
     else Bare
+
+-- marks of these kinds may be joined: all but a rise with a fall
+abbrev pub may_join : MarkKind → MarkKind → Bool
+may_join Rise Fall = false
+may_join Fall Rise = false
+may_join a b = true

@@ -1,25 +1,30 @@
 ghost use Rattle.std.specs.Prelude.{◌≡◌, if◌then◌else◌};
 ghost use Rattle.wave_string.specs.Kinds.{class_of, continues, end_of};
 
-/// What a brick draws.
+/// What a brick draws, by the character that is in effect there.
 #[derive(Clone, Copy, Debug, PartialEq, Eq)]
 pub enum Class {
+    /// A clock that begins each brick high and ends it low.
     PositiveClock,
+    /// A clock that begins each brick low and ends it high.
     NegativeClock,
     Low,
     High,
+    /// Some value of a bus.
     Bus,
     Floating,
     WeakUp,
     WeakDown,
+    /// What `x` draws, and every character without a class of its own.
     Unknown,
 }
 
 impl Class {
-    pub fn of(symbol: char) -> Self
-        ensures { result ≡ class_of symbol }
+    /// The class of a character that does not continue the brick before it.
+    pub fn of(character: char) -> Self
+        ensures { result ≡ class_of character }
     {
-        match symbol {
+        match character {
             'p' | 'P' => Class::PositiveClock,
             'n' | 'N' => Class::NegativeClock,
             '0' | 'l' | 'L' => Class::Low,
@@ -32,12 +37,18 @@ impl Class {
         }
     }
 
-    pub fn followed_by(self, symbol: char) -> Self
-        ensures { result ≡ (if continues symbol then self else class_of symbol) }
+    /// The class in effect at the next brick, whose character is given.
+    pub fn followed_by(self, character: char) -> Self
+        ensures { result ≡ (if continues character then self else class_of character) }
     {
-        if continues(symbol) { self } else { Class::of(symbol) }
+        if continues(character) {
+            self
+        } else {
+            Class::of(character)
+        }
     }
 
+    /// The class that a brick of this class ends with.
     pub fn at_end(self) -> Self
         ensures { result ≡ end_of self }
     {
@@ -49,8 +60,9 @@ impl Class {
     }
 }
 
-pub fn continues(symbol: char) -> bool
-    ensures { result ≡ continues symbol }
+/// Whether the character continues the brick before it. A gap, `|`, does so too.
+pub fn continues(character: char) -> bool
+    ensures { result ≡ continues character }
 {
-    matches!(symbol, '.' | '|')
+    matches!(character, '.' | '|')
 }

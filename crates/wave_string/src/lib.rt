@@ -1,8 +1,12 @@
-//! Kinds.
+//! The kind of a mark: what the wave of a lane draws at the mark's place, and which kinds may be joined.
+//! A wave is read as WaveDrom writes it, one character for each brick; no call takes memory.
+//! Its one contract: `kind_at` gives `kind_of` of specs/Kinds.antt, a rule on two places of the wave.
 #![tactic(auto)]
 
 mod class;
 mod mark_kind;
+#[cfg(test)]
+mod tests;
 mod wave;
 
 pub use mark_kind::{MarkKind, may_join};

@@ -5,32 +5,37 @@ ghost use Rattle.wave_string.specs.Kinds.{brick_kind, kind_of, transition};
 use crate::class::{Class, continues};
 use crate::mark_kind::MarkKind;
 
+/// The kind of the mark at a place of a wave. Every text is a wave, and places are counted from 0 in Unicode characters;
+/// a place past the last brick, as each place of the empty wave is, gives `Bare`.
+///
+/// One walk up to the place keeps the class in effect, which is all that the rule asks of what stands before.
 pub fn kind_at(wave: &str, place: u64) -> MarkKind
     ensures { result ≡ kind_of (chars wave.now) place }
 {
     let mut before = Class::Unknown;
-    for (index, symbol) in wave.chars().enumerate() {
-        let here = before.followed_by(symbol);
+    for (index, character) in wave.chars().enumerate() {
+        let here = before.followed_by(character);
         if index as u64 == place {
-            return brick_kind(place, symbol, before, here);
+            return brick_kind(place, character, before, here);
         }
         before = here;
     }
     MarkKind::Bare
 }
 
-fn brick_kind(place: u64, symbol: char, before: Class, here: Class) -> MarkKind
-    ensures { result ≡ brick_kind place symbol before here }
+fn brick_kind(place: u64, character: char, before: Class, here: Class) -> MarkKind
+    ensures { result ≡ brick_kind place character before here }
 {
     match here {
         Class::PositiveClock => MarkKind::Rise,
         Class::NegativeClock => MarkKind::Fall,
         _ if place == 0 => MarkKind::Bare,
-        _ if continues(symbol) => MarkKind::Steady,
+        _ if continues(character) => MarkKind::Steady,
         _ => transition(before.at_end(), here),
     }
 }
 
+/// What is drawn between a brick that ends with one class and a brick that begins with another.
 fn transition(ended: Class, begun: Class) -> MarkKind
     ensures { result ≡ transition ended begun }
 {
