@@ -1,11 +1,11 @@
 -- Several puts in a row: what is done of a text, and what is left of it.
-use Rattle.std.proofs.Common.{◌≡◌, ℕ, ◌+◌, ◌≤◌, List, [], ◌∷◌, ◌++◌, length, take, Option, Some, None, Result, Ok, Err, refl, sym, ◌∙◌, ap, append_assoc, append-nil, arith, length-append, drop, map, get_or, ◌<◌, Bor, add-one, drop-cons}
+use Rattle.std.proofs.Common.{◌≡◌, ℕ, ◌+◌, ◌≤◌, List, [], ◌++◌, length, take, Option, Some, None, Ok, Err, refl, sym, ◌∙◌, ap, append_assoc, append-nil, arith, length-append, drop, map, get_or, ◌<◌, Bor, add-one, drop-cons}
 use Rattle.std.specs.List.{concat}
 use Rattle.std.proofs.lemmas.List.{drop-map}
 use Rattle.std.specs.Bool.{⊤}
 use Rattle.std.proofs.Math.Seq.{take-append-add}
 use Rattle.std.proofs.lemmas.List.{take-append-le}
-use Rattle.itv_base.specs.Outside.{grown, GrewByFront, Puts, Rose}
+use Rattle.itv_base.specs.Outside.{grown, Puts}
 
 pub grown-nil : (o : Option (List ℕ)) → o ≡ grown o []
 grown-nil None = refl
@@ -51,9 +51,11 @@ left_cut written faults old now next piece rest left whole d e l parts p =
     let within : n ≤ length piece = p.0.1 in
     let fits : length l.done + n ≤ length whole = rw (← whole_is) (omega (arith, length-append l.done (piece ++ rest), length-append piece rest)) in
     let front : l.done ++ take n piece ≡ take (length l.done + n) whole =
-        rw (← whole_is) (sym (take-append-add l.done (piece ++ rest) n ∙ ap (λ r. l.done ++ r) (take-append-le n piece rest within))) in
-    ((length l.done + n, fits, p.0.2 ∙ ap (λ o. grown o (take n piece)) l.grew ∙ grown-append (written old) l.done (take n piece) ∙ ap (λ f. grown (written old) f) front),
-     rw l.still at p.1, rw l.still at p.2)
+    rw (← whole_is) (sym (take-append-add l.done (piece ++ rest) n ∙ ap (λ r. l.done ++ r) (take-append-le n piece rest within))) in (
+      (length l.done + n, fits, p.0.2 ∙ ap (λ o. grown o (take n piece)) l.grew ∙ grown-append (written old) l.done (take n piece) ∙ ap (λ f. grown (written old) f) front),
+      rw l.still at p.1,
+      rw l.still at p.2,
+    )
 
 -- the bytes of the pieces from one on
 pub pieces_at : (pieces : List (Bor (List ℕ))) (i : ℕ) (d : Bor (List ℕ)) → i < length pieces

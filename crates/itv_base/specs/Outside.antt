@@ -1,5 +1,5 @@
 -- What the calls of a shelf and of a sink do, and what a failure of theirs says.
-use Rattle.std.specs.Prelude.{◌≡◌, ℕ, ⊤, ◌+◌, ◌-◌, ◌^◌, ◌≤◌, min, List, ◌++◌, length, take, Option, Some, None, option_map, Result, Ok, Err}
+use Rattle.std.specs.Prelude.{◌≡◌, ℕ, ⊤, ◌+◌, ◌-◌, ◌^◌, ◌≤◌, min, List, ◌++◌, length, take, Option, option_map, Result, Ok, Err}
 use Rattle.std.specs.Ordering.{nat_cmp}
 use Rattle.std.specs.Cmp.Lexicographic.{slice_cmp}
 use Rattle.std.specs.FinMap as map
@@ -32,6 +32,11 @@ abbrev pub FetchCounts : ℕ → ℕ → List ℕ → List ℕ → List ℕ → 
 FetchCounts before now was last name (Ok bytes) = (now ≡ before) × (last ≡ was)
 FetchCounts before now was last name (Err Failed) = (before ≤ now) × Rose before now × (last ≡ name)
 FetchCounts before now was last name (Err NoMemory) = (now ≡ before) × (last ≡ was)
+
+-- how often the fetches of a shelf have failed, and the name that was asked in the latest one
+pub record Failures : Type 0 where
+  pub faults : ℕ
+  pub last : List ℕ
 
 -- what a sink tells of its bytes, with a piece at their end
 abbrev pub grown : Option (List ℕ) → List ℕ → Option (List ℕ)

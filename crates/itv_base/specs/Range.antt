@@ -1,6 +1,5 @@
 -- Ranges of whole numbers of picoseconds, each end of which may be open.
-use Rattle.std.specs.Prelude.{◌<◌, ◌≡◌, ◌⊎◌, ℕ, ℤ, pos, negsuc, ◌≤ℤ◌, ◌<ℤ◌, Bool, true, false, not, ◌&&◌, ◌||◌, Option, Some, None, IfSome, int_lt}
-
+use Rattle.std.specs.Prelude.{ℤ, pos, negsuc, ◌≤ℤ◌, Bool, false, ◌||◌, Option, Some, None, IfSome, int_lt}
 
 -- the two ends; one that is `None` is open
 pub record Ends : Type 0 where

@@ -59,7 +59,7 @@ impl Range {
             ↔ IsTrue (has_wide (record { low = low; high = high })) }
         ensures empty { IsErrOf result RangeFault.EmptyRange
             ↔ IsTrue (not (has_wide (record { low = low; high = high }))
-                && is_reversed (record { low = low; high = high })) }
+            && is_reversed (record { low = low; high = high })) }
     {
         if is_beyond(low) || is_beyond(high) {
             return Err(RangeFault::TooWide);

@@ -1,6 +1,6 @@
 //! The real files.
 
-ghost use Rattle.std.specs.Prelude.{None, IfOk, ◌≤◌, vec_len};
+ghost use Rattle.std.specs.Prelude.{◌≡◌, [], None, IfOk};
 
 use crate::shelf::{FetchFault, Shelf};
 use crate::text::{NoMemory, Text};
@@ -8,6 +8,7 @@ use std::alloc::Global;
 use std::fs::File;
 use std::io;
 use std::io::{ErrorKind, Read};
+use std::marker::Model;
 use std::rt::Files;
 
 /// The files of the system: a name is a path from the working directory. It tells no files.
@@ -18,9 +19,19 @@ pub struct ShelfDir<R: Files + Drop> {
     last: Text,
 }
 
+impl<R: Files + Drop> Model for ShelfDir<R> {
+    ghost use Rattle.itv_base.specs.Outside.{Failures};
+
+    ghost Value = { Failures };
+
+    ghost view = { λ s. record { faults = s.faults; last = s.last } };
+}
+
 impl<R: Files + Drop> ShelfDir<R> {
-    /// The files that a runtime reaches.
-    pub fn new(alloc: Global, runtime: R) -> Result<ShelfDir<R>, NoMemory> {
+    /// The files that a runtime reaches. No fetch has failed yet.
+    pub fn new(alloc: Global, runtime: R) -> Result<ShelfDir<R>, NoMemory>
+        ensures { IfOk result (λ s. s ≡ record { faults = 0; last = [] }) }
+    {
         Ok(ShelfDir {
             runtime,
             faults: 0,

@@ -73,7 +73,11 @@ impl Sink for SinkMem {
     {
         let is_named = self.failing == Some(self.calls);
         self.calls = self.calls.saturating_add(1);
-        let room = if is_named { 0 } else { self.room - self.bytes.len() };
+        let room = if is_named {
+            0
+        } else {
+            self.room - self.bytes.len()
+        };
         let taken = piece.len().min(room);
         self.bytes.extend_from_slice(&piece[..taken]).unwrap();
         if is_named || taken < piece.len() {

@@ -1,10 +1,11 @@
 //! Standard output.
 
-ghost use Rattle.std.specs.Prelude.{None};
+ghost use Rattle.std.specs.Prelude.{◌≡◌, None};
 
 use crate::sink::{PutFailed, Sink};
 use std::io;
 use std::io::{ErrorKind, Write};
+use std::marker::Model;
 
 /// Standard output. It tells nothing of what was written.
 #[derive(Drop)]
@@ -13,9 +14,20 @@ pub struct SinkOut<R: Print + Drop> {
     faults: u64,
 }
 
+impl<R: Print + Drop> Model for SinkOut<R> {
+    ghost use Rattle.std.specs.Prelude.{ℕ};
+
+    // How often a put has failed.
+    ghost Value = { ℕ };
+
+    ghost view = { λ s. s.faults };
+}
+
 impl<R: Print + Drop> SinkOut<R> {
-    /// The standard output of a runtime.
-    pub fn new(runtime: R) -> SinkOut<R> {
+    /// The standard output of a runtime. No put has failed yet.
+    pub fn new(runtime: R) -> SinkOut<R>
+        ensures { result ≡ 0 }
+    {
         SinkOut { runtime, faults: 0 }
     }
 }
@@ -40,7 +52,7 @@ fn write_whole<W: Write>(out: &mut W, piece: &[u8]) -> io::Result<()> {
 impl<R: Print + Drop> Sink for SinkOut<R> {
     ghost written = { λ _. None };
 
-    ghost faults = { λ s. s.faults };
+    ghost faults = { λ s. s };
 
     fn put(&mut self, piece: &[u8]) -> Result<(), PutFailed> {
         match write_whole(&mut io::writer(&self.runtime), piece) {
