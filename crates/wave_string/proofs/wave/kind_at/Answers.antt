@@ -16,5 +16,7 @@ loop-index-preserved c =
       not_reached = omega (arith, step.1, step.2);
     }
 
+-- the text ended before the place
 pub returns : goal.returns
-returns c = kind_past_end _ c.loop-index.invariant.passed c.in-None.ensures.steps.0.0.0 c.loop-index.invariant.not_reached
+returns c =
+    kind_past_end _ c.loop-index.invariant.passed c.in-None.ensures.steps.0.0.0 c.loop-index.invariant.not_reached
