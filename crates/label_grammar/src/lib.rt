@@ -1,13 +1,19 @@
-// A library with one function.
+//! The texts of timing diagrams and netlists: labels, edges and wires. Nothing here takes memory.
+//! The contract: a label has one spelling, `read_label` takes exactly the spellings of proper labels and tells what is wrong
+//! with every other text, `write_label` writes the spelling, and `read_edge` and `read_wire` cut their texts as defined.
 #![tactic(auto)]
 
-ghost use Rattle.std.specs.Prelude.{◌≡◌};
-ghost use Rattle.label_grammar.specs.Echo.{echo_of};
+mod characters;
+mod edge;
+mod label;
+mod laws;
+mod reading;
+mod wire;
+mod writing;
 
-// The `ensures` clause is the contract: what `echo` returns is `echo_of` of its argument, a definition
-// in `specs/Echo.antt`, which a caller's clause can cite too.
-pub fn echo(x: usize) -> usize
-    ensures { result ≡ echo_of x }
-{
-    x
-}
+pub use edge::{EdgeText, read_edge};
+pub use label::{Kind, Label, LabelFault};
+pub use laws::{reading_inverts_spelling, spellings_differ};
+pub use reading::read_label;
+pub use wire::{WireText, read_wire};
+pub use writing::write_label;

@@ -1,0 +1,28 @@
+//! What names and marks are made of.
+
+ghost use Rattle.std.specs.Prelude.{◌≡◌};
+ghost use Rattle.label_grammar.specs.Characters.{is_name_byte, is_name, is_mark};
+
+const MAX_NAME_LEN: usize = 16;
+
+/// Whether a byte is a letter of ASCII, a digit or `_`.
+pub fn is_name_byte(b: u8) -> bool
+    ensures { result ≡ is_name_byte b }
+{
+    b.is_ascii_alphanumeric() || b == b'_'
+}
+
+/// Whether a text is 1 to 16 letters of ASCII, digits or `_`.
+pub fn is_name(text: &str) -> bool
+    ensures { result ≡ is_name text.now }
+{
+    let bytes = text.as_bytes();
+    (1..=MAX_NAME_LEN).contains(&bytes.len()) && bytes.iter().all(|b| is_name_byte(*b))
+}
+
+/// Whether a byte is a visible character of ASCII that is not a full stop.
+pub fn is_mark(b: u8) -> bool
+    ensures { result ≡ is_mark b }
+{
+    b.is_ascii_graphic() && b != b'.'
+}

@@ -1,0 +1,46 @@
+//! Timing labels.
+
+ghost use Rattle.std.specs.Prelude.{◌≡◌};
+ghost use Rattle.label_grammar.specs.declared.label.LabelFault.TheVariants.{TooWide, EmptyRange};
+
+use itv_base::{Range, RangeFault};
+
+/// What a label says of its edge.
+#[derive(Clone, Copy, Debug, PartialEq, Eq)]
+pub enum Kind {
+    /// The separation of the two events lies in the range.
+    Lin,
+    /// One of the edges of which the latest counts.
+    Late,
+    /// One of the edges of which the earliest counts.
+    Early,
+    /// The separation is demanded to lie in the range.
+    Req,
+    /// The separation is asked for.
+    Ask,
+}
+
+/// A timing label. Its texts are slices of the text that it was read from.
+#[derive(Clone, Copy, Debug)]
+pub struct Label<'a> {
+    pub kind: Kind,
+    /// How many cycles the from-event is before the to-event, 0 to 64.
+    pub shift: u32,
+    /// What tells groups of edges apart: 1 to 16 letters of ASCII, digits or `_`.
+    pub tag: Option<&'a str>,
+    /// The range of the separation in picoseconds. An ask alone has none.
+    pub range: Option<Range>,
+    /// A remark, which means nothing.
+    pub note: Option<&'a str>,
+}
+
+/// Why a text is no label. The first of these that applies is told.
+#[derive(Clone, Copy, Debug, PartialEq, Eq)]
+pub enum LabelFault {
+    /// The text has not the form of a label.
+    BadLabel,
+    /// A number is beyond 10^12 in absolute value.
+    TooWide,
+    /// The low end is above the high end.
+    EmptyRange,
+}
