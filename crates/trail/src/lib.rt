@@ -1,13 +1,11 @@
-// A library with one function.
+//! A stack of graphs for a search that goes down and comes back: each graph has a list of edges and a stamp for each slot.
+//! The contract of the stack: a push copies the current graph, a pop gives back the one below exactly as it stood, and every
+//! other call changes one part of the current graph alone. No call but `new` takes memory.
 #![tactic(auto)]
 
-ghost use Rattle.std.specs.Prelude.{◌≡◌};
-ghost use Rattle.trail.specs.Echo.{echo_of};
+mod stamp;
+mod trail;
+mod undo;
 
-// The `ensures` clause is the contract: what `echo` returns is `echo_of` of its argument, a definition
-// in `specs/Echo.antt`, which a caller's clause can cite too.
-pub fn echo(x: usize) -> usize
-    ensures { result ≡ echo_of x }
-{
-    x
-}
+pub use stamp::Stamp;
+pub use trail::Trail;

@@ -1,0 +1,12 @@
+//! What a graph knows of a slot.
+
+use itv_base::EdgeName;
+
+/// The label of a slot, and the edge that it came over.
+#[derive(Clone, Copy, Debug, PartialEq, Eq, Hash)]
+pub struct Stamp {
+    /// The label in picoseconds, or `None` where there is none yet.
+    pub label: Option<i64>,
+    /// The edge over which the label came, or `None` where it came over none.
+    pub parent: Option<EdgeName>,
+}

@@ -1,0 +1,144 @@
+//! The stack of graphs.
+
+ghost use Rattle.std.specs.Prelude.{◌≡◌, ℕ, ◌<◌, ◌≤◌, [], ◌∷◌, ◌++◌, Some, length, slice_get, IfOk};
+ghost use Rattle.trail.specs.Graphs.{bare, popped, pushed, with_edge, with_stamp};
+
+use crate::stamp::Stamp;
+use crate::undo::{Mark, Saved, Slot, UNSET, put_back};
+use itv_base::{EdgeName, NoMemory};
+use std::alloc::Global;
+use std::marker::Model;
+
+/// A stack of graphs, never empty. A graph is a list of edges and a stamp for each slot. Contracts see how many levels there
+/// may be above the first graph, the current graph, and the graphs below it, the nearest one first.
+///
+/// There is one graph in memory, and an undo log as constraint solvers keep it: before a level first sets a slot, the slot is
+/// saved, at most once in each level. So a push takes the same time whatever the graph is, and a pop takes as long as the level
+/// that goes has edges and saved slots.
+#[derive(Debug, Drop)]
+pub struct Trail {
+    levels: u32,
+    edges: Vec<EdgeName>,
+    slots: Vec<Slot>,
+    saved: Vec<Saved>,
+    marks: Vec<Mark>,
+}
+
+impl Model for Trail {
+    ghost use Rattle.trail.specs.Graphs.{Graphs};
+
+    ghost Value = { Graphs };
+
+    ghost use Rattle.trail.specs.Stored.{graphs_in, IsStored};
+
+    ghost view = { graphs_in };
+
+    ghost invariant = { IsStored };
+}
+
+impl Trail {
+    /// One graph, with no edge and with empty stamps. `slots` is how many stamps each graph has, and `levels` how many graphs
+    /// may be pushed and how many edges a graph may have. Takes all the memory that the trail ever needs.
+    pub fn new(alloc: Global, slots: u32, levels: u32) -> Result<Trail, NoMemory>
+        ensures { IfOk result (λ t. t ≡ bare slots levels) }
+    {
+        let slot_count = slots as usize;
+        let level_count = levels as usize;
+        let mut unset = Vec::with_capacity(alloc, slot_count)?;
+        unset.resize(slot_count, UNSET)?;
+        Ok(Trail {
+            levels,
+            edges: Vec::with_capacity(alloc, level_count)?,
+            slots: unset,
+            saved: Vec::with_capacity(alloc, slot_count * level_count)?,
+            marks: Vec::with_capacity(alloc, level_count)?,
+        })
+    }
+
+    /// Makes the trail as it was when it was new.
+    pub fn reset(&mut self)
+        ensures { self.new ≡ bare (length self.old.current.stamps) self.old.levels }
+    {
+        self.edges.clear();
+        self.saved.clear();
+        self.marks.clear();
+        self.slots.fill(UNSET);
+    }
+
+    /// Makes a copy of the current graph the current one.
+    pub fn push_level(&mut self)
+        requires { length self.old.below < self.old.levels }
+        ensures { self.new ≡ pushed self.old }
+    {
+        let mark = Mark {
+            edges: self.edges.len(),
+            saved: self.saved.len(),
+        };
+        self.marks.push_reserved(mark);
+    }
+
+    /// Takes the current graph away: the one below it is current again, as it stood when it was pushed on.
+    pub fn pop_level(&mut self)
+        requires { 0 < length self.old.below }
+        ensures below { self.new ≡ popped self.old }
+        ensures slots { length self.new.current.stamps ≡ length self.old.current.stamps }
+    {
+        let mark = self.marks.pop().unwrap();
+        put_back(&mut self.slots, &self.saved[mark.saved..]);
+        self.saved.truncate(mark.saved);
+        self.edges.truncate(mark.edges);
+    }
+
+    /// Puts an edge at the end of the current graph's edges.
+    pub fn add_edge(&mut self, edge: EdgeName)
+        requires { length self.old.current.edges < self.old.levels }
+        ensures { self.new ≡ record self.old { current = with_edge self.old.current edge } }
+    {
+        self.edges.push_reserved(edge);
+    }
+
+    /// Sets the stamp of a slot, counted from 0, in the current graph.
+    pub fn set_label(&mut self, slot: u32, stamp: Stamp)
+        requires { slot < length self.old.current.stamps }
+        ensures { self.new ≡ record self.old { current = with_stamp self.old.current slot stamp } }
+    {
+        let level = self.depth();
+        let was = self.slots[slot as usize];
+        if was.level < level {
+            self.saved.push_reserved(Saved { slot, was });
+        }
+        self.slots[slot as usize] = Slot { stamp, level };
+    }
+
+    /// How many graphs lie below the current one.
+    pub fn depth(&self) -> u32
+        ensures count { result ≡ length self.now.below }
+        ensures within { result ≤ self.now.levels }
+    {
+        self.marks.len() as u32
+    }
+
+    /// How many edges the current graph has.
+    pub fn edge_count(&self) -> u32
+        ensures count { result ≡ length self.now.current.edges }
+        ensures within { result ≤ self.now.levels }
+    {
+        self.edges.len() as u32
+    }
+
+    /// The edge at a place, counted from 0, of the current graph.
+    pub fn edge_at(&self, k: u32) -> EdgeName
+        requires { k < length self.now.current.edges }
+        ensures { slice_get self.now.current.edges k ≡ Some result }
+    {
+        self.edges[k as usize]
+    }
+
+    /// The stamp of a slot, counted from 0, in the current graph.
+    pub fn stamp(&self, slot: u32) -> Stamp
+        requires { slot < length self.now.current.stamps }
+        ensures { slice_get self.now.current.stamps slot ≡ Some result }
+    {
+        self.slots[slot as usize].stamp
+    }
+}
