@@ -4,6 +4,7 @@
 #![tactic(auto)]
 
 mod limits;
+mod listing;
 mod names;
 mod range;
 mod shelf;
@@ -20,6 +21,7 @@ pub use limits::{
     MAX_CYCLES, MAX_EVENTS, MAX_MATRIX_EVENTS, MAX_PARTS, MAX_ROWS, MAX_SEARCH_CELLS,
     MAX_SELF_SIZE, MAX_SHEET_NAMES, REPORT_LIMIT,
 };
+pub use listing::Listing;
 pub use names::{EdgeName, EventId, EventName, RuleKind, Side};
 pub use range::{Range, RangeFault};
 pub use shelf::{FetchFault, Shelf};

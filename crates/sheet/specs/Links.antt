@@ -1,0 +1,127 @@
+-- The rules and rows that the edges of a drawing give.
+use Rattle.std.specs.Prelude.{ℕ, ◌+◌, ◌&&◌, ◌==◌, Bool, true, false, not, nat_eq, nat_le, if◌then◌else◌, List, [], ◌∷◌, ◌++◌, length, map, filter, take, Option, Some, None, position, unwrap_or, Result, Ok, Err}
+use Rattle.std.specs.List.{enumerate_from, filter_map, flat_map, list_any}
+use Rattle.std.specs.Str.{bytes_eq}
+use Rattle.itv_base.specs.Range.{Ends}
+use Rattle.itv_base.specs.declared.names.RuleKind.{RuleKind}
+use Rattle.itv_base.specs.declared.names.RuleKind.TheVariants as rules
+use Rattle.label_grammar.specs.declared.label.Kind.{Kind}
+use Rattle.label_grammar.specs.declared.label.Kind.TheVariants.{Lin, Late, Early, Req, Ask}
+use Rattle.label_grammar.specs.declared.label.LabelFault.{LabelFault}
+use Rattle.label_grammar.specs.Label.{LooseLabel}
+use Rattle.label_grammar.specs.Reading.{label_of}
+use Rattle.label_grammar.specs.Answer.{judged}
+use Rattle.label_grammar.specs.Edge.{EdgeSeen, comment, timing, malformed, edge_of}
+use Rattle.sheet.specs.declared.mark.Mark.{Mark}
+use Rattle.sheet.specs.declared.rule.Source.{Source}
+use Rattle.sheet.specs.declared.row.RowKind.{RowKind}
+use Rattle.sheet.specs.declared.row.RowKind.TheVariants as asked
+use Rattle.sheet.specs.declared.row.SheetRow.{SheetRow}
+use Rattle.sheet.specs.declared.fault.SheetFault.{SheetFault}
+use Rattle.sheet.specs.declared.fault.SheetFault.TheVariants.{BadEdge, Label, NoMark, TooManyCauses}
+use Rattle.sheet.specs.Rule.{SheetRule}
+
+-- ---- one edge
+
+-- a timing edge from a mark to a mark, both by number, with what its label says
+pub record Link : Type 0 where
+  pub from : ℕ
+  pub to : ℕ
+  pub label : LooseLabel
+
+-- the number of the mark with a name
+abbrev pub number_of : List Mark → ℕ → Option ℕ
+number_of marks name = position (λ mark. mark.name == name) marks
+
+abbrev pub link_to : ℕ → LooseLabel → Option ℕ → Option ℕ → ℕ → ℕ → Result (Option Link) SheetFault
+link_to n label None to from_name to_name = Err (NoMark n from_name)
+link_to n label (Some a) None from_name to_name = Err (NoMark n to_name)
+link_to n label (Some a) (Some b) from_name to_name = Ok (Some (record { from = a; to = b; label = label }))
+
+abbrev pub labelled : List Mark → ℕ → ℕ → ℕ → Result LooseLabel LabelFault → Result (Option Link) SheetFault
+labelled marks n from to (Err fault) = Err (Label n fault)
+labelled marks n from to (Ok label) = link_to n label (number_of marks from) (number_of marks to) from to
+
+abbrev pub seen_link : List Mark → ℕ → EdgeSeen → Result (Option Link) SheetFault
+seen_link marks n comment = Ok None
+seen_link marks n malformed = Err (BadEdge n)
+seen_link marks n (timing from to label) = labelled marks n from to (judged (label_of label))
+
+-- what the text of edge n says: nothing where it is a comment
+unfoldable pub link_of : List Mark → ℕ → List ℕ → Result (Option Link) SheetFault
+link_of marks n text = seen_link marks n (edge_of text)
+
+-- ---- groups of causes
+
+-- latest and earliest edges are causes, those of one kind with one target and one tag of one constraint
+abbrev pub is_cause : Kind → Bool
+is_cause Lin = false
+is_cause Late = true
+is_cause Early = true
+is_cause Req = false
+is_cause Ask = false
+
+abbrev pub same_kind : Kind → Kind → Bool
+same_kind Late Late = true
+same_kind Early Early = true
+same_kind a b = false
+
+abbrev pub same_tag : Option (List ℕ) → Option (List ℕ) → Bool
+same_tag None None = true
+same_tag (Some a) (Some b) = bytes_eq a b
+same_tag a b = false
+
+-- the two are causes of one constraint
+abbrev pub joins : Link → Link → Bool
+joins a b = same_kind a.label.kind b.label.kind && (a.to == b.to && same_tag a.label.tag b.label.tag)
+
+-- the constraint of the link has as many causes as it may have
+abbrev pub is_full : List Link → Link → Bool
+is_full links link = nat_le 64 (length (filter (joins link) links))
+
+-- ---- all edges, up to the first fault
+
+abbrev mutual
+  pub links_on : List Mark → List Link → ℕ → Result (Option Link) SheetFault → List (List ℕ) → Result (List Link) SheetFault
+  links_on marks done n (Err fault) texts = Err fault
+  links_on marks done n (Ok None) texts = links_from marks done (n + 1) texts
+  links_on marks done n (Ok (Some link)) texts = if is_full done link then Err (TooManyCauses n) else links_from marks (done ++ link ∷ []) (n + 1) texts
+
+  -- the links of the edges from number n on, behind those that are done
+  pub links_from : List Mark → List Link → ℕ → List (List ℕ) → Result (List Link) SheetFault
+  links_from marks done n [] = Ok done
+  links_from marks done n (text ∷ texts) = links_on marks done n (link_of marks n text) texts
+
+-- ---- rules and rows
+
+abbrev pub open_ends : Ends
+open_ends = record { low = None; high = None }
+
+abbrev pub source_of : Link → Source
+source_of link = record { mark = link.from; shift = link.label.shift; range = unwrap_or link.label.ends open_ends }
+
+abbrev pub group_rule : RuleKind → List Link → Link → SheetRule
+group_rule kind links link = record { kind = kind; target = link.to; causes = map source_of (filter (joins link) links) }
+
+-- The rule that a link opens among all links, with the links before it: a linear link opens one of its own, and a cause opens
+-- one where no earlier link joins it, with all causes that join it in order.
+abbrev pub rule_opened : List Link → List Link → Link → Kind → Option SheetRule
+rule_opened links before link Lin = Some (record { kind = rules.Lin; target = link.to; causes = source_of link ∷ [] })
+rule_opened links before link Late = if list_any (joins link) before then None else Some (group_rule rules.Late links link)
+rule_opened links before link Early = if list_any (joins link) before then None else Some (group_rule rules.Early links link)
+rule_opened links before link Req = None
+rule_opened links before link Ask = None
+
+abbrev pub link_rules : List Link → List SheetRule
+link_rules links = filter_map (λ at. rule_opened links (take at.0 links) at.1 at.1.label.kind) (enumerate_from 0 links)
+
+abbrev pub row_by : Link → Kind → Option SheetRow
+row_by link Lin = None
+row_by link Late = None
+row_by link Early = None
+row_by link Req = Some (record { kind = asked.Req (unwrap_or link.label.ends open_ends); from = link.from; to = link.to; shift = link.label.shift })
+row_by link Ask = Some (record { kind = asked.Ask; from = link.from; to = link.to; shift = link.label.shift })
+
+-- a row for each link that asks for a separation or demands a range of it
+abbrev pub link_rows : List Link → List SheetRow
+link_rows links = filter_map (λ link. row_by link link.label.kind) links

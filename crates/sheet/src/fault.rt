@@ -1,0 +1,62 @@
+//! Why a drawing is no sheet.
+
+ghost use Rattle.std.specs.Prelude.{◌≡◌};
+ghost use Rattle.sheet.specs.declared.fault.SheetFault.TheVariants.{NoMemory};
+
+use itv_base::NoMemory as OutOfMemory;
+use label_grammar::LabelFault;
+use std::alloc::{AllocError, AllocFailed};
+use thiserror::Error;
+
+/// The first fault of a drawing: those of its lanes before those of its edges, and in each the order below. Lanes and edges
+/// are counted from 0, comments among the edges too. A mark is told by its character.
+#[derive(Clone, Copy, Debug, PartialEq, Eq, Error)]
+pub enum SheetFault {
+    /// The first lane whose `node` has a character that is no full stop, no space and no mark.
+    #[error("lane {0} has a node with a character that is no mark")]
+    BadNode(u64),
+    /// The mark at the first place whose mark stood before.
+    #[error("the mark with the code {0} stands twice")]
+    DoubleMark(u8),
+    /// The first lane that is a pin with the name of an earlier pin.
+    #[error("lane {0} has the name of an earlier pin")]
+    DoublePin(u64),
+    /// The shape word of a timing edge is none.
+    #[error("edge {0} has no shape between two marks")]
+    BadEdge(u64),
+    /// The label of a timing edge is refused.
+    #[error("the label of edge {0} is refused")]
+    Label(u64, LabelFault),
+    /// A timing edge names a mark that is not on the sheet: the from-mark, and else the to-mark.
+    #[error("edge {0} names the mark with the code {1}, which is not there")]
+    NoMark(u64, u8),
+    /// The edge would be the 65th cause of its constraint.
+    #[error("edge {0} is one cause too many")]
+    TooManyCauses(u64),
+    #[error("out of memory")]
+    NoMemory,
+}
+
+impl From<AllocError> for SheetFault {
+    ghost from_gives = { λ _ e. e ≡ NoMemory };
+
+    fn from(_: AllocError) -> SheetFault {
+        SheetFault::NoMemory
+    }
+}
+
+impl<T: Drop> From<AllocFailed<T>> for SheetFault {
+    ghost from_gives = { λ _ e. e ≡ NoMemory };
+
+    fn from(_: AllocFailed<T>) -> SheetFault {
+        SheetFault::NoMemory
+    }
+}
+
+impl From<OutOfMemory> for SheetFault {
+    ghost from_gives = { λ _ e. e ≡ NoMemory };
+
+    fn from(_: OutOfMemory) -> SheetFault {
+        SheetFault::NoMemory
+    }
+}

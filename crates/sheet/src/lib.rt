@@ -1,0 +1,20 @@
+//! One sheet of a part: the marks on its lanes, its pins, the rules between its marks, and the separations that it asks for.
+//! A mark is named by its number on the sheet, lane by lane and then by place.
+//! The one contract: `read_sheet` gives the sheet of the drawing, or its first fault exactly where it has one.
+#![tactic(auto)]
+
+mod fault;
+mod mark;
+mod pin;
+mod read;
+mod row;
+mod rule;
+mod sheet;
+
+pub use fault::SheetFault;
+pub use mark::{Mark, Marks};
+pub use pin::{Pin, Pins};
+pub use read::read_sheet;
+pub use row::{RowKind, SheetRow, SheetRows};
+pub use rule::{Rule, Rules, Source, Sources};
+pub use sheet::Sheet;

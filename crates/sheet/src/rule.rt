@@ -1,0 +1,70 @@
+//! The rules of a sheet: what becomes a constraint in each cycle.
+
+ghost use Rattle.std.specs.Prelude.{◌≡◌};
+
+use itv_base::{Listing, Range, RuleKind};
+use std::marker::Model;
+
+/// A cause of a rule: a mark by number, how many cycles before the target it stands, and the range of its delay.
+#[derive(Clone, Copy, Debug, PartialEq, Eq)]
+pub struct Source {
+    pub mark: u32,
+    pub shift: u32,
+    pub range: Range,
+}
+
+/// Causes in the order of their edges.
+pub type Sources = Listing<Source>;
+
+/// A rule on a target mark by its causes. A linear rule has one cause, its from-mark.
+#[derive(Debug, Drop)]
+pub struct Rule {
+    kind: RuleKind,
+    target: u32,
+    causes: Sources,
+}
+
+impl Model for Rule {
+    ghost use Rattle.sheet.specs.Rule.{SheetRule};
+
+    ghost Value = { SheetRule };
+
+    ghost view = { λ r. record { kind = r.kind; target = r.target; causes = r.causes } };
+}
+
+impl Rule {
+    /// A rule of these parts.
+    pub fn new(kind: RuleKind, target: u32, causes: Sources) -> Rule
+        ensures { result ≡ record { kind = kind; target = target; causes = causes } }
+    {
+        Rule {
+            kind,
+            target,
+            causes,
+        }
+    }
+
+    /// How the rule reads its causes.
+    pub fn kind(&self) -> RuleKind
+        ensures { result ≡ self.now.kind }
+    {
+        self.kind
+    }
+
+    /// The target's number.
+    pub fn target(&self) -> u32
+        ensures { result ≡ self.now.target }
+    {
+        self.target
+    }
+
+    /// The causes in order.
+    pub fn causes(&self) -> &Sources
+        ensures { result.now ≡ self.now.causes }
+    {
+        &self.causes
+    }
+}
+
+/// Rules in the order in which they become constraints.
+pub type Rules = Listing<Rule>;

@@ -1,0 +1,56 @@
+//! A sheet as it was read.
+
+ghost use Rattle.std.specs.Prelude.{◌≡◌};
+
+use crate::mark::Marks;
+use crate::pin::Pins;
+use crate::row::SheetRows;
+use crate::rule::Rules;
+use std::marker::Model;
+
+/// The marks, pins, rules and rows of a sheet.
+#[derive(Debug, Drop)]
+pub struct Sheet {
+    pub(crate) marks: Marks,
+    pub(crate) pins: Pins,
+    pub(crate) rules: Rules,
+    pub(crate) rows: SheetRows,
+}
+
+impl Model for Sheet {
+    ghost use Rattle.sheet.specs.Contents.{Contents};
+
+    ghost Value = { Contents };
+
+    ghost view = { λ s. record { marks = s.marks; pins = s.pins; rules = s.rules; rows = s.rows } };
+}
+
+impl Sheet {
+    /// The marks, numbered from 0 lane by lane and then by place.
+    pub fn marks(&self) -> &Marks
+        ensures { result.now ≡ self.now.marks }
+    {
+        &self.marks
+    }
+
+    /// The pins in the order of their lanes.
+    pub fn pins(&self) -> &Pins
+        ensures { result.now ≡ self.now.pins }
+    {
+        &self.pins
+    }
+
+    /// The rules in the order in which they become constraints: the order on the lanes, and then the edges.
+    pub fn rules(&self) -> &Rules
+        ensures { result.now ≡ self.now.rules }
+    {
+        &self.rules
+    }
+
+    /// The separations that are asked for, in the order of their edges.
+    pub fn rows(&self) -> &SheetRows
+        ensures { result.now ≡ self.now.rows }
+    {
+        &self.rows
+    }
+}
