@@ -8,6 +8,7 @@ use Rattle.wave_string.specs.declared.class.Class.TheVariants.{PositiveClock, Ne
 use Rattle.wave_string.specs.declared.mark_kind.MarkKind.{MarkKind}
 use Rattle.wave_string.specs.declared.mark_kind.MarkKind.TheVariants.{Rise, Fall, Change, Steady, Bare}
 
+-- c is one of the characters
 abbrev pub is_one_of : List ℕ → ℕ → Bool
 is_one_of characters c = list_any (λ d. d == c) characters
 
@@ -36,14 +37,14 @@ effective_character wave place = last_or None (filter (λ c. not (continues c)) 
 abbrev pub effective_class : List ℕ → ℕ → Class
 effective_class wave place = option_map_or class_of (effective_character wave place) Unknown
 
--- the class that a brick ends with: a clock ends as it does not begin
+-- the class that a brick ends with: a positive clock ends low, a negative one high
 abbrev pub end_of : Class → Class
 end_of PositiveClock = Low
 end_of NegativeClock = High
 end_of class = class
 
--- From the class that ends a brick to the class that begins the next: equal levels are steady, but two values of a bus may
--- differ. No clock ends a brick, and at a brick that one begins another rule applies.
+-- From the class that ends a brick to the class that begins the next one. Equal classes are steady, but two values of a
+-- bus may differ. No brick ends as a clock, and where a clock begins an earlier rule applies.
 abbrev pub transition : Class → Class → MarkKind
 transition Low High = Rise
 transition High Low = Fall
@@ -55,9 +56,9 @@ transition WeakDown WeakDown = Steady
 transition Unknown Unknown = Steady
 transition ended begun = Change
 
--- The kind at a brick, from its place, its character, and the classes in effect at the brick before it and at the brick itself.
--- The first rule that applies: a clock has its edge at each brick, also at place 0 and where it is continued; place 0 has
--- no brick before it; a continued brick draws no edge; any other draws the transition from the brick before it.
+-- The kind at a brick, from its place and character and the classes in effect at the brick before it and at itself.
+-- The first rule that applies: a clock has its edge at each brick, also at place 0 and where it is continued; place 0
+-- has no brick before it; a brick that is continued has no edge; all others have the transition from the brick before.
 abbrev pub brick_kind : ℕ → ℕ → Class → Class → MarkKind
 brick_kind place c before PositiveClock = Rise
 brick_kind place c before NegativeClock = Fall
@@ -66,14 +67,14 @@ brick_kind place c before here =
     else (if continues c then Steady
     else transition (end_of before) here)
 
--- The kind of the mark at a place of a wave. Past the last brick nothing is drawn.
+-- the kind of the mark at a place of a wave, which is bare past the last brick
 unfoldable pub kind_of : List ℕ → ℕ → MarkKind
 kind_of wave place =
     if nat_lt place (length wave)
     then brick_kind place (slice_index wave place) (effective_class wave (place - 1)) (effective_class wave place)
     else Bare
 
--- marks of these kinds may be joined: all but a rise with a fall
+-- marks of these kinds may be joined
 abbrev pub may_join : MarkKind → MarkKind → Bool
 may_join Rise Fall = false
 may_join Fall Rise = false

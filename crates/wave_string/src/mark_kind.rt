@@ -19,7 +19,8 @@ pub enum MarkKind {
 /// Whether two marks of these kinds may be joined: a rise is never joined to a fall, and all else may be.
 pub fn may_join(a: MarkKind, b: MarkKind) -> bool
     ensures value { result ≡ may_join a b }
-    ensures only_rise_with_fall { IsFalse result ↔ (((a ≡ MarkKind.Rise) × (b ≡ MarkKind.Fall)) ⊎ ((a ≡ MarkKind.Fall) × (b ≡ MarkKind.Rise))) }
+    ensures only_rise_with_fall { IsFalse result ↔
+        ((a ≡ MarkKind.Rise × b ≡ MarkKind.Fall) ⊎ (a ≡ MarkKind.Fall × b ≡ MarkKind.Rise)) }
 {
     !matches!(
         (a, b),

@@ -5,13 +5,14 @@ ghost use Rattle.wave_string.specs.Kinds.{brick_kind, kind_of, transition};
 use crate::class::{Class, continues};
 use crate::mark_kind::MarkKind;
 
-/// The kind of the mark at a place of a wave. Every text is a wave, and places are counted from 0 in Unicode characters;
-/// a place past the last brick, as each place of the empty wave is, gives `Bare`.
+/// The kind of the mark at a place of a wave.
 ///
-/// One walk up to the place keeps the class in effect, which is all that the rule asks of what stands before.
+/// Any text is a wave. Each of its characters is a brick, and the place is counted from 0 in characters, not in bytes.
+/// Past the last brick, and so everywhere in the empty wave, the kind is `Bare`.
 pub fn kind_at(wave: &str, place: u64) -> MarkKind
     ensures { result ≡ kind_of (chars wave.now) place }
 {
+    // Of all bricks before the place the rule asks only which class is in effect there.
     let mut before = Class::Unknown;
     for (index, character) in wave.chars().enumerate() {
         let here = before.followed_by(character);
@@ -23,6 +24,8 @@ pub fn kind_at(wave: &str, place: u64) -> MarkKind
     MarkKind::Bare
 }
 
+/// The kind at a brick of this place and character, where the brick before it leaves the class `before` in effect, and
+/// `here` is in effect at the brick itself.
 fn brick_kind(place: u64, character: char, before: Class, here: Class) -> MarkKind
     ensures { result ≡ brick_kind place character before here }
 {
@@ -35,7 +38,7 @@ fn brick_kind(place: u64, character: char, before: Class, here: Class) -> MarkKi
     }
 }
 
-/// What is drawn between a brick that ends with one class and a brick that begins with another.
+/// The kind where one brick ends with the class `ended` and the next begins with the class `begun`.
 fn transition(ended: Class, begun: Class) -> MarkKind
     ensures { result ≡ transition ended begun }
 {
