@@ -1,13 +1,17 @@
-// A library with one function.
+//! Networks of timing constraints between events: linear, latest and earliest ones, which times satisfy them, and their edges.
+//! The contract of the crate: `broken` gives none exactly where the times satisfy the network, else the least number of a
+//! constraint that they break, and `edge`, `is_always` and `choices_fit` are what the definitions of the network say.
 #![tactic(auto)]
 
-ghost use Rattle.std.specs.Prelude.{◌≡◌};
-ghost use Rattle.event_graph.specs.Echo.{echo_of};
+mod cause;
+mod edge;
+// LAWS
+mod network;
+mod push_fault;
+mod rule;
 
-// The `ensures` clause is the contract: what `echo` returns is `echo_of` of its argument, a definition
-// in `specs/Echo.antt`, which a caller's clause can cite too.
-pub fn echo(x: usize) -> usize
-    ensures { result ≡ echo_of x }
-{
-    x
-}
+pub use cause::Cause;
+pub use edge::Edge;
+pub use network::Network;
+pub use push_fault::PushFault;
+

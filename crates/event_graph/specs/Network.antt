@@ -1,0 +1,73 @@
+-- Networks of timing constraints.
+use Rattle.std.specs.Prelude.{◌≡◌, ◌<◌, ◌≤◌, ℕ, List, [], ◌∷◌, ◌++◌, length, All, Option, option_and_then, slice_get}
+use Rattle.itv_base.specs.Range.{Ends}
+use Rattle.itv_base.specs.declared.names.EventId.{EventId}
+use Rattle.itv_base.specs.declared.names.RuleKind.{RuleKind}
+use Rattle.itv_base.specs.declared.names.RuleKind.TheVariants.{Lin, Late, Early}
+use Rattle.itv_base.specs.declared.limits.TheConstants.{MAX_CAUSES, MAX_CONSTRAINTS, MAX_EVENTS}
+use Rattle.event_graph.specs.declared.cause.Cause.{Cause}
+use Rattle.event_graph.specs.declared.push_fault.PushFault.{PushFault}
+use Rattle.event_graph.specs.declared.push_fault.PushFault.TheVariants.{Full, NoMemory}
+
+-- a constraint on the time of a target by its causes
+pub record Constraint : Type 0 where
+  pub kind : RuleKind
+  pub target : EventId
+  pub causes : List Cause
+
+-- the separation of two events lies in a range: the from-event is the one cause
+abbrev pub linear : EventId → EventId → Ends → Constraint
+linear from to range = record { kind = Lin; target = to; causes = (record { event = from; range = range }) ∷ [] }
+
+-- the target comes at the latest of the causes, each delayed within its range
+abbrev pub latest : EventId → List Cause → Constraint
+latest target causes = record { kind = Late; target = target; causes = causes }
+
+-- the target comes at the earliest of the causes, each delayed within its range
+abbrev pub earliest : EventId → List Cause → Constraint
+earliest target causes = record { kind = Early; target = target; causes = causes }
+
+-- a number of events, and the constraints in their order
+pub record Net : Type 0 where
+  pub events : ℕ
+  pub constraints : List Constraint
+
+-- the cause of a number of the constraint of a number
+abbrev pub cause_at : Net → ℕ → ℕ → Option Cause
+cause_at net constraint cause = option_and_then (λ (c : Constraint). slice_get c.causes cause) (slice_get net.constraints constraint)
+
+-- how many causes a constraint of a kind may have
+abbrev pub IsCauseCount : RuleKind → ℕ → Type 0
+IsCauseCount Lin count = count ≡ 1
+IsCauseCount Late count = (1 ≤ count) × (count ≤ MAX_CAUSES)
+IsCauseCount Early count = (1 ≤ count) × (count ≤ MAX_CAUSES)
+
+-- a constraint between events below a number
+pub record IsConstraint (events : ℕ) (c : Constraint) : Type 0 where
+  pub target : c.target.0 < events
+  pub causes : All (λ (cause : Cause). cause.event.0 < events) c.causes
+  pub count : IsCauseCount c.kind (length c.causes)
+
+-- a network within the limits, all of whose constraints are between its events
+pub record IsNet (net : Net) : Type 0 where
+  pub events : net.events ≤ MAX_EVENTS
+  pub constraints : All (IsConstraint net.events) net.constraints
+  pub count : length net.constraints ≤ MAX_CONSTRAINTS
+
+-- the number of causes to name of a constraint: a linear one has none
+abbrev pub named_causes : RuleKind → ℕ → ℕ
+named_causes Lin count = 0
+named_causes Late count = count
+named_causes Early count = count
+
+abbrev pub cause_count_of : Constraint → ℕ
+cause_count_of c = named_causes c.kind (length c.causes)
+
+-- the network with one more constraint
+abbrev pub with_constraint : Net → Constraint → Net
+with_constraint net c = record net { constraints = net.constraints ++ c ∷ [] }
+
+-- why a constraint was not added, by the number of constraints that are there: the network is full, or else memory is wanted
+abbrev pub IsPushFault : ℕ → PushFault → Type 0
+IsPushFault count (Full n) = (n ≡ count) × (count ≡ MAX_CONSTRAINTS)
+IsPushFault count NoMemory = count < MAX_CONSTRAINTS

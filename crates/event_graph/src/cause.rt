@@ -1,0 +1,85 @@
+//! Causes of constraints.
+
+ghost use Rattle.std.specs.Prelude.{◌≡◌, ◌<◌, ◌↔◌, neg_ℤ, ◌+ℤ◌, IsTrue, IfSome, length, All};
+ghost use Rattle.itv_base.specs.Range.{IsEnd};
+ghost use Rattle.event_graph.specs.Times.{IsTime};
+
+use crate::edge::Edge;
+use itv_base::{EventId, Range, Side};
+
+/// A cause of a constraint: an event, and the range of the delay from it to the target, in picoseconds.
+#[derive(Clone, Copy, Debug, PartialEq, Eq)]
+pub struct Cause {
+    pub event: EventId,
+    pub range: Range,
+}
+
+impl Cause {
+    ghost use Rattle.event_graph.specs.Satisfying.{IsAfter, IsBefore};
+    ghost use Rattle.event_graph.specs.Edges.{side_edge};
+
+    // Whether the target comes no earlier than the cause and its low end.
+    pub(crate) fn is_before_target(&self, times: &[i64], target: EventId) -> bool
+        requires cause { self.now.event.0 < length times.now }
+        requires target { target.0 < length times.now }
+        requires times { All IsTime times.now }
+        ensures { IsTrue result ↔ IsAfter times.now target self.now }
+    {
+        let time = times[self.event.0 as usize];
+        match self.range.low() {
+            None => true,
+            Some(low) => delayed(time, low) <= times[target.0 as usize],
+        }
+    }
+
+    // Whether the target comes no later than the cause and its high end.
+    pub(crate) fn reaches_target(&self, times: &[i64], target: EventId) -> bool
+        requires cause { self.now.event.0 < length times.now }
+        requires target { target.0 < length times.now }
+        requires times { All IsTime times.now }
+        ensures { IsTrue result ↔ IsBefore times.now target self.now }
+    {
+        let time = times[self.event.0 as usize];
+        match self.range.high() {
+            None => true,
+            Some(high) => times[target.0 as usize] <= delayed(time, high),
+        }
+    }
+
+    // The edge of the cause on one side, or none where that end is open.
+    pub(crate) fn edge(&self, target: EventId, side: Side) -> Option<Edge>
+        ensures edge { result ≡ side_edge side target self.now }
+        ensures within { IfSome result (λ e. IsEnd (Some e.weight)) }
+    {
+        match side {
+            Side::Upper => Some(Edge {
+                from: self.event,
+                to: target,
+                weight: self.range.high()?,
+            }),
+            Side::Lower => Some(Edge {
+                from: target,
+                to: self.event,
+                weight: negated(self.range.low()?),
+            }),
+        }
+    }
+}
+
+// The time that comes a delay after another.
+fn delayed(time: i64, delay: i64) -> i64
+    requires time { IsTime time }
+    requires delay { IsEnd (Some delay) }
+    ensures { result ≡ time +ℤ delay }
+{
+    time + delay
+}
+
+// Minus an end of a range.
+fn negated(end: i64) -> i64
+    requires { IsEnd (Some end) }
+    ensures value { result ≡ neg_ℤ end }
+    ensures within { IsEnd (Some result) }
+{
+    -end
+}

@@ -1,0 +1,11 @@
+//! Edges of a network.
+
+use itv_base::EventId;
+
+/// An edge between two events: the time of `to` less that of `from` is at most `weight`, in picoseconds.
+#[derive(Clone, Copy, Debug, PartialEq, Eq)]
+pub struct Edge {
+    pub from: EventId,
+    pub to: EventId,
+    pub weight: i64,
+}

@@ -1,0 +1,221 @@
+//! Networks of timing constraints.
+
+ghost use Rattle.std.specs.Prelude.{◌≡◌, ◌<◌, ◌≤◌, ◌↔◌, ℕ, IsTrue, IsSome, IsNone, IfOk, IfErr, IfSome, OnOk, OnErr, Some, [], All, length, option_map, slice_get};
+ghost use Rattle.itv_base.specs.Range.{IsEnd};
+ghost use Rattle.event_graph.specs.Times.{IsTime};
+ghost use Rattle.event_graph.specs.Network.{Constraint, IsConstraint, IsNet, IsPushFault, cause_at, cause_count_of, earliest, latest, linear, with_constraint};
+ghost use Rattle.event_graph.specs.Satisfying.{IsFirstBroken, Satisfies};
+ghost use Rattle.event_graph.specs.Edges.{IsAlways, cause_choices, edge};
+
+use crate::cause::Cause;
+use crate::edge::Edge;
+use crate::push_fault::PushFault;
+use crate::rule::Rule;
+use itv_base::{EdgeName, EventId, MAX_CAUSES, MAX_CONSTRAINTS, MAX_EVENTS, NoMemory, Range, RuleKind};
+use std::alloc::Global;
+use std::marker::Model;
+
+/// A network: a number of events, named by numbers from 0, and the constraints on their times, numbered from 0 in the order in
+/// which they were added.
+#[derive(Debug, Drop)]
+pub struct Network {
+    events: u32,
+    rules: Vec<Rule>,
+}
+
+impl Model for Network {
+    ghost use Rattle.event_graph.specs.Network.{IsNet, Net};
+
+    ghost Value = { Net };
+
+    ghost view = { λ n. record { events = n.events; constraints = n.rules.items } };
+
+    ghost invariant = { λ n. IsNet (record { events = n.events; constraints = n.rules.items }) };
+}
+
+impl Network {
+    /// A network of a number of events, at most [`MAX_EVENTS`], without constraints.
+    pub fn new(alloc: Global, events: u32) -> Result<Network, NoMemory>
+        requires { events ≤ MAX_EVENTS }
+        ensures { IfOk result (λ net. net ≡ record { events = events; constraints = [] }) }
+    {
+        Ok(Network {
+            events,
+            rules: Vec::new(alloc),
+        })
+    }
+
+    /// The number of events.
+    pub fn events(&self) -> u32
+        ensures count { result ≡ self.now.events }
+        ensures net { IsNet self.now }
+    {
+        self.events
+    }
+
+    /// The number of constraints.
+    pub fn len(&self) -> u32
+        ensures { result ≡ length self.now.constraints }
+    {
+        self.rules.len() as u32
+    }
+
+    /// Whether there are no constraints.
+    pub fn is_empty(&self) -> bool
+        ensures { IsTrue result ↔ (self.now.constraints ≡ []) }
+    {
+        self.rules.is_empty()
+    }
+
+    /// Adds the constraint that the time of `to` less that of `from` lies in the range. The answer is `Full`, with the number of
+    /// constraints, exactly where there are [`MAX_CONSTRAINTS`]. After a refusal the network is unchanged.
+    pub fn push_linear(&mut self, alloc: Global, from: EventId, to: EventId, range: Range) -> Result<(), PushFault>
+        requires from { from.0 < self.old.events }
+        requires to { to.0 < self.old.events }
+        ensures added { OnOk result (self.new ≡ with_constraint self.old (linear from to range)) }
+        ensures room { OnOk result (length self.old.constraints < MAX_CONSTRAINTS) }
+        ensures fault { IfErr result (IsPushFault (length self.old.constraints)) }
+        ensures unchanged { OnErr result (self.new ≡ self.old) }
+    {
+        self.push(alloc, RuleKind::Lin, to, &[Cause { event: from, range }])
+    }
+
+    /// Adds the constraint that the target comes at the latest of its causes, of which there are 1 to [`MAX_CAUSES`], each delayed
+    /// within its range. The answer is `Full` as for `push_linear`. After a refusal the network is unchanged.
+    pub fn push_late(&mut self, alloc: Global, target: EventId, causes: &[Cause]) -> Result<(), PushFault>
+        requires target { target.0 < self.old.events }
+        requires causes { All (λ (c : Cause). c.event.0 < self.old.events) causes.now }
+        requires some { 1 ≤ length causes.now }
+        requires most { length causes.now ≤ MAX_CAUSES }
+        ensures added { OnOk result (self.new ≡ with_constraint self.old (latest target causes.now)) }
+        ensures room { OnOk result (length self.old.constraints < MAX_CONSTRAINTS) }
+        ensures fault { IfErr result (IsPushFault (length self.old.constraints)) }
+        ensures unchanged { OnErr result (self.new ≡ self.old) }
+    {
+        self.push(alloc, RuleKind::Late, target, causes)
+    }
+
+    /// Adds the constraint that the target comes at the earliest of its causes, of which there are 1 to [`MAX_CAUSES`], each
+    /// delayed within its range. The answer is `Full` as for `push_linear`. After a refusal the network is unchanged.
+    pub fn push_early(&mut self, alloc: Global, target: EventId, causes: &[Cause]) -> Result<(), PushFault>
+        requires target { target.0 < self.old.events }
+        requires causes { All (λ (c : Cause). c.event.0 < self.old.events) causes.now }
+        requires some { 1 ≤ length causes.now }
+        requires most { length causes.now ≤ MAX_CAUSES }
+        ensures added { OnOk result (self.new ≡ with_constraint self.old (earliest target causes.now)) }
+        ensures room { OnOk result (length self.old.constraints < MAX_CONSTRAINTS) }
+        ensures fault { IfErr result (IsPushFault (length self.old.constraints)) }
+        ensures unchanged { OnErr result (self.new ≡ self.old) }
+    {
+        self.push(alloc, RuleKind::Early, target, causes)
+    }
+
+    // Adds a constraint.
+    fn push(&mut self, alloc: Global, kind: RuleKind, target: EventId, causes: &[Cause]) -> Result<(), PushFault>
+        requires { IsConstraint self.old.events (record { kind = kind; target = target; causes = causes.now }) }
+        ensures added { OnOk result (self.new ≡ with_constraint self.old (record { kind = kind; target = target; causes = causes.now })) }
+        ensures room { OnOk result (length self.old.constraints < MAX_CONSTRAINTS) }
+        ensures fault { IfErr result (IsPushFault (length self.old.constraints)) }
+        ensures unchanged { OnErr result (self.new ≡ self.old) }
+    {
+        let count = self.rules.len();
+        if count == MAX_CONSTRAINTS as usize {
+            return Err(PushFault::Full(MAX_CONSTRAINTS));
+        }
+        let causes = Vec::from_slice(alloc, causes)?;
+        self.rules.push(Rule { kind, target, causes })?;
+        Ok(())
+    }
+
+    /// The kind of a constraint.
+    pub fn kind(&self, constraint: u32) -> RuleKind
+        requires { constraint < length self.now.constraints }
+        ensures { option_map (λ (c : Constraint). c.kind) (slice_get self.now.constraints constraint) ≡ Some result }
+    {
+        self.rules[constraint as usize].kind
+    }
+
+    /// The target of a constraint. That of a linear one is its to-event.
+    pub fn target(&self, constraint: u32) -> EventId
+        requires { constraint < length self.now.constraints }
+        ensures { option_map (λ (c : Constraint). c.target) (slice_get self.now.constraints constraint) ≡ Some result }
+    {
+        self.rules[constraint as usize].target
+    }
+
+    /// The number of causes of a latest or earliest constraint, and 0 for a linear one.
+    pub fn cause_count(&self, constraint: u32) -> u32
+        requires { constraint < length self.now.constraints }
+        ensures count { option_map cause_count_of (slice_get self.now.constraints constraint) ≡ Some result }
+        ensures each { (cause : ℕ) → cause < result → IsSome (cause_at self.now constraint cause) }
+        ensures first { IsSome (cause_at self.now constraint 0) }
+    {
+        let rule = &self.rules[constraint as usize];
+        match rule.kind {
+            RuleKind::Lin => 0,
+            RuleKind::Late | RuleKind::Early => rule.causes.len() as u32,
+        }
+    }
+
+    /// A cause of a constraint. Cause 0 of a linear one, its only cause, is its from-event with its range.
+    pub fn cause(&self, constraint: u32, cause: u32) -> Cause
+        requires { IsSome (cause_at self.now constraint cause) }
+        ensures { cause_at self.now constraint cause ≡ Some result }
+    {
+        let rule = &self.rules[constraint as usize];
+        rule.causes[cause as usize]
+    }
+
+    /// The edge of a name. There is none exactly where the constraint or the cause is not there, or the end on that side is open.
+    pub fn edge(&self, name: EdgeName) -> Option<Edge>
+        ensures edge { result ≡ edge self.now name }
+        ensures weight { IfSome result (λ e. IsEnd (Some e.weight)) }
+        ensures from { IfSome result (λ e. e.from.0 < self.now.events) }
+        ensures to { IfSome result (λ e. e.to.0 < self.now.events) }
+    {
+        let rule = self.rules.get(name.constraint as usize)?;
+        let cause = rule.causes.get(name.cause as usize)?;
+        cause.edge(rule.target, name.side)
+    }
+
+    /// Whether there is an edge of this name that all satisfying times meet by its side alone: both sides of a linear
+    /// constraint, the lower side of a latest one, the upper side of an earliest one, and both sides where there is only one cause.
+    pub fn is_always(&self, name: EdgeName) -> bool
+        ensures { IsTrue result ↔ IsAlways self.now name }
+    {
+        match self.rules.get(name.constraint as usize) {
+            None => false,
+            Some(rule) => rule.holds_always(name.side) && self.edge(name).is_some(),
+        }
+    }
+
+    /// Whether the cause choices, the product of the numbers of causes of the latest and earliest constraints, are at most this many.
+    pub fn choices_fit(&self, most: u64) -> bool
+        ensures { IsTrue result ↔ (cause_choices self.now.constraints ≤ most) }
+    {
+        let mut product: u64 = 1;
+        for rule in &self.rules {
+            match product.checked_mul(rule.choices()) {
+                Some(larger) => product = larger,
+                None => return false,
+            }
+        }
+        product <= most
+    }
+
+    /// The least number of a constraint that the times break, or none exactly where the times satisfy the network. The times are
+    /// in picoseconds, one per event.
+    pub fn broken(&self, times: &[i64]) -> Option<u32>
+        requires count { length times.now ≡ self.now.events }
+        requires times { All IsTime times.now }
+        ensures none { IsNone result ↔ Satisfies times.now self.now }
+        ensures first { IfSome result (IsFirstBroken times.now self.now) }
+    {
+        for (number, rule) in self.rules.iter().enumerate() {
+            if !rule.holds(times) {
+                return Some(number as u32);
+            }
+        }
+        None
+    }
+}

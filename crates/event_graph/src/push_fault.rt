@@ -1,0 +1,53 @@
+//! Why a constraint was not added to a network.
+
+ghost use Rattle.std.specs.Prelude.{◌≡◌};
+ghost use Rattle.event_graph.specs.declared.push_fault.PushFault.TheVariants.{NoMemory};
+
+use itv_base::NoMemory as OutOfMemory;
+use std::alloc::{AllocError, AllocFailed};
+use std::error::Error;
+use std::fmt;
+
+/// Why a constraint was not added to a network.
+#[derive(Clone, Copy, Debug, PartialEq, Eq)]
+pub enum PushFault {
+    /// The network has as many constraints as it may, which is this number.
+    Full(u32),
+    /// Memory was wanted and not found.
+    NoMemory,
+}
+
+impl fmt::Display for PushFault {
+    fn fmt<W: fmt::Write>(&self, f: &mut fmt::Formatter<W>) -> fmt::Result {
+        match self {
+            PushFault::Full(count) => write!(f, "the network has {count} constraints already"),
+            PushFault::NoMemory => write!(f, "out of memory"),
+        }
+    }
+}
+
+impl Error for PushFault {}
+
+impl From<AllocError> for PushFault {
+    ghost from_gives = { λ _ e. e ≡ NoMemory };
+
+    fn from(_: AllocError) -> PushFault {
+        PushFault::NoMemory
+    }
+}
+
+impl<T: Drop> From<AllocFailed<T>> for PushFault {
+    ghost from_gives = { λ _ e. e ≡ NoMemory };
+
+    fn from(_: AllocFailed<T>) -> PushFault {
+        PushFault::NoMemory
+    }
+}
+
+impl From<OutOfMemory> for PushFault {
+    ghost from_gives = { λ _ e. e ≡ NoMemory };
+
+    fn from(_: OutOfMemory) -> PushFault {
+        PushFault::NoMemory
+    }
+}

@@ -1,0 +1,78 @@
+//! A constraint of a network, as it is kept.
+
+ghost use Rattle.std.specs.Prelude.{◌≡◌, ◌<◌, ◌≤◌, ◌↔◌, IsTrue, length, All};
+ghost use Rattle.event_graph.specs.Times.{IsTime};
+
+use crate::cause::Cause;
+use itv_base::{EventId, RuleKind, Side};
+use std::marker::Model;
+
+/// A constraint: its kind, its target and its causes. A linear one has its from-event as its one cause.
+#[derive(Debug, Drop)]
+pub struct Rule {
+    pub kind: RuleKind,
+    pub target: EventId,
+    pub causes: Vec<Cause>,
+}
+
+impl Model for Rule {
+    ghost use Rattle.event_graph.specs.Network.{Constraint};
+
+    ghost Value = { Constraint };
+
+    ghost view = { λ r. record { kind = r.kind; target = r.target; causes = r.causes.items } };
+}
+
+impl Rule {
+    ghost use Rattle.event_graph.specs.Network.{IsCauseCount, IsConstraint};
+    ghost use Rattle.event_graph.specs.Satisfying.{Holds};
+    ghost use Rattle.event_graph.specs.Edges.{choices_of, holds_always};
+
+    /// Whether times meet the constraint.
+    pub fn holds(&self, times: &[i64]) -> bool
+        requires constraint { IsConstraint (length times.now) self.now }
+        requires times { All IsTime times.now }
+        ensures { IsTrue result ↔ Holds times.now self.now }
+    {
+        let target = self.target;
+        let causes = self.causes.as_slice();
+        match self.kind {
+            RuleKind::Lin => {
+                causes.iter().all(|cause| cause.is_before_target(times, target))
+                    && causes.iter().all(|cause| cause.reaches_target(times, target))
+            }
+            RuleKind::Late => {
+                causes.iter().all(|cause| cause.is_before_target(times, target))
+                    && causes.iter().any(|cause| cause.reaches_target(times, target))
+            }
+            RuleKind::Early => {
+                causes.iter().all(|cause| cause.reaches_target(times, target))
+                    && causes.iter().any(|cause| cause.is_before_target(times, target))
+            }
+        }
+    }
+
+    /// Whether satisfying times meet the edges of every cause on a side.
+    pub fn holds_always(&self, side: Side) -> bool
+        ensures { result ≡ holds_always self.now.kind (length self.now.causes) side }
+    {
+        let is_single = self.causes.len() == 1;
+        match self.kind {
+            RuleKind::Lin => true,
+            RuleKind::Late => side == Side::Lower || is_single,
+            RuleKind::Early => side == Side::Upper || is_single,
+        }
+    }
+
+    /// The number of causes to choose from: that of a latest or earliest constraint, else 1.
+    pub fn choices(&self) -> u64
+        requires { IsCauseCount self.now.kind (length self.now.causes) }
+        ensures value { result ≡ choices_of self.now.kind (length self.now.causes) }
+        ensures some { 1 ≤ result }
+    {
+        match self.kind {
+            RuleKind::Lin => 1,
+            RuleKind::Late | RuleKind::Early => self.causes.len() as u64,
+        }
+    }
+}
