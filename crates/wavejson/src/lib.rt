@@ -1,13 +1,17 @@
-// A library with one function.
+//! Reads the tree of a WaveJSON sheet: the lanes of its `signal`, groups flattened, and the texts of its `edge`.
+//! The contract: `read_diagram` gives `diagram_of` of specs/Drawing.antt, which is the drawing of the tree or its first fault.
+//! No fault yields to want of memory, which is answered only for a tree that has a drawing.
 #![tactic(auto)]
 
-ghost use Rattle.std.specs.Prelude.{◌≡◌};
-ghost use Rattle.wavejson.specs.Echo.{echo_of};
+mod diagram;
+mod edges;
+mod fault;
+mod lane_text;
+mod lanes;
+#[cfg(test)]
+mod tests;
 
-// The `ensures` clause is the contract: what `echo` returns is `echo_of` of its argument, a definition
-// in `specs/Echo.antt`, which a caller's clause can cite too.
-pub fn echo(x: usize) -> usize
-    ensures { result ≡ echo_of x }
-{
-    x
-}
+pub use diagram::{Diagram, read_diagram};
+pub use fault::DiagramFault;
+pub use lane_text::LaneText;
+pub use lanes::Lanes;

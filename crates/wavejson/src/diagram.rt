@@ -1,0 +1,80 @@
+//! A diagram, and how it is read from a tree.
+
+ghost use Rattle.std.specs.Prelude.{◌≡◌, ◌↔◌, ℕ, Some, IsNone, IsSome, IsSomeAnd, IsErrOf, position, codes};
+ghost use Rattle.serde_json.specs.Find.{get, as_object};
+ghost use Rattle.serde_json.specs.View.{view};
+ghost use Rattle.wavejson.specs.Answer.{Gives};
+ghost use Rattle.wavejson.specs.Drawing.{diagram_of, signal_of, edges_of, is_no_string};
+
+use crate::edges::{edge_list, read_texts};
+use crate::fault::DiagramFault;
+use crate::lanes::{Lanes, read_lanes};
+use itv_base::Texts;
+use serde_json::Value;
+use std::alloc::Global;
+use std::marker::Model;
+
+/// The lanes and the edge texts of a tree. Contracts see a drawing.
+#[derive(Debug, Drop)]
+pub struct Diagram {
+    lanes: Lanes,
+    edges: Texts,
+}
+
+impl Model for Diagram {
+    ghost use Rattle.wavejson.specs.Drawing.{Drawing};
+
+    ghost Value = { Drawing };
+
+    ghost view = { λ d. record { lanes = d.lanes; edges = d.edges } };
+}
+
+impl Diagram {
+    /// The lanes in order, groups flattened.
+    pub fn lanes(&self) -> &Lanes
+        ensures { result.now ≡ self.now.lanes }
+    {
+        &self.lanes
+    }
+
+    /// The texts of `edge` in order, as they are written. A missing `edge` gives none.
+    pub fn edges(&self) -> &Texts
+        ensures { result.now ≡ self.now.edges }
+    {
+        &self.edges
+    }
+}
+
+/// The diagram of a tree, or the first fault of the tree in the order of [`DiagramFault`]. Faults are found before memory is
+/// taken, so `NoMemory` is answered only for a tree that has a drawing; then nothing was made.
+///
+/// Lanes are the objects in `signal`. An array there is a group, whose elements are read the same way at any depth; all else
+/// in it is passed over, a group's title too. Of a lane only `name`, `wave` and `node` are read, of the tree only `signal` and
+/// `edge`.
+pub fn read_diagram(alloc: Global, tree: &Value) -> Result<Diagram, DiagramFault>
+    ensures answer { Gives result (diagram_of (view tree.now)) }
+
+    // When each fault comes, in the order in which they are told.
+    ensures not_object { IsErrOf result DiagramFault.NotObject ↔ IsNone (as_object (view tree.now)) }
+    ensures no_signal { IsErrOf result DiagramFault.NoSignal
+        ↔ (IsSome (as_object (view tree.now)) × IsNone (signal_of (view tree.now))) }
+    ensures edges_not_list { IsErrOf result DiagramFault.EdgesNotList
+        ↔ (IsSome (signal_of (view tree.now)) × IsSome (get (codes "edge") (view tree.now))
+        × IsNone (edges_of (view tree.now))) }
+    ensures edge_not_text { (place : ℕ) → (IsErrOf result (DiagramFault.EdgeNotText place)
+        ↔ (IsSome (signal_of (view tree.now))
+        × IsSomeAnd (edges_of (view tree.now)) (λ edges. position is_no_string edges ≡ Some place))) }
+{
+    if !tree.is_object() {
+        return Err(DiagramFault::NotObject);
+    }
+    let signal = tree
+        .get("signal")
+        .and_then(Value::as_array)
+        .ok_or(DiagramFault::NoSignal)?;
+    let edges = edge_list(tree)?;
+    Ok(Diagram {
+        lanes: read_lanes(alloc, signal)?,
+        edges: read_texts(alloc, edges)?,
+    })
+}

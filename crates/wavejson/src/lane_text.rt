@@ -1,0 +1,49 @@
+//! The texts of a lane.
+
+ghost use Rattle.std.specs.Prelude.{◌≡◌, option_and_then, option_map, IfOk};
+ghost use Rattle.serde_json.specs.View.{view};
+ghost use Rattle.wavejson.specs.Drawing.{text_at, unless_empty, lane_of};
+
+use itv_base::{NoMemory, Text};
+use serde_json::Value;
+use std::alloc::Global;
+
+/// What a lane says of itself. A key that is missing or holds no string gives `None`.
+#[derive(Debug, Drop)]
+pub struct LaneText {
+    /// The name of the lane, which is never empty.
+    pub name: Option<Text>,
+    /// The drawn wave, one character for each brick.
+    pub wave: Option<Text>,
+    /// The marks, one character for each brick.
+    pub node: Option<Text>,
+}
+
+/// The lane of an object. Every other key of it is passed over.
+pub(crate) fn read_lane(alloc: Global, object: &Value) -> Result<LaneText, NoMemory>
+    ensures { IfOk result (λ lane. lane ≡ lane_of (view object.now)) }
+{
+    Ok(LaneText {
+        name: owned(
+            alloc,
+            text_at(object, "name").filter(|name| !name.is_empty()),
+        )?,
+        wave: owned(alloc, text_at(object, "wave"))?,
+        node: owned(alloc, text_at(object, "node"))?,
+    })
+}
+
+fn text_at<'v>(object: &'v Value, key: &str) -> Option<&'v str>
+    ensures { option_map (λ text. text.now) result ≡ text_at key.now (view object.now) }
+{
+    object.get(key).and_then(Value::as_str)
+}
+
+fn owned(alloc: Global, text: Option<&str>) -> Result<Option<Text>, NoMemory>
+    ensures { IfOk result (λ copy. copy ≡ option_map (λ t. t.now) text.entry) }
+{
+    match text {
+        Some(text) => Ok(Some(Text::from_text(alloc, text)?)),
+        None => Ok(None),
+    }
+}
