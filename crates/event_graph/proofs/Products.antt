@@ -1,6 +1,7 @@
 -- Products of numbers of causes.
-use Rattle.std.proofs.Common.{◌≡◌, ℕ, ◌+◌, ◌*◌, ◌<◌, ◌≤◌, List, [], ◌∷◌, All, length, get_or, drop, sym, ap, ◌∙◌, arith, add-one, drop-cons}
+use Rattle.std.proofs.Common.{◌≡◌, ℕ, ◌+◌, ◌*◌, ◌^◌, ◌<◌, ◌≤◌, List, [], ◌∷◌, All, length, get_or, drop, sym, ap, ◌∙◌, arith}
 use Rattle.std.proofs.Math.Nat.{mul_assoc, mul-le-mul_left}
+use Rattle.std.proofs.lemmas.List.{drop_more}
 use Rattle.std.proofs.lemmas.List.Elements.{All-head, All-tail, All-drop}
 use Rattle.itv_base.specs.declared.names.RuleKind.{RuleKind}
 use Rattle.itv_base.specs.declared.names.RuleKind.TheVariants.{Lin, Late, Early}
@@ -25,7 +26,10 @@ pub product_more : (cs : List Constraint) (i : ℕ) (c : Constraint) (product fa
     → factor ≡ choices_of c.kind (length c.causes) → product * cause_choices (drop i cs) ≡ cause_choices cs
     → (product * factor) * cause_choices (drop (i + 1) cs) ≡ cause_choices cs
 product_more cs i c product factor within here is_factor whole =
-    let first : drop i cs ≡ get_or cs i c ∷ drop (i + 1) cs = rw (add-one, drop-cons cs i c) in ?
+    let own : choices_of (get_or cs i c).kind (length (get_or cs i c).causes) ≡ factor = sym (is_factor ∙ ap (λ (k : Constraint). choices_of k.kind (length k.causes)) here) in
+    let step : cause_choices (drop i cs) ≡ factor * cause_choices (drop (i + 1) cs) =
+    ap cause_choices (drop_more cs i c within) ∙ ap (λ n. n * cause_choices (drop (i + 1) cs)) own in
+    mul_assoc product factor (cause_choices (drop (i + 1) cs)) ∙ (sym (ap (λ n. product * n) step) ∙ whole)
 
 -- a product of the front that passes a number carries the whole product past it
 pub product_passes : (events most : ℕ) (cs : List Constraint) (i product : ℕ) → All (IsConstraint events) cs
@@ -33,3 +37,7 @@ pub product_passes : (events most : ℕ) (cs : List Constraint) (i product : ℕ
 product_passes events most cs i product all whole past =
     let rest : 1 ≤ cause_choices (drop i cs) = cause_choices-some events (drop i cs) (All-drop (IsConstraint events) i cs all) in
     rw (← whole) (omega (arith, mul-le-mul_left product rest))
+
+-- what does not fit is greater than what does
+pub not_below : (small large : ℕ) → small < 2 ^ 64 → (large < 2 ^ 64 → ⊥) → small < large
+not_below small large fits over = grind arith

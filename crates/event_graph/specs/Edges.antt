@@ -1,5 +1,5 @@
 -- The edges of a network.
-use Rattle.std.specs.Prelude.{◌≡◌, ◌==◌, ◌*◌, ℕ, ℤ, neg_ℤ, ◌≤ℤ◌, Bool, true, IsTrue, List, [], ◌∷◌, length, Option, IsSome, IsSomeAnd, option_map, option_and_then, slice_get}
+use Rattle.std.specs.Prelude.{◌==◌, ◌*◌, ℕ, ℤ, neg_ℤ, ◌≤ℤ◌, Bool, true, IsTrue, List, [], ◌∷◌, length, Option, IsSome, IsSomeAnd, option_map, option_and_then, slice_get}
 use Rattle.itv_base.specs.declared.names.EdgeName.{EdgeName}
 use Rattle.itv_base.specs.declared.names.EventId.{EventId}
 use Rattle.itv_base.specs.declared.names.RuleKind.{RuleKind}

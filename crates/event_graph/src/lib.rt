@@ -14,4 +14,3 @@ pub use cause::Cause;
 pub use edge::Edge;
 pub use network::Network;
 pub use push_fault::PushFault;
-

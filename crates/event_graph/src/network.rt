@@ -11,7 +11,9 @@ use crate::cause::Cause;
 use crate::edge::Edge;
 use crate::push_fault::PushFault;
 use crate::rule::Rule;
-use itv_base::{EdgeName, EventId, MAX_CAUSES, MAX_CONSTRAINTS, MAX_EVENTS, NoMemory, Range, RuleKind};
+use itv_base::{
+    EdgeName, EventId, MAX_CAUSES, MAX_CONSTRAINTS, MAX_EVENTS, NoMemory, Range, RuleKind,
+};
 use std::alloc::Global;
 use std::marker::Model;
 
@@ -69,7 +71,13 @@ impl Network {
 
     /// Adds the constraint that the time of `to` less that of `from` lies in the range. The answer is `Full`, with the number of
     /// constraints, exactly where there are [`MAX_CONSTRAINTS`]. After a refusal the network is unchanged.
-    pub fn push_linear(&mut self, alloc: Global, from: EventId, to: EventId, range: Range) -> Result<(), PushFault>
+    pub fn push_linear(
+        &mut self,
+        alloc: Global,
+        from: EventId,
+        to: EventId,
+        range: Range,
+    ) -> Result<(), PushFault>
         requires from { from.0 < self.old.events }
         requires to { to.0 < self.old.events }
         ensures added { OnOk result (self.new ≡ with_constraint self.old (linear from to range)) }
@@ -82,7 +90,12 @@ impl Network {
 
     /// Adds the constraint that the target comes at the latest of its causes, of which there are 1 to [`MAX_CAUSES`], each delayed
     /// within its range. The answer is `Full` as for `push_linear`. After a refusal the network is unchanged.
-    pub fn push_late(&mut self, alloc: Global, target: EventId, causes: &[Cause]) -> Result<(), PushFault>
+    pub fn push_late(
+        &mut self,
+        alloc: Global,
+        target: EventId,
+        causes: &[Cause],
+    ) -> Result<(), PushFault>
         requires target { target.0 < self.old.events }
         requires causes { All (λ (c : Cause). c.event.0 < self.old.events) causes.now }
         requires some { 1 ≤ length causes.now }
@@ -97,7 +110,12 @@ impl Network {
 
     /// Adds the constraint that the target comes at the earliest of its causes, of which there are 1 to [`MAX_CAUSES`], each
     /// delayed within its range. The answer is `Full` as for `push_linear`. After a refusal the network is unchanged.
-    pub fn push_early(&mut self, alloc: Global, target: EventId, causes: &[Cause]) -> Result<(), PushFault>
+    pub fn push_early(
+        &mut self,
+        alloc: Global,
+        target: EventId,
+        causes: &[Cause],
+    ) -> Result<(), PushFault>
         requires target { target.0 < self.old.events }
         requires causes { All (λ (c : Cause). c.event.0 < self.old.events) causes.now }
         requires some { 1 ≤ length causes.now }
@@ -111,7 +129,13 @@ impl Network {
     }
 
     // Adds a constraint.
-    fn push(&mut self, alloc: Global, kind: RuleKind, target: EventId, causes: &[Cause]) -> Result<(), PushFault>
+    fn push(
+        &mut self,
+        alloc: Global,
+        kind: RuleKind,
+        target: EventId,
+        causes: &[Cause],
+    ) -> Result<(), PushFault>
         requires { IsConstraint self.old.events (record { kind = kind; target = target; causes = causes.now }) }
         ensures added { OnOk result (self.new ≡ with_constraint self.old (record { kind = kind; target = target; causes = causes.now })) }
         ensures room { OnOk result (length self.old.constraints < MAX_CONSTRAINTS) }
@@ -123,7 +147,11 @@ impl Network {
             return Err(PushFault::Full(MAX_CONSTRAINTS));
         }
         let causes = Vec::from_slice(alloc, causes)?;
-        self.rules.push(Rule { kind, target, causes })?;
+        self.rules.push(Rule {
+            kind,
+            target,
+            causes,
+        })?;
         Ok(())
     }
 
