@@ -1,10 +1,10 @@
 //! The edge texts of a diagram.
 
-ghost use Rattle.std.specs.Prelude.{◌≡◌, Ok, Err, map, codes, MatchResult, IfOk};
+ghost use Rattle.std.specs.Prelude.{◌≡◌, Ok, Err, map, position, codes, MatchResult, IfOk};
 ghost use Rattle.std.specs.List.{filter_map};
 ghost use Rattle.serde_json.specs.Find.{get, as_str};
 ghost use Rattle.serde_json.specs.View.{view};
-ghost use Rattle.wavejson.specs.Drawing.{edge_texts};
+ghost use Rattle.wavejson.specs.Drawing.{edge_texts, is_no_string};
 
 use crate::fault::DiagramFault;
 use itv_base::{NoMemory, Texts};
@@ -21,10 +21,16 @@ pub(crate) fn edge_list(tree: &Value) -> Result<&[Value], DiagramFault>
         return Ok(&[]);
     };
     let list = edge.as_array().ok_or(DiagramFault::EdgesNotList)?;
-    match list.iter().position(|element| !element.is_string()) {
+    match first_no_string(list) {
         Some(place) => Err(DiagramFault::EdgeNotText(place as u64)),
         None => Ok(list),
     }
+}
+
+fn first_no_string(list: &[Value]) -> Option<usize>
+    ensures { result ≡ position (λ v. is_no_string (view v)) list.now }
+{
+    list.iter().position(|element| !element.is_string())
 }
 
 /// The texts of a list of strings. What is no string is passed over.
@@ -32,8 +38,10 @@ pub(crate) fn read_texts(alloc: Global, list: &[Value]) -> Result<Texts, NoMemor
     ensures { IfOk result (λ texts. texts ≡ filter_map as_str (map view list.now)) }
 {
     let mut texts = Texts::new(alloc)?;
-    for text in list.iter().filter_map(Value::as_str) {
-        texts.push(alloc, text)?;
+    for element in list {
+        if let Some(text) = element.as_str() {
+            texts.push(alloc, text)?;
+        }
     }
     Ok(texts)
 }

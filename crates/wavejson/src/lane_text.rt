@@ -1,6 +1,6 @@
 //! The texts of a lane.
 
-ghost use Rattle.std.specs.Prelude.{◌≡◌, option_and_then, option_map, IfOk};
+ghost use Rattle.std.specs.Prelude.{◌≡◌, option_and_then, option_map, codes, IfOk};
 ghost use Rattle.serde_json.specs.View.{view};
 ghost use Rattle.wavejson.specs.Drawing.{text_at, unless_empty, lane_of};
 
@@ -24,13 +24,17 @@ pub(crate) fn read_lane(alloc: Global, object: &Value) -> Result<LaneText, NoMem
     ensures { IfOk result (λ lane. lane ≡ lane_of (view object.now)) }
 {
     Ok(LaneText {
-        name: owned(
-            alloc,
-            text_at(object, "name").filter(|name| !name.is_empty()),
-        )?,
+        name: owned(alloc, name_of(object))?,
         wave: owned(alloc, text_at(object, "wave"))?,
         node: owned(alloc, text_at(object, "node"))?,
     })
+}
+
+fn name_of(object: &Value) -> Option<&str>
+    ensures { option_map (λ name. name.now) result
+        ≡ option_and_then unless_empty (text_at (codes "name") (view object.now)) }
+{
+    text_at(object, "name").filter(|name| !name.is_empty())
 }
 
 fn text_at<'v>(object: &'v Value, key: &str) -> Option<&'v str>
