@@ -1,0 +1,3 @@
+mod PutBack
+mod TakenBack
+mod Storing

@@ -1,5 +1,5 @@
 -- What a trail's fields mean, and what holds of them.
-use Rattle.std.specs.Prelude.{ℕ, ◌*◌, ◌≤◌, length, reverse, vec_capacity}
+use Rattle.std.specs.Prelude.{◌*◌, ◌^◌, ◌<◌, ◌≤◌, length, reverse, vec_capacity}
 use Rattle.trail.specs.declared.trail.Trail.TheInside.{Inside}
 use Rattle.trail.specs.Graphs.{Graphs}
 use Rattle.trail.specs.Undo.{Kept, graph_of, graphs_at, IsKept}
@@ -17,6 +17,7 @@ graphs_in t = record {
 
 -- There are no more edges and no more marks than levels, there is room for all that may come, and the levels can be taken back.
 pub record IsStored (t : Inside) : Type 0 where
+  pub few_levels : t.levels < 2 ^ 32
   pub few_edges : length t.edges.items ≤ t.levels
   pub few_marks : length t.marks.items ≤ t.levels
   pub edge_room : t.levels ≤ vec_capacity t.edges

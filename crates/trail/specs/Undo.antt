@@ -1,10 +1,10 @@
 -- How a stack of graphs is kept: one graph, the slots that were overwritten, and a mark for each level.
-use Rattle.std.specs.Prelude.{◌≡◌, ℕ, suc, ◌+◌, ◌<◌, ◌≤◌, List, [], ◌∷◌, length, take, drop, map, All, Contains, Some, slice_get, slice_set, count_by, nat_lt}
+use Rattle.std.specs.Prelude.{◌≡◌, ℕ, suc, ◌+◌, ◌<◌, ◌≤◌, List, [], ◌∷◌, length, take, drop, map, All, Contains, slice_index_or, slice_set, count_by, nat_lt}
 use Rattle.itv_base.specs.declared.names.EdgeName.{EdgeName}
 use Rattle.trail.specs.declared.undo.Slot.{Slot}
 use Rattle.trail.specs.declared.undo.Saved.{Saved}
 use Rattle.trail.specs.declared.undo.Mark.{Mark}
-use Rattle.trail.specs.Graphs.{Graph, Graphs}
+use Rattle.trail.specs.Graphs.{Graph}
 
 -- the edges and the slots as they are, and the slots that were saved, the oldest first
 pub record Kept : Type 0 where
@@ -41,7 +41,7 @@ pub record IsLogged (k : Kept) (m : Mark) (level : ℕ) : Type 0 where
   pub saved_within : m.saved ≤ length k.saved
   pub present : All (λ e. e.slot < length k.slots) (drop m.saved k.saved)
   pub not_later : All (λ s. s.level ≤ level) k.slots
-  pub logged : (i : ℕ) (s : Slot) → slice_get k.slots i ≡ Some s → s.level ≡ level → Contains (map (λ e. e.slot) (drop m.saved k.saved)) i
+  pub logged : (i : ℕ) (d : Slot) → i < length k.slots → (slice_index_or k.slots i d).level ≡ level → Contains (map (λ e. e.slot) (drop m.saved k.saved)) i
   pub once : length (drop m.saved k.saved) + count_by (λ s. nat_lt s.level level) k.slots ≤ length k.slots
 
 -- what is kept can be taken back mark by mark, the last mark first

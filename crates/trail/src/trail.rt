@@ -44,12 +44,10 @@ impl Trail {
     {
         let slot_count = slots as usize;
         let level_count = levels as usize;
-        let mut unset = Vec::with_capacity(alloc, slot_count)?;
-        unset.resize(slot_count, UNSET)?;
         Ok(Trail {
             levels,
             edges: Vec::with_capacity(alloc, level_count)?,
-            slots: unset,
+            slots: vec![in alloc; UNSET; slot_count]?,
             saved: Vec::with_capacity(alloc, slot_count * level_count)?,
             marks: Vec::with_capacity(alloc, level_count)?,
         })
