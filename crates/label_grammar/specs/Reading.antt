@@ -2,7 +2,7 @@
 -- `reading_inverts_spelling`.
 use Rattle.std.specs.Prelude.{◌≡◌, ℕ, ℤ, pos, Bool, true, false, not, ◌&&◌, ◌||◌, ◌==◌, nat_lt, nat_le, if◌then◌else◌, List, [], ◌∷◌, length, drop, slice_index, codes, Option, Some, None, neg_ℤ}
 use Rattle.std.specs.Option.{option_and_then}
-use Rattle.std.specs.List.{prefix_len, take_while}
+use Rattle.std.specs.List.{prefix_len, take_while, list_all}
 use Rattle.std.specs.Char.{is_ascii_digit}
 use Rattle.std.specs.Str.Parse.{digits_value}
 use Rattle.itv_base.specs.Range.{Ends}
@@ -30,9 +30,9 @@ after (Some rest) f other = f rest
 abbrev pub after_while : (ℕ → Bool) → List ℕ → List ℕ
 after_while p text = drop (prefix_len p text) text
 
--- digits, with no zero before another one
+-- one digit or more, with no zero before another one
 abbrev pub is_numeral : List ℕ → Bool
-is_numeral digits = nat_lt 0 (length digits) && (not (slice_index digits 0 == 48) || length digits == 1)
+is_numeral text = list_all is_ascii_digit text && (nat_lt 0 (length text) && (not (slice_index text 0 == 48) || length text == 1))
 
 abbrev pub value_of : List ℕ → ℕ
 value_of digits = digits_value 10 digits

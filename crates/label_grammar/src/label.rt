@@ -1,9 +1,9 @@
 //! Timing labels.
 
 ghost use Rattle.std.specs.Prelude.{◌≡◌};
-ghost use Rattle.label_grammar.specs.declared.label.LabelFault.TheVariants.{TooWide, EmptyRange};
+ghost use Rattle.label_grammar.specs.Label.{kind_text};
 
-use itv_base::{Range, RangeFault};
+use itv_base::Range;
 
 /// What a label says of its edge.
 #[derive(Clone, Copy, Debug, PartialEq, Eq)]
@@ -18,6 +18,21 @@ pub enum Kind {
     Req,
     /// The separation is asked for.
     Ask,
+}
+
+impl Kind {
+    /// What a label of this kind begins with.
+    pub(crate) fn word(self) -> &'static str
+        ensures { result.now ≡ kind_text self }
+    {
+        match self {
+            Kind::Lin => "@lin",
+            Kind::Late => "@late",
+            Kind::Early => "@early",
+            Kind::Req => "@req",
+            Kind::Ask => "@ask",
+        }
+    }
 }
 
 /// A timing label. Its texts are slices of the text that it was read from.

@@ -5,9 +5,12 @@
 
 mod characters;
 mod edge;
+mod form;
 mod label;
 mod laws;
+mod parts;
 mod reading;
+mod scan;
 mod wire;
 mod writing;
 

@@ -1,0 +1,28 @@
+-- What is read of a label before its ends are looked at.
+use Rattle.std.specs.Prelude.{ℕ, ℤ, pos, negsuc, neg_ℤ, min, Bool, true, false, List, Option, option_map}
+use Rattle.std.specs.Option.{option_copied}
+use Rattle.itv_base.specs.Range.{Ends}
+use Rattle.label_grammar.specs.declared.form.Number.{Number}
+use Rattle.label_grammar.specs.declared.form.EndPair.{EndPair}
+use Rattle.label_grammar.specs.declared.form.Form.{Form}
+use Rattle.label_grammar.specs.Label.{LooseLabel}
+use Rattle.label_grammar.specs.Reading.{value_of}
+
+-- a number with a sign
+abbrev pub signed : Bool → ℕ → ℤ
+signed false n = pos n
+signed true n = neg_ℤ (pos n)
+
+abbrev pub number_value : Number → ℤ
+number_value n = signed n.is_negative (value_of n.digits.now)
+
+abbrev pub ends_view : EndPair → Ends
+ends_view e = record { low = option_map number_value e.low; high = option_map number_value e.high }
+
+abbrev pub form_view : Form → LooseLabel
+form_view f = record { kind = f.kind; shift = f.shift; tag = option_copied f.tag; ends = option_map ends_view f.ends; note = option_copied f.note }
+
+-- a number, or the next one beyond the limit on its side where it is further out
+abbrev pub capped : ℤ → ℤ
+capped (pos n) = pos (min n 1000000000001)
+capped (negsuc n) = negsuc (min n 1000000000000)

@@ -1,0 +1,31 @@
+//! What is read of a label before its ends are looked at.
+
+ghost use Rattle.std.specs.Prelude.{IsTrue};
+ghost use Rattle.label_grammar.specs.Reading.{is_numeral};
+
+use crate::label::Kind;
+
+/// A whole number of any size, as it is written.
+#[derive(Clone, Copy)]
+pub struct Number<'a> {
+    pub is_negative: bool,
+    pub digits: &'a str,
+    ghost is_written: { IsTrue (is_numeral digits.now) },
+}
+
+/// The two ends of a label, `None` being an open one.
+#[derive(Clone, Copy)]
+pub struct EndPair<'a> {
+    pub low: Option<Number<'a>>,
+    pub high: Option<Number<'a>>,
+}
+
+/// A label as it is written.
+#[derive(Clone, Copy)]
+pub struct Form<'a> {
+    pub kind: Kind,
+    pub shift: u32,
+    pub tag: Option<&'a str>,
+    pub ends: Option<EndPair<'a>>,
+    pub note: Option<&'a str>,
+}
