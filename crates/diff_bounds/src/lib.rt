@@ -1,13 +1,12 @@
-// A library with one function.
+//! Bounds on one graph: the greatest separations of all events from a source, over the times that satisfy a network.
+//! The contract of the crate: after `start`, `upper` is the greatest separation of an event from the source, or none where it is
+//! unbounded, and the times of `times_into` satisfy, attain all of them at once, and can be raised by the ray of `ray_into`.
 #![tactic(auto)]
 
-ghost use Rattle.std.specs.Prelude.{◌≡◌};
-ghost use Rattle.diff_bounds.specs.Echo.{echo_of};
+mod always_edges;
+mod bounds;
+mod fit;
+mod labels;
 
-// The `ensures` clause is the contract: what `echo` returns is `echo_of` of its argument, a definition
-// in `specs/Echo.antt`, which a caller's clause can cite too.
-pub fn echo(x: usize) -> usize
-    ensures { result ≡ echo_of x }
-{
-    x
-}
+pub use bounds::Bounds;
+pub use fit::Fit;

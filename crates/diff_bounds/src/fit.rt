@@ -1,0 +1,10 @@
+//! Whether edges allow times.
+
+/// Whether the edges of a graph allow times.
+#[derive(Clone, Copy, Debug, PartialEq, Eq)]
+pub enum Fit {
+    /// Some times meet all of the edges.
+    Fits,
+    /// No times meet them: they have a closed walk of negative sum.
+    Loop,
+}
