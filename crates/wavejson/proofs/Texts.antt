@@ -1,13 +1,12 @@
 -- The texts of a list of values.
-use Rattle.std.proofs.Common.{◌≡◌, ℕ, ◌+◌, ◌<◌, ◌≤◌, Bool, true, false, not, cond, nat_lt, List, [], ◌∷◌, ◌++◌, length, map, position, Option, Some, None, Result, Ok, Err, option_map, ok_or, is_some, refl, sym, ◌∙◌, ap}
+use Rattle.std.proofs.Common.{◌≡◌, ℕ, ◌+◌, Bool, not, cond, List, [], ◌∷◌, map, position, Option, Some, None, Ok, Err, refl, ap}
 use Rattle.std.specs.List.{position_or_len, filter_map}
 use Rattle.std.proofs.lemmas.List.{length-map}
-use Rattle.serde_json.specs.Data.{Data, Items}
+use Rattle.serde_json.specs.Data.{Data}
 use Rattle.serde_json.specs.Find.{as_str, as_array}
 use Rattle.serde_json.specs.View.{view, items_view}
 use Rattle.serde_json.specs.declared.value.Value.{Value}
-use Rattle.wavejson.specs.declared.fault.DiagramFault.{DiagramFault}
-use Rattle.wavejson.specs.declared.fault.DiagramFault.TheVariants.{EdgesNotList, EdgeNotText}
+use Rattle.wavejson.specs.declared.fault.DiagramFault.TheVariants.{EdgeNotText}
 use Rattle.wavejson.specs.Drawing.{elements, is_no_string, texts_of, edge_texts}
 
 pub elements-items_view : (vs : List Value) → elements (items_view vs) ≡ map view vs

@@ -20,7 +20,9 @@ pub(crate) fn edge_list(tree: &Value) -> Result<&[Value], DiagramFault>
     let Some(edge) = tree.get("edge") else {
         return Ok(&[]);
     };
-    let list = edge.as_array().ok_or(DiagramFault::EdgesNotList)?;
+    let Some(list) = edge.as_array() else {
+        return Err(DiagramFault::EdgesNotList);
+    };
     match first_no_string(list) {
         Some(place) => Err(DiagramFault::EdgeNotText(place as u64)),
         None => Ok(list),
