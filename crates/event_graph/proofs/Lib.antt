@@ -1,1 +1,6 @@
 pub mod Products
+pub mod Shifting
+pub mod Rays
+pub mod Reversing
+pub mod EdgesMet
+pub mod ByEdges

@@ -5,7 +5,7 @@
 
 mod cause;
 mod edge;
-// LAWS
+pub mod laws;
 mod network;
 mod push_fault;
 mod rule;
