@@ -1,0 +1,21 @@
+-- What a lone sheet draws, as the code keeps it.
+use Rattle.std.specs.Prelude.{◌≡◌, ◌<◌, ℕ, List, length, map, All, codes}
+use Rattle.event_graph.specs.Network.{Net}
+use Rattle.itv_cli.specs.declared.row.Row.{Row}
+use Rattle.itv_cli.specs.Report.{Name}
+use Rattle.itv_cli.specs.Right.{Drawn}
+
+abbrev pub name_of_byte : ℕ → Name
+name_of_byte mark = record { part = codes "U"; mark = mark; cycle = 0 }
+
+abbrev pub drawn_by : Net → List ℕ → List Row → Drawn
+drawn_by net marks rows = record { net = net; names = map name_of_byte marks; rows = rows }
+
+-- the row is between events of the network
+abbrev pub IsRowOf : Net → Row → Type 0
+IsRowOf net row = (row.from.0 < net.events) × (row.to.0 < net.events)
+
+-- each event has a name, and the rows are between events
+pub record IsDrawn (drawn : Drawn) : Type 0 where
+  pub names : length drawn.names ≡ drawn.net.events
+  pub rows : All (IsRowOf drawn.net) drawn.rows

@@ -1,0 +1,9 @@
+pub mod Status
+pub mod Report
+pub mod Name
+pub mod Right
+pub mod Lone
+pub mod Refusal
+pub mod Design
+pub mod Whole
+pub mod Drawing

@@ -1,0 +1,12 @@
+//! The program's work: from the words, the files and a sink to the bytes of a report.
+//! The modules read a design, search its network and write what was found.
+//! The one contract is that of `run`: where it ends with a report, the report is right.
+#![tactic(auto)]
+
+mod lines;
+mod outcome;
+mod refusal;
+mod row;
+mod words;
+
+pub use outcome::Outcome;
