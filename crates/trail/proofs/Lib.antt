@@ -1,3 +1,3 @@
-mod PutBack
-mod TakenBack
-mod Storing
+mod SlotsBefore
+mod StateAt
+mod Steps

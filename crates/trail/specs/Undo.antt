@@ -1,50 +1,50 @@
--- How a stack of graphs is kept: one graph, the slots that were overwritten, and a mark for each level.
+-- How a stack of graphs is kept: one graph, a log of the slots that were overwritten, and a mark for each level.
 use Rattle.std.specs.Prelude.{◌≡◌, ℕ, suc, ◌+◌, ◌<◌, ◌≤◌, List, [], ◌∷◌, length, take, drop, map, All, Contains, slice_index_or, slice_set, count_by, nat_lt}
 use Rattle.itv_base.specs.declared.names.EdgeName.{EdgeName}
 use Rattle.trail.specs.declared.undo.Slot.{Slot}
 use Rattle.trail.specs.declared.undo.Saved.{Saved}
 use Rattle.trail.specs.declared.undo.Mark.{Mark}
-use Rattle.trail.specs.Graphs.{Graph}
+use Rattle.trail.specs.Stack.{Graph}
 
--- the edges and the slots as they are, and the slots that were saved, the oldest first
-pub record Kept : Type 0 where
+-- the edges and the slots as they are, and the log of saved slots, the oldest first
+pub record State : Type 0 where
   pub edges : List EdgeName
   pub slots : List Slot
   pub saved : List Saved
 
 -- the slots as they were before these were saved
-abbrev pub undone : List Saved → List Slot → List Slot
-undone [] slots = slots
-undone (e ∷ saved) slots = slice_set (undone saved slots) e.slot e.was
+abbrev pub slots_before : List Saved → List Slot → List Slot
+slots_before [] slots = slots
+slots_before (e ∷ saved) slots = slice_set (slots_before saved slots) e.slot e.was
 
--- what was kept when the mark was made
-abbrev pub at_mark : Kept → Mark → Kept
-at_mark k m = record {
-  edges = take m.edges k.edges;
-  slots = undone (drop m.saved k.saved) k.slots;
-  saved = take m.saved k.saved;
+-- the state in which the mark was made
+abbrev pub state_at : State → Mark → State
+state_at s m = record {
+  edges = take m.edges s.edges;
+  slots = slots_before (drop m.saved s.saved) s.slots;
+  saved = take m.saved s.saved;
 }
 
-abbrev pub graph_of : Kept → Graph
-graph_of k = record { edges = k.edges; stamps = map (λ s. s.stamp) k.slots }
+abbrev pub graph_of : State → Graph
+graph_of s = record { edges = s.edges; stamps = map (λ slot. slot.stamp) s.slots }
 
 -- the graphs at the marks, the last mark first
-abbrev pub graphs_at : Kept → List Mark → List Graph
-graphs_at k [] = []
-graphs_at k (m ∷ marks) = graph_of (at_mark k m) ∷ graphs_at (at_mark k m) marks
+abbrev pub graphs_at : State → List Mark → List Graph
+graphs_at s [] = []
+graphs_at s (m ∷ marks) = graph_of (state_at s m) ∷ graphs_at (state_at s m) marks
 
--- A level's part of the log: it begins within what is kept; it names slots that are there; no slot was set by a later level;
--- each slot that this level set is saved; and a slot is saved once, so that those saved and those still to save are no more
--- than there are.
-pub record IsLogged (k : Kept) (m : Mark) (level : ℕ) : Type 0 where
-  pub edges_within : m.edges ≤ length k.edges
-  pub saved_within : m.saved ≤ length k.saved
-  pub present : All (λ e. e.slot < length k.slots) (drop m.saved k.saved)
-  pub not_later : All (λ s. s.level ≤ level) k.slots
-  pub logged : (i : ℕ) (d : Slot) → i < length k.slots → (slice_index_or k.slots i d).level ≡ level → Contains (map (λ e. e.slot) (drop m.saved k.saved)) i
-  pub once : length (drop m.saved k.saved) + count_by (λ s. nat_lt s.level level) k.slots ≤ length k.slots
+-- The log since the last mark, which began this level: the mark lies within the state; the log names slots that are there; no
+-- slot was set by a later level; each slot that this level set is in the log; and those in the log and those that this level
+-- hasn't set are no more than all slots, since a level logs a slot once.
+pub record IsLogged (s : State) (m : Mark) (level : ℕ) : Type 0 where
+  pub edges_within : m.edges ≤ length s.edges
+  pub saved_within : m.saved ≤ length s.saved
+  pub present : All (λ e. e.slot < length s.slots) (drop m.saved s.saved)
+  pub not_later : All (λ slot. slot.level ≤ level) s.slots
+  pub logged : (i : ℕ) (d : Slot) → i < length s.slots → (slice_index_or s.slots i d).level ≡ level → Contains (map (λ e. e.slot) (drop m.saved s.saved)) i
+  pub once : length (drop m.saved s.saved) + count_by (λ slot. nat_lt slot.level level) s.slots ≤ length s.slots
 
--- what is kept can be taken back mark by mark, the last mark first
-abbrev pub IsKept : Kept → List Mark → Type 0
-IsKept k [] = All (λ s. s.level ≡ 0) k.slots × (k.saved ≡ [])
-IsKept k (m ∷ marks) = IsLogged k m (suc (length marks)) × IsKept (at_mark k m) marks
+-- the state can be taken back mark by mark, the last mark first; before the first mark no slot was set by a level
+abbrev pub IsUndoable : State → List Mark → Type 0
+IsUndoable s [] = All (λ slot. slot.level ≡ 0) s.slots × (s.saved ≡ [])
+IsUndoable s (m ∷ marks) = IsLogged s m (suc (length marks)) × IsUndoable (state_at s m) marks

@@ -4,6 +4,8 @@
 #![tactic(auto)]
 
 mod stamp;
+#[cfg(test)]
+mod tests;
 mod trail;
 mod undo;
 

@@ -1,20 +1,19 @@
 //! The stack of graphs.
 
 ghost use Rattle.std.specs.Prelude.{◌≡◌, ℕ, ◌<◌, ◌≤◌, [], ◌∷◌, ◌++◌, Some, length, slice_get, IfOk};
-ghost use Rattle.trail.specs.Graphs.{bare, popped, pushed, with_edge, with_stamp};
+ghost use Rattle.trail.specs.Stack.{new_stack, after_pop, after_push, with_edge, with_stamp};
 
 use crate::stamp::Stamp;
-use crate::undo::{Mark, Saved, Slot, UNSET, put_back};
+use crate::undo::{Mark, Saved, Slot, put_back};
 use itv_base::{EdgeName, NoMemory};
 use std::alloc::Global;
 use std::marker::Model;
 
-/// A stack of graphs, never empty. A graph is a list of edges and a stamp for each slot. Contracts see how many levels there
-/// may be above the first graph, the current graph, and the graphs below it, the nearest one first.
+/// A stack of graphs, which is never empty. A graph is a list of edges and a stamp for each slot. Contracts see how many graphs
+/// may be pushed, the current graph, and the graphs below it, the nearest one first.
 ///
-/// There is one graph in memory, and an undo log as constraint solvers keep it: before a level first sets a slot, the slot is
-/// saved, at most once in each level. So a push takes the same time whatever the graph is, and a pop takes as long as the level
-/// that goes has edges and saved slots.
+/// There is one graph in memory, and an undo log as constraint solvers keep it: each level saves a slot before it first sets it,
+/// and never again. So a push takes the same time whatever the graph is, and a pop takes time for each slot that its level set.
 #[derive(Debug, Drop)]
 pub struct Trail {
     levels: u32,
@@ -25,29 +24,29 @@ pub struct Trail {
 }
 
 impl Model for Trail {
-    ghost use Rattle.trail.specs.Graphs.{Graphs};
+    ghost use Rattle.trail.specs.Stack.{Stack};
 
-    ghost Value = { Graphs };
+    ghost Value = { Stack };
 
-    ghost use Rattle.trail.specs.Stored.{graphs_in, IsStored};
+    ghost use Rattle.trail.specs.Inside.{stack_in, IsSound};
 
-    ghost view = { graphs_in };
+    ghost view = { stack_in };
 
-    ghost invariant = { IsStored };
+    ghost invariant = { IsSound };
 }
 
 impl Trail {
-    /// One graph, with no edge and with empty stamps. `slots` is how many stamps each graph has, and `levels` how many graphs
-    /// may be pushed and how many edges a graph may have. Takes all the memory that the trail ever needs.
+    /// One graph, without edges and with empty stamps. Each graph has `slots` stamps; at most `levels` graphs may be pushed, and
+    /// a graph may have at most `levels` edges. Takes all the memory that the trail ever needs.
     pub fn new(alloc: Global, slots: u32, levels: u32) -> Result<Trail, NoMemory>
-        ensures { IfOk result (λ t. t ≡ bare slots levels) }
+        ensures { IfOk result (λ t. t ≡ new_stack slots levels) }
     {
         let slot_count = slots as usize;
         let level_count = levels as usize;
         Ok(Trail {
             levels,
             edges: Vec::with_capacity(alloc, level_count)?,
-            slots: vec![in alloc; UNSET; slot_count]?,
+            slots: vec![in alloc; Slot::UNSET; slot_count]?,
             saved: Vec::with_capacity(alloc, slot_count * level_count)?,
             marks: Vec::with_capacity(alloc, level_count)?,
         })
@@ -55,18 +54,18 @@ impl Trail {
 
     /// Makes the trail as it was when it was new.
     pub fn reset(&mut self)
-        ensures { self.new ≡ bare (length self.old.current.stamps) self.old.levels }
+        ensures { self.new ≡ new_stack (length self.old.current.stamps) self.old.levels }
     {
         self.edges.clear();
         self.saved.clear();
         self.marks.clear();
-        self.slots.fill(UNSET);
+        self.slots.fill(Slot::UNSET);
     }
 
     /// Makes a copy of the current graph the current one.
     pub fn push_level(&mut self)
         requires { length self.old.below < self.old.levels }
-        ensures { self.new ≡ pushed self.old }
+        ensures { self.new ≡ after_push self.old }
     {
         let mark = Mark {
             edges: self.edges.len(),
@@ -75,10 +74,10 @@ impl Trail {
         self.marks.push_reserved(mark);
     }
 
-    /// Takes the current graph away: the one below it is current again, as it stood when it was pushed on.
+    /// Takes the current graph away: the one below it is current again, as it stood when it was pushed.
     pub fn pop_level(&mut self)
         requires { 0 < length self.old.below }
-        ensures below { self.new ≡ popped self.old }
+        ensures below { self.new ≡ after_pop self.old }
         ensures slots { length self.new.current.stamps ≡ length self.old.current.stamps }
     {
         let mark = self.marks.pop().unwrap();

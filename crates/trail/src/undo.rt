@@ -1,15 +1,26 @@
 //! What a level overwrites, and how it is put back.
 
 ghost use Rattle.std.specs.Prelude.{◌≡◌, ◌<◌, ℕ, All, length};
-ghost use Rattle.trail.specs.Undo.{undone};
+ghost use Rattle.trail.specs.Undo.{slots_before};
 
 use crate::stamp::Stamp;
 
-/// A stamp, and the level that set it.
+/// A stamp, and the level that set it: the first graph is level 0.
 #[derive(Clone, Copy, Debug)]
 pub struct Slot {
     pub stamp: Stamp,
     pub level: u32,
+}
+
+impl Slot {
+    /// A slot that no level has set.
+    pub const UNSET: Slot = Slot {
+        stamp: Stamp {
+            label: None,
+            parent: None,
+        },
+        level: 0,
+    };
 }
 
 /// A slot as it was before a level first set it.
@@ -26,19 +37,10 @@ pub struct Mark {
     pub saved: usize,
 }
 
-/// A slot that no level has set.
-pub const UNSET: Slot = Slot {
-    stamp: Stamp {
-        label: None,
-        parent: None,
-    },
-    level: 0,
-};
-
 /// Puts saved slots back, the one that was saved last first.
 pub fn put_back(slots: &mut [Slot], saved: &[Saved])
     requires { All (λ e. e.slot < length slots.old) saved.now }
-    ensures { slots.new ≡ undone saved.now slots.old }
+    ensures { slots.new ≡ slots_before saved.now slots.old }
 {
     let mut left = saved;
     while let Some((last, rest)) = left.split_last() {

@@ -1,7 +1,7 @@
 use Rattle.std.proofs.Common.{◌<◌, ◌∷◌, [], length, Some, sym, ap, ◌∙◌, arith, length-set}
 use Rattle.std.proofs.lemmas.List.Elements.{All-pop}
-use Rattle.trail.specs.Undo.{undone}
-use Rattle.trail.proofs.PutBack.{undone-append}
+use Rattle.trail.specs.Undo.{slots_before}
+use Rattle.trail.proofs.SlotsBefore.{slots_before-append}
 use Rattle.trail.proofs.undo.put_back.Goals as goal
 
 pub loop-last-preserved : goal.loop-last-preserved
@@ -12,5 +12,5 @@ loop-last-preserved c =
     let split = c.in-Some.ensures.cases.0 in
     let present = All-pop (λ e. e.slot < length slots) c.loop-last.left.now rest (Some last) split c.loop-last.invariant.0 in (
       λ k d lt. omega (arith, length-set slots last.slot last.was, present.0 k d lt),
-      sym (undone-append rest (last ∷ []) slots) ∙ ap (λ saved. undone saved slots) (sym split) ∙ c.loop-last.invariant.1,
+      sym (slots_before-append rest (last ∷ []) slots) ∙ ap (λ saved. slots_before saved slots) (sym split) ∙ c.loop-last.invariant.1,
     )

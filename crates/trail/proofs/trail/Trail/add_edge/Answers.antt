@@ -1,13 +1,13 @@
 use Rattle.std.proofs.Common.{ap, ◌∙◌}
-use Rattle.trail.specs.Graphs.{Graphs, with_edge}
-use Rattle.trail.proofs.Storing.{edges_below, IsStored-edge, graphs_in-edge}
+use Rattle.trail.specs.Stack.{Stack, with_edge}
+use Rattle.trail.proofs.Steps.{edges_below, IsSound-edge, stack_in-edge}
 use Rattle.trail.proofs.trail.Trail.add_edge.Goals as goal
 
 pub invariant_of-self : goal.invariant_of-self
 invariant_of-self c =
     let few = edges_below c.self.inside c.args.self.now c.self.view_is c.requires in
-    IsStored-edge c.self.inside c.self.invariant c.push_reserved.new.self c.args.edge c.push_reserved.ensures.items c.push_reserved.ensures.capacity few
+    IsSound-edge c.self.inside c.self.invariant c.push_reserved.new.self c.args.edge c.push_reserved.ensures.items c.push_reserved.ensures.capacity few
 
 pub returns : goal.returns
 returns c =
-    graphs_in-edge c.self.inside c.self.invariant c.push_reserved.new.self c.args.edge c.push_reserved.ensures.items ∙ ap (λ (g : Graphs). record g { current = with_edge g.current c.args.edge }) c.self.view_is
+    stack_in-edge c.self.inside c.self.invariant c.push_reserved.new.self c.args.edge c.push_reserved.ensures.items ∙ ap (λ (g : Stack). record g { current = with_edge g.current c.args.edge }) c.self.view_is

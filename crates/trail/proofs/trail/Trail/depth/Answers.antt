@@ -1,6 +1,6 @@
 use Rattle.std.proofs.Common.{length, sym, ap, ◌∙◌, arith}
-use Rattle.trail.specs.Graphs.{Graphs}
-use Rattle.trail.proofs.Storing.{length-below}
+use Rattle.trail.specs.Stack.{Stack}
+use Rattle.trail.proofs.Steps.{length-below}
 use Rattle.trail.proofs.trail.Trail.depth.Goals as goal
 
 pub overflow_cast-result : goal.overflow_cast-result
@@ -8,4 +8,4 @@ overflow_cast-result c = omega (arith, c.self.inside.marks.ok.0, c.self.invarian
 
 pub returns-clause-count : goal.returns-clause-count
 returns-clause-count c =
-    c.len.ensures ∙ c.self.inside.marks.ok.0 ∙ sym (length-below c.self.inside) ∙ ap (λ (g : Graphs). length g.below) c.self.view_is
+    c.len.ensures ∙ c.self.inside.marks.ok.0 ∙ sym (length-below c.self.inside) ∙ ap (λ (g : Stack). length g.below) c.self.view_is

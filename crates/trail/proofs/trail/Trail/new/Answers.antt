@@ -1,5 +1,5 @@
 use Rattle.trail.specs.declared.trail.Trail.TheInside.{Inside}
-use Rattle.trail.proofs.Storing.{graphs_in-bare}
+use Rattle.trail.proofs.Steps.{stack_in-new_stack}
 use Rattle.trail.proofs.trail.Trail.new.Goals as goal
 
 pub returns : goal.returns
@@ -11,4 +11,4 @@ returns c =
       saved = c.in_ok-with_capacity-2.field-0;
       marks = c.in_ok-with_capacity-3.field-0;
     } in
-    graphs_in-bare made c.args.slots c.in_ok-with_capacity.ensures.items (c.in_ok-vec.ensures.items_if_clones_equal (λ y same. same)) c.in_ok-with_capacity-3.ensures.items
+    stack_in-new_stack made c.args.slots c.in_ok-with_capacity.ensures.items (c.in_ok-vec.ensures.items_if_clones_equal (λ y same. same)) c.in_ok-with_capacity-3.ensures.items

@@ -1,5 +1,5 @@
 use Rattle.std.proofs.Common.{arith}
-use Rattle.trail.proofs.Storing.{depth_below, IsStored-mark}
+use Rattle.trail.proofs.Steps.{depth_below, IsSound-mark}
 use Rattle.trail.proofs.trail.Trail.push_level.Goals as goal
 
 pub push_reserved-requires : goal.push_reserved-requires
@@ -13,4 +13,4 @@ invariant_of-self c =
     let t = c.self.inside in
     let few = depth_below t c.args.self.now c.self.view_is c.requires in
     let items = rw (c.len.ensures, c.len-2.ensures) at c.push_reserved.ensures.items in
-    IsStored-mark t c.self.invariant c.push_reserved.new.self items c.push_reserved.ensures.capacity few
+    IsSound-mark t c.self.invariant c.push_reserved.new.self items c.push_reserved.ensures.capacity few

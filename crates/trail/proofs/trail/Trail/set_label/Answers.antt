@@ -2,9 +2,9 @@ use Rattle.std.proofs.Common.{◌≡◌, refl, sym, ap, ◌∙◌, subst, arith}
 use Rattle.std.specs.Vec.{with_item}
 use Rattle.trail.specs.declared.trail.Trail.TheInside.{Inside}
 use Rattle.trail.specs.declared.undo.Slot.{Slot}
-use Rattle.trail.specs.Graphs.{Graphs, with_stamp}
-use Rattle.trail.specs.Stored.{graphs_in, IsStored}
-use Rattle.trail.proofs.Storing.{slot_in, depth_in, IsStored-slot, graphs_in-slot, IsStored-saved, graphs_in-saved, room-saved_slot}
+use Rattle.trail.specs.Stack.{Stack, with_stamp}
+use Rattle.trail.specs.Inside.{stack_in, IsSound}
+use Rattle.trail.proofs.Steps.{slot_in, depth_in, IsSound-slot, stack_in-slot, IsSound-saved, stack_in-saved, room-saved_slot}
 use Rattle.trail.proofs.trail.Trail.set_label.Goals as goal
 use Rattle.trail.proofs.trail.Trail.set_label.Goals.{then-was-level, else-was-level}
 
@@ -22,10 +22,10 @@ invariant_of-self c =
     let there = slot_in t c.args.self.now c.self.view_is c.args.slot c.requires in
     let depth = depth_in t c.args.self.now c.self.view_is c.depth-level.result c.depth-level.ensures.count in
     let slots = with_item t.slots c.args.slot x in
-    let P = λ (s : Inside). IsStored (record s { slots = with_item s.slots c.args.slot x }) in
+    let P = λ (s : Inside). IsSound (record s { slots = with_item s.slots c.args.slot x }) in
     elim c.if-was-level.branch [
-      | then-was-level w ↦ subst P (sym w.self-inside-is) (IsStored-saved t c.self.invariant slots c.args.slot c.index-was.result.now x refl there c.index-was.ensures depth w.push_reserved.new.self w.push_reserved.ensures.items (omega (arith, depth)) w.push_reserved.ensures.capacity)
-      | else-was-level w ↦ subst P (sym w.self-inside-is) (IsStored-slot t c.self.invariant slots c.args.slot c.index-was.result.now x refl there c.index-was.ensures depth (omega (arith, depth)))
+      | then-was-level w ↦ subst P (sym w.self-inside-is) (IsSound-saved t c.self.invariant slots c.args.slot c.index-was.result.now x refl there c.index-was.ensures depth w.push_reserved.new.self w.push_reserved.ensures.items (omega (arith, depth)) w.push_reserved.ensures.capacity)
+      | else-was-level w ↦ subst P (sym w.self-inside-is) (IsSound-slot t c.self.invariant slots c.args.slot c.index-was.result.now x refl there c.index-was.ensures depth (omega (arith, depth)))
     ]
 
 pub returns : goal.returns
@@ -35,9 +35,9 @@ returns c =
     let there = slot_in t c.args.self.now c.self.view_is c.args.slot c.requires in
     let depth = depth_in t c.args.self.now c.self.view_is c.depth-level.result c.depth-level.ensures.count in
     let slots = with_item t.slots c.args.slot x in
-    let after = λ (g : Graphs). record g { current = with_stamp g.current c.args.slot c.args.stamp } in
-    let P = λ (s : Inside). graphs_in (record s { slots = with_item s.slots c.args.slot x }) ≡ after (graphs_in t) in
+    let after = λ (g : Stack). record g { current = with_stamp g.current c.args.slot c.args.stamp } in
+    let P = λ (s : Inside). stack_in (record s { slots = with_item s.slots c.args.slot x }) ≡ after (stack_in t) in
     elim c.if-was-level.branch [
-      | then-was-level w ↦ subst P (sym w.self-inside-is) (graphs_in-saved t c.self.invariant slots c.args.slot c.index-was.result.now x refl there c.index-was.ensures depth w.push_reserved.new.self w.push_reserved.ensures.items (omega (arith, depth))) ∙ ap after c.self.view_is
-      | else-was-level w ↦ subst P (sym w.self-inside-is) (graphs_in-slot t c.self.invariant slots c.args.slot c.index-was.result.now x refl there c.index-was.ensures depth (omega (arith, depth))) ∙ ap after c.self.view_is
+      | then-was-level w ↦ subst P (sym w.self-inside-is) (stack_in-saved t c.self.invariant slots c.args.slot c.index-was.result.now x refl there c.index-was.ensures depth w.push_reserved.new.self w.push_reserved.ensures.items (omega (arith, depth))) ∙ ap after c.self.view_is
+      | else-was-level w ↦ subst P (sym w.self-inside-is) (stack_in-slot t c.self.invariant slots c.args.slot c.index-was.result.now x refl there c.index-was.ensures depth (omega (arith, depth))) ∙ ap after c.self.view_is
     ]

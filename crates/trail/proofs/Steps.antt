@@ -1,4 +1,4 @@
--- What each change of a trail's fields does to the stack that is stored.
+-- What each change of a trail's fields does to the stack that they stand for.
 use Rattle.std.proofs.Common.{◌≡◌, ℕ, zero, suc, ◌*◌, ◌<◌, ◌≤◌, List, [], ◌∷◌, ◌++◌, length, get_or, set, map, replicate, reverse, refl, sym, ap, ◌∙◌, subst, arith, length-set, Vec, Global, vec_len, vec_capacity}
 use Rattle.std.proofs.Math.Nat.{mul-le-mul_left}
 use Rattle.std.proofs.lemmas.List.{length_push, length-map, length-reverse, map-set, reverse-append}
@@ -7,21 +7,21 @@ use Rattle.trail.specs.declared.undo.Slot.{Slot}
 use Rattle.trail.specs.declared.undo.Saved.{Saved}
 use Rattle.trail.specs.declared.undo.Mark.{Mark}
 use Rattle.trail.specs.declared.trail.Trail.TheInside.{Inside}
-use Rattle.trail.specs.Graphs.{Graphs, bare, empty_stamp, pushed, with_edge, with_stamp}
-use Rattle.trail.specs.Undo.{Kept, at_mark, graphs_at}
-use Rattle.trail.specs.Stored.{kept_in, graphs_in, IsStored}
-use Rattle.trail.proofs.TakenBack.{IsKept-edge, graphs_at-edge, IsKept-slot, graphs_at-slot, IsKept-saved, graphs_at-saved, IsKept-mark, graphs_at-mark, room-saved}
+use Rattle.trail.specs.Stack.{Stack, new_stack, empty_stamp, after_push, with_edge, with_stamp}
+use Rattle.trail.specs.Undo.{State, state_at, graphs_at}
+use Rattle.trail.specs.Inside.{state_in, stack_in, IsSound}
+use Rattle.trail.proofs.StateAt.{IsUndoable-edge, graphs_at-edge, IsUndoable-slot, graphs_at-slot, IsUndoable-saved, graphs_at-saved, IsUndoable-mark, graphs_at-mark, room-saved}
 
 reverse_push : (marks : List Mark) (m : Mark) → reverse (marks ++ m ∷ []) ≡ m ∷ reverse marks
 reverse_push marks m = reverse-append marks (m ∷ [])
 
-length-graphs_at : (k : Kept) (marks : List Mark) → length (graphs_at k marks) ≡ length marks
+length-graphs_at : (k : State) (marks : List Mark) → length (graphs_at k marks) ≡ length marks
 length-graphs_at k [] = refl
-length-graphs_at k (m ∷ marks) = ap suc (length-graphs_at (at_mark k m) marks)
+length-graphs_at k (m ∷ marks) = ap suc (length-graphs_at (state_at k m) marks)
 
 -- there is a graph for each mark
-pub length-below : (t : Inside) → length (graphs_in t).below ≡ length t.marks.items
-length-below t = length-graphs_at (kept_in t) (reverse t.marks.items) ∙ length-reverse t.marks.items
+pub length-below : (t : Inside) → length (stack_in t).below ≡ length t.marks.items
+length-below t = length-graphs_at (state_in t) (reverse t.marks.items) ∙ length-reverse t.marks.items
 
 -- a slot that no level has set
 abbrev pub unset : Slot
@@ -31,100 +31,100 @@ map-replicate : (n : ℕ) → map (λ s. s.stamp) (replicate n unset) ≡ replic
 map-replicate zero = refl
 map-replicate (suc n) = ap (λ stamps. empty_stamp ∷ stamps) (map-replicate n)
 
--- nothing is kept but slots that no level has set
-pub graphs_in-bare : (t : Inside) (slots : ℕ) → t.edges.items ≡ [] → t.slots.items ≡ replicate slots unset → t.marks.items ≡ [] → graphs_in t ≡ bare slots t.levels
-graphs_in-bare t slots edges items marks = rw (edges, items, marks, map-replicate slots)
+-- the fields of a new trail stand for a new stack
+pub stack_in-new_stack : (t : Inside) (slots : ℕ) → t.edges.items ≡ [] → t.slots.items ≡ replicate slots unset → t.marks.items ≡ [] → stack_in t ≡ new_stack slots t.levels
+stack_in-new_stack t slots edges items marks = rw (edges, items, marks, map-replicate slots)
 
 -- What a caller says of the stack, said of the fields.
-module _ (t : Inside) (g : Graphs) (view : graphs_in t ≡ g) where
+module _ (t : Inside) (g : Stack) (view : stack_in t ≡ g) where
   pub slot_in : (slot : ℕ) → slot < length g.current.stamps → slot < length t.slots.items
   slot_in slot below =
-      let stored = subst (λ (g : Graphs). slot < length g.current.stamps) (sym view) below in
+      let stored = subst (λ (g : Stack). slot < length g.current.stamps) (sym view) below in
       omega (arith, stored, length-map t.slots.items (λ s. s.stamp))
 
   pub depth_in : (depth : ℕ) → depth ≡ length g.below → depth ≡ length t.marks.items
-  depth_in depth count = count ∙ ap (λ (g : Graphs). length g.below) (sym view) ∙ length-below t
+  depth_in depth count = count ∙ ap (λ (g : Stack). length g.below) (sym view) ∙ length-below t
 
   pub depth_below : length g.below < g.levels → length t.marks.items < t.levels
   depth_below below =
-      let stored = subst (λ (g : Graphs). length g.below < g.levels) (sym view) below in
+      let stored = subst (λ (g : Stack). length g.below < g.levels) (sym view) below in
       omega (arith, stored, length-below t)
 
   pub edges_below : length g.current.edges < g.levels → length t.edges.items < t.levels
-  edges_below below = subst (λ (g : Graphs). length g.current.edges < g.levels) (sym view) below
+  edges_below below = subst (λ (g : Stack). length g.current.edges < g.levels) (sym view) below
 
-module _ (t : Inside) (h : IsStored t) where
+module _ (t : Inside) (h : IsSound t) where
   -- An edge is added.
   module _ (edges : Vec EdgeName Global) (e : EdgeName) (items : edges.items ≡ t.edges.items ++ e ∷ []) where
-    pub IsStored-edge : vec_capacity edges ≡ vec_capacity t.edges → length t.edges.items < t.levels → IsStored (record t { edges = edges })
-    IsStored-edge room few = record {
+    pub IsSound-edge : vec_capacity edges ≡ vec_capacity t.edges → length t.edges.items < t.levels → IsSound (record t { edges = edges })
+    IsSound-edge room few = record {
       few_levels = h.few_levels;
       few_edges = omega (arith, ap length items, length_push t.edges.items e);
       few_marks = h.few_marks;
       edge_room = omega (arith, h.edge_room);
       mark_room = h.mark_room;
       saved_room = h.saved_room;
-      kept = rw items (IsKept-edge (kept_in t) (reverse t.marks.items) e h.kept);
+      undoable = rw items (IsUndoable-edge (state_in t) (reverse t.marks.items) e h.undoable);
     }
 
-    pub graphs_in-edge : graphs_in (record t { edges = edges }) ≡ record (graphs_in t) { current = with_edge (graphs_in t).current e }
-    graphs_in-edge = rw (items, graphs_at-edge (kept_in t) (reverse t.marks.items) e h.kept)
+    pub stack_in-edge : stack_in (record t { edges = edges }) ≡ record (stack_in t) { current = with_edge (stack_in t).current e }
+    stack_in-edge = rw (items, graphs_at-edge (state_in t) (reverse t.marks.items) e h.undoable)
 
   -- A level begins.
   module _ (marks : Vec Mark Global) (items : marks.items ≡ t.marks.items ++ record { edges = vec_len t.edges; saved = vec_len t.saved } ∷ []) where
-    pub IsStored-mark : vec_capacity marks ≡ vec_capacity t.marks → length t.marks.items < t.levels → IsStored (record t { marks = marks })
-    IsStored-mark room few = record {
+    pub IsSound-mark : vec_capacity marks ≡ vec_capacity t.marks → length t.marks.items < t.levels → IsSound (record t { marks = marks })
+    IsSound-mark room few = record {
       few_levels = h.few_levels;
       few_edges = h.few_edges;
       few_marks = omega (arith, ap length items, length_push t.marks.items (record { edges = vec_len t.edges; saved = vec_len t.saved }));
       edge_room = h.edge_room;
       mark_room = omega (arith, h.mark_room);
       saved_room = h.saved_room;
-      kept = rw (items, reverse_push, t.edges.ok.0, t.saved.ok.0) (IsKept-mark (kept_in t) (reverse t.marks.items) h.kept);
+      undoable = rw (items, reverse_push, t.edges.ok.0, t.saved.ok.0) (IsUndoable-mark (state_in t) (reverse t.marks.items) h.undoable);
     }
 
-    pub graphs_in-mark : graphs_in (record t { marks = marks }) ≡ pushed (graphs_in t)
-    graphs_in-mark = rw (items, reverse_push, t.edges.ok.0, t.saved.ok.0, graphs_at-mark (kept_in t) (reverse t.marks.items))
+    pub stack_in-mark : stack_in (record t { marks = marks }) ≡ after_push (stack_in t)
+    stack_in-mark = rw (items, reverse_push, t.edges.ok.0, t.saved.ok.0, graphs_at-mark (state_in t) (reverse t.marks.items))
 
   -- A slot is set, whose level was `was`.
   module _ (slots : Vec Slot Global) (i : ℕ) (was x : Slot) (items : slots.items ≡ set t.slots.items i x) (below : i < length t.slots.items) (read : was ≡ get_or t.slots.items i was) (now : x.level ≡ length t.marks.items) where
     marks_now : x.level ≡ length (reverse t.marks.items)
     marks_now = now ∙ sym (length-reverse t.marks.items)
 
-    pub IsStored-slot : length t.marks.items ≤ was.level → IsStored (record t { slots = slots })
-    IsStored-slot at = record {
+    pub IsSound-slot : length t.marks.items ≤ was.level → IsSound (record t { slots = slots })
+    IsSound-slot at = record {
       few_levels = h.few_levels;
       few_edges = h.few_edges;
       few_marks = h.few_marks;
       edge_room = h.edge_room;
       mark_room = h.mark_room;
       saved_room = rw (items, length-set) h.saved_room;
-      kept = rw items (IsKept-slot (kept_in t) i was x below read (reverse t.marks.items) marks_now (omega (arith, length-reverse t.marks.items)) h.kept);
+      undoable = rw items (IsUndoable-slot (state_in t) i was x below read (reverse t.marks.items) marks_now (omega (arith, length-reverse t.marks.items)) h.undoable);
     }
 
-    pub graphs_in-slot : length t.marks.items ≤ was.level → graphs_in (record t { slots = slots }) ≡ record (graphs_in t) { current = with_stamp (graphs_in t).current i x.stamp }
-    graphs_in-slot at =
-        rw (items, map-set (λ s. s.stamp) t.slots.items i x, graphs_at-slot (kept_in t) i was x below read (reverse t.marks.items) marks_now (omega (arith, length-reverse t.marks.items)) h.kept)
+    pub stack_in-slot : length t.marks.items ≤ was.level → stack_in (record t { slots = slots }) ≡ record (stack_in t) { current = with_stamp (stack_in t).current i x.stamp }
+    stack_in-slot at =
+        rw (items, map-set (λ s. s.stamp) t.slots.items i x, graphs_at-slot (state_in t) i was x below read (reverse t.marks.items) marks_now (omega (arith, length-reverse t.marks.items)) h.undoable)
 
     -- the slot is saved first
     module _ (saved : Vec Saved Global) (log : saved.items ≡ t.saved.items ++ record { slot = i; was = was } ∷ []) (unset : was.level < length t.marks.items) where
       marks_unset : was.level < length (reverse t.marks.items)
       marks_unset = omega (arith, length-reverse t.marks.items)
 
-      pub IsStored-saved : vec_capacity saved ≡ vec_capacity t.saved → IsStored (record t { slots = slots; saved = saved })
-      IsStored-saved room = record {
+      pub IsSound-saved : vec_capacity saved ≡ vec_capacity t.saved → IsSound (record t { slots = slots; saved = saved })
+      IsSound-saved room = record {
         few_levels = h.few_levels;
         few_edges = h.few_edges;
         few_marks = h.few_marks;
         edge_room = h.edge_room;
         mark_room = h.mark_room;
         saved_room = rw (items, length-set, room) h.saved_room;
-        kept = rw (items, log) (IsKept-saved (kept_in t) i was x below read (reverse t.marks.items) marks_now marks_unset h.kept);
+        undoable = rw (items, log) (IsUndoable-saved (state_in t) i was x below read (reverse t.marks.items) marks_now marks_unset h.undoable);
       }
 
-      pub graphs_in-saved : graphs_in (record t { slots = slots; saved = saved }) ≡ record (graphs_in t) { current = with_stamp (graphs_in t).current i x.stamp }
-      graphs_in-saved =
-          rw (items, log, map-set (λ s. s.stamp) t.slots.items i x, graphs_at-saved (kept_in t) i was x below read (reverse t.marks.items) marks_now marks_unset h.kept)
+      pub stack_in-saved : stack_in (record t { slots = slots; saved = saved }) ≡ record (stack_in t) { current = with_stamp (stack_in t).current i x.stamp }
+      stack_in-saved =
+          rw (items, log, map-set (λ s. s.stamp) t.slots.items i x, graphs_at-saved (state_in t) i was x below read (reverse t.marks.items) marks_now marks_unset h.undoable)
 
   -- where a slot is still to be saved, there is room for it
   pub room-saved_slot : (i : ℕ) (was : Slot) → i < length t.slots.items → was ≡ get_or t.slots.items i was → was.level < length t.marks.items → vec_len t.saved < vec_capacity t.saved
@@ -137,5 +137,5 @@ module _ (t : Inside) (h : IsStored t) where
         h.saved_room,
         fits,
         ap (λ n. length t.slots.items * n) same,
-        room-saved (kept_in t) (reverse t.marks.items) i was h.kept below read (omega arith),
+        room-saved (state_in t) (reverse t.marks.items) i was h.undoable below read (omega arith),
       )
