@@ -1,20 +1,18 @@
 -- Constraints and networks by their edges.
-use Rattle.std.proofs.Common.{◌≡◌, ◌↔◌, ◌<◌, ◌≤◌, ◌==◌, ℕ, ℤ, ◌≤ℤ◌, Bool, true, false, IsTrue, List, All, Any, length, get_or, Option, Some, None, IfSome, IsSome, IsSomeAnd, option_and_then, slice_get, sym, ap, ◌∙◌, refl, subst, arith}
+use Rattle.std.proofs.Common.{◌≡◌, ◌<◌, ℕ, ℤ, IsTrue, List, All, Any, length, get_or, Option, Some, None, IfSome, IsSomeAnd, slice_get, ap, ◌∙◌, refl, subst, arith}
 use Rattle.std.proofs.lemmas.Option.{get_or_from_slice_get, slice_get-get_or, slice_get_within}
 use Rattle.itv_base.specs.declared.names.EdgeName.{EdgeName}
-use Rattle.itv_base.specs.declared.names.EventId.{EventId}
 use Rattle.itv_base.specs.declared.names.RuleKind.{RuleKind}
 use Rattle.itv_base.specs.declared.names.RuleKind.TheVariants.{Lin, Late, Early}
 use Rattle.itv_base.specs.declared.names.Side.{Side}
 use Rattle.itv_base.specs.declared.names.Side.TheVariants.{Lower, Upper}
 use Rattle.event_graph.specs.declared.cause.Cause.{Cause}
 use Rattle.event_graph.specs.declared.edge.Edge.{Edge}
-use Rattle.event_graph.specs.Network.{Constraint, IsCauseCount, IsConstraint, IsNet, Net}
-use Rattle.event_graph.specs.Satisfying.{Holds, HoldsAs, IsAfter, IsBefore, Satisfies}
+use Rattle.event_graph.specs.Network.{Constraint, Net}
+use Rattle.event_graph.specs.Satisfying.{Holds, HoldsAs}
 use Rattle.event_graph.specs.Edges.{IsAlways, Meets, choice_side, edge, holds_always, side_edge}
 use Rattle.event_graph.specs.Proof.{HasChoice}
-use Rattle.event_graph.specs.RootBound.{HasNoRoot, IsRootBound, MeetsAlways}
-use Rattle.event_graph.specs.Laws.{HoldsByEdges, MeetsAlwaysOf, MeetsBothSides, MeetsSomeChoice, NoRootIsInconsistent, RootBoundEncloses, SatisfyingMeetsAlways, SingleCauseIsLinear}
+use Rattle.event_graph.specs.Laws.{HoldsByEdges, MeetsAlwaysOf, MeetsSomeChoice, NoRootIsInconsistent, RootBoundEncloses, SatisfyingMeetsAlways, SingleCauseIsLinear}
 use Rattle.event_graph.proofs.EdgesMet.{All-found, Allows, allows_side, always_allows, at_some, cause_of, edge-at, found_below, meets_side, met_if_some}
 
 -- the sides of a constraint that is there
@@ -31,7 +29,7 @@ holds_always_edges net number k times at_k h name e is_number always is_edge =
     let at_name : slice_get net.constraints name.constraint ≡ Some k = ap (slice_get net.constraints) is_number ∙ at_k in
     let found = cause_of net name k e at_name is_edge in
     let allows : Allows name.side times k.target found.0 =
-        always_allows k.kind name.side times k.target k.causes name.cause found.0 h found.1 (always_of net name k at_name always) in
+    always_allows k.kind name.side times k.target k.causes name.cause found.0 h found.1 (always_of net name k at_name always) in
     at_some (Meets times) (side_edge name.side k.target found.0) e found.2 (meets_side name.side times k.target found.0 allows)
 
 -- an edge on a side that always holds is an always-edge
@@ -83,16 +81,17 @@ met_choice net number k times side at_k (cause, c, within, here, allows) =
     let at_c : slice_get k.causes cause ≡ Some c = slice_get-get_or k.causes cause c within ∙ ap Some here in
     (cause, within, rw (edge-at net (record { constraint = number; cause = cause; side = side }) k c at_k at_c) (meets_side side times k.target c allows))
 
-choice_from_holding : (kind : RuleKind) (net : Net) (number : ℕ) (k : Constraint) (times : List ℤ) → k.kind ≡ kind → slice_get net.constraints number ≡ Some k
+pub choice_from_holding : (kind : RuleKind) (net : Net) (number : ℕ) (k : Constraint) (times : List ℤ) → k.kind ≡ kind → slice_get net.constraints number ≡ Some k
     → HoldsAs kind times k.target k.causes → HasChoice kind → MeetsSomeChoice times net number k
 choice_from_holding Lin net number k times is_kind at_k h has = absurd has
 choice_from_holding Late net number k times is_kind at_k h has = rw is_kind (met_choice net number k times Upper at_k h.1)
 choice_from_holding Early net number k times is_kind at_k h has = rw is_kind (met_choice net number k times Lower at_k h.1)
 
 pub holds_by_edges : HoldsByEdges
-holds_by_edges net number k times is_net at_k =
-    ( (λ h. (holds_always_edges net number k times at_k h, choice_from_holding k.kind net number k times refl at_k h))
-    , (λ met. holds_from_edges k.kind net number k times refl at_k met.0 met.1) )
+holds_by_edges net number k times is_net at_k = (
+  (λ h. (holds_always_edges net number k times at_k h, choice_from_holding k.kind net number k times refl at_k h)),
+  (λ met. holds_from_edges k.kind net number k times refl at_k met.0 met.1),
+)
 
 -- a constraint of one cause holds always on both sides
 single_always : (kind : RuleKind) (count : ℕ) (side : Side) → count ≡ 1 → IsTrue (holds_always kind count side)
@@ -103,20 +102,21 @@ single_always Early count Lower single = grind arith
 single_always Early count Upper single = refl
 
 pub single_cause_is_linear : SingleCauseIsLinear
-single_cause_is_linear net number k times is_net at_k single =
-    ( (λ h side.
-        let name : EdgeName = record { constraint = number; cause = 0; side = side } in
-        met_if_some (edge net name) (Meets times)
-        (λ e is_edge. holds_always_edges net number k times at_k h name e refl
-            (is_always net name k e at_k is_edge (single_always k.kind (length k.causes) side single)) is_edge))
-    , (λ both. holds_from_edges k.kind net number k times refl at_k
-        (λ name e is_number always is_edge.
-            let at_name : slice_get net.constraints name.constraint ≡ Some k = ap (slice_get net.constraints) is_number ∙ at_k in
-            let is_first : name.cause ≡ 0 = omega (arith, slice_get_within k.causes name.cause _ (cause_of net name k e at_name is_edge).1) in
-            let Named : ℕ → ℕ → Type 0 = λ n c. edge net (record { constraint = n; cause = c; side = name.side }) ≡ Some e in
-            let is_first_edge : Named number 0 = subst (λ c. Named number c) is_first (subst (λ n. Named n name.cause) is_number is_edge) in
-            at_some (Meets times) (edge net (record { constraint = number; cause = 0; side = name.side })) e is_first_edge (both name.side))
-        (λ _. (0, omega arith, both (choice_side k.kind)))) )
+single_cause_is_linear net number k times is_net at_k single = (
+  (λ h side.
+      let name : EdgeName = record { constraint = number; cause = 0; side = side } in
+      met_if_some (edge net name) (Meets times)
+      (λ e is_edge. holds_always_edges net number k times at_k h name e refl
+      (is_always net name k e at_k is_edge (single_always k.kind (length k.causes) side single)) is_edge)),
+  (λ both. holds_from_edges k.kind net number k times refl at_k
+      (λ name e is_number always is_edge.
+      let at_name : slice_get net.constraints name.constraint ≡ Some k = ap (slice_get net.constraints) is_number ∙ at_k in
+      let is_first : name.cause ≡ 0 = omega (arith, slice_get_within k.causes name.cause _ (cause_of net name k e at_name is_edge).1) in
+      let Named : ℕ → ℕ → Type 0 = λ n c. edge net (record { constraint = n; cause = c; side = name.side }) ≡ Some e in
+      let is_first_edge : Named number 0 = subst (λ c. Named number c) is_first (subst (λ n. Named n name.cause) is_number is_edge) in
+      at_some (Meets times) (edge net (record { constraint = number; cause = 0; side = name.side })) e is_first_edge (both name.side))
+      (λ _. (0, omega arith, both (choice_side k.kind)))),
+)
 
 some_of : {X : Type 0} (o : Option X) (P : X → Type 0) → IsSomeAnd o P → (x : X) × (o ≡ Some x)
 some_of None P h = absurd h
@@ -124,11 +124,11 @@ some_of (Some x) P h = (x, refl)
 
 pub satisfying_meets_always : SatisfyingMeetsAlways
 satisfying_meets_always net times h = record {
-    count = h.count;
-    each = λ name e always is_edge.
-        let found = some_of (slice_get net.constraints name.constraint) (λ (k : Constraint). IsTrue (holds_always k.kind (length k.causes) name.side)) always.1 in
-        holds_always_edges net name.constraint found.0 times found.1 (All-found (Holds times) net.constraints name.constraint found.0 found.1 h.each) name e refl always
-        is_edge;
+  count = h.count;
+  each = λ name e always is_edge.
+      let found = some_of (slice_get net.constraints name.constraint) (λ (k : Constraint). IsTrue (holds_always k.kind (length k.causes) name.side)) always.1 in
+      holds_always_edges net name.constraint found.0 times found.1 (All-found (Holds times) net.constraints name.constraint found.0 found.1 h.each) name e refl always
+      is_edge;
 }
 
 pub root_bound_encloses : RootBoundEncloses

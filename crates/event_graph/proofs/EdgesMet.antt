@@ -1,7 +1,7 @@
 -- Times that meet the edges of a constraint.
-use Rattle.std.proofs.Common.{◌≡◌, ◌↔◌, ◌<◌, ◌≤◌, ◌==◌, ℕ, zero, suc, ℤ, neg_ℤ, ◌+ℤ◌, ◌-ℤ◌, ◌≤ℤ◌, Bool, true, false, IsTrue, List, [], ◌∷◌, All, Any, length, get_or, Option, Some, None, IfSome, IsSome, IsSomeAnd, option_map, option_and_then, slice_get, sym, ap, ◌∙◌, refl, subst, arith}
+use Rattle.std.proofs.Common.{◌≡◌, ◌<◌, ℕ, zero, suc, ℤ, neg_ℤ, ◌+ℤ◌, ◌≤ℤ◌, IsTrue, List, [], ◌∷◌, All, Any, length, get_or, Option, Some, None, IfSome, option_map, option_and_then, slice_get, sym, ap, ◌∙◌, refl, subst, arith}
 use Rattle.std.proofs.lemmas.Int.{ints}
-use Rattle.std.proofs.lemmas.Option.{get_or_from_slice_get, none-some, same_Some, slice_get-get_or, slice_get_within}
+use Rattle.std.proofs.lemmas.Option.{get_or_from_slice_get, slice_get_within}
 use Rattle.itv_base.specs.declared.names.EdgeName.{EdgeName}
 use Rattle.itv_base.specs.declared.names.EventId.{EventId}
 use Rattle.itv_base.specs.declared.names.RuleKind.{RuleKind}
@@ -10,13 +10,10 @@ use Rattle.itv_base.specs.declared.names.Side.{Side}
 use Rattle.itv_base.specs.declared.names.Side.TheVariants.{Lower, Upper}
 use Rattle.event_graph.specs.declared.cause.Cause.{Cause}
 use Rattle.event_graph.specs.declared.edge.Edge.{Edge}
-use Rattle.event_graph.specs.Network.{Constraint, IsCauseCount, IsConstraint, IsNet, Net}
-use Rattle.event_graph.specs.Satisfying.{Holds, HoldsAs, IsAfter, IsBefore, Satisfies}
+use Rattle.event_graph.specs.Network.{Constraint, Net}
+use Rattle.event_graph.specs.Satisfying.{HoldsAs, IsAfter, IsBefore}
 use Rattle.event_graph.specs.Times.{time_of}
-use Rattle.event_graph.specs.Edges.{IsAlways, Meets, choice_side, edge, holds_always, side_edge}
-use Rattle.event_graph.specs.Proof.{HasChoice}
-use Rattle.event_graph.specs.RootBound.{MeetsAlways}
-use Rattle.event_graph.specs.Laws.{HoldsByEdges, MeetsAlwaysOf, MeetsBothSides, MeetsSomeChoice, SatisfyingMeetsAlways, SingleCauseIsLinear}
+use Rattle.event_graph.specs.Edges.{Meets, edge, holds_always, side_edge}
 
 -- what a side of a cause asks of the times
 abbrev pub Allows : Side → List ℤ → EventId → Cause → Type 0

@@ -4,3 +4,5 @@ pub mod Rays
 pub mod Reversing
 pub mod EdgesMet
 pub mod ByEdges
+pub mod SoundProofs
+pub mod ProofCounts

@@ -1,11 +1,7 @@
 -- The least separation of a pair and the greatest of the reversed one.
-use Rattle.std.proofs.Common.{◌≡◌, ℤ, neg_ℤ, ◌-ℤ◌, ◌≤ℤ◌, List, sym, ap, ◌∙◌, arith}
+use Rattle.std.proofs.Common.{◌≡◌, ℤ, neg_ℤ, ◌-ℤ◌, ◌≤ℤ◌, arith}
 use Rattle.std.proofs.lemmas.Int.{ints}
-use Rattle.itv_base.specs.declared.names.EventId.{EventId}
-use Rattle.event_graph.specs.Network.{Net}
-use Rattle.event_graph.specs.Satisfying.{Satisfies}
-use Rattle.event_graph.specs.Times.{separation, time_of}
-use Rattle.event_graph.specs.Bounds.{IsGreatest, IsLeast}
+use Rattle.event_graph.specs.Times.{time_of}
 use Rattle.event_graph.specs.Laws.{LeastIsReversedGreatest}
 
 negated_value : (a b value : ℤ) → (b -ℤ a) ≡ value → (a -ℤ b) ≡ neg_ℤ value
@@ -21,12 +17,13 @@ above_value : (a b value : ℤ) → (a -ℤ b) ≤ℤ neg_ℤ value → value �
 above_value a b value h = omega (arith, ints)
 
 pub least_is_reversed_greatest : LeastIsReversedGreatest
-least_is_reversed_greatest net from to value =
-    ( (λ least. record {
-        attained = (least.attained.0, least.attained.1, negated_value (time_of least.attained.0 from) (time_of least.attained.0 to) value least.attained.2);
-        most = λ times h. below_negated (time_of times from) (time_of times to) value (least.least times h);
-      })
-    , (λ greatest. record {
-        attained = (greatest.attained.0, greatest.attained.1, value_of_negated (time_of greatest.attained.0 from) (time_of greatest.attained.0 to) value greatest.attained.2);
-        least = λ times h. above_value (time_of times from) (time_of times to) value (greatest.most times h);
-      }) )
+least_is_reversed_greatest net from to value = (
+  (λ least. record {
+    attained = (least.attained.0, least.attained.1, negated_value (time_of least.attained.0 from) (time_of least.attained.0 to) value least.attained.2);
+    most = λ times h. below_negated (time_of times from) (time_of times to) value (least.least times h);
+  }),
+  (λ greatest. record {
+    attained = (greatest.attained.0, greatest.attained.1, value_of_negated (time_of greatest.attained.0 from) (time_of greatest.attained.0 to) value greatest.attained.2);
+    least = λ times h. above_value (time_of times from) (time_of times to) value (greatest.most times h);
+  }),
+)

@@ -1,13 +1,13 @@
 -- Times with equal separations satisfy the same constraints.
-use Rattle.std.proofs.Common.{◌≡◌, ◌↔◌, ◌<◌, ℕ, ℤ, pos, ◌+ℤ◌, ◌-ℤ◌, ◌≤ℤ◌, List, [], ◌∷◌, All, Any, length, get_or, map, Option, Some, None, IfSome, sym, ap, ◌∙◌, subst, arith}
+use Rattle.std.proofs.Common.{◌≡◌, ◌<◌, ℕ, ℤ, pos, ◌+ℤ◌, ◌-ℤ◌, ◌≤ℤ◌, List, All, Any, length, get_or, Option, Some, None, IfSome, sym, ◌∙◌, subst, arith}
 use Rattle.std.proofs.lemmas.Int.{ints}
 use Rattle.std.proofs.lemmas.List.{get_or-map, length-map}
 use Rattle.itv_base.specs.declared.names.EventId.{EventId}
 use Rattle.itv_base.specs.declared.names.RuleKind.{RuleKind}
 use Rattle.itv_base.specs.declared.names.RuleKind.TheVariants.{Lin, Late, Early}
 use Rattle.event_graph.specs.declared.cause.Cause.{Cause}
-use Rattle.event_graph.specs.Network.{Constraint, IsConstraint, IsNet, Net}
-use Rattle.event_graph.specs.Satisfying.{Holds, HoldsAs, IsAfter, IsBefore, Satisfies}
+use Rattle.event_graph.specs.Network.{IsConstraint, IsNet, Net}
+use Rattle.event_graph.specs.Satisfying.{HoldsAs, IsAfter, IsBefore, Satisfies}
 use Rattle.event_graph.specs.Times.{separation, shifted, time_of}
 use Rattle.event_graph.specs.Laws.{ShiftKeepsSatisfying}
 
@@ -34,27 +34,28 @@ holds_same_as : (kind : RuleKind) (events : ℕ) (times others : List ℤ) (targ
     → target.0 < events → All (λ (c : Cause). c.event.0 < events) causes → HoldsAs kind times target causes → HoldsAs kind others target causes
 holds_same_as kind events times others target causes same in_target in_causes =
     let after : (c : Cause) → c.event.0 < events → IsAfter times target c → IsAfter others target c =
-        λ c in_cause. after_same c.range.low _ _ _ _ (same c.event target in_cause in_target) in
+    λ c in_cause. after_same c.range.low _ _ _ _ (same c.event target in_cause in_target) in
     let before : (c : Cause) → c.event.0 < events → IsBefore times target c → IsBefore others target c =
-        λ c in_cause. before_same c.range.high _ _ _ _ (same c.event target in_cause in_target) in
+    λ c in_cause. before_same c.range.high _ _ _ _ (same c.event target in_cause in_target) in
     let all_after : All (IsAfter times target) causes → All (IsAfter others target) causes = all_follow _ _ _ causes in_causes after in
     let all_before : All (IsBefore times target) causes → All (IsBefore others target) causes = all_follow _ _ _ causes in_causes before in
     let any_after : Any (IsAfter times target) causes → Any (IsAfter others target) causes = any_follows _ _ _ causes in_causes after in
     let any_before : Any (IsBefore times target) causes → Any (IsBefore others target) causes = any_follows _ _ _ causes in_causes before in
     elim kind as (λ k. HoldsAs k times target causes → HoldsAs k others target causes) [
-        Lin ↦ λ h. (all_after h.0, all_before h.1)
+      | Lin ↦ λ h. (all_after h.0, all_before h.1)
       | Late ↦ λ h. (all_after h.0, any_before h.1)
-      | Early ↦ λ h. (all_before h.0, any_after h.1) ]
+      | Early ↦ λ h. (all_before h.0, any_after h.1)
+    ]
 
 -- times with equal separations satisfy the same networks
 pub satisfies_same : (net : Net) (times others : List ℤ) → IsNet net → length others ≡ net.events → SameSeparations net.events times others → Satisfies times net
     → Satisfies others net
 satisfies_same net times others is_net count same h = record {
-    count = count;
-    each = λ k d within.
-        let c : IsConstraint net.events (get_or net.constraints k d) = is_net.constraints k d within in
-        holds_same_as (get_or net.constraints k d).kind net.events times others (get_or net.constraints k d).target (get_or net.constraints k d).causes same c.target c.causes
-        (h.each k d within);
+  count = count;
+  each = λ k d within.
+      let c : IsConstraint net.events (get_or net.constraints k d) = is_net.constraints k d within in
+      holds_same_as (get_or net.constraints k d).kind net.events times others (get_or net.constraints k d).target (get_or net.constraints k d).causes same c.target c.causes
+      (h.each k d within);
 }
 
 length-shifted : (times : List ℤ) (by : ℤ) → length (shifted times by) ≡ length times
@@ -70,10 +71,11 @@ same_events : (m n : ℕ) (times others : List ℤ) → m ≡ n → SameSeparati
 same_events m n times others e same = subst (λ k. SameSeparations k times others) e same
 
 pub shift_keeps_satisfying : ShiftKeepsSatisfying
-shift_keeps_satisfying net times by is_net =
-    ( (λ h. satisfies_same net times (shifted times by) is_net (length-shifted times by ∙ h.count)
-            (same_events _ _ _ _ h.count (separation-shifted times by)) h)
-    , (λ h.
-        let count : length times ≡ net.events = sym (length-shifted times by) ∙ h.count in
-        satisfies_same net (shifted times by) times is_net count
-        (λ from to in_from in_to. sym (same_events _ _ _ _ count (separation-shifted times by) from to in_from in_to)) h) )
+shift_keeps_satisfying net times by is_net = (
+  (λ h. satisfies_same net times (shifted times by) is_net (length-shifted times by ∙ h.count)
+      (same_events _ _ _ _ h.count (separation-shifted times by)) h),
+  (λ h.
+      let count : length times ≡ net.events = sym (length-shifted times by) ∙ h.count in
+      satisfies_same net (shifted times by) times is_net count
+      (λ from to in_from in_to. sym (same_events _ _ _ _ count (separation-shifted times by) from to in_from in_to)) h),
+)

@@ -1,15 +1,64 @@
-//! Laws of networks, each the contract of a function that does nothing.
+//! Laws of networks and of proofs over them. Each is the contract of a function that does nothing.
 
-ghost use Rattle.event_graph.specs.Laws.{HoldsByEdges, LeastIsReversedGreatest, RayIsUnbounded, ShiftKeepsSatisfying};
+ghost use Rattle.event_graph.specs.Laws.{HoldsByEdges, LeastIsReversedGreatest, NoRootIsInconsistent, ProofBounds, ProofIsWithinChoices, ProofOfNothing, RayIsUnbounded, RootBoundEncloses, SatisfyingMeetsAlways, ShiftKeepsSatisfying, SingleCauseIsLinear, StoppedProofIsBelowChoices};
 
 /// Times satisfy a network exactly where they do with one number added to all of them.
 pub fn shift_keeps_satisfying()
     ensures { ShiftKeepsSatisfying }
-{
-}
+{}
+
+/// The least separation of a pair is minus the greatest of the reversed pair.
+pub fn least_is_reversed_greatest()
+    ensures { LeastIsReversedGreatest }
+{}
 
 /// A pair with a ray is unbounded.
 pub fn ray_is_unbounded()
     ensures { RayIsUnbounded }
-{
-}
+{}
+
+/// A constraint holds exactly where its always-edges are met and, if it is a latest or an earliest one, the edge of some cause on
+/// the choice side is met or that end is open.
+pub fn holds_by_edges()
+    ensures { HoldsByEdges }
+{}
+
+/// A constraint of one cause holds exactly where both its edges are met, whatever its kind.
+pub fn single_cause_is_linear()
+    ensures { SingleCauseIsLinear }
+{}
+
+/// Satisfying times meet every always-edge.
+pub fn satisfying_meets_always()
+    ensures { SatisfyingMeetsAlways }
+{}
+
+/// The root bound of a pair, where it is a number, is at least every satisfying separation.
+pub fn root_bound_encloses()
+    ensures { RootBoundEncloses }
+{}
+
+/// Where no times meet the always-edges no times satisfy.
+pub fn no_root_is_inconsistent()
+    ensures { NoRootIsInconsistent }
+{}
+
+/// No satisfying separation exceeds a value for which there is a proof.
+pub fn proof_bounds()
+    ensures { ProofBounds }
+{}
+
+/// No times satisfy a network for which there is a proof of nothing.
+pub fn proof_of_nothing()
+    ensures { ProofOfNothing }
+{}
+
+/// A proof closes at most as many cases as there are cause choices.
+pub fn proof_is_within_choices()
+    ensures { ProofIsWithinChoices }
+{}
+
+/// A stopped proof closes fewer cases than there are cause choices.
+pub fn stopped_proof_is_below_choices()
+    ensures { StoppedProofIsBelowChoices }
+{}

@@ -1,0 +1,5 @@
+use Rattle.event_graph.proofs.SoundProofs.{proof_of_nothing}
+use Rattle.event_graph.proofs.laws.proof_of_nothing.Goals as goal
+
+pub returns : goal.returns
+returns c = proof_of_nothing
