@@ -1,6 +1,7 @@
 -- The marks, the pins and the lane order of a drawing. Lanes and marks are numbered from 0.
 use Rattle.std.specs.Prelude.{ℕ, ◌+◌, ◌-◌, ◌&&◌, ◌||◌, ◌==◌, ℤ, pos, Bool, not, if◌then◌else◌, List, [], ◌∷◌, ◌++◌, length, map, Option, Some, None, position, unwrap_or}
-use Rattle.std.specs.Char.{is_ascii_graphic, chars}
+use Rattle.std.specs.Char.{is_ascii_graphic}
+use Rattle.std.specs.Str.{chars}
 use Rattle.std.specs.List.{enumerate_from, filter_map, flat_map, list_all, list_any, range_with_len}
 use Rattle.itv_base.specs.declared.names.RuleKind.TheVariants.{Lin}
 use Rattle.wave_string.specs.declared.mark_kind.MarkKind.{MarkKind}

@@ -19,6 +19,7 @@ use Rattle.sheet.specs.declared.row.RowKind.TheVariants as asked
 use Rattle.sheet.specs.declared.row.SheetRow.{SheetRow}
 use Rattle.sheet.specs.declared.fault.SheetFault.{SheetFault}
 use Rattle.sheet.specs.declared.fault.SheetFault.TheVariants.{BadEdge, Label, NoMark, TooManyCauses}
+use Rattle.sheet.specs.Fault.{◌>>=◌}
 use Rattle.sheet.specs.Rule.{SheetRule}
 
 -- ---- one edge
@@ -81,16 +82,18 @@ is_full links link = nat_le 64 (length (filter (joins link) links))
 
 -- ---- all edges, up to the first fault
 
-abbrev mutual
-  pub links_on : List Mark → List Link → ℕ → Result (Option Link) SheetFault → List (List ℕ) → Result (List Link) SheetFault
-  links_on marks done n (Err fault) texts = Err fault
-  links_on marks done n (Ok None) texts = links_from marks done (n + 1) texts
-  links_on marks done n (Ok (Some link)) texts = if is_full done link then Err (TooManyCauses n) else links_from marks (done ++ link ∷ []) (n + 1) texts
+-- the links with what edge n says behind them
+abbrev pub with_link : List Link → ℕ → Option Link → Result (List Link) SheetFault
+with_link done n None = Ok done
+with_link done n (Some link) = if is_full done link then Err (TooManyCauses n) else Ok (done ++ link ∷ [])
 
-  -- the links of the edges from number n on, behind those that are done
-  pub links_from : List Mark → List Link → ℕ → List (List ℕ) → Result (List Link) SheetFault
-  links_from marks done n [] = Ok done
-  links_from marks done n (text ∷ texts) = links_on marks done n (link_of marks n text) texts
+-- the links of the edges from number n on, behind those that are done
+abbrev pub links_from : List Mark → List Link → ℕ → List (List ℕ) → Result (List Link) SheetFault
+links_from marks done n [] = Ok done
+links_from marks done n (text ∷ texts) = do
+  link ← link_of marks n text
+  more ← with_link done n link
+  links_from marks more (n + 1) texts
 
 -- ---- rules and rows
 

@@ -7,19 +7,10 @@ use Rattle.sheet.specs.declared.mark.Mark.{Mark}
 use Rattle.sheet.specs.declared.pin.Pin.{Pin}
 use Rattle.sheet.specs.declared.fault.SheetFault.{SheetFault}
 use Rattle.sheet.specs.declared.fault.SheetFault.TheVariants.{BadNode, DoubleMark, DoublePin}
+use Rattle.sheet.specs.Fault.{◌>>=◌, unless}
 use Rattle.sheet.specs.Contents.{Contents}
 use Rattle.sheet.specs.Lanes.{has_bad_node, marks_of, pins_of, order_rules, first_repeated}
 use Rattle.sheet.specs.Links.{Link, links_from, link_rules, link_rows}
-
-infixl 10 ◌>>=◌
-abbrev pub ◌>>=◌ : {A B : Type 0} → Result A SheetFault → (A → Result B SheetFault) → Result B SheetFault
-(Ok x) >>= f = f x
-(Err fault) >>= f = Err fault
-
--- a value where there is no fault
-abbrev pub unless : {A X : Type 0} → Option X → (X → SheetFault) → A → Result A SheetFault
-unless None fault value = Ok value
-unless (Some x) fault value = Err (fault x)
 
 -- the marks of the lanes; else the first lane with a bad node, or the first mark that stands before
 unfoldable pub read_marks : List LaneText → Result (List Mark) SheetFault

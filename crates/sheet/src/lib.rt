@@ -4,10 +4,15 @@
 #![tactic(auto)]
 
 mod fault;
+mod lanes;
+mod link;
 mod mark;
+mod order;
 mod pin;
+mod pins;
 mod read;
 mod row;
+mod rows;
 mod rule;
 mod sheet;
 

@@ -1,0 +1,137 @@
+//! The marks on the lanes of a drawing.
+
+ghost use Rattle.std.specs.Prelude.{◌≡◌, ◌+◌, ◌<◌, ◌≤◌, ℕ, List, All, length, option_map, position, nat_eq, IsTrue, IfOk, OnOk};
+ghost use Rattle.std.specs.List.{list_all, list_any};
+ghost use Rattle.label_grammar.specs.Characters.{is_mark};
+ghost use Rattle.sheet.specs.Answer.{Gives};
+ghost use Rattle.sheet.specs.Lanes.{is_node_byte, node_of, has_bad_node, drawn_kind, lane_marks};
+ghost use Rattle.sheet.specs.Sheet.{read_marks};
+ghost use Rattle.sheet.specs.Steps.{AreMarks, with_marks, spans_of};
+
+use crate::fault::SheetFault;
+use crate::mark::{Mark, Marks};
+use std::alloc::Global;
+use wave_string::{MarkKind, kind_at};
+use wavejson::{LaneText, Lanes};
+
+/// Which marks of a sheet stand on a lane: those from number `first` on, `count` of them.
+#[derive(Clone, Copy, Debug, PartialEq, Eq)]
+pub struct Span {
+    pub first: u32,
+    pub count: u32,
+}
+
+/// The marks of a drawing, and where those of each lane stand among them.
+#[derive(Debug, Drop)]
+pub struct LaneMarks {
+    pub marks: Marks,
+    pub spans: Vec<Span>,
+}
+
+/// The marks of all lanes. No character is a mark twice, so there are few.
+pub fn read_marks(alloc: Global, lanes: &Lanes) -> Result<LaneMarks, SheetFault>
+    ensures answer { Gives (λ read. read.marks) result (read_marks lanes.now) }
+    ensures few { IfOk result (λ read. length read.marks ≤ 128) }
+    ensures spans { IfOk result (λ read. read.spans.items ≡ spans_of lanes.now) }
+    ensures within { IfOk result (λ read. All (λ s. s.first + s.count ≤ 128) read.spans.items) }
+{
+    if let Some(lane) = bad_node(lanes) {
+        return Err(SheetFault::BadNode(lane));
+    }
+    let mut marks = Marks::new(alloc);
+    let mut spans = Vec::new(alloc);
+    for k in 0..lanes.len() {
+        let first = marks.len();
+        push_marks(&mut marks, k, lanes.get(k))?;
+        spans.push(Span {
+            first: first as u32,
+            count: (marks.len() - first) as u32,
+        })?;
+    }
+    Ok(LaneMarks { marks, spans })
+}
+
+// The first lane whose node has a character that does not belong there.
+fn bad_node(lanes: &Lanes) -> Option<u64>
+    ensures { result ≡ position has_bad_node lanes.now }
+{
+    for k in 0..lanes.len() {
+        if has_bad_node(lanes.get(k)) {
+            return Some(k);
+        }
+    }
+    None
+}
+
+fn has_bad_node(lane: &LaneText) -> bool
+    ensures { result ≡ has_bad_node lane.now }
+{
+    !is_node(node_of(lane))
+}
+
+fn is_node(text: &[u8]) -> bool
+    ensures { result ≡ list_all is_node_byte text.now }
+{
+    text.iter().all(|b| is_node_byte(*b))
+}
+
+fn is_node_byte(b: u8) -> bool
+    ensures { result ≡ is_node_byte b }
+{
+    b == b' ' || b.is_ascii_graphic()
+}
+
+fn is_mark(b: u8) -> bool
+    ensures value { result ≡ is_mark b }
+    ensures ascii { IsTrue result → b < 128 }
+{
+    b.is_ascii_graphic() && b != b'.'
+}
+
+fn node_of(lane: &LaneText) -> &[u8]
+    ensures { result.now ≡ node_of lane.now }
+{
+    match &lane.node {
+        Some(node) => node.as_text().as_bytes(),
+        None => &[],
+    }
+}
+
+// Puts the marks of a lane at the end.
+fn push_marks(marks: &mut Marks, number: u64, lane: &LaneText) -> Result<(), SheetFault>
+    ensures answer { Gives (λ _. marks.new) result (with_marks marks.old (lane_marks (number, lane.now))) }
+    ensures distinct { OnOk result (AreMarks marks.old → AreMarks marks.new) }
+{
+    let node = node_of(lane);
+    for (place, b) in node.iter().enumerate() {
+        if !is_mark(*b) {
+            continue;
+        }
+        if has_mark(marks.as_slice(), *b) {
+            return Err(SheetFault::DoubleMark(*b));
+        }
+        marks.push(Mark {
+            lane: number,
+            place: place as u64,
+            name: *b,
+            kind: drawn_kind(lane, place as u64),
+        })?;
+    }
+    Ok(())
+}
+
+fn has_mark(marks: &[Mark], name: u8) -> bool
+    ensures { result ≡ list_any (λ mark. nat_eq name mark.name) marks.now }
+{
+    marks.iter().any(|mark| name == mark.name)
+}
+
+// What the wave of a lane draws at a place.
+fn drawn_kind(lane: &LaneText, place: u64) -> MarkKind
+    ensures { result ≡ drawn_kind lane.now.wave place }
+{
+    match &lane.wave {
+        Some(wave) => kind_at(wave.as_text(), place),
+        None => MarkKind::Bare,
+    }
+}

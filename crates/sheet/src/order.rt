@@ -1,0 +1,60 @@
+//! The order on the lanes of a drawing.
+
+ghost use Rattle.std.specs.Prelude.{◌≡◌, ◌+◌, ◌≤◌, ◌++◌, All, OnOk, IfOk};
+ghost use Rattle.sheet.specs.Lanes.{follows_rule, order_of, order_rules};
+ghost use Rattle.sheet.specs.Steps.{spans_of};
+
+use crate::lanes::Span;
+use crate::rule::{Rule, Rules, Source, Sources};
+use itv_base::{NoMemory, Range, RuleKind};
+use std::alloc::Global;
+use wavejson::Lanes;
+
+/// Puts the rules of the lanes that are in order at the end: of those with a name and a wave.
+pub fn push_lane_order(
+    alloc: Global,
+    rules: &mut Rules,
+    lanes: &Lanes,
+    spans: &[Span],
+) -> Result<(), NoMemory>
+    requires spans { spans.now ≡ spans_of lanes.now }
+    requires within { All (λ s. s.first + s.count ≤ 128) spans.now }
+    ensures { OnOk result (rules.new ≡ rules.old ++ order_rules lanes.now) }
+{
+    for (k, span) in spans.iter().enumerate() {
+        let lane = lanes.get(k as u64);
+        if lane.name.is_some() && lane.wave.is_some() {
+            push_order(alloc, rules, *span)?;
+        }
+    }
+    Ok(())
+}
+
+// Each mark and the next, and then the last one and the first one of the next cycle.
+fn push_order(alloc: Global, rules: &mut Rules, span: Span) -> Result<(), NoMemory>
+    requires { span.first + span.count ≤ 128 }
+    ensures { OnOk result (rules.new ≡ rules.old ++ order_of span.first span.count) }
+{
+    if span.count == 0 {
+        return Ok(());
+    }
+    let last = span.first + span.count - 1;
+    for k in span.first..last {
+        rules.push(follows(alloc, k, k + 1, 0)?)?;
+    }
+    rules.push(follows(alloc, last, span.first, 1)?)?;
+    Ok(())
+}
+
+// The target comes no earlier than a mark that many cycles before it.
+fn follows(alloc: Global, from: u32, to: u32, shift: u32) -> Result<Rule, NoMemory>
+    ensures { IfOk result (λ rule. rule ≡ follows_rule from to shift) }
+{
+    let mut causes = Sources::new(alloc);
+    causes.push(Source {
+        mark: from,
+        shift,
+        range: Range::new(Some(0), None).unwrap(),
+    })?;
+    Ok(Rule::new(RuleKind::Lin, to, causes))
+}
