@@ -1,5 +1,5 @@
 -- Labels of events: bounds on their separations from a source, found so far along edges.
-use Rattle.std.specs.Prelude.{◌≡◌, ◌<◌, ◌≤◌, ◌*◌, ℕ, ℤ, pos, negsuc, ◌+ℤ◌, ◌≤ℤ◌, ◌<ℤ◌, Bool, true, false, List, length, map, Option, Some, None, is_some, sum_by, count_by, All, Contains, slice_index_or, slice_set, unwrap_or}
+use Rattle.std.specs.Prelude.{◌≡◌, ◌<◌, ◌≤◌, ◌*◌, ℕ, ℤ, pos, negsuc, ◌+ℤ◌, ◌≤ℤ◌, ◌<ℤ◌, Bool, true, false, List, length, map, Option, Some, None, is_some, sum_by, count_by, All, Contains, slice_index_or, slice_set, replicate, unwrap_or}
 use Rattle.itv_base.specs.declared.names.EventId.{EventId}
 use Rattle.event_graph.specs.declared.edge.Edge.{Edge}
 use Rattle.event_graph.specs.Edges.{Meets}
@@ -32,9 +32,10 @@ pub record BoundsFrom (edges : List Edge) (source : EventId) (labels : List (Opt
   pub most : (times : List ℤ) → All (Meets times) edges
       → (event : EventId) (label : ℤ) → label_of labels event ≡ Some label → separation times source event ≤ℤ label
 
--- whatever source the labels were bounds from, the new ones are too
-abbrev pub KeepsBounds : List Edge → List (Option ℤ) → List (Option ℤ) → Type 0
-KeepsBounds edges old new = (source : EventId) → BoundsFrom edges source old → BoundsFrom edges source new
+-- labels that fell along edges: they are near, and bounds from whatever source they were before
+pub record Keeps (edges : List Edge) (old new : List (Option ℤ)) : Type 0 where
+  pub near : AreNear new
+  pub bounds : (source : EventId) → BoundsFrom edges source old → BoundsFrom edges source new
 
 -- a label is less than the one that stands, or the first
 abbrev pub Lowers : ℤ → Option ℤ → Type 0
@@ -71,6 +72,11 @@ pub record IsAfterAll (labels : List (Option ℤ)) (time : ℤ) : Type 0 where
 -- the times of labels: an event that was not reached comes last
 abbrev pub times_of : List (Option ℤ) → ℤ → List ℤ
 times_of labels last = map (λ label. unwrap_or label last) labels
+
+-- only the source has a label, which is 0
+abbrev pub first_labels : ℕ → Option EventId → List (Option ℤ)
+first_labels events None = replicate events None
+first_labels events (Some source) = slice_set (replicate events None) source.0 (Some (pos 0))
 
 -- labels that spread from a source, where there is one, until all edges were followed
 pub record HaveSpread (edges : List Edge) (source : Option EventId) (labels : List (Option ℤ)) : Type 0 where

@@ -1,7 +1,7 @@
 //! The always-edges of a network.
 
 ghost use Rattle.std.specs.Prelude.{◌<◌, ℕ, IfOk, OnOk, All, length};
-ghost use Rattle.event_graph.specs.Edges.{IsAlways};
+ghost use Rattle.event_graph.specs.Network.{IsNet};
 ghost use Rattle.diff_bounds.specs.AlwaysEdges.{AreAlwaysEdges, Grows, HasCause, HasEdge};
 ghost use Rattle.diff_bounds.specs.Labels.{IsForward};
 ghost use Rattle.diff_bounds.specs.Linear.{IsLinearAroundZero};
@@ -12,7 +12,8 @@ use std::alloc::Global;
 
 /// The list of the always-edges of a network.
 pub fn always_edges(alloc: Global, net: &Network) -> Result<Vec<Edge>, NoMemory>
-    requires { IsLinearAroundZero net.now }
+    requires net { IsNet net.now }
+    requires linear { IsLinearAroundZero net.now }
     ensures edges { IfOk result (λ edges. AreAlwaysEdges net.now edges.items) }
     ensures forward { IfOk result (λ edges. All (IsForward net.now.events) edges.items) }
 {
@@ -25,6 +26,7 @@ pub fn always_edges(alloc: Global, net: &Network) -> Result<Vec<Edge>, NoMemory>
 
 // Appends the always-edges of a constraint.
 fn push_constraint(net: &Network, constraint: u32, edges: &mut Vec<Edge>) -> Result<(), NoMemory>
+    requires net { IsNet net.now }
     requires linear { IsLinearAroundZero net.now }
     requires constraint { constraint < length net.now.constraints }
     ensures grows { OnOk result (Grows net.now edges.old.items edges.new.items) }

@@ -12,7 +12,7 @@ ghost use Rattle.diff_bounds.specs.Standing.{IsMadeFor, IsUpper, Stands, ray_of}
 
 use crate::always_edges::always_edges;
 use crate::fit::Fit;
-use crate::labels::{greatest, spread};
+use crate::labels::{latest, spread};
 use event_graph::{Edge, Network};
 use itv_base::{EventId, NoMemory};
 use std::alloc::Global;
@@ -48,10 +48,11 @@ impl Bounds {
         requires { IsLinearAroundZero net.now }
         ensures { IfOk result (λ bounds. IsMadeFor net.now bounds) }
     {
+        let events = net.events() as usize;
         Ok(Bounds {
             edges: always_edges(alloc, net)?,
             source: None,
-            labels: Vec::from_elem(alloc, None, net.events() as usize)?,
+            labels: Vec::from_elem(alloc, None, events)?,
             last: 0,
         })
     }
@@ -69,7 +70,7 @@ impl Bounds {
     {
         self.source = source;
         spread(&self.edges, &mut self.labels, source);
-        self.last = greatest(&self.labels);
+        self.last = latest(&self.labels);
         Fit::Fits
     }
 

@@ -1,7 +1,7 @@
 //! Labels of events, which fall along edges until they are the greatest separations from a source.
 
-ghost use Rattle.std.specs.Prelude.{◌≡◌, ◌<◌, ◌≤◌, ◌+ℤ◌, ℤ, pos, ◌≤ℤ◌, IfSome, MatchBool, None, All, length, replicate};
-ghost use Rattle.diff_bounds.specs.Labels.{AreNear, Follows, HaveSpread, IsAfterAll, IsForward, KeepsBounds, Relaxes, total_height};
+ghost use Rattle.std.specs.Prelude.{◌≡◌, ◌<◌, ◌≤◌, ◌+ℤ◌, ℤ, pos, ◌≤ℤ◌, IfSome, MatchBool, Some, None, All, ◌⊎◌, length, replicate};
+ghost use Rattle.diff_bounds.specs.Labels.{AreNear, Follows, HaveSpread, IsAfterAll, IsForward, Keeps, Relaxes, first_labels, total_height};
 
 use event_graph::Edge;
 use itv_base::EventId;
@@ -16,19 +16,18 @@ pub fn spread(edges: &[Edge], labels: &mut [Option<i64>], source: Option<EventId
     requires source { IfSome source (λ s. s.0 < length labels.old) }
     ensures { HaveSpread edges.now source labels.new }
 {
-    clear(labels);
-    if let Some(event) = source {
-        labels[event.0 as usize] = Some(0);
-    }
+    begin(labels, source);
     settle(edges, labels);
 }
 
-// Takes all labels away.
-fn clear(labels: &mut [Option<i64>])
-    ensures { labels.new ≡ replicate (length labels.old) None }
+// Labels the source with 0, where there is one, and no other event.
+fn begin(labels: &mut [Option<i64>], source: Option<EventId>)
+    requires { IfSome source (λ s. s.0 < length labels.old) }
+    ensures { labels.new ≡ first_labels (length labels.old) source }
 {
-    for label in labels.iter_mut() {
-        *label = None;
+    labels.fill(None);
+    if let Some(event) = source {
+        labels[event.0 as usize] = Some(0);
     }
 }
 
@@ -37,38 +36,40 @@ fn settle(edges: &[Edge], labels: &mut [Option<i64>])
     requires edges { All (IsForward (length labels.old)) edges.now }
     requires events { length labels.old ≤ 4096 }
     requires near { AreNear labels.old }
-    ensures near { AreNear labels.new }
-    ensures bounds { KeepsBounds edges.now labels.old labels.new }
+    ensures keeps { Keeps edges.now labels.old labels.new }
     ensures follow { All (Follows labels.new) edges.now }
 {
-    loop {
-        if !sweep(edges, labels) {
-            return;
-        }
+    while pass_forwards(edges, labels) {
+        pass_backwards(edges, labels);
     }
 }
 
-// Tries each edge, forwards and backwards through the list. The answer is whether a label has changed.
-fn sweep(edges: &[Edge], labels: &mut [Option<i64>]) -> bool
+// Tries each edge from the first to the last. The answer is whether a label has changed.
+fn pass_forwards(edges: &[Edge], labels: &mut [Option<i64>]) -> bool
     requires edges { All (IsForward (length labels.old)) edges.now }
     requires events { length labels.old ≤ 4096 }
     requires near { AreNear labels.old }
-    ensures near { AreNear labels.new }
-    ensures bounds { KeepsBounds edges.now labels.old labels.new }
+    ensures keeps { Keeps edges.now labels.old labels.new }
     ensures falls { MatchBool result (total_height labels.new < total_height labels.old) (All (Follows labels.new) edges.now) }
 {
     let mut changed = false;
     for edge in edges {
-        if relax(*edge, labels) {
-            changed = true;
-        }
-    }
-    if changed {
-        for edge in edges.iter().rev() {
-            relax(*edge, labels);
-        }
+        changed |= relax(*edge, labels);
     }
     changed
+}
+
+// Tries each edge from the last to the first.
+fn pass_backwards(edges: &[Edge], labels: &mut [Option<i64>])
+    requires edges { All (IsForward (length labels.old)) edges.now }
+    requires events { length labels.old ≤ 4096 }
+    requires near { AreNear labels.old }
+    ensures keeps { Keeps edges.now labels.old labels.new }
+    ensures falls { total_height labels.new ≤ total_height labels.old }
+{
+    for edge in edges.iter().rev() {
+        relax(*edge, labels);
+    }
 }
 
 // Lowers the label at the end of an edge to that at its start and the weight. The answer is whether it has changed.
@@ -81,7 +82,7 @@ fn relax(edge: Edge, labels: &mut [Option<i64>]) -> bool
     let Some(near) = labels[edge.from.0 as usize] else {
         return false;
     };
-    let sum = later(near, edge.weight);
+    let sum = delayed(near, edge.weight);
     let end = edge.to.0 as usize;
     match labels[end] {
         Some(label) if label <= sum => false,
@@ -92,8 +93,8 @@ fn relax(edge: Edge, labels: &mut [Option<i64>]) -> bool
     }
 }
 
-// The label that comes a weight after another.
-fn later(label: i64, weight: i64) -> i64
+// A label and a weight.
+fn delayed(label: i64, weight: i64) -> i64
     requires label_low { pos 0 ≤ℤ label }
     requires label_high { label ≤ℤ pos 4096000000000000 }
     requires weight_low { pos 0 ≤ℤ weight }
@@ -103,19 +104,27 @@ fn later(label: i64, weight: i64) -> i64
     label + weight
 }
 
-/// The greatest label, or 0 where there is none.
-pub fn greatest(labels: &[Option<i64>]) -> i64
+/// The latest label, or 0 where there is none.
+pub fn latest(labels: &[Option<i64>]) -> i64
     requires events { length labels.now ≤ 4096 }
     requires near { AreNear labels.now }
     ensures { IsAfterAll labels.now result }
 {
-    let mut greatest = 0;
+    let mut latest = 0;
     for label in labels {
-        if let Some(time) = *label
-            && greatest < time
-        {
-            greatest = time;
-        }
+        latest = later(latest, *label);
     }
-    greatest
+    latest
+}
+
+// The later one of a time and a label, if there is one.
+fn later(time: i64, label: Option<i64>) -> i64
+    ensures time { time ≤ℤ result }
+    ensures label { IfSome label (λ labelled. labelled ≤ℤ result) }
+    ensures either { (result ≡ time) ⊎ (label ≡ Some result) }
+{
+    match label {
+        Some(labelled) if time < labelled => labelled,
+        _ => time,
+    }
 }

@@ -1,0 +1,6 @@
+pub mod Falling
+pub mod Passing
+pub mod Starting
+pub mod Latest
+pub mod NamedEdges
+pub mod AlwaysLists
