@@ -1,1 +1,2 @@
+mod LoneLemmas
 mod Putting

@@ -4,6 +4,7 @@
 #![tactic(auto)]
 
 mod lines;
+mod lone;
 mod outcome;
 mod refusal;
 mod row;
