@@ -6,7 +6,7 @@ use Rattle.serde_json.specs.Find.{get, as_str, as_array, as_object}
 use Rattle.wavejson.specs.declared.lane_text.LaneText.{LaneText}
 use Rattle.wavejson.specs.declared.fault.DiagramFault.{DiagramFault}
 use Rattle.wavejson.specs.declared.fault.DiagramFault.TheVariants.{NotObject, NoSignal, EdgesNotList, EdgeNotText}
-use Rattle.wavejson.specs.Fault.{◌>>=◌}
+use Rattle.wavejson.specs.Steps.{◌>>=◌}
 
 -- the text under a key of an object; what is no string counts as absent
 abbrev pub text_at : List ℕ → Data → Option (List ℕ)
@@ -35,7 +35,7 @@ abbrev mutual
   lanes_at (array group) = lanes_in group
   lanes_at (object members) = lane_of (object members) ∷ []
 
-  -- of the elements in order
+  -- the lanes of the elements, in order
   pub lanes_in : Items → List LaneText
   lanes_in no_items = []
   lanes_in (item d rest) = lanes_at d ++ lanes_in rest

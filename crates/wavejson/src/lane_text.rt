@@ -11,7 +11,7 @@ use std::alloc::Global;
 /// What a lane says of itself. A key that is missing or holds no string gives `None`.
 #[derive(Debug, Drop)]
 pub struct LaneText {
-    /// The name of the lane, which is never empty.
+    /// The name of the lane. An empty one counts as absent.
     pub name: Option<Text>,
     /// The drawn wave, one character for each brick.
     pub wave: Option<Text>,
