@@ -1,10 +1,12 @@
 -- What is read of a label before its ends are looked at.
-use Rattle.std.specs.Prelude.{ℕ, ℤ, pos, negsuc, neg_ℤ, min, Bool, true, false, List, Option, option_map}
+use Rattle.std.specs.Prelude.{ℕ, ℤ, pos, negsuc, neg_ℤ, min, Bool, true, false, List, Option, Some, None, option_map, Result, Ok, Err, if◌then◌else◌}
 use Rattle.std.specs.Option.{option_copied}
-use Rattle.itv_base.specs.Range.{Ends}
+use Rattle.itv_base.specs.Range.{Ends, has_wide, is_reversed}
 use Rattle.label_grammar.specs.declared.form.Number.{Number}
 use Rattle.label_grammar.specs.declared.form.EndPair.{EndPair}
 use Rattle.label_grammar.specs.declared.form.Form.{Form}
+use Rattle.label_grammar.specs.declared.label.LabelFault.{LabelFault}
+use Rattle.label_grammar.specs.declared.label.LabelFault.TheVariants.{TooWide, EmptyRange}
 use Rattle.label_grammar.specs.Label.{LooseLabel}
 use Rattle.label_grammar.specs.Reading.{value_of}
 
@@ -26,3 +28,8 @@ form_view f = record { kind = f.kind; shift = f.shift; tag = option_copied f.tag
 abbrev pub capped : ℤ → ℤ
 capped (pos n) = pos (min n 1000000000001)
 capped (negsuc n) = negsuc (min n 1000000000000)
+
+-- the range that the two ends of a label make, or what is wrong with them
+abbrev pub judged_ends : Option Ends → Result (Option Ends) LabelFault
+judged_ends None = Ok None
+judged_ends (Some ends) = if has_wide ends then Err TooWide else (if is_reversed ends then Err EmptyRange else Ok (Some ends))

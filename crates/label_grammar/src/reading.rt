@@ -1,15 +1,54 @@
 //! Reading a label.
 
-ghost use Rattle.std.specs.Prelude.{◌≡◌, ◌↔◌, ◌+◌, ℕ, List, ℤ, pos, neg_ℤ, min, IsTrue, IfOk, IsOkAnd, IsErrOf, option_map, take_while};
-ghost use Rattle.std.specs.Option.{option_copied};
-ghost use Rattle.std.specs.Char.{is_ascii_digit};
-ghost use Rattle.itv_base.specs.declared.limits.TheConstants.{END_LIMIT};
-ghost use Rattle.label_grammar.specs.Characters.{is_name_byte};
-ghost use Rattle.label_grammar.specs.Label.{LooseLabel, label_view, IsProper, is_ask, spelling};
-ghost use Rattle.label_grammar.specs.Reading.{after_while, is_numeral, value_of, kind_of, shift_of, tag_of, end_of, ends_of, range_of, note_of, label_of};
+ghost use Rattle.std.specs.Prelude.{◌≡◌, ◌↔◌, IfOk, IsOkAnd, IsErrOf, option_map};
+ghost use Rattle.label_grammar.specs.Label.{LooseLabel, label_view, IsProper, spelling};
+ghost use Rattle.label_grammar.specs.Reading.{label_of};
+ghost use Rattle.label_grammar.specs.Form.{number_value, ends_view, capped, judged_ends};
 ghost use Rattle.label_grammar.specs.Answer.{judged, Gives, IsUnspelled, SpellsWideEnd, SpellsReversedEnds};
 
-use crate::label::{Kind, Label, LabelFault};
+use crate::form::{EndPair, Number};
+use crate::label::{Label, LabelFault};
+use crate::parts::read_form;
+use crate::scan::value_up_to;
+use itv_base::{END_LIMIT, Range, RangeFault};
+
+// The number, or the next one beyond the limit of an end on its side where it is further out.
+fn capped(number: Number<'_>) -> i64
+    ensures { result ≡ capped (number_value number.entry) }
+{
+    let value = match value_up_to(number.digits, END_LIMIT as u64) {
+        Some(value) => value as i64,
+        None => END_LIMIT + 1,
+    };
+    if number.is_negative { -value } else { value }
+}
+
+fn range_of(ends: Option<EndPair<'_>>) -> Result<Option<Range>, LabelFault>
+    ensures { result ≡ judged_ends (option_map ends_view ends.entry) }
+{
+    let Some(EndPair { low, high }) = ends else {
+        return Ok(None);
+    };
+    match Range::new(low.map(capped), high.map(capped)) {
+        Ok(range) => Ok(Some(range)),
+        Err(RangeFault::TooWide) => Err(LabelFault::TooWide),
+        Err(RangeFault::EmptyRange) => Err(LabelFault::EmptyRange),
+    }
+}
+
+fn read_exactly(text: &str) -> Result<Label<'_>, LabelFault>
+    ensures { Gives result (judged (label_of text.now)) }
+{
+    let form = read_form(text).ok_or(LabelFault::BadLabel)?;
+    let range = range_of(form.ends)?;
+    Ok(Label {
+        kind: form.kind,
+        shift: form.shift,
+        tag: form.tag,
+        range,
+        note: form.note,
+    })
+}
 
 /// Reads a label, as `@late+1:rd [500,700] tAA`: `@` and the kind, `+` and a shift of 1 to 64 cycles or nothing, `:` and a tag
 /// or nothing, for every kind but `ask` a space and the two ends in picoseconds (`*` where open), and a space and a note or
@@ -27,5 +66,5 @@ pub fn read_label<'a>(text: &'a str) -> Result<Label<'a>, LabelFault>
     // The same by the reading of texts, as definitions above this crate name it.
     ensures exact { Gives result (judged (label_of text.now)) }
 {
-    Err(LabelFault::BadLabel)
+    read_exactly(text)
 }
