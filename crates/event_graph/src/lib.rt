@@ -14,3 +14,6 @@ pub use cause::Cause;
 pub use edge::Edge;
 pub use network::Network;
 pub use push_fault::PushFault;
+
+#[cfg(test)]
+mod tests;
