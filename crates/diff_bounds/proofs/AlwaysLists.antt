@@ -1,17 +1,14 @@
 -- Lists of always-edges that grow by one name after another.
-use Rattle.std.proofs.Common.{◌≡◌, ℕ, ◌+◌, ◌<◌, ◌≤◌, max, ◌⊎◌, inl, inr, List, [], length, Option, Some, IsSome, option_map, slice_get, is_some, All, Contains, sym, ◌∙◌, ap, subst, refl, arith}
-use Rattle.std.proofs.lemmas.Bool.{cases_eq, cases_lt}
+use Rattle.std.proofs.Common.{◌≡◌, ℕ, ◌+◌, ◌<◌, max, inl, inr, List, length, Some, option_map, slice_get, All, sym, ◌∙◌, ap, subst, arith}
+use Rattle.std.proofs.lemmas.Bool.{cases_eq}
 use Rattle.std.proofs.lemmas.Option.{same_Some, slice_get_within}
-use Rattle.itv_base.specs.declared.names.EdgeName.{EdgeName}
 use Rattle.itv_base.specs.declared.names.RuleKind.{RuleKind}
 use Rattle.itv_base.specs.declared.names.RuleKind.TheVariants.{Lin, Late, Early}
 use Rattle.itv_base.specs.declared.names.Side.{Side}
 use Rattle.itv_base.specs.declared.names.Side.TheVariants.{Lower, Upper}
 use Rattle.event_graph.specs.declared.edge.Edge.{Edge}
-use Rattle.event_graph.specs.Edges.{IsAlways, edge}
-use Rattle.event_graph.specs.Network.{Constraint, IsCauseCount, IsConstraint, IsNet, Net, cause_count_of, named_causes}
+use Rattle.event_graph.specs.Network.{IsCauseCount, IsConstraint, IsNet, Net, cause_count_of, named_causes}
 use Rattle.diff_bounds.specs.AlwaysEdges.{AreAlwaysEdges, Grows, HasCause, HasEdge, IsAlwaysEdge}
-use Rattle.diff_bounds.specs.Labels.{IsForward}
 use Rattle.diff_bounds.proofs.NamedEdges.{all_at, comes_from}
 
 pub grows_on : (net : Net) (old mid new : List Edge) → Grows net old mid → Grows net mid new → Grows net old new
@@ -34,10 +31,10 @@ pub causes_more : (net : Net) (old mid new : List Edge) (constraint count : ℕ)
     → HasCausesBelow net new constraint (count + 1)
 causes_more net old mid new constraint count before first second lower upper =
     λ cause below side e always is.
-      elim (cases_eq cause count) [
-        inl same ↦ here cause same side e always is
+    elim (cases_eq cause count) [
+      | inl same ↦ here cause same side e always is
       | inr apart ↦ second.kept e (first.kept e (before cause (omega arith) side e always is))
-      ]
+    ]
   where
     here : (cause : ℕ) → cause ≡ count → (side : Side) → HasEdge net new (record { constraint = constraint; cause = cause; side = side })
     here cause same Lower = subst (λ (i : ℕ). HasEdge net new (record { constraint = constraint; cause = i; side = Lower })) (sym same) (λ e always is. second.kept e (lower e always is))
@@ -55,7 +52,7 @@ all_causes net edges constraint count is_net counted below cause side e always i
     let from = comes_from net (record { constraint = constraint; cause = cause; side = side }) e is in
     let allowed = all_at (IsConstraint net.events) net.constraints constraint from.constraint is_net.constraints from.at in
     let named : named_causes from.constraint.kind (length from.constraint.causes) ≡ count =
-      same_Some _ _ (ap (option_map cause_count_of) (sym from.at) ∙ counted) in
+    same_Some _ _ (ap (option_map cause_count_of) (sym from.at) ∙ counted) in
     below cause (cause_within from.constraint.kind cause (length from.constraint.causes) count (slice_get_within _ _ _ from.cause_at) allowed.count named) side e always is
 
 -- the list has the edges of every constraint below a number
@@ -66,16 +63,16 @@ pub constraints_more : (net : Net) (old new : List Edge) (count : ℕ) → HasCo
     → HasConstraintsBelow net new (count + 1)
 constraints_more net old new count before grows here =
     λ constraint cause below side e always is.
-      elim (cases_eq constraint count) [
-        inl same ↦ subst (λ (k : ℕ). HasCause net new k cause) (sym same) (here cause) side e always is
+    elim (cases_eq constraint count) [
+      | inl same ↦ subst (λ (k : ℕ). HasCause net new k cause) (sym same) (here cause) side e always is
       | inr apart ↦ grows.kept e (before constraint cause (omega arith) side e always is)
-      ]
+    ]
 
 -- all of them
 pub all_constraints : (net : Net) (edges : List Edge) → All (IsAlwaysEdge net) edges → HasConstraintsBelow net edges (length net.constraints) → AreAlwaysEdges net edges
 all_constraints net edges sound below = record {
   sound = sound;
   complete = λ e named.
-    let from = comes_from net named.0 e named.2 in
-    below named.0.constraint named.0.cause (slice_get_within _ _ _ from.at) named.0.side e named.1 named.2;
+      let from = comes_from net named.0 e named.2 in
+      below named.0.constraint named.0.cause (slice_get_within _ _ _ from.at) named.0.side e named.1 named.2;
 }

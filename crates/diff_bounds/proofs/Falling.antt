@@ -1,5 +1,5 @@
 -- What one fall of a label keeps: the labels stay near, stay bounds from their source, and are lower all together.
-use Rattle.std.proofs.Common.{◌≡◌, ℕ, ◌+◌, ◌*◌, ◌<◌, ◌≤◌, ℤ, pos, negsuc, ◌+ℤ◌, ◌-ℤ◌, ◌≤ℤ◌, ◌<ℤ◌, Bool, true, false, cond, ◌⊎◌, inl, inr, List, length, get_or, set, Option, Some, None, is_some, sum_by, count_by, All, Contains, sym, ◌∙◌, ap, subst, refl, arith}
+use Rattle.std.proofs.Common.{◌≡◌, ℕ, ◌+◌, ◌*◌, ◌<◌, ◌≤◌, ℤ, pos, negsuc, ◌+ℤ◌, ◌-ℤ◌, ◌≤ℤ◌, ◌<ℤ◌, cond, ◌⊎◌, inl, inr, List, length, get_or, set, Option, Some, None, is_some, count_by, Contains, sym, ◌∙◌, ap, subst, refl, arith}
 use Rattle.std.proofs.Math.ListN.{length-set}
 use Rattle.std.proofs.lemmas.Int.{ints}
 use Rattle.std.proofs.lemmas.Bool.{cases_eq}
@@ -11,7 +11,7 @@ use Rattle.std.proofs.lemmas.Grind.{get_or-set_at}
 use Rattle.itv_base.specs.declared.names.EventId.{EventId}
 use Rattle.event_graph.specs.declared.edge.Edge.{Edge}
 use Rattle.event_graph.specs.Edges.{Meets}
-use Rattle.event_graph.specs.Times.{separation, time_of}
+use Rattle.event_graph.specs.Times.{time_of}
 use Rattle.diff_bounds.specs.Labels.{AreNear, BoundsFrom, IsForward, Lowers, height, label_of, natural_part, total_height}
 
 -- the label of an event, after one has changed
@@ -19,8 +19,8 @@ pub label_after : (old : List (Option ℤ)) (at event : EventId) (label : Option
     → ((event.0 ≡ at.0) × (label ≡ Some now)) ⊎ (label_of old event ≡ Some now)
 label_after old at event label now within e =
     elim (cases_eq event.0 at.0) [
-      inl same ↦ inl (same, sym (get_or-set_at old at.0 event.0 label None same within) ∙ e)
-    | inr apart ↦ inr (sym (get_or-set_other old at.0 event.0 label None apart) ∙ e)
+      | inl same ↦ inl (same, sym (get_or-set_at old at.0 event.0 label None same within) ∙ e)
+      | inr apart ↦ inr (sym (get_or-set_other old at.0 event.0 label None apart) ∙ e)
     ]
 
 -- the number of events that were reached, after one has
@@ -59,13 +59,13 @@ near_after e old near sum fall are_near =
     let high = fallen_high (label_of old e.to) sum near e.weight _ _ is fall.lowers (are_near.high e.to) start_high fall.forward.high counts in
     record {
       low = λ event label h. elim (label_after old e.to event (Some sum) label fall.forward.to h) [
-          inl new ↦ let same : sum ≡ label = same_Some _ _ new.1 in omega (arith, ints)
+        | inl new ↦ let same : sum ≡ label = same_Some _ _ new.1 in omega (arith, ints)
         | inr was ↦ are_near.low event label was
-        ];
+      ];
       high = λ event label h. elim (label_after old e.to event (Some sum) label fall.forward.to h) [
-          inl new ↦ subst (λ (z : ℤ). z ≤ℤ pos (1000000000000 * count_by is_some (set old e.to.0 (Some sum)))) (same_Some _ _ new.1) high
+        | inl new ↦ subst (λ (z : ℤ). z ≤ℤ pos (1000000000000 * count_by is_some (set old e.to.0 (Some sum)))) (same_Some _ _ new.1) high
         | inr was ↦ let standing : label ≤ℤ pos (1000000000000 * count_by is_some old) = are_near.high event label was in omega (arith, ints)
-        ];
+      ];
     }
 
 -- a label that is lowered to at least 0 was not at 0
@@ -83,18 +83,18 @@ bounds_after edges source e old near sum fall are_near among bounds =
     let sum_low : pos 0 ≤ℤ sum = omega (arith, ints) in
     record {
       origin = elim (cases_eq source.0 e.to.0) [
-          inl same ↦ absurd (zero_stays (label_of old e.to) sum fall.lowers sum_low (ap (λ k. get_or old k None) (sym same) ∙ bounds.origin))
+        | inl same ↦ absurd (zero_stays (label_of old e.to) sum fall.lowers sum_low (ap (λ k. get_or old k None) (sym same) ∙ bounds.origin))
         | inr apart ↦ get_or-set_other old e.to.0 source.0 (Some sum) None apart ∙ bounds.origin
-        ];
+      ];
       most = λ times met event label h. elim (label_after old e.to event (Some sum) label fall.forward.to h) [
-          inl new ↦
+        | inl new ↦
             let same : sum ≡ label = same_Some _ _ new.1 in
             let start : (time_of times e.from -ℤ time_of times source) ≤ℤ near = bounds.most times met e.from near fall.start in
             let along : (time_of times e.to -ℤ time_of times e.from) ≤ℤ e.weight = All-contains (Meets times) edges e met among in
             let at : time_of times event ≡ time_of times e.to = ap (λ k. get_or times k (pos 0)) new.0 in
             omega (arith, ints)
         | inr was ↦ bounds.most times met event label was
-        ];
+      ];
     }
 
 natural_below : (y z : ℤ) → pos 0 ≤ℤ y → y <ℤ z → natural_part y < natural_part z

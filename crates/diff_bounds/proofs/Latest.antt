@@ -1,5 +1,5 @@
 -- The latest of some labels.
-use Rattle.std.proofs.Common.{◌≡◌, ℕ, ◌+◌, ◌*◌, ◌<◌, ◌≤◌, ℤ, pos, ◌≤ℤ◌, ◌⊎◌, inl, inr, List, length, get_or, Option, Some, None, IfSome, is_some, count_by, sym, ◌∙◌, ap, subst, refl, arith}
+use Rattle.std.proofs.Common.{◌≡◌, ℕ, ◌+◌, ◌*◌, ◌<◌, ◌≤◌, ℤ, pos, ◌≤ℤ◌, ◌⊎◌, inl, inr, List, length, get_or, Option, Some, None, IfSome, is_some, count_by, sym, ◌∙◌, ap, subst, arith}
 use Rattle.std.proofs.lemmas.Int.{ints}
 use Rattle.std.proofs.lemmas.Bool.{cases_eq}
 use Rattle.std.proofs.lemmas.List.Sums.{count_by-le-length}
@@ -25,11 +25,11 @@ after_more labels count time next near events after later labelled either =
     record {
       low = omega (arith, ints);
       high = elim either [
-          inl same ↦ omega (arith, ints)
+        | inl same ↦ omega (arith, ints)
         | inr is ↦ let near_high : next ≤ℤ pos (1000000000000 * count_by is_some labels) = near.high (record { 0 = count }) next is in omega (arith, ints)
-        ];
+      ];
       each = λ k label below e. elim (cases_eq k count) [
-          inl same ↦ if_some (get_or labels count None) next label labelled (ap (λ i. get_or labels i None) (sym same) ∙ e)
+        | inl same ↦ if_some (get_or labels count None) next label labelled (ap (λ i. get_or labels i None) (sym same) ∙ e)
         | inr apart ↦ let before : label ≤ℤ time = after.each k label (omega arith) e in omega (arith, ints)
-        ];
+      ];
     }

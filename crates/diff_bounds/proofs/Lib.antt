@@ -4,3 +4,5 @@ pub mod Starting
 pub mod Latest
 pub mod NamedEdges
 pub mod AlwaysLists
+pub mod Settled
+pub mod Ranges

@@ -1,5 +1,5 @@
 -- The edges of a linear network by their names, and the times that meet all of them.
-use Rattle.std.proofs.Common.{◌≡◌, ℕ, ◌<◌, ℤ, pos, neg_ℤ, ◌+ℤ◌, ◌-ℤ◌, ◌≤ℤ◌, Bool, true, false, List, [], ◌∷◌, ◌++◌, length, get_or, Option, Some, None, IfSome, IsSomeAnd, IsTrue, is_some, option_map, slice_get, All, Contains, sym, ◌∙◌, ap, subst, refl, arith, rules}
+use Rattle.std.proofs.Common.{◌≡◌, ℕ, ◌<◌, ℤ, pos, neg_ℤ, ◌+ℤ◌, ◌-ℤ◌, ◌≤ℤ◌, List, [], ◌∷◌, ◌++◌, length, get_or, Option, Some, None, IfSome, IsSomeAnd, IsTrue, is_some, option_map, slice_get, All, Contains, sym, ap, subst, refl, arith, rules}
 use Rattle.std.proofs.lemmas.Int.{ints}
 use Rattle.std.proofs.lemmas.Option.{same_Some, option_and_then_some, get_or_from_slice_get, slice_get-get_or, slice_get_within}
 use Rattle.std.proofs.lemmas.List.Elements.{All-contains, All-push, Contains-append_left}
@@ -16,7 +16,7 @@ use Rattle.event_graph.specs.Edges.{IsAlways, Meets, edge, holds_always, side_ed
 use Rattle.event_graph.specs.Network.{Constraint, Net}
 use Rattle.event_graph.specs.RootBound.{MeetsAlways}
 use Rattle.event_graph.specs.Satisfying.{Holds, HoldsAs, IsAfter, IsBefore, Satisfies}
-use Rattle.event_graph.specs.Times.{separation, time_of}
+use Rattle.event_graph.specs.Times.{time_of}
 use Rattle.diff_bounds.specs.AlwaysEdges.{AreAlwaysEdges, Grows, IsAlwaysEdge}
 use Rattle.diff_bounds.specs.Labels.{IsForward}
 use Rattle.diff_bounds.specs.Linear.{HoldsZero, IsLinearAroundZero}
@@ -80,14 +80,14 @@ side_met : (times : List ℤ) (side : Side) (target : EventId) (cause : Cause) (
 side_met times Upper target cause e after before h =
     let end = upper_edge cause.range.high cause.event target e h in
     let most : time_of times target ≤ℤ (time_of times cause.event +ℤ e.weight) =
-      if_some (λ high. time_of times target ≤ℤ (time_of times cause.event +ℤ high)) cause.range.high e.weight end.0 before in
+    if_some (λ high. time_of times target ≤ℤ (time_of times cause.event +ℤ high)) cause.range.high e.weight end.0 before in
     let from : time_of times cause.event ≡ time_of times e.from = ap (time_of times) end.1 in
     let to : time_of times target ≡ time_of times e.to = ap (time_of times) end.2 in
     omega (arith, ints)
 side_met times Lower target cause e after before h =
     let end = lower_edge cause.range.low target cause.event e h in
     let least : (time_of times cause.event +ℤ end.0) ≤ℤ time_of times target =
-      if_some (λ low. (time_of times cause.event +ℤ low) ≤ℤ time_of times target) cause.range.low end.0 end.1 after in
+    if_some (λ low. (time_of times cause.event +ℤ low) ≤ℤ time_of times target) cause.range.low end.0 end.1 after in
     let weight : neg_ℤ end.0 ≡ e.weight = end.2 in
     let from : time_of times target ≡ time_of times e.from = ap (time_of times) end.3 in
     let to : time_of times cause.event ≡ time_of times e.to = ap (time_of times) end.4 in
@@ -146,7 +146,7 @@ side_among net edges k i side c cause e always kind at cause_at is =
     let name : EdgeName = record { constraint = k; cause = i; side = side } in
     let named : edge net name ≡ Some e = rw (at, cause_at) is in
     let is_always : IsSomeAnd (slice_get net.constraints k) (λ c. IsTrue (holds_always c.kind (length c.causes) side)) =
-      rw at (lin_always c.kind (length c.causes) side kind) in
+    rw at (lin_always c.kind (length c.causes) side kind) in
     always.complete e (name, (ap is_some named, is_always), named)
 
 pub meets_satisfies : (net : Net) (edges : List Edge) (times : List ℤ) → IsLinearAroundZero net → AreAlwaysEdges net edges → length times ≡ net.events → All (Meets times) edges → Satisfies times net
@@ -154,15 +154,15 @@ meets_satisfies net edges times linear always count met =
     record {
       count = count;
       each = λ k d below.
-        let c : Constraint = get_or net.constraints k d in
-        let at : slice_get net.constraints k ≡ Some c = slice_get-get_or net.constraints k d below in
-        let zero : HoldsZero c = linear k d below in
-        holds_lin c.kind times c.target c.causes zero.kind
-        (λ i (x : Cause) within.
+          let c : Constraint = get_or net.constraints k d in
+          let at : slice_get net.constraints k ≡ Some c = slice_get-get_or net.constraints k d below in
+          let zero : HoldsZero c = linear k d below in
+          holds_lin c.kind times c.target c.causes zero.kind
+          (λ i (x : Cause) within.
           let cause : Cause = get_or c.causes i x in
           after_met cause.range.low times c.target cause.event
           (λ e is. All-contains (Meets times) edges e met (side_among net edges k i Lower c cause e always zero.kind at (slice_get-get_or c.causes i x within) is)))
-        (λ i (x : Cause) within.
+          (λ i (x : Cause) within.
           let cause : Cause = get_or c.causes i x in
           before_met cause.range.high times c.target cause.event
           (λ e is. All-contains (Meets times) edges e met (side_among net edges k i Upper c cause e always zero.kind at (slice_get-get_or c.causes i x within) is)));

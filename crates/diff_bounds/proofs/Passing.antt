@@ -1,11 +1,10 @@
 -- What a pass over edges keeps.
-use Rattle.std.proofs.Common.{◌≡◌, ℕ, ◌+◌, ◌<◌, ◌≤◌, ℤ, ◌+ℤ◌, Bool, true, false, ◌||◌, ◌⊎◌, inl, inr, List, length, get_or, set, Option, All, Contains, sym, ◌∙◌, ap, subst, refl, arith}
+use Rattle.std.proofs.Common.{◌≡◌, ℕ, ◌+◌, ◌<◌, ◌≤◌, ℤ, ◌+ℤ◌, Bool, true, false, ◌||◌, inl, inr, List, length, get_or, Option, Contains, sym, ◌∙◌, subst, refl, arith}
 use Rattle.std.specs.List.{AllWithin}
 use Rattle.std.proofs.lemmas.Bool.{cases_eq}
 use Rattle.std.proofs.lemmas.List.Elements.{at_read}
-use Rattle.itv_base.specs.declared.names.EventId.{EventId}
 use Rattle.event_graph.specs.declared.edge.Edge.{Edge}
-use Rattle.diff_bounds.specs.Labels.{AreNear, BoundsFrom, Follows, IsForward, Keeps, Relaxes, label_of, total_height}
+use Rattle.diff_bounds.specs.Labels.{AreNear, Follows, IsForward, Keeps, Relaxes, total_height}
 use Rattle.diff_bounds.proofs.Falling.{Falls, bounds_after, near_after, total_after}
 
 true_false : true ≡ false → ⊥
@@ -43,9 +42,9 @@ follows_more : (edges : List Edge) (labels : List (Option ℤ)) (count : ℕ) (e
     → AllWithin (Follows labels) edges 0 (count + 1)
 follows_more edges labels count e below is so_far here =
     λ k d low high. elim (cases_eq k count) [
-        inl same ↦ subst (λ i. Follows labels (get_or edges i d)) (sym same) (at_read edges (Follows labels) count e below is here d)
+      | inl same ↦ subst (λ i. Follows labels (get_or edges i d)) (sym same) (at_read edges (Follows labels) count e below is here d)
       | inr apart ↦ so_far k d low (omega arith)
-      ]
+    ]
 
 -- the next edge of a pass
 pub passed_on : (edges : List Edge) (old labels new : List (Option ℤ)) (e : Edge) (changed now : Bool) (count : ℕ) → PassedTo edges old labels changed count
@@ -59,9 +58,10 @@ passed_on edges old labels new e true false count passed below is forward events
 passed_on edges old labels new e false false count passed below is forward events relaxed =
     record {
       keeps = keeps_on edges old labels new e false passed.keeps (count, below, sym is) forward relaxed;
-      still = λ _.
-        (relaxed.0 ∙ (passed.still refl).0,
-         rw relaxed.0 (follows_more edges labels count e below is (passed.still refl).1 relaxed.1));
+      still = λ _. (
+        relaxed.0 ∙ (passed.still refl).0,
+        rw relaxed.0 (follows_more edges labels count e below is (passed.still refl).1 relaxed.1),
+      );
       less = λ h. absurd (true_false (sym h));
     }
 passed_on edges old labels new e true true count passed below is forward events relaxed =

@@ -1,5 +1,5 @@
 -- Labels of events: bounds on their separations from a source, found so far along edges.
-use Rattle.std.specs.Prelude.{◌≡◌, ◌<◌, ◌≤◌, ◌*◌, ℕ, ℤ, pos, negsuc, ◌+ℤ◌, ◌≤ℤ◌, ◌<ℤ◌, Bool, true, false, List, length, map, Option, Some, None, is_some, sum_by, count_by, All, Contains, slice_index_or, slice_set, replicate, unwrap_or}
+use Rattle.std.specs.Prelude.{◌≡◌, ◌<◌, ◌*◌, ℕ, ℤ, pos, negsuc, ◌+ℤ◌, ◌≤ℤ◌, ◌<ℤ◌, Bool, true, false, List, map, Option, Some, None, is_some, sum_by, count_by, All, slice_index_or, slice_set, replicate, unwrap_or}
 use Rattle.itv_base.specs.declared.names.EventId.{EventId}
 use Rattle.event_graph.specs.declared.edge.Edge.{Edge}
 use Rattle.event_graph.specs.Edges.{Meets}

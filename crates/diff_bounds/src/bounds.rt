@@ -12,7 +12,7 @@ ghost use Rattle.diff_bounds.specs.Standing.{IsMadeFor, IsUpper, Stands, ray_of}
 
 use crate::always_edges::always_edges;
 use crate::fit::Fit;
-use crate::labels::{latest, spread};
+use crate::labels::{latest, spread, write_ray, write_times};
 use event_graph::{Edge, Network};
 use itv_base::{EventId, NoMemory};
 use std::alloc::Global;
@@ -99,9 +99,7 @@ impl Bounds {
             → Stands net self.now → self.now.source ≡ Some source → time_of out.new source ≡ pos 0 }
         ensures range { All IsTime out.new }
     {
-        for (time, label) in out.iter_mut().zip(&self.labels) {
-            *time = label.unwrap_or(self.last);
-        }
+        write_times(&self.labels, self.last, out);
     }
 
     /// Writes for each event whether its [`upper`](Bounds::upper) is `None`. The times of [`times_into`](Bounds::times_into)
@@ -113,8 +111,6 @@ impl Bounds {
             → Stands net self.now → self.now.source ≡ Some source
             → slice_get self.now.uppers event.0 ≡ Some None → IsRay net source event self.now.times out.new }
     {
-        for (flag, label) in out.iter_mut().zip(&self.labels) {
-            *flag = label.is_none();
-        }
+        write_ray(&self.labels, out);
     }
 }

@@ -1,7 +1,7 @@
 //! Labels of events, which fall along edges until they are the greatest separations from a source.
 
-ghost use Rattle.std.specs.Prelude.{◌≡◌, ◌<◌, ◌≤◌, ◌+ℤ◌, ℤ, pos, ◌≤ℤ◌, IfSome, MatchBool, Some, None, All, ◌⊎◌, length, replicate};
-ghost use Rattle.diff_bounds.specs.Labels.{AreNear, Follows, HaveSpread, IsAfterAll, IsForward, Keeps, Relaxes, first_labels, total_height};
+ghost use Rattle.std.specs.Prelude.{◌≡◌, ◌<◌, ◌≤◌, ◌+ℤ◌, ℤ, pos, ◌≤ℤ◌, IfSome, MatchBool, Some, None, is_none, All, ◌⊎◌, length, map, replicate};
+ghost use Rattle.diff_bounds.specs.Labels.{AreNear, Follows, HaveSpread, IsAfterAll, IsForward, Keeps, Relaxes, first_labels, times_of, total_height};
 
 use event_graph::Edge;
 use itv_base::EventId;
@@ -126,5 +126,25 @@ fn later(time: i64, label: Option<i64>) -> i64
     match label {
         Some(labelled) if time < labelled => labelled,
         _ => time,
+    }
+}
+
+/// Writes the times of labels: an event without one comes last.
+pub fn write_times(labels: &[Option<i64>], last: i64, out: &mut [i64])
+    requires { length out.old ≡ length labels.now }
+    ensures { out.new ≡ times_of labels.now last }
+{
+    for (event, label) in labels.iter().enumerate() {
+        out[event] = label.unwrap_or(last);
+    }
+}
+
+/// Writes for each event whether it has no label.
+pub fn write_ray(labels: &[Option<i64>], out: &mut [bool])
+    requires { length out.old ≡ length labels.now }
+    ensures { out.new ≡ map is_none labels.now }
+{
+    for (event, label) in labels.iter().enumerate() {
+        out[event] = label.is_none();
     }
 }

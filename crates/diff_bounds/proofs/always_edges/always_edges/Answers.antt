@@ -1,4 +1,4 @@
-use Rattle.std.proofs.Common.{ℕ, ◌<◌, length, arith}
+use Rattle.std.proofs.Common.{◌<◌, length, arith}
 use Rattle.diff_bounds.proofs.AlwaysLists.{all_constraints, constraints_more}
 use Rattle.diff_bounds.proofs.always_edges.always_edges.Goals as goal
 

@@ -1,4 +1,4 @@
-use Rattle.std.proofs.Common.{ℕ, ◌<◌, ◌≤◌, max, arith}
+use Rattle.std.proofs.Common.{◌<◌, max, arith}
 use Rattle.diff_bounds.proofs.AlwaysLists.{all_causes, causes_more, grows_on}
 use Rattle.diff_bounds.proofs.always_edges.push_constraint.Goals as goal
 

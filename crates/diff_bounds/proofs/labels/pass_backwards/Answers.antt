@@ -10,7 +10,7 @@ pub loop-edge-preserved : goal.loop-edge-preserved
 loop-edge-preserved c =
     let left = All-pop (Contains c.args.edges.now) (iter_rest (rev_source c.loop-edge.edge-iterator)) (iter_rest (rev_source c.next.new.self)) (Some c.in-Some.edge.now) c.in-Some.ensures.steps c.loop-edge.invariant.among in
     let forward : IsForward (length c.loop-edge.labels) c.in-Some.edge.now =
-      rw c.loop-edge.auto.labels (All-contains (IsForward (length c.args.labels.now)) c.args.edges.now c.in-Some.edge.now c.requires.edges left.1) in
+    rw c.loop-edge.auto.labels (All-contains (IsForward (length c.args.labels.now)) c.args.edges.now c.in-Some.edge.now c.requires.edges left.1) in
     let events : length c.loop-edge.labels ≤ 4096 = rw c.loop-edge.auto.labels c.requires.events in
     let lower = total_on _ _ _ _ c.loop-edge.invariant.keeps.near forward events c.relax.ensures in
     record {
