@@ -19,7 +19,9 @@ pub struct Trail {
     levels: u32,
     edges: Vec<EdgeName>,
     slots: Vec<Slot>,
+    // The undo log of all levels, the oldest entry first.
     saved: Vec<Saved>,
+    // Where each level began, the oldest level first.
     marks: Vec<Mark>,
 }
 
@@ -37,7 +39,7 @@ impl Model for Trail {
 
 impl Trail {
     /// One graph, without edges and with empty stamps. Each graph has `slots` stamps; at most `levels` graphs may be pushed, and
-    /// a graph may have at most `levels` edges. Takes all the memory that the trail ever needs.
+    /// a graph may have at most `levels` edges. Takes all the memory that the trail ever needs, or answers `NoMemory`.
     pub fn new(alloc: Global, slots: u32, levels: u32) -> Result<Trail, NoMemory>
         ensures { IfOk result (λ t. t ≡ new_stack slots levels) }
     {
@@ -52,7 +54,7 @@ impl Trail {
         })
     }
 
-    /// Makes the trail as it was when it was new.
+    /// Makes the trail as it was when it was new, with as many slots and levels.
     pub fn reset(&mut self)
         ensures { self.new ≡ new_stack (length self.old.current.stamps) self.old.levels }
     {
@@ -62,7 +64,7 @@ impl Trail {
         self.slots.fill(Slot::UNSET);
     }
 
-    /// Makes a copy of the current graph the current one.
+    /// Puts a copy of the current graph on top of it, which is then the current one.
     pub fn push_level(&mut self)
         requires { length self.old.below < self.old.levels }
         ensures { self.new ≡ after_push self.old }
@@ -101,6 +103,7 @@ impl Trail {
     {
         let level = self.depth();
         let was = self.slots[slot as usize];
+        // A slot that this level set is saved already, and below the first graph there is none to go back to.
         if was.level < level {
             self.saved.push_reserved(Saved { slot, was });
         }
