@@ -1,2 +1,6 @@
+mod Judging
 mod LoneLemmas
 mod Putting
+mod Reporting
+mod Solving
+mod WholeLemmas

@@ -1,5 +1,5 @@
 -- Puts one after another.
-use Rattle.std.proofs.Common.{◌≡◌, ℕ, ℤ, ◌+◌, ◌<◌, ◌≤◌, Bool, true, false, List, [], ◌++◌, length, take, drop, get_or, suc, add-one, drop-cons, Option, Some, None, Result, Ok, Err, refl, sym, ◌∙◌, ap, append_assoc, append-nil, arith, length-append}
+use Rattle.std.proofs.Common.{◌≡◌, ℕ, ℤ, ◌+◌, ◌<◌, ◌≤◌, Bool, true, false, List, [], ◌++◌, length, take, drop, get_or, suc, add-one, drop-cons, Option, Some, None, Result, Ok, Err, refl, sym, ◌∙◌, ap, subst, append_assoc, append-nil, arith, length-append}
 use Rattle.std.specs.Bool.{⊤}
 use Rattle.std.proofs.lemmas.List.{take-append-le}
 use Rattle.std.proofs.Math.Seq.{take-append-add}
@@ -37,3 +37,7 @@ members_at set i j d e h = rw (drop-cons set i d h) (ap (λ k. member_text i (ge
 
 pub members_more : (set : List Bool) (i : ℕ) (d : Bool) → i < length set → members_from i (drop i set) ≡ member_text i (get_or set i d) ++ members_from (i + 1) (drop (i + 1) set)
 members_more set i d h = members_at set i (i + 1) d (omega arith) h
+
+-- the same text, written otherwise
+pub puts_same : {K E : Type 0} (written : K → Option (List ℕ)) (faults : K → ℕ) (old new : K) (xs ys : List ℕ) (r : Result ⊤ E) → xs ≡ ys → Puts written faults old new xs r → Puts written faults old new ys r
+puts_same written faults old new xs ys r e p = subst (λ (text : List ℕ). Puts written faults old new text r) e p

@@ -1,6 +1,7 @@
 -- What a lone sheet draws, as the code keeps it.
 use Rattle.std.specs.Prelude.{◌≡◌, ◌<◌, ℕ, List, length, map, All, codes}
 use Rattle.event_graph.specs.Network.{Net}
+use Rattle.diff_bounds.specs.Linear.{IsLinearAroundZero}
 use Rattle.itv_cli.specs.declared.row.Row.{Row}
 use Rattle.itv_cli.specs.Report.{Name}
 use Rattle.itv_cli.specs.Right.{Drawn}
@@ -15,7 +16,8 @@ drawn_by net marks rows = record { net = net; names = map name_of_byte marks; ro
 abbrev pub IsRowOf : Net → Row → Type 0
 IsRowOf net row = (row.from.0 < net.events) × (row.to.0 < net.events)
 
--- each event has a name, and the rows are between events
+-- each event has a name, the rows are between events, and the constraints are linear with ranges that hold 0
 pub record IsDrawn (drawn : Drawn) : Type 0 where
+  pub linear : IsLinearAroundZero drawn.net
   pub names : length drawn.names ≡ drawn.net.events
   pub rows : All (IsRowOf drawn.net) drawn.rows

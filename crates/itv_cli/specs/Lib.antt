@@ -7,3 +7,6 @@ pub mod Refusal
 pub mod Design
 pub mod Whole
 pub mod Drawing
+pub mod Call
+pub mod Steps
+pub mod Searching

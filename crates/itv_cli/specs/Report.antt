@@ -124,7 +124,7 @@ members_from number [] = []
 members_from number (is_in ∷ set) = member_text number is_in ++ members_from (number + 1) set
 
 -- the text of a line
-abbrev pub item_text : Item → List ℕ
+unfoldable pub item_text : Item → List ℕ
 item_text (heading_line form) = concat (codes "itv report " ∷ decimal form ∷ codes "\n" ∷ [])
 item_text (budget_line count) = concat (codes "budget " ∷ decimal count ∷ codes "\n" ∷ [])
 item_text (events_line count) = concat (codes "events " ∷ decimal count ∷ codes "\n" ∷ [])

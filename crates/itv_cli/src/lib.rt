@@ -7,7 +7,10 @@ mod lines;
 mod lone;
 mod outcome;
 mod refusal;
+mod report;
 mod row;
+mod search;
+mod top;
 mod words;
 
 pub use outcome::Outcome;

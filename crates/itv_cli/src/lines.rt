@@ -1,4 +1,5 @@
 //! Writing the lines of a report. Each writes the text of its line, and fails where a put does, with a front of it written.
+#![tactic(auto, unfolding(crate::specs::Report::item_text))]
 
 ghost use Rattle.std.specs.Prelude.{◌≡◌, ◌∷◌, ◌++◌, [], ℕ, ℤ, List, codes, decimal};
 ghost use Rattle.std.specs.Fmt.{signed_decimal};
@@ -28,14 +29,14 @@ pub fn put_heading<K: Sink>(sink: &mut K) -> Result<(), PutFailed>
 }
 
 /// The line with the number of events.
-pub fn put_event_count<K: Sink>(count: u64, sink: &mut K) -> Result<(), PutFailed>
+pub fn put_event_count<K: Sink>(count: u32, sink: &mut K) -> Result<(), PutFailed>
     ensures { Puts K.written K.faults sink.old sink.new (item_text (events_line count)) result }
 {
-    put_count(b"events ", count, sink)
+    put_count(b"events ", u64::from(count), sink)
 }
 
 /// The line that names an event.
-pub fn put_event<K: Sink>(number: u64, name: EventName<'_>, sink: &mut K) -> Result<(), PutFailed>
+pub fn put_event<K: Sink>(number: u32, name: EventName<'_>, sink: &mut K) -> Result<(), PutFailed>
     ensures { Puts K.written K.faults sink.old sink.new
         (item_text (event_line number (name_view name.entry))) result }
 {
@@ -55,10 +56,10 @@ pub fn put_event<K: Sink>(number: u64, name: EventName<'_>, sink: &mut K) -> Res
 }
 
 /// The line with the number of rows.
-pub fn put_row_count<K: Sink>(count: u64, sink: &mut K) -> Result<(), PutFailed>
+pub fn put_row_count<K: Sink>(count: usize, sink: &mut K) -> Result<(), PutFailed>
     ensures { Puts K.written K.faults sink.old sink.new (item_text (rows_line count)) result }
 {
-    put_count(b"rows ", count, sink)
+    put_count(b"rows ", count as u64, sink)
 }
 
 // The text of an end of a range, or of another number that may be left open.
@@ -93,7 +94,7 @@ fn put_asked<K: Sink>(kind: &RowKind, sink: &mut K) -> Result<(), PutFailed>
 
 // A row up to its names.
 fn put_row_names<K: Sink>(
-    number: u64,
+    number: usize,
     kind: &RowKind,
     from: EventName<'_>,
     to: EventName<'_>,
@@ -129,7 +130,7 @@ fn put_row_names<K: Sink>(
 
 /// The line that names a row.
 pub fn put_row<K: Sink>(
-    number: u64,
+    number: usize,
     kind: &RowKind,
     from: EventName<'_>,
     to: EventName<'_>,
@@ -200,11 +201,11 @@ pub fn put_raise<K: Sink>(set: &[bool], sink: &mut K) -> Result<(), PutFailed>
 }
 
 /// The line of a greatest separation, in picoseconds.
-pub fn put_closed<K: Sink>(value: i64, sink: &mut K) -> Result<(), PutFailed>
-    ensures { Puts K.written K.faults sink.old sink.new (item_text (bound_line greatest (closed value))) result }
+pub fn put_closed<K: Sink>(value: &i64, sink: &mut K) -> Result<(), PutFailed>
+    ensures { Puts K.written K.faults sink.old sink.new (item_text (bound_line greatest (closed value.now))) result }
 {
     let mut digits = Buffer::new();
-    put_all(sink, &[b"max ", digits.format(value).as_bytes(), b"\n"])
+    put_all(sink, &[b"max ", digits.format(*value).as_bytes(), b"\n"])
 }
 
 /// The line that says that there is no greatest separation.

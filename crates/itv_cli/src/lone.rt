@@ -3,6 +3,7 @@
 ghost use Rattle.std.specs.Prelude.{◌≡◌, ◌<◌, ◌≤◌, ◌++◌, ◌&&◌, nat_le, IfOk, OnOk, All, IsTrue, length, map};
 ghost use Rattle.std.specs.List.{filter_map, list_all};
 ghost use Rattle.std.specs.Option.{option_to_list};
+ghost use Rattle.diff_bounds.specs.Linear.{IsLinearAroundZero};
 ghost use Rattle.itv_cli.specs.Drawing.{IsRowOf};
 ghost use Rattle.itv_cli.specs.Lone.{asks, constraint_of, holds_zero, is_easy, is_easy_rule, is_linear, lone_network, row_of};
 ghost use Rattle.itv_cli.specs.Name.{name_view};
@@ -176,9 +177,11 @@ impl LoneDesign {
         })
     }
 
-    /// The network.
+    /// The network. Its constraints are linear, with ranges that hold 0.
     pub fn network(&self) -> &Network
-        ensures { result.now ≡ self.now.net }
+        ensures network { result.now ≡ self.now.net }
+        ensures linear { IsLinearAroundZero result.now }
+        ensures names { length self.now.names ≡ result.now.events }
     {
         &self.network
     }

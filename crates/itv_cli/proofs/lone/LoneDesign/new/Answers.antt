@@ -2,12 +2,12 @@ use Rattle.std.proofs.Common.{◌∙◌, ap, map, length}
 use Rattle.std.specs.List.{filter_map}
 use Rattle.event_graph.specs.Network.{Net}
 use Rattle.itv_cli.specs.Lone.{constraint_of, row_of}
-use Rattle.itv_cli.proofs.LoneLemmas.{lone_is, lone_drawn}
+use Rattle.itv_cli.proofs.LoneLemmas.{lone_is, lone_drawn, easy_rules}
 use Rattle.itv_cli.proofs.lone.LoneDesign.new.Goals as goal
 
 pub invariant_of-result : goal.invariant_of-result
 invariant_of-result c =
-    lone_drawn c.args.sheet.now _ _ _ c.len-events.result (c.len-events.ensures ∙ ap length c.marks-2.ensures) c.requires.whole
+    lone_drawn c.args.sheet.now _ _ _ c.len-events.result (c.len-events.ensures ∙ ap length c.marks-2.ensures) c.requires.whole (easy_rules c.args.sheet.now c.requires.easy)
     (c.in_ok-network.ensures ∙ ap (λ rules. record { events = c.len-events.result; constraints = filter_map constraint_of rules }) (c.as_slice-3.ensures ∙ c.rules.ensures))
     (c.in_ok-marks.ensures ∙ ap (map (λ mark. mark.name)) (c.as_slice.ensures ∙ c.marks.ensures))
     (c.in_ok-rows.ensures ∙ ap (filter_map row_of) (c.as_slice-2.ensures ∙ c.rows.ensures))

@@ -1,0 +1,26 @@
+-- What a search finds, from what the bounds show.
+use Rattle.std.proofs.Common.{◌≡◌, ◌<◌, ℕ, ℤ, pos, ◌-ℤ◌, ◌≤ℤ◌, Bool, List, length, replicate, Option, Some, None, slice_get, refl, sym, ◌∙◌, ap, arith}
+use Rattle.itv_base.specs.declared.names.EventId.{EventId}
+use Rattle.event_graph.specs.Network.{Net}
+use Rattle.event_graph.specs.Edges.{IsAlways, Meets, edge}
+use Rattle.event_graph.specs.RootBound.{HasNoRoot, MeetsAlways}
+use Rattle.diff_bounds.specs.Linear.{IsLinearAroundZero}
+use Rattle.diff_bounds.specs.Standing.{Standing, Stands, StandsFrom, IsUpper, ray_of}
+use Rattle.diff_bounds.proofs.NamedEdges.{forward_low}
+use Rattle.itv_cli.specs.declared.row.Row.{Row}
+use Rattle.itv_cli.specs.Right.{AreTimes}
+use Rattle.itv_cli.specs.Searching.{Solves}
+
+-- a row is solved by bounds that stand from its from-event
+pub solves : (net : Net) (r : Row) (bounds : Standing) (times : List ℤ) (set : List Bool) (answer : Option ℤ) → Stands net bounds → bounds.source ≡ Some r.from
+    → times ≡ bounds.times → set ≡ ray_of bounds → slice_get bounds.uppers r.to.0 ≡ Some answer → Solves net r times set answer
+solves net r bounds times set (Some value) stands from t s u =
+    let f = stands.from_source r.from from in
+    rw t (f.uppers r.to (Some value) u, record { satisfied = stands.satisfies; at_zero = f.origin }, f.attained r.to value u)
+solves net r bounds times set None stands from t s u =
+    let f = stands.from_source r.from from in
+    rw (t, s) (record { satisfied = stands.satisfies; at_zero = f.origin }, f.rays r.to u)
+
+-- all events at 0 meet every edge of a network around zero
+pub no_loop : (net : Net) → IsLinearAroundZero net → HasNoRoot net → ⊥
+no_loop net linear none = none (replicate net.events (pos 0)) (record { count = ?; each = λ name e always is. ? })

@@ -1,0 +1,120 @@
+//! Writing a report.
+
+ghost use Rattle.std.specs.Prelude.{◌∷◌, []};
+ghost use Rattle.itv_base.specs.Outside.{Puts};
+ghost use Rattle.itv_cli.specs.Drawing.{IsRowOf};
+ghost use Rattle.itv_cli.specs.Report.{report_text, bound_line, times_line, raise_line, greatest, closed, unbounded};
+ghost use Rattle.itv_cli.specs.Right.{BeginsReport, event_items, front_items, row_item};
+ghost use Rattle.itv_cli.specs.Searching.{IsReady, Solves, WritesRow, WritesRows, WritesReport, answer_lines};
+
+use crate::lines::{
+    put_closed, put_end, put_event, put_event_count, put_heading, put_raise, put_row, put_row_count,
+    put_times, put_unbounded,
+};
+use crate::lone::LoneDesign;
+use crate::row::Row;
+use crate::search::Search;
+use itv_base::{EventId, PutFailed, Sink};
+
+// The lines of events.
+fn put_events<K: Sink>(design: &LoneDesign, sink: &mut K) -> Result<(), PutFailed>
+    ensures { Puts K.written K.faults sink.old sink.new
+        (report_text (event_items 0 design.now.names)) result }
+{
+    for number in 0..design.network().events() {
+        put_event(number, design.name(EventId(number)), sink)?;
+    }
+    Ok(())
+}
+
+// The lines before those of the rows.
+fn put_front<K: Sink>(design: &LoneDesign, sink: &mut K) -> Result<(), PutFailed>
+    ensures { Puts K.written K.faults sink.old sink.new (report_text (front_items design.now)) result }
+{
+    put_heading(sink)?;
+    put_event_count(design.network().events(), sink)?;
+    put_events(design, sink)?;
+    put_row_count(design.rows().len(), sink)
+}
+
+// The lines of a greatest separation and the times that attain it.
+fn put_attained<K: Sink>(value: &i64, times: &[i64], sink: &mut K) -> Result<(), PutFailed>
+    ensures { Puts K.written K.faults sink.old sink.new
+        (report_text (bound_line greatest (closed value.now) ∷ times_line times.now ∷ [])) result }
+{
+    put_closed(value, sink)?;
+    put_times(times, sink)
+}
+
+// The lines of a separation that has no bound, with times and the events that can be raised.
+fn put_rising<K: Sink>(times: &[i64], set: &[bool], sink: &mut K) -> Result<(), PutFailed>
+    ensures { Puts K.written K.faults sink.old sink.new
+        (report_text (bound_line greatest unbounded ∷ times_line times.now ∷ raise_line set.now ∷ [])) result }
+{
+    put_unbounded(sink)?;
+    put_times(times, sink)?;
+    put_raise(set, sink)
+}
+
+// The lines of what was found for a row.
+fn put_answer<K: Sink>(
+    answer: &Option<i64>,
+    times: &[i64],
+    set: &[bool],
+    sink: &mut K,
+) -> Result<(), PutFailed>
+    ensures { Puts K.written K.faults sink.old sink.new
+        (report_text (answer_lines answer.now times.now set.now)) result }
+{
+    match answer {
+        Some(value) => put_attained(value, times, sink),
+        None => put_rising(times, set, sink),
+    }
+}
+
+// The line of a row, and those of its greatest separation.
+fn put_solved<K: Sink>(
+    design: &LoneDesign,
+    search: &mut Search,
+    number: usize,
+    row: &Row,
+    sink: &mut K,
+) -> Result<(), PutFailed>
+    requires ready { IsReady design.now.net search.old }
+    requires row { IsRowOf design.now.net row.now }
+    ensures ready { IsReady design.now.net search.new }
+    ensures writes { WritesRow K.written K.faults design.now number row.now sink.old sink.new result }
+{
+    let answer = search.solve(design.network(), row);
+    put_row(number, &row.kind, design.name(row.from), design.name(row.to), sink)?;
+    put_answer(&answer, &search.times, &search.set, sink)
+}
+
+// The lines of all rows.
+fn put_rows<K: Sink>(
+    design: &LoneDesign,
+    search: &mut Search,
+    sink: &mut K,
+) -> Result<(), PutFailed>
+    requires { IsReady design.now.net search.old }
+    ensures { WritesRows K.written K.faults design.now sink.old sink.new result }
+{
+    for (number, row) in design.rows().iter().enumerate() {
+        put_solved(design, search, number, row, sink)?;
+    }
+    Ok(())
+}
+
+/// Writes the report of a design, and takes no memory for it.
+pub fn put_report<K: Sink>(
+    design: &LoneDesign,
+    search: &mut Search,
+    sink: &mut K,
+) -> Result<(), PutFailed>
+    requires { IsReady design.now.net search.old }
+    ensures { WritesReport K.written K.faults design.now sink.old sink.new result }
+{
+    put_front(design, sink)?;
+    put_rows(design, search, sink)?;
+    put_end(sink)
+}
