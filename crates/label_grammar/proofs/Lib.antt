@@ -6,3 +6,5 @@ pub mod Runs
 pub mod Pieces
 pub mod Whole
 pub mod Judging
+pub mod Printed
+pub mod Sequence

@@ -65,10 +65,10 @@ chars_digits (d ∷ ds) fits =
 
 -- ---- numbers
 
-zero_text : (n : ℕ) → n ≡ 0 → number_text n ≡ 48 ∷ []
+pub zero_text : (n : ℕ) → n ≡ 0 → number_text n ≡ 48 ∷ []
 zero_text n h = rw h refl
 
-above_text : (n : ℕ) → (n ≡ 0 → ⊥) → number_text n ≡ map (λ d. 48 + d) (digits_of 10 n)
+pub above_text : (n : ℕ) → (n ≡ 0 → ⊥) → number_text n ≡ map (λ d. 48 + d) (digits_of 10 n)
 above_text n h = rw (ne_eqb n 0 h) refl
 
 -- the text of the value of a numeral is the numeral

@@ -75,7 +75,7 @@ IsSpaced (b ∷ rest) = b ≡ 32
 numeral_front : (text : List ℕ) → is_numeral (take_while is_ascii_digit text) ≡ true → text ≡ number_text (value_of (take_while is_ascii_digit text)) ++ after_while is_ascii_digit text
 numeral_front text h = run_whole is_ascii_digit text ∙ ap (λ x. x ++ after_while is_ascii_digit text) (sym (text-value (take_while is_ascii_digit text) h))
 
-shift_above : (n : ℕ) → 0 < n → shift_text n ≡ 43 ∷ number_text n
+pub shift_above : (n : ℕ) → 0 < n → shift_text n ≡ 43 ∷ number_text n
 shift_above n h = rw (ne_eqb n 0 (λ e. omega arith)) refl
 
 -- a shift that is read behind a plus
