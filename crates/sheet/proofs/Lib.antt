@@ -1,3 +1,11 @@
 pub mod Faults
 pub mod Distinct
 pub mod LaneLists
+pub mod NumberedLanes
+pub mod PinLists
+pub mod Joins
+pub mod Openers
+pub mod OneMore
+pub mod GroupTable
+pub mod EdgeWalk
+pub mod SheetSteps

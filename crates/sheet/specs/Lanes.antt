@@ -66,8 +66,11 @@ abbrev pub pin_named : Numbered → Option (List ℕ) → Option Pin
 pin_named l None = None
 pin_named l (Some name) = if l.count == 0 then None else Some (record { lane = l.number; name = name; first = l.first; count = l.count })
 
+abbrev pub pin_of : Numbered → Option Pin
+pin_of l = pin_named l l.lane.name
+
 abbrev pub pins_of : List LaneText → List Pin
-pins_of lanes = filter_map (λ l. pin_named l l.lane.name) (numbered lanes)
+pins_of lanes = filter_map pin_of (numbered lanes)
 
 -- ---- the order on a lane
 
@@ -82,13 +85,16 @@ order_of first count =
     else map (λ k. follows_rule k (k + 1) 0) (range_with_len first (count - 1)) ++ follows_rule (first + count - 1) first 1 ∷ []
 
 -- a lane with a name and a wave is in order
-abbrev pub lane_order : Numbered → Option (List ℕ) → Option (List ℕ) → List SheetRule
-lane_order l None wave = []
-lane_order l (Some name) None = []
-lane_order l (Some name) (Some wave) = order_of l.first l.count
+abbrev pub order_named : Numbered → Option (List ℕ) → Option (List ℕ) → List SheetRule
+order_named l None wave = []
+order_named l (Some name) None = []
+order_named l (Some name) (Some wave) = order_of l.first l.count
+
+abbrev pub lane_order : Numbered → List SheetRule
+lane_order l = order_named l l.lane.name l.lane.wave
 
 abbrev pub order_rules : List LaneText → List SheetRule
-order_rules lanes = flat_map (λ l. lane_order l l.lane.name l.lane.wave) (numbered lanes)
+order_rules lanes = flat_map lane_order (numbered lanes)
 
 -- ---- what stands twice
 

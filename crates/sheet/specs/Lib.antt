@@ -4,5 +4,6 @@ pub mod Fault
 pub mod Lanes
 pub mod Links
 pub mod Steps
+pub mod Groups
 pub mod Sheet
 pub mod Answer

@@ -1,18 +1,20 @@
 -- What the calls of this crate do one after another, on the way to a sheet.
-use Rattle.std.specs.Prelude.{ℕ, ◌<◌, Bool, All, List, [], ◌∷◌, ◌++◌, map, option_map, filter_map, nat_eq, Result, Option}
+use Rattle.std.specs.Prelude.{ℕ, ◌<◌, Bool, All, List, [], ◌∷◌, ◌++◌, map, option_map, filter_map, nat_eq, Result, Ok, Option}
 use Rattle.std.specs.List.{IsDistinct}
 use Rattle.std.specs.Str.{bytes_eq}
 use Rattle.wavejson.specs.declared.lane_text.LaneText.{LaneText}
 use Rattle.label_grammar.specs.Label.{label_view}
+use Rattle.sheet.specs.declared.edges.EdgeRules.{EdgeRules}
 use Rattle.sheet.specs.declared.fault.SheetFault.{SheetFault}
 use Rattle.sheet.specs.declared.fault.SheetFault.TheVariants.{DoubleMark, DoublePin}
 use Rattle.sheet.specs.declared.lanes.Span.{Span}
 use Rattle.sheet.specs.declared.link.Link as code
 use Rattle.sheet.specs.declared.mark.Mark.{Mark}
 use Rattle.sheet.specs.declared.pin.Pin.{Pin}
-use Rattle.sheet.specs.Fault.{unless}
+use Rattle.sheet.specs.Fault.{◌>>=◌, unless}
 use Rattle.sheet.specs.Lanes.{Numbered, numbered, first_repeated}
-use Rattle.sheet.specs.Links.{Link}
+use Rattle.sheet.specs.Links.{Link, link_rules, link_rows}
+use Rattle.sheet.specs.Rule.{SheetRule}
 
 -- elements with more behind them, or the fault of the first one whose key stood before
 abbrev pub with_distinct : {X K : Type 0} → (K → K → Bool) → (X → K) → (X → SheetFault) → List X → List X → Result (List X) SheetFault
@@ -29,16 +31,24 @@ pub record AreMarks (marks : List Mark) : Type 0 where
 abbrev pub with_pins : List Pin → List Pin → Result (List Pin) SheetFault
 with_pins = with_distinct bytes_eq (λ pin. pin.name) (λ pin. DoublePin pin.lane)
 
+-- the marks of a lane
 abbrev pub span_of : Numbered → Span
 span_of l = record { first = l.first; count = l.count }
 
--- the marks of each lane, by number
+-- those of each lane, by number
 abbrev pub spans_of : List LaneText → List Span
 spans_of lanes = map span_of (numbered lanes)
+
+-- a lane by its number and the span of its marks
+abbrev pub numbered_by : ℕ → LaneText → Span → Numbered
+numbered_by number lane span = record { number = number; lane = lane; first = span.first; count = span.count }
 
 -- a link without where its texts lie in memory
 abbrev pub link_view : code.Link → Link
 link_view l = record { from = l.from; to = l.to; label = label_view l.label }
 
-abbrev pub link_views : List code.Link → List Link
-link_views links = map link_view links
+-- what the edges give, behind other rules
+abbrev pub rules_and_rows : List SheetRule → Result (List Link) SheetFault → Result EdgeRules SheetFault
+rules_and_rows front read = do
+  links ← read
+  Ok (record { rules = front ++ link_rules links; rows = link_rows links })

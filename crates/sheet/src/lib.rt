@@ -3,7 +3,9 @@
 //! The one contract: `read_sheet` gives the sheet of the drawing, or its first fault exactly where it has one.
 #![tactic(auto)]
 
+mod edges;
 mod fault;
+mod groups;
 mod lanes;
 mod link;
 mod mark;

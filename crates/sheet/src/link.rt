@@ -1,16 +1,15 @@
 //! What one edge of a drawing says.
 
-ghost use Rattle.std.specs.Prelude.{◌≡◌, ◌≤◌, [], List, length, option_map, unwrap_or};
+ghost use Rattle.std.specs.Prelude.{◌≡◌, ◌≤◌, length, option_map, unwrap_or};
 ghost use Rattle.sheet.specs.Answer.{Gives};
-ghost use Rattle.sheet.specs.Links.{number_of, link_of, links_from, is_full, joins, source_of, open_ends};
-ghost use Rattle.sheet.specs.Steps.{link_view, link_views};
+ghost use Rattle.sheet.specs.Links.{number_of, link_of, source_of, open_ends};
+ghost use Rattle.sheet.specs.Steps.{link_view};
 
 use crate::fault::SheetFault;
 use crate::mark::Mark;
 use crate::rule::Source;
-use itv_base::{MAX_CAUSES, Range, Texts};
-use label_grammar::{EdgeText, Kind, Label, read_edge, read_label};
-use std::alloc::Global;
+use itv_base::Range;
+use label_grammar::{EdgeText, Label, read_edge, read_label};
 
 /// A timing edge: it goes from a mark to a mark, both by number, and has a label.
 #[derive(Clone, Copy, Debug)]
@@ -57,51 +56,7 @@ fn place_of(marks: &[Mark], name: u8) -> Option<usize>
     marks.iter().position(|mark| mark.name == name)
 }
 
-/// The links of the edges in order, or the first fault of an edge.
-pub fn read_links<'a>(
-    alloc: Global,
-    marks: &[Mark],
-    edges: &'a Texts,
-) -> Result<Vec<Link<'a>>, SheetFault>
-    requires { length marks.now ≤ 128 }
-    ensures { Gives (λ links. link_views links.items) result (links_from marks.now [] 0 edges.now) }
-{
-    let mut links = Vec::new(alloc);
-    for n in 0..edges.len() {
-        let link = match read_link(marks, n, edges.get(n).as_text()) {
-            Ok(Some(link)) => link,
-            Ok(None) => continue,
-            Err(fault) => return Err(fault),
-        };
-        if is_full(&links, &link) {
-            return Err(SheetFault::TooManyCauses(n));
-        }
-        if links.push(link).is_err() {
-            return Err(SheetFault::NoMemory);
-        }
-    }
-    Ok(links)
-}
-
-// The constraint of the link has as many causes as it may have.
-fn is_full(links: &[Link<'_>], link: &Link<'_>) -> bool
-    ensures { result ≡ is_full (link_views links.now) (link_view link.now) }
-{
-    links.iter().filter(|done| link.joins(done)).count() >= MAX_CAUSES as usize
-}
-
 impl Link<'_> {
-    /// Whether the two are causes of one constraint.
-    pub fn joins(&self, other: &Link<'_>) -> bool
-        ensures { result ≡ joins (link_view self.now) (link_view other.now) }
-    {
-        let same_kind = matches!(
-            (self.label.kind, other.label.kind),
-            (Kind::Late, Kind::Late) | (Kind::Early, Kind::Early)
-        );
-        same_kind && self.to == other.to && self.label.tag == other.label.tag
-    }
-
     /// The link as a cause.
     pub fn source(&self) -> Source
         ensures { result ≡ source_of (link_view self.now) }

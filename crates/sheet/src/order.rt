@@ -1,39 +1,51 @@
 //! The order on the lanes of a drawing.
 
-ghost use Rattle.std.specs.Prelude.{◌≡◌, ◌+◌, ◌≤◌, ◌++◌, All, OnOk, IfOk};
-ghost use Rattle.sheet.specs.Lanes.{follows_rule, order_of, order_rules};
-ghost use Rattle.sheet.specs.Steps.{spans_of};
+ghost use Rattle.std.specs.Prelude.{◌≡◌, ℕ, ◌+◌, ◌≤◌, ◌++◌, All, OnOk, IfOk};
+ghost use Rattle.sheet.specs.Lanes.{follows_rule, order_of, lane_order, order_rules};
+ghost use Rattle.sheet.specs.Steps.{spans_of, numbered_by};
 
 use crate::lanes::Span;
-use crate::rule::{Rule, Rules, Source, Sources};
+use crate::rule::{Rule, Source, Sources};
 use itv_base::{NoMemory, Range, RuleKind};
 use std::alloc::Global;
-use wavejson::Lanes;
+use wavejson::{LaneText, Lanes};
 
 /// Puts the rules of the lanes that are in order at the end: of those with a name and a wave.
-pub fn push_lane_order(
+pub fn push_lane_orders(
     alloc: Global,
-    rules: &mut Rules,
+    rules: &mut Vec<Rule>,
     lanes: &Lanes,
     spans: &[Span],
 ) -> Result<(), NoMemory>
     requires spans { spans.now ≡ spans_of lanes.now }
     requires within { All (λ s. s.first + s.count ≤ 128) spans.now }
-    ensures { OnOk result (rules.new ≡ rules.old ++ order_rules lanes.now) }
+    ensures { OnOk result (rules.new.items ≡ rules.old.items ++ order_rules lanes.now) }
 {
     for (k, span) in spans.iter().enumerate() {
-        let lane = lanes.get(k as u64);
-        if lane.name.is_some() && lane.wave.is_some() {
-            push_order(alloc, rules, *span)?;
-        }
+        push_lane_order(alloc, rules, lanes.get(k as u64), *span)?;
+    }
+    Ok(())
+}
+
+fn push_lane_order(
+    alloc: Global,
+    rules: &mut Vec<Rule>,
+    lane: &LaneText,
+    span: Span,
+) -> Result<(), NoMemory>
+    requires { span.first + span.count ≤ 128 }
+    ensures { (number : ℕ) → OnOk result (rules.new.items ≡ rules.old.items ++ lane_order (numbered_by number lane.now span)) }
+{
+    if lane.name.is_some() && lane.wave.is_some() {
+        push_order(alloc, rules, span)?;
     }
     Ok(())
 }
 
 // Each mark and the next, and then the last one and the first one of the next cycle.
-fn push_order(alloc: Global, rules: &mut Rules, span: Span) -> Result<(), NoMemory>
+fn push_order(alloc: Global, rules: &mut Vec<Rule>, span: Span) -> Result<(), NoMemory>
     requires { span.first + span.count ≤ 128 }
-    ensures { OnOk result (rules.new ≡ rules.old ++ order_of span.first span.count) }
+    ensures { OnOk result (rules.new.items ≡ rules.old.items ++ order_of span.first span.count) }
 {
     if span.count == 0 {
         return Ok(());

@@ -1,18 +1,19 @@
 //! The pins of a drawing.
 
-ghost use Rattle.std.specs.Prelude.{◌≡◌, ◌∷◌, []};
+ghost use Rattle.std.specs.Prelude.{◌≡◌, option_to_list};
 ghost use Rattle.std.specs.List.{list_any};
 ghost use Rattle.std.specs.Str.{bytes_eq};
 ghost use Rattle.sheet.specs.Answer.{Gives};
+ghost use Rattle.sheet.specs.Lanes.{pin_of};
 ghost use Rattle.sheet.specs.Sheet.{read_pins};
-ghost use Rattle.sheet.specs.Steps.{with_pins, spans_of};
+ghost use Rattle.sheet.specs.Steps.{with_pins, spans_of, numbered_by};
 
 use crate::fault::SheetFault;
 use crate::lanes::Span;
 use crate::pin::{Pin, Pins};
 use itv_base::Text;
 use std::alloc::Global;
-use wavejson::Lanes;
+use wavejson::{LaneText, Lanes};
 
 /// The pins of lanes whose marks are given.
 pub fn read_pins(alloc: Global, lanes: &Lanes, spans: &[Span]) -> Result<Pins, SheetFault>
@@ -21,32 +22,33 @@ pub fn read_pins(alloc: Global, lanes: &Lanes, spans: &[Span]) -> Result<Pins, S
 {
     let mut pins = Pins::new(alloc);
     for (k, span) in spans.iter().enumerate() {
-        if span.count == 0 {
-            continue;
-        }
-        if let Some(name) = &lanes.get(k as u64).name {
-            push_pin(alloc, &mut pins, k as u64, name, *span)?;
-        }
+        push_pin(alloc, &mut pins, k as u64, lanes.get(k as u64), *span)?;
     }
     Ok(pins)
 }
 
-// Puts a pin at the end, where none has its name.
+// Puts the pin of a lane at the end, if it is one and none has its name.
 fn push_pin(
     alloc: Global,
     pins: &mut Pins,
-    lane: u64,
-    name: &Text,
+    number: u64,
+    lane: &LaneText,
     span: Span,
 ) -> Result<(), SheetFault>
-    ensures { Gives (λ _. pins.new) result (with_pins pins.old
-        (record { lane = lane; name = name.now; first = span.first; count = span.count } ∷ [])) }
+    ensures { Gives (λ _. pins.new) result
+        (with_pins pins.old (option_to_list (pin_of (numbered_by number lane.now span)))) }
 {
+    let Some(name) = &lane.name else {
+        return Ok(());
+    };
+    if span.count == 0 {
+        return Ok(());
+    }
     if has_pin(pins.as_slice(), name) {
-        return Err(SheetFault::DoublePin(lane));
+        return Err(SheetFault::DoublePin(number));
     }
     pins.push(Pin {
-        lane,
+        lane: number,
         name: Text::from_text(alloc, name.as_text())?,
         first: span.first,
         count: span.count,

@@ -1,18 +1,32 @@
 //! Reading a sheet from a drawing.
 
-ghost use Rattle.std.specs.Prelude.{◌≡◌, IfOk};
 ghost use Rattle.sheet.specs.Answer.{Gives};
 ghost use Rattle.sheet.specs.Sheet.{sheet_of};
 
+use crate::edges::{EdgeRules, read_edges};
 use crate::fault::SheetFault;
+use crate::lanes::{LaneMarks, read_marks};
+use crate::order::push_lane_orders;
+use crate::pins::read_pins;
 use crate::sheet::Sheet;
 use std::alloc::Global;
 use wavejson::Diagram;
 
-/// The sheet of a drawing, or its first fault.
-pub fn read_sheet(_alloc: Global, diagram: &Diagram) -> Result<Sheet, SheetFault>
-    ensures { Gives (λ s. s) result (sheet_of diagram.now) }
+/// The sheet of a drawing, or its first fault in the order of [`SheetFault`]. `NoMemory` may come in place of either; no sheet
+/// was made then.
+pub fn read_sheet(alloc: Global, diagram: &Diagram) -> Result<Sheet, SheetFault>
+    ensures { Gives (λ sheet. sheet) result (sheet_of diagram.now) }
 {
-    let _ = diagram;
-    Err(SheetFault::NoMemory)
+    let lanes = diagram.lanes();
+    let LaneMarks { marks, spans } = read_marks(alloc, lanes)?;
+    let pins = read_pins(alloc, lanes, &spans)?;
+    let mut rules = Vec::new(alloc);
+    push_lane_orders(alloc, &mut rules, lanes, &spans)?;
+    let EdgeRules { rules, rows } = read_edges(alloc, marks.as_slice(), diagram.edges(), rules)?;
+    Ok(Sheet {
+        marks,
+        pins,
+        rules,
+        rows,
+    })
 }

@@ -1,14 +1,13 @@
 //! The separations that the edges of a drawing ask for.
 
-ghost use Rattle.std.specs.Prelude.{◌≡◌, ◌++◌, OnOk, IfOk, option_to_list};
-ghost use Rattle.sheet.specs.Links.{row_by, link_rows};
-ghost use Rattle.sheet.specs.Steps.{link_view, link_views};
+ghost use Rattle.std.specs.Prelude.{◌≡◌, ◌++◌, OnOk, option_to_list};
+ghost use Rattle.sheet.specs.Links.{row_by};
+ghost use Rattle.sheet.specs.Steps.{link_view};
 
 use crate::link::Link;
 use crate::row::{RowKind, SheetRow, SheetRows};
 use itv_base::NoMemory;
 use label_grammar::Kind;
-use std::alloc::Global;
 
 /// Puts the row at the end of a link that asks for a separation or demands a range of it.
 pub fn push_row(rows: &mut SheetRows, link: &Link<'_>) -> Result<(), NoMemory>
@@ -25,15 +24,4 @@ pub fn push_row(rows: &mut SheetRows, link: &Link<'_>) -> Result<(), NoMemory>
         to: link.to,
         shift: link.label.shift,
     })
-}
-
-/// A row for each link that asks for a separation or demands a range of it.
-pub fn read_rows(alloc: Global, links: &[Link<'_>]) -> Result<SheetRows, NoMemory>
-    ensures { IfOk result (λ rows. rows ≡ link_rows (link_views links.now)) }
-{
-    let mut rows = SheetRows::new(alloc);
-    for link in links {
-        push_row(&mut rows, link)?;
-    }
-    Ok(rows)
 }

@@ -1,8 +1,8 @@
 //! The rules of a sheet: what becomes a constraint in each cycle.
 
-ghost use Rattle.std.specs.Prelude.{◌≡◌};
+ghost use Rattle.std.specs.Prelude.{◌≡◌, ◌++◌, ◌∷◌, [], OnOk, OnErr};
 
-use itv_base::{Listing, Range, RuleKind};
+use itv_base::{Listing, NoMemory, Range, RuleKind};
 use std::marker::Model;
 
 /// A cause of a rule: a mark by number, how many cycles before the target it stands, and the range of its delay.
@@ -63,6 +63,14 @@ impl Rule {
         ensures { result.now ≡ self.now.causes }
     {
         &self.causes
+    }
+
+    /// Puts a cause at the end. Where memory is not found the rule is unchanged.
+    pub(crate) fn push_cause(&mut self, cause: Source) -> Result<(), NoMemory>
+        ensures ok { OnOk result (self.new ≡ record self.old { causes = self.old.causes ++ cause ∷ [] }) }
+        ensures err { OnErr result (self.new ≡ self.old) }
+    {
+        self.causes.push(cause)
     }
 }
 

@@ -1,0 +1,77 @@
+-- The walk over the edges.
+use Rattle.std.proofs.Common.{◌≡◌, ℕ, zero, suc, ◌+◌, ◌<◌, ◌≤◌, Bool, true, false, cond, List, [], ◌∷◌, ◌++◌, length, map, drop, Option, Some, None, Result, Ok, Err, refl, ap, sym, ◌∙◌, arith}
+use Rattle.std.specs.Prelude.{filter_map, slice_get, option_to_list, IfSome}
+use Rattle.std.specs.List.{cons_option, position_from}
+use Rattle.std.proofs.lemmas.List.{append-nil, drop_all, length-append, length-map}
+use Rattle.std.proofs.lemmas.List.Elements.{filter_map-append}
+use Rattle.sheet.specs.declared.fault.SheetFault.{SheetFault}
+use Rattle.sheet.specs.declared.groups.Group.{Group}
+use Rattle.sheet.specs.declared.mark.Mark.{Mark}
+use Rattle.sheet.specs.declared.row.SheetRow.{SheetRow}
+use Rattle.sheet.specs.Answer.{HasFault}
+use Rattle.sheet.specs.Fault.{◌>>=◌}
+use Rattle.sheet.specs.Groups.{openers, place_of, group_link, Places, ArePlaces, StandsFor}
+use Rattle.sheet.specs.Links.{Link, joins, link_of, with_link, links_from, link_rules, link_rows, row_by}
+use Rattle.sheet.specs.Rule.{SheetRule}
+use Rattle.sheet.proofs.LaneLists.{drop-read}
+use Rattle.sheet.proofs.Faults.{HasFault-on}
+use Rattle.sheet.proofs.Openers.{rule_for, link_rules-map}
+
+-- What was read of the edges before number n: links, their rules behind others, the table of their groups, and their rows.
+pub record EdgesRead (marks : List Mark) (edges : List (List ℕ)) (front : List SheetRule) (n : ℕ) (all : List SheetRule) (places : Places) (rows : List SheetRow) : Type 0 where
+  pub links : List Link
+  pub stands : StandsFor front links all places
+  pub asked : rows ≡ link_rows links
+  pub left : links_from marks links n (drop n edges) ≡ links_from marks [] 0 edges
+
+pub EdgesRead-none : (marks : List Mark) (edges : List (List ℕ)) (front : List SheetRule) (places : Places) → ((g : Group) → place_of places g ≡ None) → EdgesRead marks edges front 0 front places []
+EdgesRead-none marks edges front places empty = record {
+  links = [];
+  stands = record { stand = sym (append-nil front); found = empty };
+  asked = refl;
+  left = refl;
+}
+
+-- ---- places
+
+within_by : (b : Bool) (n m : ℕ) (more : Option ℕ) → IfSome more (λ place. place < n + 1 + m) → IfSome (cond b (Some n) more) (λ place. place < n + suc m)
+within_by true n m more h = omega arith
+within_by false n m None h = tt
+within_by false n m (Some place) h = omega (arith, h)
+
+place_within : (p : Link → Bool) (n : ℕ) (xs : List Link) → IfSome (position_from p n xs) (λ place. place < n + length xs)
+place_within p n [] = tt
+place_within p n (x ∷ xs) = within_by (p x) n (length xs) (position_from p (n + 1) xs) (place_within p (n + 1) xs)
+
+pub ArePlaces-from_StandsFor : (front : List SheetRule) (links : List Link) (all : List SheetRule) (places : Places) → StandsFor front links all places → ArePlaces places (length all)
+ArePlaces-from_StandsFor front links all places stands =
+    let long : length all ≡ length front + length (openers links) = ap length stands.stand ∙ length-append front (link_rules links) ∙ ap (λ k. length front + k) (ap length (link_rules-map links) ∙ length-map (openers links) (rule_for links)) in
+    λ g. rw (stands.found g, long) (place_within (joins (group_link g)) (length front) (openers links))
+
+-- ---- one edge
+
+module _ (marks : List Mark) (edges : List (List ℕ)) (links : List Link) (n : ℕ) (text : List ℕ) (read : slice_get edges n ≡ Some text) where
+  edge_step : links_from marks links n (drop n edges) ≡ (link_of marks n text >>= (λ link. with_link links n link >>= (λ more. links_from marks more (n + 1) (drop (n + 1) edges))))
+  edge_step = rw (drop-read edges n text read)
+
+  pub edge-fault : (fault : SheetFault) → HasFault (link_of marks n text) fault → HasFault (links_from marks links n (drop n edges)) fault
+  edge-fault fault h = HasFault-on (link_of marks n text) (links_from marks links n (drop n edges)) fault (λ d is. edge_step ∙ rw is) h
+
+  pub edge-comment : link_of marks n text ≡ Ok None → links_from marks links n (drop n edges) ≡ links_from marks links (n + 1) (drop (n + 1) edges)
+  edge-comment is = edge_step ∙ rw is
+
+  pub edge-link : (link : Link) → link_of marks n text ≡ Ok (Some link) → with_link links n (Some link) ≡ Ok (links ++ link ∷ [])
+      → links_from marks links n (drop n edges) ≡ links_from marks (links ++ link ∷ []) (n + 1) (drop (n + 1) edges)
+  edge-link link is room = edge_step ∙ rw (is, room)
+
+  pub edge-full : (link : Link) (fault : SheetFault) → link_of marks n text ≡ Ok (Some link) → HasFault (with_link links n (Some link)) fault → HasFault (links_from marks links n (drop n edges)) fault
+  edge-full link fault is h = HasFault-on (with_link links n (Some link)) (links_from marks links n (drop n edges)) fault (λ d full. edge_step ∙ rw (is, full)) h
+
+-- ---- rows
+
+cons_one : {X : Type 0} (o : Option X) → cons_option o [] ≡ option_to_list o
+cons_one None = refl
+cons_one (Some x) = refl
+
+pub link_rows-push : (links : List Link) (link : Link) → link_rows (links ++ link ∷ []) ≡ link_rows links ++ option_to_list (row_by link link.label.kind)
+link_rows-push links link = filter_map-append (λ l. row_by l l.label.kind) links (link ∷ []) ∙ ap (λ more. link_rows links ++ more) (cons_one (row_by link link.label.kind))

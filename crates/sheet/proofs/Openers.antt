@@ -1,0 +1,212 @@
+-- The links that open a rule, and the rules as a map over them.
+use Rattle.std.proofs.Common.{◌≡◌, ℕ, zero, suc, ◌+◌, ◌<◌, Bool, true, false, ◌||◌, ◌&&◌, cond, not, if◌then◌else◌, List, [], ◌∷◌, ◌++◌, length, map, filter, take, set, get_or, Option, Some, None, refl, ap, sym, ◌∙◌, arith}
+use Rattle.std.specs.Prelude.{filter_map}
+use Rattle.std.specs.List.{list_any, cons_option, enumerate_from, position_from}
+use Rattle.std.proofs.Math.Bool.{or-false, or-true, and-false}
+use Rattle.std.proofs.lemmas.List.{append-nil, append_assoc, length-append, length_push, map-append, take_at, set_at, get_or_at}
+use Rattle.std.proofs.lemmas.List.Folds.{list_any-append}
+use Rattle.label_grammar.specs.declared.label.Kind.{Kind}
+use Rattle.label_grammar.specs.declared.label.Kind.TheVariants.{Lin, Late, Early, Req, Ask}
+use Rattle.itv_base.specs.declared.names.RuleKind.TheVariants as rules
+use Rattle.sheet.specs.Rule.{SheetRule}
+use Rattle.sheet.specs.Groups.{opens_by, opens, openers_from, openers}
+use Rattle.sheet.specs.Links.{Link, is_cause, joins, source_of, group_rule, rule_opened, link_rules}
+use Rattle.sheet.proofs.Joins.{joins-same, joins-itself, joins-cause, joins-comm, joins-no_cause}
+
+abbrev pub linear_rule : Link → SheetRule
+linear_rule link = record { kind = rules.Lin; target = link.to; causes = source_of link ∷ [] }
+
+-- the rule that a link opens among all links
+abbrev pub rule_by : List Link → Link → Kind → SheetRule
+rule_by links link Lin = linear_rule link
+rule_by links link Late = group_rule rules.Late links link
+rule_by links link Early = group_rule rules.Early links link
+rule_by links link Req = linear_rule link
+rule_by links link Ask = linear_rule link
+
+abbrev pub rule_for : List Link → Link → SheetRule
+rule_for links link = rule_by links link link.label.kind
+
+-- ---- the rules are a map over the openers
+
+opened_if : (b : Bool) (rule : SheetRule) (more : List SheetRule) → cons_option (if b then None else Some rule) more ≡ cond (not b) (rule ∷ []) [] ++ more
+opened_if true rule more = refl
+opened_if false rule more = refl
+
+pub map_if : (b : Bool) (f : Link → SheetRule) (link : Link) (more : List Link) → map f (cond b (link ∷ []) [] ++ more) ≡ cond b (f link ∷ []) [] ++ map f more
+map_if true f link more = refl
+map_if false f link more = refl
+
+opened_by : (all before : List Link) (link : Link) (kind : Kind) (more : List SheetRule)
+    → cons_option (rule_opened all before link kind) more ≡ cond (opens_by before link kind) (rule_by all link kind ∷ []) [] ++ more
+opened_by all before link Lin more = refl
+opened_by all before link Late more = opened_if (list_any (joins link) before) _ more
+opened_by all before link Early more = opened_if (list_any (joins link) before) _ more
+opened_by all before link Req more = refl
+opened_by all before link Ask more = refl
+
+rules_from : (all links before rest : List Link) (n : ℕ) → links ≡ before ++ rest → length before ≡ n
+    → filter_map (λ at. rule_opened all (take at.0 links) at.1 at.1.label.kind) (enumerate_from n rest) ≡ map (rule_for all) (openers_from before rest)
+rules_from all links before [] n is long = refl
+rules_from all links before (link ∷ rest) n is long =
+    let front : take n links ≡ before = rw is (take_at before (link ∷ rest) n long) in
+    let more = rules_from all links (before ++ link ∷ []) rest (n + 1) (is ∙ sym (append_assoc before (link ∷ []) rest)) (length_push before link ∙ ap (λ k. k + 1) long) in
+    rw (front, more, opened_by all before link link.label.kind, map_if (opens before link))
+
+pub link_rules-map : (links : List Link) → link_rules links ≡ map (rule_for links) (openers links)
+link_rules-map links = rules_from links links [] links 0 refl refl
+
+-- ---- one link more
+
+abbrev opening : List Link → Link → List Link
+opening before link = cond (opens before link) (link ∷ []) []
+
+openers_from-push : (before rest : List Link) (link : Link) → openers_from before (rest ++ link ∷ []) ≡ openers_from before rest ++ opening (before ++ rest) link
+openers_from-push before [] link = append-nil (opening before link) ∙ ap (λ b. opening b link) (sym (append-nil before))
+openers_from-push before (l ∷ rest) link =
+    ap (λ more. opening before l ++ more) (openers_from-push (before ++ l ∷ []) rest link)
+    ∙ sym (append_assoc (opening before l) (openers_from (before ++ l ∷ []) rest) (opening ((before ++ l ∷ []) ++ rest) link))
+    ∙ ap (λ b. (opening before l ++ openers_from (before ++ l ∷ []) rest) ++ opening b link) (append_assoc before (l ∷ []) rest)
+
+pub openers-push : (links : List Link) (link : Link) → openers (links ++ link ∷ []) ≡ openers links ++ cond (opens links link) (link ∷ []) []
+openers-push links link = openers_from-push [] links link
+
+-- ---- which opener a link joins
+
+pub list_any-same : {X : Type 0} (p q : X → Bool) (xs : List X) → ((x : X) → p x ≡ q x) → list_any p xs ≡ list_any q xs
+list_any-same p q [] same = refl
+list_any-same p q (x ∷ xs) same = rw (same x, list_any-same p q xs same)
+
+pub opens_by-cause : (before : List Link) (link : Link) (kind : Kind) → is_cause kind ≡ true → opens_by before link kind ≡ not (list_any (joins link) before)
+opens_by-cause before link Lin e = cc
+opens_by-cause before link Late e = refl
+opens_by-cause before link Early e = refl
+opens_by-cause before link Req e = cc
+opens_by-cause before link Ask e = cc
+
+-- a link that another one joins opens a rule where that one joins none before
+pub opens-joined : (link l : Link) (before : List Link) → joins link l ≡ true → opens before l ≡ not (list_any (joins link) before)
+opens-joined link l before e =
+    opens_by-cause before l l.label.kind (joins-cause l link (sym (joins-comm link l) ∙ e))
+    ∙ ap not (list_any-same (joins l) (joins link) before (λ m. sym (joins-same link l m e)))
+
+-- what a link joins of what another one opens
+joined_of : (opened : Bool) (link l : Link) → list_any (joins link) (cond opened (l ∷ []) []) ≡ (opened && joins link l)
+joined_of true link l = or-false (joins link l)
+joined_of false link l = refl
+
+head_none : (link l : Link) (before : List Link) (b : Bool) → joins link l ≡ b → list_any (joins link) before ≡ true → (opens before l && joins link l) ≡ false
+head_none link l before true e stood = rw (opens-joined link l before e, stood)
+head_none link l before false e stood = rw e (and-false (opens before l))
+
+any_push : (link l : Link) (before : List Link) → list_any (joins link) (before ++ l ∷ []) ≡ (list_any (joins link) before || joins link l)
+any_push link l before = list_any-append (joins link) before (l ∷ []) ∙ ap (λ b. list_any (joins link) before || b) (or-false (joins link l))
+
+any_openers : (link l : Link) (before rest : List Link) → list_any (joins link) (openers_from before (l ∷ rest)) ≡ ((opens before l && joins link l) || list_any (joins link) (openers_from (before ++ l ∷ []) rest))
+any_openers link l before rest =
+    list_any-append (joins link) (opening before l) (openers_from (before ++ l ∷ []) rest)
+    ∙ ap (λ b. b || list_any (joins link) (openers_from (before ++ l ∷ []) rest)) (joined_of (opens before l) link l)
+
+-- none where it joins one of the links before
+openers_from-none : (link : Link) (before rest : List Link) → list_any (joins link) before ≡ true → list_any (joins link) (openers_from before rest) ≡ false
+openers_from-none link before [] stood = refl
+openers_from-none link before (l ∷ rest) stood =
+    let more = openers_from-none link (before ++ l ∷ []) rest (any_push link l before ∙ ap (λ b. b || joins link l) stood) in
+    any_openers link l before rest ∙ rw (head_none link l before (joins link l) refl stood) more
+
+some_step : (link l : Link) (before rest : List Link) (b : Bool) → joins link l ≡ b → list_any (joins link) before ≡ false
+    → (list_any (joins link) (before ++ l ∷ []) ≡ false → list_any (joins link) (openers_from (before ++ l ∷ []) rest) ≡ list_any (joins link) rest)
+    → ((opens before l && joins link l) || list_any (joins link) (openers_from (before ++ l ∷ []) rest)) ≡ (joins link l || list_any (joins link) rest)
+some_step link l before rest true e new more = rw (opens-joined link l before e, new, e)
+some_step link l before rest false e new more = rw (e, and-false) (more (any_push link l before ∙ rw (new, e)))
+
+-- and else one where it joins one of the rest
+openers_from-some : (link : Link) (before rest : List Link) → list_any (joins link) before ≡ false → list_any (joins link) (openers_from before rest) ≡ list_any (joins link) rest
+openers_from-some link before [] new = refl
+openers_from-some link before (l ∷ rest) new =
+    any_openers link l before rest ∙ some_step link l before rest (joins link l) refl new (openers_from-some link (before ++ l ∷ []) rest)
+
+pub any-openers : (link : Link) (links : List Link) → list_any (joins link) (openers links) ≡ list_any (joins link) links
+any-openers link links = openers_from-some link [] links refl
+
+-- ---- at most one element passes a test
+
+abbrev pub AtMostOne : {X : Type 0} → (X → Bool) → List X → Type 0
+AtMostOne p [] = Unit {0}
+AtMostOne p (x ∷ xs) = (p x ≡ true → list_any p xs ≡ false) × AtMostOne p xs
+
+at_most_head : (opened : Bool) (link l : Link) (more : List Link) → (joins link l ≡ true → list_any (joins link) more ≡ false) → AtMostOne (joins link) more
+    → AtMostOne (joins link) (cond opened (l ∷ []) [] ++ more)
+at_most_head true link l more none rest = (none, rest)
+at_most_head false link l more none rest = rest
+
+at_most_from : (link : Link) (before rest : List Link) → AtMostOne (joins link) (openers_from before rest)
+at_most_from link before [] = tt
+at_most_from link before (l ∷ rest) =
+    at_most_head (opens before l) link l (openers_from (before ++ l ∷ []) rest)
+    (λ e. openers_from-none link (before ++ l ∷ []) rest (any_push link l before ∙ ap (λ b. list_any (joins link) before || b) e ∙ or-true (list_any (joins link) before)))
+    (at_most_from link (before ++ l ∷ []) rest)
+
+-- a link joins at most one opener
+pub at_most-openers : (link : Link) (links : List Link) → AtMostOne (joins link) (openers links)
+at_most-openers link links = at_most_from link [] links
+
+-- ---- a map that changes at the one element that passes a test
+
+pub both_false : (a b : Bool) → (a || b) ≡ false → (a ≡ false) × (b ≡ false)
+both_false true b e = cc
+both_false false b e = (refl, e)
+
+pub map_none : {X Y : Type 0} (f g : X → Y) (p : X → Bool) (xs : List X) → ((x : X) → p x ≡ false → g x ≡ f x) → list_any p xs ≡ false → map g xs ≡ map f xs
+map_none f g p [] same none = refl
+map_none f g p (x ∷ xs) same none =
+    let parts = both_false (p x) (list_any p xs) none in
+    rw (same x parts.0, map_none f g p xs same parts.1)
+
+-- The elements of f stand behind others, and from f to g they change at this place alone, at the element that passes.
+pub record ChangesAt {X Y : Type 0} (f g : X → Y) (p : X → Bool) (front : List Y) (xs : List X) (place : ℕ) : Type 0 where
+  pub element : X
+  pub passes : p element ≡ true
+  pub within : place < length (front ++ map f xs)
+  pub stands : (d : Y) → get_or (front ++ map f xs) place d ≡ f element
+  pub after : front ++ map g xs ≡ set (front ++ map f xs) place (g element)
+
+changes_here : {X Y : Type 0} (f g : X → Y) (p : X → Bool) (front : List Y) (x : X) (xs : List X) (place : ℕ) → length front ≡ place → p x ≡ true
+    → map g xs ≡ map f xs → ChangesAt f g p front (x ∷ xs) place
+changes_here f g p front x xs place long passes rest = record {
+  element = x;
+  passes = passes;
+  within = omega (arith, long, length-append front (f x ∷ map f xs));
+  stands = λ d. get_or_at front (f x) (map f xs) d place long;
+  after = rw (rest, set_at front (f x) (map f xs) (g x) place long);
+}
+
+changes_behind : {X Y : Type 0} (f g : X → Y) (p : X → Bool) (front : List Y) (x : X) (xs : List X) (place : ℕ) → g x ≡ f x
+    → ChangesAt f g p (front ++ f x ∷ []) xs place → ChangesAt f g p front (x ∷ xs) place
+changes_behind f g p front x xs place same at =
+    let moved = append_assoc front (f x ∷ []) (map f xs) in
+    record {
+      element = at.element;
+      passes = at.passes;
+      within = rw moved at at.within;
+      stands = λ d. rw moved at (at.stands d);
+      after = rw same (sym (append_assoc front (f x ∷ []) (map g xs)) ∙ rw moved at at.after);
+    }
+
+same_place : (a b : ℕ) → ◌≡◌ {A = Option ℕ} (Some a) (Some b) → a ≡ b
+same_place a b e = cc
+
+changes_by : {X Y : Type 0} (f g : X → Y) (p : X → Bool) (b : Bool) (front : List Y) (x : X) (xs : List X) (place : ℕ) → p x ≡ b
+    → cond b (Some (length front)) (position_from p (length front + 1) xs) ≡ Some place → ((y : X) → p y ≡ false → g y ≡ f y) → (p x ≡ true → list_any p xs ≡ false)
+    → (position_from p (length (front ++ f x ∷ [])) xs ≡ Some place → ChangesAt f g p (front ++ f x ∷ []) xs place)
+    → ChangesAt f g p front (x ∷ xs) place
+changes_by f g p true front x xs place e at same one more =
+    changes_here f g p front x xs place (same_place _ _ at) e (map_none f g p xs same (one e))
+changes_by f g p false front x xs place e at same one more =
+    changes_behind f g p front x xs place (same x e) (more (rw length_push at))
+
+pub changes-at : {X Y : Type 0} (f g : X → Y) (p : X → Bool) (front : List Y) (xs : List X) (place : ℕ) → position_from p (length front) xs ≡ Some place
+    → AtMostOne p xs → ((x : X) → p x ≡ false → g x ≡ f x) → ChangesAt f g p front xs place
+changes-at f g p front [] place at one same = cc
+changes-at f g p front (x ∷ xs) place at one same =
+    changes_by f g p (p x) front x xs place refl at same one.0 (λ more. changes-at f g p (front ++ f x ∷ []) xs place more one.1 same)

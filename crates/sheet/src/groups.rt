@@ -1,0 +1,38 @@
+//! Groups of causes: the edges of one kind with one target and one tag are the causes of one rule.
+
+ghost use Rattle.std.specs.Prelude.{◌≡◌, if◌then◌else◌, Some, None, OnOk};
+ghost use Rattle.sheet.specs.Groups.{place_of, same_group};
+
+use itv_base::{NoMemory, RuleKind};
+use std::collections::HashMap;
+
+/// What the causes of one rule have in common: how the rule reads them, its target by number, and a tag or none.
+#[derive(Clone, Copy, Debug, PartialEq, Eq, Hash)]
+pub struct Group<'a> {
+    pub kind: RuleKind,
+    pub target: u32,
+    pub tag: Option<&'a str>,
+}
+
+/// Where the rule of each group stands among the rules.
+pub type Places<'a> = HashMap<Group<'a>, usize>;
+
+/// The place of the rule of a group, if it has one.
+pub fn place_of<'a>(places: &Places<'a>, group: Group<'a>) -> Option<usize>
+    ensures { result ≡ place_of places.now group.entry }
+{
+    places.get(&group).copied()
+}
+
+/// Notes the place of the rule of a group.
+pub fn put_place<'a>(
+    places: &mut Places<'a>,
+    group: Group<'a>,
+    place: usize,
+) -> Result<(), NoMemory>
+    ensures { OnOk result ((other : Group) → place_of places.new other
+        ≡ (if same_group group.entry other then Some place else place_of places.old other)) }
+{
+    places.insert(group, place)?;
+    Ok(())
+}
