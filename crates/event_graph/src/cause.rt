@@ -19,31 +19,31 @@ impl Cause {
     ghost use Rattle.event_graph.specs.Edges.{side_edge};
 
     // Whether the target comes no earlier than the cause and its low end.
-    pub(crate) fn is_before_target(&self, times: &[i64], target: EventId) -> bool
+    pub(crate) fn low_allows(&self, times: &[i64], target: EventId) -> bool
         requires cause { self.now.event.0 < length times.now }
         requires target { target.0 < length times.now }
         requires times { All IsTime times.now }
         ensures { IsTrue result ↔ IsAfter times.now target self.now }
     {
         let time = times[self.event.0 as usize];
-        match self.range.low() {
-            None => true,
-            Some(low) => delayed(time, low) <= times[target.0 as usize],
-        }
+        let limit = times[target.0 as usize];
+        self.range
+            .low()
+            .is_none_or(|low| delayed(time, low) <= limit)
     }
 
     // Whether the target comes no later than the cause and its high end.
-    pub(crate) fn reaches_target(&self, times: &[i64], target: EventId) -> bool
+    pub(crate) fn high_allows(&self, times: &[i64], target: EventId) -> bool
         requires cause { self.now.event.0 < length times.now }
         requires target { target.0 < length times.now }
         requires times { All IsTime times.now }
         ensures { IsTrue result ↔ IsBefore times.now target self.now }
     {
         let time = times[self.event.0 as usize];
-        match self.range.high() {
-            None => true,
-            Some(high) => times[target.0 as usize] <= delayed(time, high),
-        }
+        let limit = times[target.0 as usize];
+        self.range
+            .high()
+            .is_none_or(|high| limit <= delayed(time, high))
     }
 
     // The edge of the cause on one side, or none where that end is open.

@@ -38,28 +38,16 @@ impl Rule {
         let causes = self.causes.as_slice();
         match self.kind {
             RuleKind::Lin => {
-                causes
-                    .iter()
-                    .all(|cause| cause.is_before_target(times, target))
-                    && causes
-                        .iter()
-                        .all(|cause| cause.reaches_target(times, target))
+                causes.iter().all(|cause| cause.low_allows(times, target))
+                    && causes.iter().all(|cause| cause.high_allows(times, target))
             }
             RuleKind::Late => {
-                causes
-                    .iter()
-                    .all(|cause| cause.is_before_target(times, target))
-                    && causes
-                        .iter()
-                        .any(|cause| cause.reaches_target(times, target))
+                causes.iter().all(|cause| cause.low_allows(times, target))
+                    && causes.iter().any(|cause| cause.high_allows(times, target))
             }
             RuleKind::Early => {
-                causes
-                    .iter()
-                    .all(|cause| cause.reaches_target(times, target))
-                    && causes
-                        .iter()
-                        .any(|cause| cause.is_before_target(times, target))
+                causes.iter().all(|cause| cause.high_allows(times, target))
+                    && causes.iter().any(|cause| cause.low_allows(times, target))
             }
         }
     }

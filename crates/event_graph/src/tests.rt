@@ -51,6 +51,14 @@ fn of_two_ranges(
     Ok(net)
 }
 
+// A network of one event with one linear constraint, from that event to itself.
+fn of_own_event(alloc: Global, low: i64, high: i64) -> Result<Network, Fail> {
+    let mut net = Network::new(alloc, 1)?;
+    let causes = [cause(0, (Some(low), Some(high)))?];
+    add(alloc, &mut net, Lin, 0, &causes)?;
+    Ok(net)
+}
+
 // The events a, b and j, with `a->b @lin [100,300]` and a second constraint of the causes `a->j [500,700]` and `b->j [200,400]`.
 fn of_two_causes(alloc: Global, kind: RuleKind) -> Result<Network, Fail> {
     let mut net = Network::new(alloc, 3)?;
@@ -227,9 +235,7 @@ fn a_constraint_may_name_one_event_twice(rt: HostRuntime) -> Result<(), Fail> {
         ],
     );
     for (low, high, want) in [(1, 2, Some(0)), (-1, 0, None), (0, 0, None)] {
-        let mut net = Network::new(rt.alloc(), 1)?;
-        let causes = [cause(0, (Some(low), Some(high)))?];
-        add(rt.alloc(), &mut net, Lin, 0, &causes)?;
+        let net = of_own_event(rt.alloc(), low, high)?;
         assert_eq!(rt; broken(&net, &[7]), want, "from {low} to {high}");
     }
     Ok(())
