@@ -8,11 +8,12 @@ use Rattle.std.proofs.lemmas.List.{get_or-set_other}
 use Rattle.std.proofs.lemmas.List.Elements.{All-contains}
 use Rattle.std.proofs.lemmas.List.Sums.{sum_by-set, count_by-le-length}
 use Rattle.std.proofs.lemmas.Grind.{get_or-set_at}
+use Rattle.itv_base.specs.declared.limits.TheConstants.{MAX_EVENTS}
 use Rattle.itv_base.specs.declared.names.EventId.{EventId}
 use Rattle.event_graph.specs.declared.edge.Edge.{Edge}
 use Rattle.event_graph.specs.Edges.{Meets}
 use Rattle.event_graph.specs.Times.{time_of}
-use Rattle.diff_bounds.specs.Labels.{AreNear, BoundsFrom, IsForward, Lowers, height, label_of, natural_part, total_height}
+use Rattle.diff_bounds.specs.Labels.{AreNear, BoundsFrom, IsForward, Lowers, height, label_limit, label_of, natural_part, total_height, weight_limit}
 
 -- the label of an event, after one has changed
 pub label_after : (old : List (Option ℤ)) (at event : EventId) (label : Option ℤ) (now : ℤ) → at.0 < length old → label_of (set old at.0 label) event ≡ Some now
@@ -30,11 +31,11 @@ count_after old at label within = sum_by-set (λ x. cond (is_some x) 1 0) old at
 
 -- a fall is within the limit of the events that were reached before it, a first label within that of one more
 fallen_high : (standing : Option ℤ) (sum : ℤ) (near weight : ℤ) (count after : ℕ) → sum ≡ near +ℤ weight → Lowers sum standing
-    → ((label : ℤ) → standing ≡ Some label → label ≤ℤ pos (1000000000000 * count)) → near ≤ℤ pos (1000000000000 * count) → weight ≤ℤ pos 1000000000000
-    → after + cond (is_some standing) 1 0 ≡ count + 1 → sum ≤ℤ pos (1000000000000 * after)
+    → ((label : ℤ) → standing ≡ Some label → label ≤ℤ pos (weight_limit * count)) → near ≤ℤ pos (weight_limit * count) → weight ≤ℤ pos weight_limit
+    → after + cond (is_some standing) 1 0 ≡ count + 1 → sum ≤ℤ pos (weight_limit * after)
 fallen_high None sum near weight count after e less high near_high weight_high counts = omega (arith, ints)
 fallen_high (Some label) sum near weight count after e less high near_high weight_high counts =
-    let below : label ≤ℤ pos (1000000000000 * count) = high label refl in omega (arith, ints)
+    let below : label ≤ℤ pos (weight_limit * count) = high label refl in omega (arith, ints)
 
 count_rises : (standing : Option ℤ) (count after : ℕ) → after + cond (is_some standing) 1 0 ≡ count + 1 → count ≤ after
 count_rises None count after e = omega arith
@@ -51,20 +52,21 @@ pub record Falls (e : Edge) (old : List (Option ℤ)) (near sum : ℤ) : Type 0 
 pub near_after : (e : Edge) (old : List (Option ℤ)) (near sum : ℤ) → Falls e old near sum → AreNear old → AreNear (set old e.to.0 (Some sum))
 near_after e old near sum fall are_near =
     let start_low : pos 0 ≤ℤ near = are_near.low e.from near fall.start in
-    let start_high : near ≤ℤ pos (1000000000000 * count_by is_some old) = are_near.high e.from near fall.start in
+    let start_high : near ≤ℤ pos (weight_limit * count_by is_some old) = are_near.high e.from near fall.start in
     let low : pos 0 ≤ℤ e.weight = fall.forward.low in
     let is : sum ≡ near +ℤ e.weight = fall.is in
     let counts = count_after old e.to.0 sum fall.forward.to in
     let rises = count_rises (label_of old e.to) _ _ counts in
     let high = fallen_high (label_of old e.to) sum near e.weight _ _ is fall.lowers (are_near.high e.to) start_high fall.forward.high counts in
     record {
+      events = rw length-set are_near.events;
       low = λ event label h. elim (label_after old e.to event (Some sum) label fall.forward.to h) [
         | inl new ↦ let same : sum ≡ label = same_Some _ _ new.1 in omega (arith, ints)
         | inr was ↦ are_near.low event label was
       ];
       high = λ event label h. elim (label_after old e.to event (Some sum) label fall.forward.to h) [
-        | inl new ↦ subst (λ (z : ℤ). z ≤ℤ pos (1000000000000 * count_by is_some (set old e.to.0 (Some sum)))) (same_Some _ _ new.1) high
-        | inr was ↦ let standing : label ≤ℤ pos (1000000000000 * count_by is_some old) = are_near.high event label was in omega (arith, ints)
+        | inl new ↦ subst (λ (z : ℤ). z ≤ℤ pos (weight_limit * count_by is_some (set old e.to.0 (Some sum)))) (same_Some _ _ new.1) high
+        | inr was ↦ let standing : label ≤ℤ pos (weight_limit * count_by is_some old) = are_near.high event label was in omega (arith, ints)
       ];
     }
 
@@ -106,19 +108,20 @@ natural_within : (z : ℤ) (n : ℕ) → z ≤ℤ pos n → natural_part z ≤ n
 natural_within (pos a) n high = omega (arith, ints)
 natural_within (negsuc a) n high = omega arith
 
-height_below : (standing : Option ℤ) (sum : ℤ) → Lowers sum standing → pos 0 ≤ℤ sum → sum ≤ℤ pos 4096000000000000 → height (Some sum) < height standing
-height_below None sum less low high = let within = natural_within sum 4096000000000000 high in omega arith
+height_below : (standing : Option ℤ) (sum : ℤ) → Lowers sum standing → pos 0 ≤ℤ sum → sum ≤ℤ pos label_limit → height (Some sum) < height standing
+height_below None sum less low high = let within = natural_within sum label_limit high in omega arith
 height_below (Some label) sum less low high = natural_below sum label low less
 
 -- the labels are lower all together
-pub total_after : (e : Edge) (old : List (Option ℤ)) (near sum : ℤ) → Falls e old near sum → AreNear old → length old ≤ 4096
+pub total_after : (e : Edge) (old : List (Option ℤ)) (near sum : ℤ) → Falls e old near sum → AreNear old
     → total_height (set old e.to.0 (Some sum)) < total_height old
-total_after e old near sum fall are_near events =
+total_after e old near sum fall are_near =
     let after = near_after e old near sum fall are_near in
     let here : label_of (set old e.to.0 (Some sum)) e.to ≡ Some sum = get_or-set_at old e.to.0 e.to.0 (Some sum) None refl fall.forward.to in
     let low : pos 0 ≤ℤ sum = after.low e.to sum here in
-    let high : sum ≤ℤ pos (1000000000000 * count_by is_some (set old e.to.0 (Some sum))) = after.high e.to sum here in
+    let high : sum ≤ℤ pos (weight_limit * count_by is_some (set old e.to.0 (Some sum))) = after.high e.to sum here in
     let counted = count_by-le-length is_some (set old e.to.0 (Some sum)) in
-    let below : height (Some sum) < height (label_of old e.to) = height_below (label_of old e.to) sum fall.lowers low (omega (arith, ints, length-set {A = Option ℤ})) in
+    let events : length (set old e.to.0 (Some sum)) ≤ MAX_EVENTS = after.events in
+    let below : height (Some sum) < height (label_of old e.to) = height_below (label_of old e.to) sum fall.lowers low (omega (arith, ints)) in
     let sums = sum_by-set height old e.to.0 (Some sum) None fall.forward.to in
     omega (arith, sums)

@@ -2,7 +2,8 @@ pub mod Falling
 pub mod Passing
 pub mod Starting
 pub mod Latest
-pub mod NamedEdges
+pub mod Forward
 pub mod AlwaysLists
 pub mod Settled
 pub mod Ranges
+pub mod Linear

@@ -27,15 +27,15 @@ keeps_on edges old labels new e true keeps among forward relaxed =
     })
 
 -- the edge has lowered a label
-fell : (e : Edge) (labels new : List (Option ℤ)) → AreNear labels → IsForward (length labels) e → length labels ≤ 4096 → Relaxes e labels new true → total_height new < total_height labels
-fell e labels new near forward events relaxed =
+fell : (e : Edge) (labels new : List (Option ℤ)) → AreNear labels → IsForward (length labels) e → Relaxes e labels new true → total_height new < total_height labels
+fell e labels new near forward relaxed =
     let fall : Falls e labels relaxed.0 (relaxed.0 +ℤ e.weight) = record { forward = forward; start = relaxed.1; is = refl; lowers = relaxed.2 } in
-    rw relaxed.3 (total_after e labels _ _ fall near events)
+    rw relaxed.3 (total_after e labels _ _ fall near)
 
 -- trying an edge raises no label
-pub total_on : (e : Edge) (labels new : List (Option ℤ)) (changed : Bool) → AreNear labels → IsForward (length labels) e → length labels ≤ 4096 → Relaxes e labels new changed → total_height new ≤ total_height labels
-total_on e labels new false near forward events relaxed = rw relaxed.0 (omega arith)
-total_on e labels new true near forward events relaxed = let less = fell e labels new near forward events relaxed in omega arith
+pub total_on : (e : Edge) (labels new : List (Option ℤ)) (changed : Bool) → AreNear labels → IsForward (length labels) e → Relaxes e labels new changed → total_height new ≤ total_height labels
+total_on e labels new false near forward relaxed = rw relaxed.0 (omega arith)
+total_on e labels new true near forward relaxed = let less = fell e labels new near forward relaxed in omega arith
 
 -- one more edge is followed
 follows_more : (edges : List Edge) (labels : List (Option ℤ)) (count : ℕ) (e : Edge) → count < length edges → e ≡ get_or edges count e → AllWithin (Follows labels) edges 0 count → Follows labels e
@@ -48,14 +48,14 @@ follows_more edges labels count e below is so_far here =
 
 -- the next edge of a pass
 pub passed_on : (edges : List Edge) (old labels new : List (Option ℤ)) (e : Edge) (changed now : Bool) (count : ℕ) → PassedTo edges old labels changed count
-    → count < length edges → e ≡ get_or edges count e → IsForward (length labels) e → length labels ≤ 4096 → Relaxes e labels new now → PassedTo edges old new (changed || now) (count + 1)
-passed_on edges old labels new e true false count passed below is forward events relaxed =
+    → count < length edges → e ≡ get_or edges count e → IsForward (length labels) e → Relaxes e labels new now → PassedTo edges old new (changed || now) (count + 1)
+passed_on edges old labels new e true false count passed below is forward relaxed =
     record {
       keeps = keeps_on edges old labels new e false passed.keeps (count, below, sym is) forward relaxed;
       still = λ h. absurd (true_false h);
       less = λ _. rw relaxed.0 (passed.less refl);
     }
-passed_on edges old labels new e false false count passed below is forward events relaxed =
+passed_on edges old labels new e false false count passed below is forward relaxed =
     record {
       keeps = keeps_on edges old labels new e false passed.keeps (count, below, sym is) forward relaxed;
       still = λ _. (
@@ -64,15 +64,15 @@ passed_on edges old labels new e false false count passed below is forward event
       );
       less = λ h. absurd (true_false (sym h));
     }
-passed_on edges old labels new e true true count passed below is forward events relaxed =
+passed_on edges old labels new e true true count passed below is forward relaxed =
     record {
       keeps = keeps_on edges old labels new e true passed.keeps (count, below, sym is) forward relaxed;
       still = λ h. absurd (true_false h);
-      less = λ _. let less = fell e labels new passed.keeps.near forward events relaxed in let before = passed.less refl in omega arith;
+      less = λ _. let less = fell e labels new passed.keeps.near forward relaxed in let before = passed.less refl in omega arith;
     }
-passed_on edges old labels new e false true count passed below is forward events relaxed =
+passed_on edges old labels new e false true count passed below is forward relaxed =
     record {
       keeps = keeps_on edges old labels new e true passed.keeps (count, below, sym is) forward relaxed;
       still = λ h. absurd (true_false h);
-      less = λ _. rw (← (passed.still refl).0) (fell e labels new passed.keeps.near forward events relaxed);
+      less = λ _. rw (← (passed.still refl).0) (fell e labels new passed.keeps.near forward relaxed);
     }

@@ -1,22 +1,24 @@
 -- Labels that have settled are the greatest separations from their source.
-use Rattle.std.proofs.Common.{◌≡◌, ℕ, ◌+◌, ◌<◌, ℤ, pos, negsuc, ◌+ℤ◌, ◌-ℤ◌, ◌≤ℤ◌, ◌<ℤ◌, List, [], ◌∷◌, length, get_or, map, Option, Some, None, is_none, unwrap_or, option_map, IfSome, slice_get, All, ◌∙◌, ap, subst, refl, arith}
+use Rattle.std.proofs.Common.{◌≡◌, ℕ, ◌<◌, ℤ, pos, ◌+ℤ◌, ◌-ℤ◌, ◌≤ℤ◌, List, [], ◌∷◌, length, get_or, map, Option, Some, None, is_none, unwrap_or, option_map, IfSome, slice_get, All, ◌∙◌, ap, subst, refl, arith}
 use Rattle.std.proofs.lemmas.Int.{ints}
 use Rattle.std.proofs.lemmas.Option.{get_or_from_slice_get, slice_get-get_or, slice_get-map, slice_get_within}
 use Rattle.std.proofs.lemmas.List.{get_or-map}
 use Rattle.std.proofs.lemmas.List.{length-map}
 use Rattle.itv_base.specs.declared.names.EventId.{EventId}
 use Rattle.event_graph.specs.declared.edge.Edge.{Edge}
-use Rattle.event_graph.specs.Bounds.{IsGreatest, IsRay, IsUnbounded}
+use Rattle.event_graph.specs.Bounds.{IsGreatest, IsRay}
 use Rattle.event_graph.specs.Edges.{Meets}
-use Rattle.event_graph.specs.Network.{Net}
-use Rattle.event_graph.specs.RootBound.{HasNoRoot}
+use Rattle.event_graph.specs.Network.{IsNet, Net}
+use Rattle.event_graph.specs.RootBound.{HasNoRoot, MeetsAlways}
 use Rattle.event_graph.specs.Satisfying.{Satisfies}
 use Rattle.event_graph.specs.Times.{raised, separation, time_of}
 use Rattle.diff_bounds.specs.AlwaysEdges.{AreAlwaysEdges}
-use Rattle.diff_bounds.specs.Labels.{BoundsFrom, Follows, IsAfterAll, IsForward, label_of, natural_part, times_of}
+use Rattle.diff_bounds.specs.Labels.{BoundsFrom, Follows, IsAfterAll, IsForward, label_of, times_of}
 use Rattle.diff_bounds.specs.Linear.{IsLinearAroundZero}
 use Rattle.diff_bounds.specs.Standing.{IsUpper, Stands, StandsFrom}
-use Rattle.diff_bounds.proofs.NamedEdges.{meets_always, meets_satisfies, satisfies_meets}
+use Rattle.event_graph.proofs.ByEdges.{satisfying_meets_always}
+use Rattle.event_graph.proofs.Rays.{ray_is_unbounded}
+use Rattle.diff_bounds.proofs.AlwaysLists.{linear_satisfies, meets_always, meets_list}
 
 -- no label is after the time
 abbrev pub IsAfterEach : List (Option ℤ) → ℤ → Type 0
@@ -62,12 +64,9 @@ raised-times_of (Some label ∷ labels) last by = ap (λ ts. label ∷ ts) (rais
 after_raised : (labels : List (Option ℤ)) (last : ℤ) (by : ℕ) → IsAfterEach labels last → IsAfterEach labels (last +ℤ pos by)
 after_raised labels last by after = λ event label e. let most : label ≤ℤ last = after event label e in omega (arith, ints)
 
-natural_most : (value : ℤ) → value <ℤ pos (natural_part value + 1)
-natural_most (pos n) = omega (arith, ints)
-natural_most (negsuc n) = omega (arith, ints)
-
 -- what labels have settled on a network
 pub record HaveSettled (net : Net) (edges : List Edge) (labels : List (Option ℤ)) (last : ℤ) : Type 0 where
+  pub is_net : IsNet net
   pub linear : IsLinearAroundZero net
   pub always : AreAlwaysEdges net edges
   pub count : length labels ≡ net.events
@@ -75,11 +74,14 @@ pub record HaveSettled (net : Net) (edges : List Edge) (labels : List (Option �
   pub follow : All (Follows labels) edges
   pub after : IsAfterAll labels last
 
--- their times satisfy the network, however late the last ones come
-satisfies_by : (net : Net) (edges : List Edge) (labels : List (Option ℤ)) (last : ℤ) → HaveSettled net edges labels last → (by : ℕ) → Satisfies (times_of labels (last +ℤ pos by)) net
-satisfies_by net edges labels last settled by =
-    meets_satisfies net edges _ settled.linear settled.always (length-map labels (λ l. unwrap_or l (last +ℤ pos by)) ∙ settled.count)
+-- their times meet the always-edges, however late the last ones come
+always_by : (net : Net) (edges : List Edge) (labels : List (Option ℤ)) (last : ℤ) → HaveSettled net edges labels last → (by : ℕ) → MeetsAlways (times_of labels (last +ℤ pos by)) net
+always_by net edges labels last settled by =
+    meets_always net edges _ settled.always (length-map labels (λ l. unwrap_or l (last +ℤ pos by)) ∙ settled.count)
     (all_met edges labels _ settled.forward settled.follow (after_raised labels last by settled.after.each))
+
+satisfies_by : (net : Net) (edges : List Edge) (labels : List (Option ℤ)) (last : ℤ) → HaveSettled net edges labels last → (by : ℕ) → Satisfies (times_of labels (last +ℤ pos by)) net
+satisfies_by net edges labels last settled by = linear_satisfies net _ settled.is_net settled.linear (always_by net edges labels last settled by)
 
 plus_zero : (last : ℤ) → last +ℤ pos 0 ≡ last
 plus_zero last = omega (arith, ints)
@@ -100,26 +102,8 @@ greatest : (net : Net) (edges : List Edge) (labels : List (Option ℤ)) (last : 
     → source.0 < length labels → event.0 < length labels → label_of labels event ≡ Some label → IsGreatest net source event label
 greatest net edges labels last source event label settled bounds origin within e = record {
   attained = (times_of labels last, satisfies_last net edges labels last settled, label_attained edges labels last source event label bounds origin within e);
-  most = λ times satisfies. bounds.most times (satisfies_meets net edges times settled.linear settled.always satisfies) event label e;
+  most = λ times satisfies. bounds.most times (meets_list net edges times settled.always (satisfying_meets_always net times satisfies)) event label e;
 }
-
--- an event that was not reached comes as late as one likes
-unbounded : (net : Net) (edges : List Edge) (labels : List (Option ℤ)) (last : ℤ) (source event : EventId) → HaveSettled net edges labels last → BoundsFrom edges source labels
-    → source.0 < length labels → event.0 < length labels → label_of labels event ≡ None → IsUnbounded net source event
-unbounded net edges labels last source event settled bounds origin within e =
-    λ value.
-    let by : ℕ = natural_part value + 1 in
-    let late : ℤ = last +ℤ pos by in
-    let most : value <ℤ pos by = natural_most value in
-    let low : pos 0 ≤ℤ last = settled.after.low in
-    let from : time_of (times_of labels late) source ≡ pos 0 = time_at labels late source _ origin bounds.origin in
-    let to : time_of (times_of labels late) event ≡ late = time_at labels late event _ within e in
-    (times_of labels late, satisfies_by net edges labels last settled by, rw (from, to) (omega (arith, ints)))
-
-is_upper : (net : Net) (edges : List Edge) (labels : List (Option ℤ)) (last : ℤ) (source event : EventId) (upper : Option ℤ) → HaveSettled net edges labels last → BoundsFrom edges source labels
-    → source.0 < length labels → event.0 < length labels → label_of labels event ≡ upper → IsUpper net source event upper
-is_upper net edges labels last source event None settled bounds origin within e = unbounded net edges labels last source event settled bounds origin within e
-is_upper net edges labels last source event (Some value) settled bounds origin within e = greatest net edges labels last source event value settled bounds origin within e
 
 flag_at : (labels : List (Option ℤ)) (event : EventId) (label : Option ℤ) → slice_get labels event.0 ≡ Some label → slice_get (map is_none labels) event.0 ≡ Some (is_none label)
 flag_at labels event label e = slice_get-map is_none labels event.0 ∙ ap (option_map is_none) e
@@ -134,6 +118,13 @@ is_ray net edges labels last source event settled bounds origin e = record {
   satisfies = λ by. rw (raised-times_of labels last by) (satisfies_by net edges labels last settled by);
 }
 
+is_upper : (net : Net) (edges : List Edge) (labels : List (Option ℤ)) (last : ℤ) (source event : EventId) (upper : Option ℤ) → HaveSettled net edges labels last → BoundsFrom edges source labels
+    → source.0 < length labels → slice_get labels event.0 ≡ Some upper → IsUpper net source event upper
+is_upper net edges labels last source event None settled bounds origin e =
+    ray_is_unbounded net source event (times_of labels last) (map is_none labels) (is_ray net edges labels last source event settled bounds origin e)
+is_upper net edges labels last source event (Some value) settled bounds origin e =
+    greatest net edges labels last source event value settled bounds origin (slice_get_within labels event.0 (Some value) e) (get_or_from_slice_get labels event.0 (Some value) None e)
+
 -- what stands
 pub stands : (net : Net) (edges : List Edge) (source : Option EventId) (labels : List (Option ℤ)) (last : ℤ) → HaveSettled net edges labels last
     → IfSome source (λ s. s.0 < net.events) → ((event : EventId) → source ≡ Some event → BoundsFrom edges event labels)
@@ -145,15 +136,12 @@ stands net edges source labels last settled within bounds = record {
   where
     from : (s : EventId) → BoundsFrom edges s labels → s.0 < length labels → StandsFrom net s (record { edges = edges; source = source; uppers = labels; times = times_of labels last })
     from s reached origin = record {
-      uppers = λ event upper e. is_upper net edges labels last s event upper settled reached origin (slice_get_within labels event.0 upper e) (get_or_from_slice_get labels event.0 upper None e);
+      uppers = λ event upper e. is_upper net edges labels last s event upper settled reached origin e;
       attained = λ event value e. label_attained edges labels last s event value reached origin (slice_get_within labels event.0 (Some value) e) (get_or_from_slice_get labels event.0 (Some value) None e);
       origin = time_at labels last s _ origin reached.origin;
       rays = λ event e. is_ray net edges labels last s event settled reached origin e;
     }
 
--- their times meet the always-edges, so these allow some
+-- the always-edges allow some times
 pub allows_times : (net : Net) (edges : List Edge) (labels : List (Option ℤ)) (last : ℤ) → HaveSettled net edges labels last → HasNoRoot net → ⊥
-allows_times net edges labels last settled none =
-    none (times_of labels last)
-    (meets_always net edges (times_of labels last) settled.always (length-map labels (λ l. unwrap_or l last) ∙ settled.count)
-    (all_met edges labels last settled.forward settled.follow settled.after.each))
+allows_times net edges labels last settled none = none _ (always_by net edges labels last settled 0)

@@ -1,11 +1,12 @@
 -- The labels before the first edge is tried.
-use Rattle.std.proofs.Common.{◌≡◌, ℕ, ◌<◌, ℤ, pos, inl, inr, List, get_or, replicate, Option, Some, None, IfSome, sym, ◌∙◌, ap, subst, refl, arith}
-use Rattle.std.proofs.Math.ListN.{length-replicate}
+use Rattle.std.proofs.Common.{◌≡◌, ℕ, ◌<◌, ◌≤◌, ℤ, pos, inl, inr, List, get_or, replicate, Option, Some, None, IfSome, sym, ◌∙◌, ap, subst, refl, arith}
+use Rattle.std.proofs.Math.ListN.{length-replicate, length-set}
 use Rattle.std.proofs.lemmas.Int.{ints}
 use Rattle.std.proofs.lemmas.Bool.{cases_lt}
 use Rattle.std.proofs.lemmas.Option.{same_Some}
 use Rattle.std.proofs.lemmas.List.{get_or-replicate, get_or_past}
 use Rattle.std.proofs.lemmas.Grind.{get_or-set_at}
+use Rattle.itv_base.specs.declared.limits.TheConstants.{MAX_EVENTS}
 use Rattle.itv_base.specs.declared.names.EventId.{EventId}
 use Rattle.event_graph.specs.declared.edge.Edge.{Edge}
 use Rattle.event_graph.specs.Times.{time_of}
@@ -31,12 +32,14 @@ one_label events source event label within e =
       | inr was ↦ absurd (none_some label (sym (bare events event.0) ∙ was))
     ]
 
-pub near_first : (events : ℕ) (source : Option EventId) → IfSome source (λ s. s.0 < events) → AreNear (first_labels events source)
-near_first events None within = record {
+pub near_first : (events : ℕ) (source : Option EventId) → events ≤ MAX_EVENTS → IfSome source (λ s. s.0 < events) → AreNear (first_labels events source)
+near_first events None most within = record {
+  events = rw length-replicate most;
   low = λ event label e. absurd (none_some label (sym (bare events event.0) ∙ e));
   high = λ event label e. absurd (none_some label (sym (bare events event.0) ∙ e));
 }
-near_first events (Some source) within = record {
+near_first events (Some source) most within = record {
+  events = rw (length-set, length-replicate) most;
   low = λ event label e. let zero : pos 0 ≡ label = (one_label events source event label within e).1 in omega (arith, ints);
   high = λ event label e. let zero : pos 0 ≡ label = (one_label events source event label within e).1 in omega (arith, ints);
 }

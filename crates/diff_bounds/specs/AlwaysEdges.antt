@@ -1,10 +1,10 @@
 -- The list of the always-edges of a network.
 use Rattle.std.specs.Prelude.{◌≡◌, ℕ, List, Some, All, Contains}
 use Rattle.itv_base.specs.declared.names.EdgeName.{EdgeName}
+use Rattle.itv_base.specs.declared.names.Side.{Side}
 use Rattle.event_graph.specs.declared.edge.Edge.{Edge}
 use Rattle.event_graph.specs.Edges.{IsAlways, edge}
 use Rattle.event_graph.specs.Network.{Net}
-use Rattle.itv_base.specs.declared.names.Side.{Side}
 use Rattle.diff_bounds.specs.Labels.{IsForward}
 
 -- the edge is that of a name on a side that always holds
@@ -16,7 +16,7 @@ pub record AreAlwaysEdges (net : Net) (edges : List Edge) : Type 0 where
   pub sound : All (IsAlwaysEdge net) edges
   pub complete : (e : Edge) → IsAlwaysEdge net e → Contains edges e
 
--- a list that has grown by always-edges that lead forward
+-- a list that has grown by always-edges, none of them with a negative weight
 pub record Grows (net : Net) (old new : List Edge) : Type 0 where
   pub sound : All (IsAlwaysEdge net) old → All (IsAlwaysEdge net) new
   pub forward : All (IsForward net.events) old → All (IsForward net.events) new

@@ -1,5 +1,6 @@
 -- Labels of events: bounds on their separations from a source, found so far along edges.
-use Rattle.std.specs.Prelude.{◌≡◌, ◌<◌, ◌*◌, ℕ, ℤ, pos, negsuc, ◌+ℤ◌, ◌≤ℤ◌, ◌<ℤ◌, Bool, true, false, List, map, Option, Some, None, is_some, sum_by, count_by, All, slice_index_or, slice_set, replicate, unwrap_or}
+use Rattle.std.specs.Prelude.{◌≡◌, ◌+◌, ◌<◌, ◌≤◌, ◌*◌, ℕ, ℤ, pos, negsuc, ◌+ℤ◌, ◌≤ℤ◌, ◌<ℤ◌, Bool, true, false, List, length, map, Option, Some, None, is_some, sum_by, count_by, All, slice_index_or, slice_set, replicate, unwrap_or}
+use Rattle.itv_base.specs.declared.limits.TheConstants.{MAX_EVENTS}
 use Rattle.itv_base.specs.declared.names.EventId.{EventId}
 use Rattle.event_graph.specs.declared.edge.Edge.{Edge}
 use Rattle.event_graph.specs.Edges.{Meets}
@@ -9,17 +10,26 @@ use Rattle.event_graph.specs.Times.{separation}
 abbrev pub label_of : List (Option ℤ) → EventId → Option ℤ
 label_of labels event = slice_index_or labels event.0 None
 
--- an edge between events below a number, whose weight is from 0 to the limit of an end
+-- the greatest weight of an edge, which is the limit of an end
+abbrev pub weight_limit : ℕ
+weight_limit = 1000000000000
+
+-- no label is above the greatest weight for each event
+abbrev pub label_limit : ℕ
+label_limit = weight_limit * MAX_EVENTS
+
+-- an edge between events below a number, whose weight is not negative
 pub record IsForward (events : ℕ) (e : Edge) : Type 0 where
   pub from : e.from.0 < events
   pub to : e.to.0 < events
   pub low : pos 0 ≤ℤ e.weight
-  pub high : e.weight ≤ℤ pos 1000000000000
+  pub high : e.weight ≤ℤ pos weight_limit
 
--- no label is negative, and none is beyond the limit of an end for each event that was reached
+-- no label is negative, and none is above the greatest weight for each event that was reached
 pub record AreNear (labels : List (Option ℤ)) : Type 0 where
+  pub events : length labels ≤ MAX_EVENTS
   pub low : (event : EventId) (label : ℤ) → label_of labels event ≡ Some label → pos 0 ≤ℤ label
-  pub high : (event : EventId) (label : ℤ) → label_of labels event ≡ Some label → label ≤ℤ pos (1000000000000 * count_by is_some labels)
+  pub high : (event : EventId) (label : ℤ) → label_of labels event ≡ Some label → label ≤ℤ pos (weight_limit * count_by is_some labels)
 
 -- an edge from an event that was reached leads to one, whose label is no more than the weight above
 abbrev pub Follows : List (Option ℤ) → Edge → Type 0
@@ -42,7 +52,7 @@ abbrev pub Lowers : ℤ → Option ℤ → Type 0
 Lowers label None = Unit {0}
 Lowers label (Some standing) = label <ℤ standing
 
--- what trying an edge does: nothing where the labels follow it already, else the label at its end becomes that at its start and the weight
+-- what relaxing an edge does: nothing where the labels follow it already, else the label at its end becomes that at its start and the weight
 abbrev pub Relaxes : Edge → List (Option ℤ) → List (Option ℤ) → Bool → Type 0
 Relaxes e old new false = (new ≡ old) × Follows old e
 Relaxes e old new true =
@@ -56,7 +66,7 @@ natural_part (negsuc n) = 0
 
 -- a label as a natural number, above all labels where there is none
 abbrev pub height : Option ℤ → ℕ
-height None = 4096000000000001
+height None = label_limit + 1
 height (Some label) = natural_part label
 
 -- how far the labels can still fall, all together
@@ -66,7 +76,7 @@ total_height labels = sum_by height labels
 -- a time that is at least each label, and no later than any label may be
 pub record IsAfterAll (labels : List (Option ℤ)) (time : ℤ) : Type 0 where
   pub low : pos 0 ≤ℤ time
-  pub high : time ≤ℤ pos 4096000000000000
+  pub high : time ≤ℤ pos label_limit
   pub each : (event : EventId) (label : ℤ) → label_of labels event ≡ Some label → label ≤ℤ time
 
 -- the times of labels: an event that was not reached comes last

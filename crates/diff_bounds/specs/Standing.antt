@@ -3,7 +3,7 @@ use Rattle.std.specs.Prelude.{◌≡◌, ℤ, pos, Bool, List, length, map, Opti
 use Rattle.itv_base.specs.declared.names.EventId.{EventId}
 use Rattle.event_graph.specs.declared.edge.Edge.{Edge}
 use Rattle.event_graph.specs.Bounds.{IsGreatest, IsRay, IsUnbounded}
-use Rattle.event_graph.specs.Network.{Net}
+use Rattle.event_graph.specs.Network.{IsNet, Net}
 use Rattle.event_graph.specs.Satisfying.{Satisfies}
 use Rattle.event_graph.specs.Times.{separation, time_of}
 use Rattle.diff_bounds.specs.AlwaysEdges.{AreAlwaysEdges}
@@ -19,6 +19,7 @@ pub record Standing : Type 0 where
 
 -- the bounds were made for a network
 pub record IsMadeFor (net : Net) (bounds : Standing) : Type 0 where
+  pub is_net : IsNet net
   pub linear : IsLinearAroundZero net
   pub edges : AreAlwaysEdges net bounds.edges
   pub uppers : length bounds.uppers ≡ net.events

@@ -30,7 +30,7 @@ pub struct Bounds {
 }
 
 impl Model for Bounds {
-    ghost use Rattle.std.specs.Prelude.{◌≤◌, All, length};
+    ghost use Rattle.std.specs.Prelude.{All, length};
     ghost use Rattle.diff_bounds.specs.Labels.{AreNear, IsAfterAll, IsForward, times_of};
     ghost use Rattle.diff_bounds.specs.Standing.{Standing};
 
@@ -38,12 +38,12 @@ impl Model for Bounds {
 
     ghost view = { λ b. record { edges = b.edges.items; source = b.source; uppers = b.labels.items; times = times_of b.labels.items b.last } };
 
-    ghost invariant = { λ b. All (IsForward (length b.labels.items)) b.edges.items × (length b.labels.items ≤ 4096) × AreNear b.labels.items × IsAfterAll b.labels.items b.last };
+    ghost invariant = { λ b. All (IsForward (length b.labels.items)) b.edges.items × AreNear b.labels.items × IsAfterAll b.labels.items b.last };
 }
 
 impl Bounds {
-    /// Bounds for a network whose constraints are all linear, with ranges that hold 0. They take here all memory that they
-    /// will ever need. No graph stands yet.
+    /// Bounds for a network whose constraints are all linear, with ranges that hold 0. All memory that they will ever need is
+    /// taken here, and `NoMemory` is the answer where it is not found. No graph stands yet.
     pub fn new(alloc: Global, net: &Network) -> Result<Bounds, NoMemory>
         requires { IsLinearAroundZero net.now }
         ensures { IfOk result (λ bounds. IsMadeFor net.now bounds) }
@@ -57,8 +57,8 @@ impl Bounds {
         })
     }
 
-    /// Lets the bounds stand on the network that they were made for, from a source or from none. The answer is `Loop` exactly
-    /// where its always-edges allow no times, and then no graph stands until the next start.
+    /// Lets the bounds stand on the always-edges of the network that they were made for, from one of its events or from none.
+    /// The answer is `Loop` exactly where these edges allow no times, and then no graph stands until the next start.
     pub fn start(&mut self, net: &Network, source: Option<EventId>) -> Fit
         requires network { IsMadeFor net.now self.old }
         requires source { IfSome source (λ s. s.0 < net.now.events) }
@@ -68,14 +68,15 @@ impl Bounds {
         ensures source { self.new.source ≡ source }
         ensures network { IsMadeFor net.now self.new }
     {
+        prove!(net.events() as usize == self.labels.len());
         self.source = source;
         spread(&self.edges, &mut self.labels, source);
         self.last = latest(&self.labels);
         Fit::Fits
     }
 
-    /// The greatest separation of an event from the source in picoseconds, or `None` where it is unbounded. A graph has to
-    /// stand from a source.
+    /// The greatest separation of an event of the network from the source in picoseconds, or `None` where it is unbounded.
+    /// A graph has to stand from a source.
     pub fn upper(&self, event: EventId) -> Option<i64>
         requires { event.0 < length self.now.uppers }
         ensures value { slice_get self.now.uppers event.0 ≡ Some result }

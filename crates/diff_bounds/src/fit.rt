@@ -5,6 +5,6 @@
 pub enum Fit {
     /// Some times meet all of the edges.
     Fits,
-    /// No times meet them: they have a closed walk of negative sum.
+    /// No times meet all of them.
     Loop,
 }

@@ -1,18 +1,19 @@
 //! Labels of events, which fall along edges until they are the greatest separations from a source.
 
 ghost use Rattle.std.specs.Prelude.{◌≡◌, ◌<◌, ◌≤◌, ◌+ℤ◌, ℤ, pos, ◌≤ℤ◌, IfSome, MatchBool, Some, None, is_none, All, ◌⊎◌, length, map, replicate};
-ghost use Rattle.diff_bounds.specs.Labels.{AreNear, Follows, HaveSpread, IsAfterAll, IsForward, Keeps, Relaxes, first_labels, times_of, total_height};
+ghost use Rattle.diff_bounds.specs.Labels.{AreNear, Follows, HaveSpread, IsAfterAll, IsForward, Keeps, Relaxes, first_labels, label_limit, times_of, total_height, weight_limit};
 
 use event_graph::Edge;
-use itv_base::EventId;
+use itv_base::{EventId, MAX_EVENTS};
 
-/// Labels each event with its greatest separation from the source, as far as edges bound it. Without a source there are no labels.
+/// Labels each event that the edges bound with its greatest separation from the source, in picoseconds. Without a source no event
+/// has a label.
 ///
-/// The labels fall from 0 at the source along one edge after another until no edge lowers any (the relaxation of Bellman and
-/// Ford). Passes over the edges alternate in direction, so that a long chain of edges takes few of them.
+/// The labels fall from 0 at the source along one edge after another until no edge lowers any: the algorithm of Bellman and Ford,
+/// with passes that alternate in direction as Yen proposed, so that a long chain of edges takes few of them.
 pub fn spread(edges: &[Edge], labels: &mut [Option<i64>], source: Option<EventId>)
     requires edges { All (IsForward (length labels.old)) edges.now }
-    requires events { length labels.old ≤ 4096 }
+    requires events { length labels.old ≤ MAX_EVENTS }
     requires source { IfSome source (λ s. s.0 < length labels.old) }
     ensures { HaveSpread edges.now source labels.new }
 {
@@ -34,7 +35,6 @@ fn begin(labels: &mut [Option<i64>], source: Option<EventId>)
 // Lets the labels fall along the edges until no edge lowers any.
 fn settle(edges: &[Edge], labels: &mut [Option<i64>])
     requires edges { All (IsForward (length labels.old)) edges.now }
-    requires events { length labels.old ≤ 4096 }
     requires near { AreNear labels.old }
     ensures keeps { Keeps edges.now labels.old labels.new }
     ensures follow { All (Follows labels.new) edges.now }
@@ -44,10 +44,9 @@ fn settle(edges: &[Edge], labels: &mut [Option<i64>])
     }
 }
 
-// Tries each edge from the first to the last. The answer is whether a label has changed.
+// Relaxes each edge from the first to the last. The answer is whether a label has changed.
 fn pass_forwards(edges: &[Edge], labels: &mut [Option<i64>]) -> bool
     requires edges { All (IsForward (length labels.old)) edges.now }
-    requires events { length labels.old ≤ 4096 }
     requires near { AreNear labels.old }
     ensures keeps { Keeps edges.now labels.old labels.new }
     ensures falls { MatchBool result (total_height labels.new < total_height labels.old) (All (Follows labels.new) edges.now) }
@@ -59,10 +58,9 @@ fn pass_forwards(edges: &[Edge], labels: &mut [Option<i64>]) -> bool
     changed
 }
 
-// Tries each edge from the last to the first.
+// Relaxes each edge from the last to the first.
 fn pass_backwards(edges: &[Edge], labels: &mut [Option<i64>])
     requires edges { All (IsForward (length labels.old)) edges.now }
-    requires events { length labels.old ≤ 4096 }
     requires near { AreNear labels.old }
     ensures keeps { Keeps edges.now labels.old labels.new }
     ensures falls { total_height labels.new ≤ total_height labels.old }
@@ -72,10 +70,9 @@ fn pass_backwards(edges: &[Edge], labels: &mut [Option<i64>])
     }
 }
 
-// Lowers the label at the end of an edge to that at its start and the weight. The answer is whether it has changed.
+// Lowers the label at the end of an edge to the label at its start and the weight. The answer is whether it has changed.
 fn relax(edge: Edge, labels: &mut [Option<i64>]) -> bool
     requires edge { IsForward (length labels.old) edge }
-    requires events { length labels.old ≤ 4096 }
     requires near { AreNear labels.old }
     ensures { Relaxes edge labels.old labels.new result }
 {
@@ -93,21 +90,20 @@ fn relax(edge: Edge, labels: &mut [Option<i64>]) -> bool
     }
 }
 
-// A label and a weight.
+// The label that comes a weight after another.
 fn delayed(label: i64, weight: i64) -> i64
     requires label_low { pos 0 ≤ℤ label }
-    requires label_high { label ≤ℤ pos 4096000000000000 }
+    requires label_high { label ≤ℤ pos label_limit }
     requires weight_low { pos 0 ≤ℤ weight }
-    requires weight_high { weight ≤ℤ pos 1000000000000 }
+    requires weight_high { weight ≤ℤ pos weight_limit }
     ensures { result ≡ label +ℤ weight }
 {
     label + weight
 }
 
-/// The latest label, or 0 where there is none.
+/// A time that no label is after: the latest one, or 0 where there is none.
 pub fn latest(labels: &[Option<i64>]) -> i64
-    requires events { length labels.now ≤ 4096 }
-    requires near { AreNear labels.now }
+    requires { AreNear labels.now }
     ensures { IsAfterAll labels.now result }
 {
     let mut latest = 0;

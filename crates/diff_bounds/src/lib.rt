@@ -7,6 +7,8 @@ mod always_edges;
 mod bounds;
 mod fit;
 mod labels;
+#[cfg(test)]
+mod tests;
 
 pub use bounds::Bounds;
 pub use fit::Fit;

@@ -1,6 +1,6 @@
 use Rattle.std.proofs.Common.{sym, rules}
 use Rattle.event_graph.specs.Edges.{IsAlways}
-use Rattle.diff_bounds.proofs.NamedEdges.{grows_by}
+use Rattle.diff_bounds.proofs.AlwaysLists.{grows_by}
 use Rattle.diff_bounds.proofs.always_edges.push_edge.Goals as goal
 
 pub returns-in_ok-push-clause-grows : goal.returns-in_ok-push-clause-grows

@@ -1,4 +1,4 @@
-use Rattle.std.proofs.Common.{◌≡◌, ◌≤◌, Contains, Some, length, arith, rules}
+use Rattle.std.proofs.Common.{◌≡◌, Contains, Some, length, arith, rules}
 use Rattle.std.specs.Iterator.Adapters.{rev_source}
 use Rattle.std.specs.Slice.Iter.{iter_rest}
 use Rattle.std.proofs.lemmas.List.Elements.{All-contains, All-contains_itself, All-pop, All-same}
@@ -11,8 +11,7 @@ loop-edge-preserved c =
     let left = All-pop (Contains c.args.edges.now) (iter_rest (rev_source c.loop-edge.edge-iterator)) (iter_rest (rev_source c.next.new.self)) (Some c.in-Some.edge.now) c.in-Some.ensures.steps c.loop-edge.invariant.among in
     let forward : IsForward (length c.loop-edge.labels) c.in-Some.edge.now =
     rw c.loop-edge.auto.labels (All-contains (IsForward (length c.args.labels.now)) c.args.edges.now c.in-Some.edge.now c.requires.edges left.1) in
-    let events : length c.loop-edge.labels ≤ 4096 = rw c.loop-edge.auto.labels c.requires.events in
-    let lower = total_on _ _ _ _ c.loop-edge.invariant.keeps.near forward events c.relax.ensures in
+    let lower = total_on _ _ _ _ c.loop-edge.invariant.keeps.near forward c.relax.ensures in
     record {
       keeps = keeps_on _ _ _ _ _ _ c.loop-edge.invariant.keeps left.1 forward c.relax.ensures;
       falls = omega (arith, lower, c.loop-edge.invariant.falls);

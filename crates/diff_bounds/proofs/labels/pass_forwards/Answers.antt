@@ -5,4 +5,4 @@ use Rattle.diff_bounds.proofs.labels.pass_forwards.Goals as goal
 pub loop-edge-preserved : goal.loop-edge-preserved
 loop-edge-preserved c =
     passed_on _ _ c.loop-edge.labels _ _ _ _ _ c.loop-edge.invariant c.loop-edge-test.true (get_or_default _ _ _ _ c.loop-edge-test.true)
-    (rw c.loop-edge.auto.labels (c.requires.edges _ _ c.loop-edge-test.true)) (rw c.loop-edge.auto.labels c.requires.events) c.relax-changed.ensures
+    (rw c.loop-edge.auto.labels (c.requires.edges _ _ c.loop-edge-test.true)) c.relax-changed.ensures

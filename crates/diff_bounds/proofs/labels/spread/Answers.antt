@@ -2,7 +2,7 @@ use Rattle.diff_bounds.proofs.Starting.{bounds_kept, near_first}
 use Rattle.diff_bounds.proofs.labels.spread.Goals as goal
 
 pub settle-requires-clause-near : goal.settle-requires-clause-near
-settle-requires-clause-near c = rw c.begin.ensures (near_first _ _ c.requires.source)
+settle-requires-clause-near c = rw c.begin.ensures (near_first _ _ c.requires.events c.requires.source)
 
 pub returns : goal.returns
 returns c = record {

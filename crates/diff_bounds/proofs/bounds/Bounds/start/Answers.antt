@@ -22,6 +22,7 @@ settled c =
     let made = rw (← c.self.view_is) at c.requires.network in
     let spread = rw c.deref.ensures.value at c.spread.ensures in
     record {
+      is_net = made.is_net;
       linear = made.linear;
       always = made.edges;
       count = same_length c ∙ made.uppers;
@@ -34,7 +35,7 @@ pub invariant_of-self : goal.invariant_of-self
 invariant_of-self c =
     let at = (goal.at.invariant_of-self c).After-latest-self-inside in
     let here = settled at in
-    rw (labels_are at, last_is at) (here.forward, rw (same_length at) c.self.invariant.1, c.spread.ensures.near, here.after)
+    rw (labels_are at, last_is at) (here.forward, c.spread.ensures.near, here.after)
 
 pub returns-clause-stands : goal.returns-clause-stands
 returns-clause-stands c =

@@ -7,4 +7,4 @@ pub returns-clause-range : goal.returns-clause-range
 returns-clause-range c =
     let fits : SFits w64 c.self.inside.last = search rules in
     let last : to_z w64 (of_z w64 c.self.inside.last) ≡ c.self.inside.last = to_z-of_z w64 c.self.inside.last fits in
-    rw (c.write_times.ensures, c.deref.ensures.value, last) (times_range _ _ c.self.invariant.2 c.self.invariant.1 c.self.invariant.3)
+    rw (c.write_times.ensures, c.deref.ensures.value, last) (times_range _ _ c.self.invariant.1 c.self.invariant.2)

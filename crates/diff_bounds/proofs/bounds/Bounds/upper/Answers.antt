@@ -14,4 +14,4 @@ returns-clause-greatest c =
 pub returns-clause-range : goal.returns-clause-range
 returns-clause-range c =
     let within = rw (← c.self.view_is) at c.requires in
-    label_range _ c.args.event _ c.self.invariant.2 c.self.invariant.1 (get_or_default _ _ _ _ within ∙ sym c.index.ensures)
+    label_range _ c.args.event _ c.self.invariant.1 (get_or_default _ _ _ _ within ∙ sym c.index.ensures)
