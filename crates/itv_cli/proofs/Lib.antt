@@ -1,3 +1,4 @@
+mod Ending
 mod Judging
 mod LoneLemmas
 mod Putting

@@ -1,5 +1,5 @@
 -- What the end of a run says: where it comes from, and what was written.
-use Rattle.std.specs.Prelude.{◌≡◌, ◌<◌, ◌⊎◌, ℕ, List, Option, Some, None, codes}
+use Rattle.std.specs.Prelude.{◌≡◌, ◌<◌, ◌⊎◌, ℕ, List, Option, Some, None, IsSome, codes}
 use Rattle.itv_base.specs.Outside.{Files, file_of, Rose, grown, GrewByFront}
 use Rattle.itv_cli.specs.declared.outcome.Outcome.{Outcome}
 use Rattle.itv_cli.specs.declared.outcome.Outcome.TheVariants.{AllPass, Help, SomeFail, Inconsistent, Undecided, Refused, ReadFault, WriteFault, NoMemory, BadWords, CheckRefused}
@@ -87,8 +87,9 @@ pub record HasWriteFault (call : Call) : Type 0 where
   pub front : GrewByFront call.written_before call.written_after text
   pub rose : Rose call.sink_before call.sink_after
 
--- memory was not found before the first put
+-- the words were taken, and memory was not found before the first put
 pub record IsUntouched (call : Call) : Type 0 where
+  pub design : IsSome (design_of call.words)
   pub written : call.written_after ≡ call.written_before
   pub sink : call.sink_after ≡ call.sink_before
   pub shelf : call.shelf_after ≡ call.shelf_before

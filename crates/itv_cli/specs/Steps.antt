@@ -1,15 +1,17 @@
 -- What the steps of a run answer.
-use Rattle.std.specs.Prelude.{◌≡◌, ◌≤◌, ℕ, ⊤, List, Option, Some, None, Result, Ok, Err}
+use Rattle.std.specs.Prelude.{◌≡◌, ◌≤◌, ◌⊎◌, ℕ, ⊤, List, Option, Some, None, Result, Ok, Err}
 use Rattle.serde_json.specs.declared.value.Value.{Value}
 use Rattle.serde_json.specs.Data.{Data}
 use Rattle.serde_json.specs.View.{view}
-use Rattle.itv_base.specs.Outside.{Files, Rose}
+use Rattle.itv_base.specs.Outside.{Files, Rose, grown, GrewByFront}
 use Rattle.itv_cli.specs.declared.lone.LoneDesign.{LoneDesign}
 use Rattle.itv_cli.specs.declared.outcome.Outcome.{Outcome}
 use Rattle.itv_cli.specs.declared.outcome.Outcome.TheVariants as ends
 use Rattle.itv_cli.specs.declared.refusal.Refusal.TheVariants.{NotJson}
 use Rattle.itv_cli.specs.declared.top.Stop.{Stop}
 use Rattle.itv_cli.specs.declared.top.Stop.TheVariants.{Refused, ReadFault, NoMemory}
+use Rattle.itv_cli.specs.Report.{Item, report_text}
+use Rattle.itv_cli.specs.Right.{Drawn, IsReport, BeginsReport}
 use Rattle.itv_cli.specs.Design.{Verdict, refused, draws, FileStands}
 
 -- the tree of some bytes, or that they are no JSON
@@ -42,3 +44,15 @@ JudgesFile files name before now was last (Err NoMemory) = IsKept before now was
 abbrev pub end_after : {E : Type 0} → Result ⊤ E → Outcome → Outcome
 end_after (Ok x) end = end
 end_after (Err e) end = ends.WriteFault
+
+-- a run that ends after a text was put, or a front of it
+abbrev pub Tells : Option (List ℕ) → Option (List ℕ) → ℕ → ℕ → List ℕ → Outcome → Outcome → Type 0
+Tells was written before now text end outcome =
+    ((outcome ≡ end) × (written ≡ grown was text) × (now ≡ before))
+    ⊎ ((outcome ≡ ends.WriteFault) × GrewByFront was written text × Rose before now)
+
+-- a run that ends after a report, or a front of one
+abbrev pub Reports : Option (List ℕ) → Option (List ℕ) → ℕ → ℕ → Drawn → Outcome → Type 0
+Reports was written before now drawn outcome =
+    ((outcome ≡ ends.NoMemory) × (written ≡ was) × (now ≡ before))
+    ⊎ ((items : List Item) × BeginsReport drawn items × (outcome ≡ ends.AllPass → IsReport drawn items) × Tells was written before now (report_text items) ends.AllPass outcome)

@@ -14,3 +14,4 @@ mod top;
 mod words;
 
 pub use outcome::Outcome;
+pub use top::run;

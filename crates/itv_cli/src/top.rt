@@ -4,12 +4,15 @@ ghost use Rattle.std.specs.Prelude.{◌≡◌, ◌≢◌, Some, None};
 ghost use Rattle.serde_json.specs.View.{view};
 ghost use Rattle.sheet.specs.Sheet.{sheet_of};
 ghost use Rattle.itv_cli.specs.Design.{diagram_verdict, sheet_verdict, tree_of, tree_verdict, verdict_of, design_of};
-ghost use Rattle.itv_cli.specs.Call.{call_of, Means, HasPassed, IsRefused, HasReadFault, HasWriteFault, IsUntouched, HasBadWords, Completes, RefusesWords, ShowsFaults};
-ghost use Rattle.itv_cli.specs.Steps.{JudgesFile, Judges, ReadsTree, end_after};
+ghost use Rattle.itv_cli.specs.Call.{call_of, Means, Completes, RefusesWords, ShowsFaults};
+ghost use Rattle.itv_cli.specs.Refusal.{refusal_text};
+ghost use Rattle.itv_cli.specs.Steps.{JudgesFile, Judges, ReadsTree, Reports, Tells, end_after};
 
 use crate::lone::{LoneDesign, is_easy};
 use crate::outcome::Outcome;
 use crate::refusal::{Refusal, put_refusal};
+use crate::report::put_report;
+use crate::search::Search;
 use crate::words::design_name;
 use itv_base::{FILE_LIMIT, FetchFault, NoMemory, PutFailed, Shelf, Sink, Texts};
 use serde_json::Value;
@@ -108,3 +111,76 @@ fn end_after(put: Result<(), PutFailed>, end: Outcome) -> Outcome
     }
 }
 
+// Ends a run by a text.
+fn tell<K: Sink>(text: &[u8], end: Outcome, sink: &mut K) -> Outcome
+    ensures { Tells (K.written sink.old) (K.written sink.new) (K.faults sink.old) (K.faults sink.new)
+        text.now end result }
+{
+    end_after(sink.put(text), end)
+}
+
+// Ends a run by a refusal.
+fn refuse<K: Sink>(refusal: &Refusal, sink: &mut K) -> Outcome
+    ensures { Tells (K.written sink.old) (K.written sink.new) (K.faults sink.old) (K.faults sink.new)
+        (refusal_text refusal.now) Outcome.Refused result }
+{
+    end_after(put_refusal(*refusal, sink), Outcome::Refused)
+}
+
+// Ends a run by the report of a design. All memory is taken before the first put.
+fn report<K: Sink>(alloc: Global, design: &LoneDesign, sink: &mut K) -> Outcome
+    ensures { Reports (K.written sink.old) (K.written sink.new) (K.faults sink.old) (K.faults sink.new)
+        design.now result }
+{
+    match Search::new(alloc, design.network()) {
+        Ok(mut search) => end_after(put_report(design, &mut search, sink), Outcome::AllPass),
+        Err(NoMemory) => Outcome::NoMemory,
+    }
+}
+
+// The run, with what its end says.
+fn judged_run<H: Shelf, K: Sink>(
+    alloc: Global,
+    words: &Texts,
+    shelf: &mut H,
+    sink: &mut K,
+) -> Outcome
+    ensures { Means (call_of H.files H.faults H.last K.written K.faults words.now shelf.old shelf.new sink.old sink.new)
+        result }
+{
+    let name = match design_name(words) {
+        Some(name) => name,
+        None => return tell(b"bad words\n", Outcome::BadWords, sink),
+    };
+    match judge_file(alloc, name, shelf) {
+        Ok(design) => report(alloc, &design, sink),
+        Err(Stop::Refused(refusal)) => refuse(&refusal, sink),
+        Err(Stop::ReadFault) => tell(b"cannot read file 0\n", Outcome::ReadFault, sink),
+        Err(Stop::NoMemory) => Outcome::NoMemory,
+    }
+}
+
+/// Verifies the design that the words name, and writes its report.
+///
+/// The words are one, the name of a file that draws a lone sheet in strict JSON. The file is fetched once. Where it draws a
+/// network whose constraints are linear with ranges that hold 0, a report is written: for each separation that is asked for
+/// its greatest value in whole picoseconds with times that attain it, or that it is unbounded with events that can be raised
+/// by any number. Where it doesn't, the line of its first refusal is written. Bad words and a file that can't be read get
+/// a line of their own. All memory is taken before the first put, and after a put that failed nothing more is put.
+pub fn run<H: Shelf, K: Sink>(
+    alloc: Global,
+    words: &Texts,
+    shelf: &mut H,
+    sink: &mut K,
+) -> Outcome
+    ensures means { Means
+        (call_of H.files H.faults H.last K.written K.faults words.now shelf.old shelf.new sink.old sink.new) result }
+    ensures completes { Completes
+        (call_of H.files H.faults H.last K.written K.faults words.now shelf.old shelf.new sink.old sink.new) result }
+    ensures refuses_words { RefusesWords
+        (call_of H.files H.faults H.last K.written K.faults words.now shelf.old shelf.new sink.old sink.new) result }
+    ensures shows_faults { ShowsFaults
+        (call_of H.files H.faults H.last K.written K.faults words.now shelf.old shelf.new sink.old sink.new) result }
+{
+    judged_run(alloc, words, shelf, sink)
+}
