@@ -1,12 +1,12 @@
 -- What is answered to a text, by the labels that it spells.
-use Rattle.std.proofs.Common.{◌≡◌, ◌≢◌, ℕ, Bool, true, false, cond, List, Option, Some, None, Result, Ok, Err, refl, sym, ap, subst, ◌∙◌, ◌↔◌}
+use Rattle.std.proofs.Common.{◌≡◌, ℕ, Bool, true, false, cond, List, Option, Some, None, Result, Ok, Err, refl, ap, subst, ◌∙◌, ◌↔◌}
 use Rattle.std.specs.Prelude.{IfOk, IsOkAnd, IsErrOf}
 use Rattle.label_grammar.specs.declared.label.Label.{Label}
 use Rattle.label_grammar.specs.declared.label.LabelFault.{LabelFault}
 use Rattle.label_grammar.specs.declared.label.LabelFault.TheVariants.{BadLabel, TooWide, EmptyRange}
 use Rattle.label_grammar.specs.Label.{LooseLabel, label_view, IsLoose, IsProper, has_wide_end, has_reversed_ends, spelling}
 use Rattle.label_grammar.specs.Reading.{label_of}
-use Rattle.label_grammar.specs.Answer.{judged_label, judged, Gives, IsUnspelled, SpellsWideEnd, SpellsReversedEnds}
+use Rattle.label_grammar.specs.Answer.{judged, Gives, IsUnspelled, SpellsWideEnd, SpellsReversedEnds}
 use Rattle.label_grammar.proofs.Whole.{label_takes, label_again}
 
 abbrev Judgement : Type 0

@@ -1,11 +1,10 @@
 -- The text of a number and the value of a numeral are inverse.
-use Rattle.std.proofs.Common.{◌≡◌, ℕ, zero, suc, ◌+◌, ◌*◌, ◌-◌, ◌/◌, ◌%◌, ◌<◌, ◌≤◌, Bool, true, false, not, cond, eqb, ltb, leb, ◌&&◌, ◌||◌, List, [], ◌∷◌, ◌++◌, length, get_or, map, refl, sym, ap, ◌∙◌, arith, inl, inr, append_assoc, codes}
+use Rattle.std.proofs.Common.{◌≡◌, ℕ, suc, ◌+◌, ◌*◌, ◌/◌, ◌%◌, ◌<◌, ◌≤◌, true, false, eqb, ltb, leb, List, [], ◌∷◌, ◌++◌, length, get_or, map, refl, sym, ap, ◌∙◌, arith, inl, inr, append_assoc}
 use Rattle.std.specs.List.{list_all}
 use Rattle.std.specs.Char.{is_ascii_digit, digit_value}
 use Rattle.std.specs.Int.Digits.{digits_of, number_from_digits, number_from_digits_after, AllBelowBase}
-use Rattle.std.specs.Str.Parse.{digits_value}
-use Rattle.std.proofs.lemmas.Bool.{and_parts, and_from, eq-eqb, ne_eqb, lt-ltb, le-leb, or_left, cases_eq}
-use Rattle.std.proofs.lemmas.List.{append-nil, length-map, get_or-map, nil_from_length}
+use Rattle.std.proofs.lemmas.Bool.{and_parts, and_from, ne_eqb, lt-ltb, le-leb, cases_eq}
+use Rattle.std.proofs.lemmas.List.{append-nil, nil_from_length}
 use Rattle.std.proofs.lemmas.Nat.{mod-mul-add, div-mul-add}
 use Rattle.std.proofs.lemmas.Str.{digit_value_digit}
 use Rattle.std.proofs.lemmas.Int.Digits.{digits_value_is, digits_of_step, all_below_base_digits_of, first_digits_of, number_digits_of, number_after_ge}

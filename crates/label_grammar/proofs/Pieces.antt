@@ -1,19 +1,19 @@
 -- Each part of a label that is read is spelled so, and each that is spelled so is read.
-use Rattle.std.proofs.Common.{◌≡◌, ℕ, zero, suc, ◌+◌, ◌<◌, ◌≤◌, ℤ, pos, negsuc, neg_ℤ, Bool, true, false, not, cond, eqb, leb, ltb, ◌&&◌, List, [], ◌∷◌, ◌++◌, length, get_or, Option, Some, None, refl, sym, ap, subst, ◌∙◌, arith, inl, inr, append_assoc, codes, ◌⊎◌}
+use Rattle.std.proofs.Common.{◌≡◌, ℕ, zero, suc, ◌<◌, ◌≤◌, ℤ, pos, negsuc, neg_ℤ, Bool, true, false, not, eqb, leb, ltb, ◌&&◌, List, [], ◌∷◌, ◌++◌, length, Option, Some, None, refl, sym, ap, subst, ◌∙◌, arith, inl, inr, append_assoc, codes, ◌⊎◌}
 use Rattle.std.specs.Prelude.{IfSome, is_some}
 use Rattle.std.specs.List.{list_all, take_while}
 use Rattle.std.specs.Char.{is_ascii_digit}
-use Rattle.std.proofs.lemmas.Bool.{and_parts, and_from, eqb-true, eq-eqb, ne_eqb, ltb-true, lt-ltb, leb-true, le-leb, cases_eq, both_ways, not_from_false}
+use Rattle.std.proofs.lemmas.Bool.{and_parts, eqb-true, ne_eqb, ltb-true, lt-ltb, leb-true, le-leb, cases_eq, both_ways}
 use Rattle.std.proofs.lemmas.Option.{cond_some, same_Some, some_pair_parts}
 use Rattle.itv_base.specs.Range.{Ends}
 use Rattle.label_grammar.specs.declared.label.Kind.{Kind}
 use Rattle.label_grammar.specs.declared.label.Kind.TheVariants.{Lin, Late, Early, Req, Ask}
-use Rattle.label_grammar.specs.Characters.{is_name, is_name_byte, is_space}
-use Rattle.label_grammar.specs.Label.{kind_text, shift_text, tag_text, ends_text, end_text, signed_text, number_text, note_text, is_ask}
+use Rattle.label_grammar.specs.Characters.{is_name, is_name_byte}
+use Rattle.label_grammar.specs.Label.{kind_text, shift_text, tag_text, ends_text, end_text, signed_text, number_text, note_text}
 use Rattle.label_grammar.specs.Reading.{◌>>=◌, stripped, after, after_while, is_numeral, value_of, first_kind, kind_of, shift_from, shift_of, tag_from, tag_of, number_from, number_of, end_of, ends_of, range_of, note_of}
-use Rattle.label_grammar.proofs.Cuts.{stripped-append, stripped_some}
+use Rattle.label_grammar.proofs.Cuts.{stripped_some}
 use Rattle.label_grammar.proofs.Runs.{stops, front_of_run, rest_of_run, run_whole}
-use Rattle.label_grammar.proofs.Numbers.{IsNumeral, numeral_is, digit_range}
+use Rattle.label_grammar.proofs.Numbers.{numeral_is}
 use Rattle.label_grammar.proofs.Numerals.{text-value, value-text, digits-text, numeral-text}
 
 -- ---- steps

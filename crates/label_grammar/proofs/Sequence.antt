@@ -26,21 +26,21 @@ module _ {K : Type 0} (E : Type 0) (written : K → Option (List ℕ)) (faults :
     pub kind_put : (at_shift : K) (word : List ℕ) → word ≡ kind_text l.kind → Puts {E = E} written faults old at_shift word (Ok tt)
         → Left written faults old at_shift after_kind (spelling l)
     kind_put at_shift word is kind =
-      left_after E written faults old old at_shift word after_kind (spelling l) (spelling l) tt (left_all written faults old (spelling l)) (rw is refl) kind
+        left_after E written faults old old at_shift word after_kind (spelling l) (spelling l) tt (left_all written faults old (spelling l)) (rw is refl) kind
 
     pub shift_put : (at_shift at_tag : K) (word : List ℕ) → word ≡ kind_text l.kind → Puts {E = E} written faults old at_shift word (Ok tt)
         → Puts {E = E} written faults at_shift at_tag (shift_text l.shift) (Ok tt) → Left written faults old at_tag after_shift (spelling l)
     shift_put at_shift at_tag word is kind shift =
-      left_after E written faults old at_shift at_tag (shift_text l.shift) after_shift after_kind (spelling l) tt (kind_put at_shift word is kind) refl shift
+        left_after E written faults old at_shift at_tag (shift_text l.shift) after_shift after_kind (spelling l) tt (kind_put at_shift word is kind) refl shift
 
     pub tag_put : (at_shift at_tag at_ends : K) (word : List ℕ) → word ≡ kind_text l.kind → Puts {E = E} written faults old at_shift word (Ok tt)
         → Puts {E = E} written faults at_shift at_tag (shift_text l.shift) (Ok tt) → Puts {E = E} written faults at_tag at_ends (tag_text l.tag) (Ok tt)
         → Left written faults old at_ends after_tag (spelling l)
     tag_put at_shift at_tag at_ends word is kind shift tag =
-      left_after E written faults old at_tag at_ends (tag_text l.tag) after_tag after_shift (spelling l) tt (shift_put at_shift at_tag word is kind shift) refl tag
+        left_after E written faults old at_tag at_ends (tag_text l.tag) after_tag after_shift (spelling l) tt (shift_put at_shift at_tag word is kind shift) refl tag
 
     pub ends_put : (at_shift at_tag at_ends at_note : K) (word : List ℕ) → word ≡ kind_text l.kind → Puts {E = E} written faults old at_shift word (Ok tt)
         → Puts {E = E} written faults at_shift at_tag (shift_text l.shift) (Ok tt) → Puts {E = E} written faults at_tag at_ends (tag_text l.tag) (Ok tt)
         → Puts {E = E} written faults at_ends at_note (ends_text l.ends) (Ok tt) → Left written faults old at_note (note_text l.note) (spelling l)
     ends_put at_shift at_tag at_ends at_note word is kind shift tag ends =
-      left_after E written faults old at_ends at_note (ends_text l.ends) (note_text l.note) after_tag (spelling l) tt (tag_put at_shift at_tag at_ends word is kind shift tag) refl ends
+        left_after E written faults old at_ends at_note (ends_text l.ends) (note_text l.note) after_tag (spelling l) tt (tag_put at_shift at_tag at_ends word is kind shift tag) refl ends

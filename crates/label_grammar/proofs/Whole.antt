@@ -1,8 +1,7 @@
 -- What is read of a label is spelled so, and what is spelled so is read.
-use Rattle.std.proofs.Common.{◌≡◌, ℕ, ◌+◌, ◌≤◌, Bool, true, not, List, [], ◌∷◌, ◌++◌, Option, Some, None, refl, sym, ap, subst, ◌∙◌, inl, inr, append_assoc}
+use Rattle.std.proofs.Common.{◌≡◌, ℕ, List, ◌++◌, Option, Some, None, refl, sym, ap, subst, ◌∙◌, inl, inr}
 use Rattle.std.proofs.lemmas.Option.{same_Some}
 use Rattle.itv_base.specs.Range.{Ends}
-use Rattle.label_grammar.specs.declared.label.Kind.{Kind}
 use Rattle.label_grammar.specs.Label.{LooseLabel, IsLoose, is_ask, kind_text, shift_text, tag_text, ends_text, note_text, spelling}
 use Rattle.label_grammar.specs.Reading.{◌>>=◌, kind_of, shift_of, tag_of, range_of, note_of, label_of}
 use Rattle.label_grammar.proofs.Pieces.{bind_some, Opens, IsSpaced, kind_takes, kind_again, shift_takes, shift_again, tag_takes, tag_again, range_takes, range_again, note_takes, note_again}

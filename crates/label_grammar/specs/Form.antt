@@ -1,5 +1,5 @@
 -- What is read of a label before its ends are looked at.
-use Rattle.std.specs.Prelude.{ℕ, ℤ, pos, negsuc, neg_ℤ, min, Bool, true, false, List, Option, Some, None, option_map, Result, Ok, Err, if◌then◌else◌}
+use Rattle.std.specs.Prelude.{ℕ, ℤ, pos, negsuc, neg_ℤ, min, Bool, true, false, Option, Some, None, option_map, Result, Ok, Err, if◌then◌else◌}
 use Rattle.std.specs.Option.{option_copied}
 use Rattle.itv_base.specs.Range.{Ends, has_wide, is_reversed}
 use Rattle.label_grammar.specs.declared.form.Number.{Number}

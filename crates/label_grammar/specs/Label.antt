@@ -1,5 +1,5 @@
 -- What a label is, and the one text that spells it.
-use Rattle.std.specs.Prelude.{◌≡◌, ℕ, suc, ◌+◌, ◌≤◌, ◌==◌, ℤ, pos, negsuc, Bool, true, false, not, if◌then◌else◌, List, [], ◌∷◌, ◌++◌, map, codes, Option, Some, None, IfSome, is_some, IsTrue}
+use Rattle.std.specs.Prelude.{◌≡◌, ℕ, suc, ◌+◌, ◌≤◌, ◌==◌, ℤ, pos, negsuc, Bool, true, false, not, if◌then◌else◌, List, [], ◌++◌, map, codes, Option, Some, None, IfSome, is_some, IsTrue}
 use Rattle.std.specs.Option.{option_copied, option_map_or}
 use Rattle.std.specs.Int.Digits.{digits_of}
 use Rattle.itv_base.specs.Range.{Ends, has_wide, is_reversed}

@@ -1,5 +1,5 @@
 -- How the text of a wire is cut.
-use Rattle.std.specs.Prelude.{ℕ, ◌&&◌, ◌==◌, Bool, if◌then◌else◌, List, length, slice_index, Option, Some, None}
+use Rattle.std.specs.Prelude.{ℕ, ◌&&◌, ◌==◌, if◌then◌else◌, List, length, slice_index, Option, Some, None}
 use Rattle.std.specs.List.{before_first, after_first}
 use Rattle.label_grammar.specs.declared.wire.WireText.{WireText}
 use Rattle.label_grammar.specs.declared.wire.WireText.TheVariants.{Comment, Timing, Malformed}

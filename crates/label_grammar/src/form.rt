@@ -10,7 +10,7 @@ use crate::label::Kind;
 pub struct Number<'a> {
     pub is_negative: bool,
     pub digits: &'a str,
-    ghost is_written: { IsTrue (is_numeral digits.now) },
+    ghost well_written: { IsTrue (is_numeral digits.now) },
 }
 
 /// The two ends of a label, `None` being an open one.

@@ -36,7 +36,7 @@ impl Kind {
 }
 
 /// A timing label. Its texts are slices of the text that it was read from.
-#[derive(Clone, Copy, Debug)]
+#[derive(Clone, Copy, Debug, PartialEq, Eq)]
 pub struct Label<'a> {
     pub kind: Kind,
     /// How many cycles the from-event is before the to-event, 0 to 64.

@@ -1,8 +1,8 @@
 //! Reading the form of a label from the front of a text. Each function answers what it read and the text behind it.
 
-ghost use Rattle.std.specs.Prelude.{◌≡◌, option_map, Bool};
+ghost use Rattle.std.specs.Prelude.{◌≡◌, option_map};
 ghost use Rattle.std.specs.Option.{option_copied};
-ghost use Rattle.label_grammar.specs.Label.{is_ask, kind_text};
+ghost use Rattle.label_grammar.specs.Label.{is_ask};
 ghost use Rattle.label_grammar.specs.Reading.{kind_of, shift_of, tag_of, number_of, end_of, ends_of, range_of, note_of, label_of};
 ghost use Rattle.label_grammar.specs.Form.{number_value, ends_view, form_view};
 
@@ -11,10 +11,12 @@ use crate::form::{EndPair, Form, Number};
 use crate::label::Kind;
 use crate::scan::{is_numeral, split_digits, split_name, strip, value_up_to};
 
+// Cycles.
 const MAX_SHIFT: u64 = 64;
 
 const KINDS: [Kind; 5] = [Kind::Lin, Kind::Late, Kind::Early, Kind::Req, Kind::Ask];
 
+// `@` and the word of a kind.
 #[tactic(auto, unfolding(crate::specs::Reading::kind_of))]
 fn read_kind(text: &str) -> Option<(Kind, &str)>
     ensures { option_map (λ x. (x.0, x.1.now)) result ≡ kind_of text.now }
@@ -27,6 +29,7 @@ fn read_kind(text: &str) -> Option<(Kind, &str)>
     None
 }
 
+// `+` and 1 to 64, or nothing, which is a shift of 0.
 #[tactic(auto, unfolding(crate::specs::Reading::shift_of))]
 fn read_shift(text: &str) -> Option<(u32, &str)>
     ensures { option_map (λ x. (x.0, x.1.now)) result ≡ shift_of text.now }
@@ -42,6 +45,7 @@ fn read_shift(text: &str) -> Option<(u32, &str)>
     (shift != 0).then_some((shift as u32, rest))
 }
 
+// `:` and a tag, or nothing.
 #[tactic(auto, unfolding(crate::specs::Reading::tag_of))]
 fn read_tag(text: &str) -> Option<(Option<&str>, &str)>
     ensures { option_map (λ x. (option_copied x.0, x.1.now)) result ≡ tag_of text.now }
@@ -53,6 +57,7 @@ fn read_tag(text: &str) -> Option<(Option<&str>, &str)>
     is_name(tag).then_some((Some(tag), rest))
 }
 
+// The digits of a number behind its sign. There is no `-0`.
 fn read_number(is_negative: bool, text: &str) -> Option<(Option<Number<'_>>, &str)>
     ensures { option_map (λ x. (option_map number_value x.0, x.1.now)) result ≡ number_of is_negative text.now }
 {
@@ -69,6 +74,7 @@ fn read_number(is_negative: bool, text: &str) -> Option<(Option<Number<'_>>, &st
     ))
 }
 
+// `*` for an open end, or a number with a minus or none.
 #[tactic(auto, unfolding(crate::specs::Reading::end_of))]
 fn read_end(text: &str) -> Option<(Option<Number<'_>>, &str)>
     ensures { option_map (λ x. (option_map number_value x.0, x.1.now)) result ≡ end_of text.now }
@@ -82,6 +88,7 @@ fn read_end(text: &str) -> Option<(Option<Number<'_>>, &str)>
     }
 }
 
+// A space and `[low,high]`.
 #[tactic(auto, unfolding(crate::specs::Reading::ends_of))]
 fn read_ends(text: &str) -> Option<(EndPair<'_>, &str)>
     ensures { option_map (λ x. (ends_view x.0, x.1.now)) result ≡ ends_of text.now }
@@ -94,6 +101,7 @@ fn read_ends(text: &str) -> Option<(EndPair<'_>, &str)>
     Some((EndPair { low, high }, rest))
 }
 
+// The ends of a label of a kind. An ask has none: what follows it is a note.
 #[tactic(auto, unfolding(crate::specs::Reading::range_of))]
 fn read_range(kind: Kind, text: &str) -> Option<(Option<EndPair<'_>>, &str)>
     ensures { option_map (λ x. (option_map ends_view x.0, x.1.now)) result ≡ range_of (is_ask kind) text.now }
@@ -105,6 +113,7 @@ fn read_range(kind: Kind, text: &str) -> Option<(Option<EndPair<'_>>, &str)>
     Some((Some(ends), rest))
 }
 
+// A space and the note, or nothing.
 #[tactic(auto, unfolding(crate::specs::Reading::note_of))]
 fn read_note(text: &str) -> Option<Option<&str>>
     ensures { option_map (λ x. option_copied x) result ≡ note_of text.now }

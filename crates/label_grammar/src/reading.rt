@@ -23,7 +23,8 @@ fn capped(number: Number<'_>) -> i64
     if number.is_negative { -value } else { value }
 }
 
-fn range_of(ends: Option<EndPair<'_>>) -> Result<Option<Range>, LabelFault>
+// The range that the two ends make, if there are ends.
+fn range_between(ends: Option<EndPair<'_>>) -> Result<Option<Range>, LabelFault>
     ensures { result ≡ judged_ends (option_map ends_view ends.entry) }
 {
     let Some(EndPair { low, high }) = ends else {
@@ -36,11 +37,12 @@ fn range_of(ends: Option<EndPair<'_>>) -> Result<Option<Range>, LabelFault>
     }
 }
 
-fn read_exactly(text: &str) -> Result<Label<'_>, LabelFault>
+// What `read_label` answers, by the reading of texts. Its other clauses follow from this one.
+fn read_judged(text: &str) -> Result<Label<'_>, LabelFault>
     ensures { Gives result (judged (label_of text.now)) }
 {
     let form = read_form(text).ok_or(LabelFault::BadLabel)?;
-    let range = range_of(form.ends)?;
+    let range = range_between(form.ends)?;
     Ok(Label {
         kind: form.kind,
         shift: form.shift,
@@ -66,5 +68,5 @@ pub fn read_label<'a>(text: &'a str) -> Result<Label<'a>, LabelFault>
     // The same by the reading of texts, as definitions above this crate name it.
     ensures exact { Gives result (judged (label_of text.now)) }
 {
-    read_exactly(text)
+    read_judged(text)
 }

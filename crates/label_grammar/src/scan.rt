@@ -1,4 +1,4 @@
-//! Cutting texts.
+//! Cutting texts, and reading the numbers in them.
 
 ghost use Rattle.std.specs.Prelude.{◌≡◌, if◌then◌else◌, nat_le, Some, None, IsTrue};
 ghost use Rattle.std.specs.List.{take_while, prefix_len, list_all};
