@@ -101,7 +101,7 @@ fn delayed(label: i64, weight: i64) -> i64
     label + weight
 }
 
-/// A time that no label is after: the latest one, or 0 where there is none.
+/// A time that no label is after.
 pub fn latest(labels: &[Option<i64>]) -> i64
     requires { AreNear labels.now }
     ensures { IsAfterAll labels.now result }
