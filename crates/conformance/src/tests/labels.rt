@@ -1,0 +1,296 @@
+//! Edges and their labels, through whole sheets.
+
+use super::{all_refused, edges_end};
+use itv_cli::Outcome;
+use itv_cli::Outcome::{AllPass, Refused};
+use std::alloc::Global;
+use std::process::Abort;
+use std::test::Fail;
+
+// The answers of a row from `a` to `b` that nothing bounds, and whose events may come at one time.
+const OPEN: &str = "max unbounded\ntimes 0 0\nraise 1\n";
+
+// Each label on the edge before `a->b @ask`.
+fn labels_end(rt: &impl Abort, alloc: Global, table: &[(&str, Outcome, &str)]) -> Result<(), Fail> {
+    for (label, outcome, written) in table {
+        let edges = format!(in alloc; r#""a->b {label}","a->b @ask""#)?;
+        edges_end(rt, alloc, &[(edges.as_str(), *outcome, written)])?;
+    }
+    Ok(())
+}
+
+#[test]
+fn labels_of_rules_mean_their_ranges(rt: HostRuntime) -> Result<(), Fail> {
+    labels_end(
+        &rt,
+        rt.alloc(),
+        &[
+            ("@lin [0,250]", AllPass, "max 250\ntimes 0 250\n"),
+            ("@lin [-5,7] with a note", AllPass, "max 7\ntimes 0 7\n"),
+            ("@lin [-5,7] ", AllPass, "max 7\ntimes 0 7\n"),
+            ("@lin [0,1]  µs", AllPass, "max 1\ntimes 0 1\n"),
+            ("@lin:rd [0,8]", AllPass, "max 8\ntimes 0 8\n"),
+            (
+                "@lin:abcDEF_0123456789 [0,8]",
+                Refused,
+                "refused file 0 Label 0 BadLabel",
+            ),
+            ("@lin:abcDEF_012345678 [0,8]", AllPass, "max 8\ntimes 0 8\n"),
+            ("@lin [*,*]", AllPass, OPEN),
+            ("@lin [0,*]", AllPass, OPEN),
+            ("@lin+1 [0,1]", AllPass, OPEN),
+            ("@lin+64:_ [0,1] note", AllPass, OPEN),
+            (
+                "@lin [-1000000000000,1000000000000]",
+                AllPass,
+                "max 1000000000000\ntimes 0 1000000000000\n",
+            ),
+        ],
+    )
+}
+
+#[test]
+fn comments_mean_nothing(rt: HostRuntime) -> Result<(), Fail> {
+    edges_end(
+        &rt,
+        rt.alloc(),
+        &[
+            (r#""a~>b","a->b @ask""#, AllPass, OPEN),
+            (r#""a~>b set-up","a->b @ask""#, AllPass, OPEN),
+            (r#""a~>b  @ask","a->b @ask""#, AllPass, OPEN),
+            (r#""lin [0,1]","a->b lin [0,1]","a->b @ask""#, AllPass, OPEN),
+            (
+                r#""","x","q~>r","é @"," ","a->b @ask""#,
+                Refused,
+                "refused file 0 BadEdge 3",
+            ),
+            (
+                r#""","x","q~>r","é é @"," ","  @ask","a->b @ask""#,
+                AllPass,
+                OPEN,
+            ),
+        ],
+    )
+}
+
+#[test]
+fn rows_are_asked_by_their_labels(rt: HostRuntime) -> Result<(), Fail> {
+    edges_end(
+        &rt,
+        rt.alloc(),
+        &[
+            (r#""a~>b @ask""#, AllPass, OPEN),
+            (r#""a~>b @ask ""#, AllPass, OPEN),
+            (r#""a~>b @ask [1,2]""#, AllPass, OPEN),
+            (r#""a~>b @ask:rd a note""#, AllPass, OPEN),
+            (r#""a~>b @ask+64:rd","a->b @ask""#, AllPass, OPEN),
+            (
+                r#""a->b @ask","a @ b @ask""#,
+                Refused,
+                "refused file 0 BadEdge 1",
+            ),
+            (r#""aéb @ask""#, AllPass, OPEN),
+            (r#""aabb @ask""#, AllPass, OPEN),
+        ],
+    )
+}
+
+#[test]
+fn labels_out_of_form_are_refused(rt: HostRuntime) -> Result<(), Fail> {
+    let bad = [
+        "@",
+        "@ lin [0,1]",
+        "@foo [0,1]",
+        "@Lin [0,1]",
+        "@linx [0,1]",
+        "@lin",
+        "@lin ",
+        "@lin[0,1]",
+        "@lin  [0,1]",
+        "@lin+0 [0,1]",
+        "@lin+65 [0,1]",
+        "@lin+01 [0,1]",
+        "@lin+ [0,1]",
+        "@lin+-1 [0,1]",
+        "@lin+100 [0,1]",
+        "@lin: [0,1]",
+        "@lin:r-d [0,1]",
+        "@lin:é [0,1]",
+        "@lin:rd+1 [0,1]",
+        "@lin+1+1 [0,1]",
+        "@lin [-0,1]",
+        "@lin [0, 1]",
+        "@lin [ 0,1]",
+        "@lin [05,7]",
+        "@lin [+5,7]",
+        "@lin [0]",
+        "@lin [0,1,2]",
+        "@lin [0;1]",
+        "@lin (0,1)",
+        "@lin [,1]",
+        "@lin [0,]",
+        "@lin [-,1]",
+        "@lin [-*,1]",
+        "@lin [0.5,1]",
+        "@lin [0,1",
+        "@lin [0,1]x",
+        "@lin [2000000000000,1]x",
+        "@late",
+        "@early 5",
+        "@req[0,1]",
+        "@askx",
+        "@ask+0",
+        "@ask:",
+        "@ask[0,1]",
+    ];
+    for label in bad {
+        labels_end(
+            &rt,
+            rt.alloc(),
+            &[(label, Refused, "refused file 0 Label 0 BadLabel")],
+        )?;
+    }
+    labels_end(
+        &rt,
+        rt.alloc(),
+        &[
+            (
+                "@lin [2000000000000,1]",
+                Refused,
+                "refused file 0 Label 0 TooWide",
+            ),
+            (
+                "@lin [1000000000001,*]",
+                Refused,
+                "refused file 0 Label 0 TooWide",
+            ),
+            (
+                "@lin [*,-1000000000001]",
+                Refused,
+                "refused file 0 Label 0 TooWide",
+            ),
+            (
+                "@lin [0,99999999999999999999999999999999999999999]",
+                Refused,
+                "refused file 0 Label 0 TooWide",
+            ),
+            ("@lin [2,1]", Refused, "refused file 0 Label 0 EmptyRange"),
+            (
+                "@lin [5,3] note",
+                Refused,
+                "refused file 0 Label 0 EmptyRange",
+            ),
+            ("@lin [0,-1]", Refused, "refused file 0 Label 0 EmptyRange"),
+            (
+                "@late+1:rd [2,1]",
+                Refused,
+                "refused file 0 Label 0 EmptyRange",
+            ),
+            (
+                "@req [1000000000000,-1000000000000]",
+                Refused,
+                "refused file 0 Label 0 EmptyRange",
+            ),
+        ],
+    )
+}
+
+#[test]
+fn the_first_faulty_edge_is_told(rt: HostRuntime) -> Result<(), Fail> {
+    edges_end(
+        &rt,
+        rt.alloc(),
+        &[
+            (r#""ab @ask""#, Refused, "refused file 0 BadEdge 0"),
+            (r#"".->b @ask""#, Refused, "refused file 0 BadEdge 0"),
+            (r#""a->. @ask""#, Refused, "refused file 0 BadEdge 0"),
+            (r#""a->é @ask""#, Refused, "refused file 0 BadEdge 0"),
+            (r#""\t->b @ask""#, Refused, "refused file 0 BadEdge 0"),
+            (r#"" @ask""#, Refused, "refused file 0 BadEdge 0"),
+            (r#""a @ask""#, Refused, "refused file 0 BadEdge 0"),
+            // comments are counted
+            (
+                r#""a~>b","a->b note","a->b @","ab @ask""#,
+                Refused,
+                "refused file 0 Label 2 BadLabel",
+            ),
+            (r#""q->b @ask""#, Refused, "refused file 0 NoMark 0 q"),
+            (
+                r#""a~>b","a->q @lin [0,1]""#,
+                Refused,
+                "refused file 0 NoMark 1 q",
+            ),
+            // in an edge the shape comes before the label, the label before the marks, and the from-mark before the to-mark
+            (r#""q->r @ask""#, Refused, "refused file 0 NoMark 0 q"),
+            (
+                r#""q->r @lin [2,1]""#,
+                Refused,
+                "refused file 0 Label 0 EmptyRange",
+            ),
+            (r#""qr @lin""#, Refused, "refused file 0 BadEdge 0"),
+            // the first faulty edge, whatever its fault is
+            (
+                r#""a->b @lin [5,3]","a->b @lin [05,7]""#,
+                Refused,
+                "refused file 0 Label 0 EmptyRange",
+            ),
+            (
+                r#""a->b @lin [05,7]","a->b @lin [5,3]""#,
+                Refused,
+                "refused file 0 Label 0 BadLabel",
+            ),
+            (
+                r#""a->q @ask","ab @ask""#,
+                Refused,
+                "refused file 0 NoMark 0 q",
+            ),
+            // before what can't be answered yet
+            (
+                r#""a->b @late [0,1]","a->q @ask""#,
+                Refused,
+                "refused file 0 NoMark 1 q",
+            ),
+        ],
+    )
+}
+
+#[test]
+fn what_cannot_be_answered_yet_is_refused(rt: HostRuntime) -> Result<(), Fail> {
+    edges_end(
+        &rt,
+        rt.alloc(),
+        &[
+            (
+                r#""a->b @lin [1,250]","a->b @ask""#,
+                Refused,
+                "refused design NotYet",
+            ),
+            (r#""a->b @lin [-250,-1]""#, Refused, "refused design NotYet"),
+            (r#""a->b @lin [*,-1]""#, Refused, "refused design NotYet"),
+            (r#""a->b @lin [1,*]""#, Refused, "refused design NotYet"),
+            (
+                r#""a->b @lin [1000000000000,1000000000000]""#,
+                Refused,
+                "refused design NotYet",
+            ),
+            (r#""a->b @lin+1 [1,2]""#, Refused, "refused design NotYet"),
+            (
+                r#""a->b @late+1:rd [500,700] tAA""#,
+                Refused,
+                "refused design NotYet",
+            ),
+            (r#""a->b @late [0,1]""#, Refused, "refused design NotYet"),
+            (r#""a->b @early [0,1]""#, Refused, "refused design NotYet"),
+            (r#""a->b @req [-5,*]""#, Refused, "refused design NotYet"),
+            (r#""a->b @req+1 [0,1]""#, Refused, "refused design NotYet"),
+        ],
+    )?;
+    all_refused(
+        &rt,
+        rt.alloc(),
+        &[(
+            r#"{"signal":[{"name":"D","node":"a"},{"name":"Q","node":"b"}],"edge":["a->b @lin [1,250]","a->b @ask"]}"#,
+            "refused design NotYet\n",
+        )],
+    )
+}
