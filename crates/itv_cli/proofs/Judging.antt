@@ -39,9 +39,9 @@ fetched_long file long = let enough : 4194305 ≤ length file = omega arith in r
 -- the front that is fetched is judged as the file is
 pub front_judged : (file : List ℕ) → verdict_of (take 4194305 file) ≡ verdict_of file
 front_judged file = elim (cases_lt 4194304 (length file)) [
-    | inl long ↦ too_long (take 4194305 file) (fetched_long file long) ∙ sym (too_long file long)
-    | inr short ↦ ap verdict_of (take_all 4194305 file (omega arith))
-  ]
+  | inl long ↦ too_long (take 4194305 file) (fetched_long file long) ∙ sym (too_long file long)
+  | inr short ↦ ap verdict_of (take_all 4194305 file (omega arith))
+]
 
 -- what is said of the fetched bytes is said of the file
 stands : (all : Files) (name bytes : List ℕ) (verdict : Verdict) (o : Option (List ℕ)) → file_of all name ≡ o → option_map (take 4194305) o ≡ Some bytes → verdict_of bytes ≡ verdict → IsSomeAnd o (λ file. verdict_of file ≡ verdict)

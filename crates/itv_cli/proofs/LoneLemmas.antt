@@ -40,9 +40,10 @@ pub rule_more : (rules : List SheetRule) (i events : ℕ) (rule : SheetRule) (ne
     → (net' ≡ record { events = events; constraints = filter_map constraint_of (take (i + 1) rules) }) × (length net'.constraints ≤ i + 1)
 rule_more rules i events rule net net' h is e few e' =
     let here : filter_map constraint_of (rule ∷ []) ≡ option_to_list (constraint_of rule) = one_list (constraint_of rule) in
-    let front : take (i + 1) rules ≡ take i rules ++ rule ∷ [] = take_more rules i rule h ∙ ap (λ x. take i rules ++ x ∷ []) (sym is) in
-    (rw (e', e, front, filter_map-append constraint_of (take i rules) (rule ∷ []), here) refl,
-     rw e' (omega (arith, length-append net.constraints (option_to_list (constraint_of rule)), option_short (constraint_of rule), few)))
+    let front : take (i + 1) rules ≡ take i rules ++ rule ∷ [] = take_more rules i rule h ∙ ap (λ x. take i rules ++ x ∷ []) (sym is) in (
+      rw (e', e, front, filter_map-append constraint_of (take i rules) (rule ∷ []), here) refl,
+      rw e' (omega (arith, length-append net.constraints (option_to_list (constraint_of rule)), option_short (constraint_of rule), few)),
+    )
 
 chosen : {X : Type 0} (b : Bool) (x : X) (P : X → Type 0) → P x → IfSome (cond b (Some x) None) P
 chosen true x P p = p

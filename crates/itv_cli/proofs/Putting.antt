@@ -17,9 +17,11 @@ pub puts_then : {K D : Type 0} (E : Type 0) (written : K → Option (List ℕ)) 
 puts_then E written faults old mid new xs ys x (Ok y) p q =
     (q.0 ∙ ap (λ o. grown o ys) p.0 ∙ grown-append (written old) xs ys, q.1 ∙ p.1)
 puts_then E written faults old mid new xs ys x (Err e) p q =
-    let n : ℕ = q.0.0 in
-    ((length xs + n, omega (arith, q.0.1, length-append xs ys), q.0.2 ∙ ap (λ o. grown o (take n ys)) p.0 ∙ grown-append (written old) xs (take n ys) ∙ ap (λ f. grown (written old) f) (sym (take-append-add xs ys n))),
-     rw p.1 at q.1, rw p.1 at q.2)
+    let n : ℕ = q.0.0 in (
+      (length xs + n, omega (arith, q.0.1, length-append xs ys), q.0.2 ∙ ap (λ o. grown o (take n ys)) p.0 ∙ grown-append (written old) xs (take n ys) ∙ ap (λ f. grown (written old) f) (sym (take-append-add xs ys n))),
+      rw p.1 at q.1,
+      rw p.1 at q.2,
+    )
 
 -- a front of a text was put, which is a front of a longer one
 pub puts_cut : {K D E : Type 0} (written : K → Option (List ℕ)) (faults : K → ℕ) (old new : K) (xs ys : List ℕ) (d : D) (e : E)

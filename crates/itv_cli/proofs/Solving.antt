@@ -7,7 +7,7 @@ use Rattle.event_graph.specs.Edges.{IsAlways, Meets, edge}
 use Rattle.event_graph.specs.RootBound.{HasNoRoot, MeetsAlways}
 use Rattle.diff_bounds.specs.Linear.{IsLinearAroundZero}
 use Rattle.diff_bounds.specs.Standing.{Standing, Stands, StandsFrom, IsUpper, ray_of}
-use Rattle.diff_bounds.proofs.NamedEdges.{forward_low}
+use Rattle.diff_bounds.proofs.Forward.{weight_low}
 use Rattle.itv_cli.specs.declared.row.Row.{Row}
 use Rattle.itv_cli.specs.Right.{AreTimes, IsMax}
 use Rattle.itv_cli.specs.Right.IsMax.{is_closed, is_unbounded}
@@ -33,7 +33,7 @@ zero_at (suc n) (suc k) = zero_at n k
 pub no_loop : (net : Net) → IsLinearAroundZero net → HasNoRoot net → ⊥
 no_loop net linear none = none (replicate net.events (pos 0)) (record {
   count = length-replicate net.events (pos 0);
-  each = λ name e always is. rw (zero_at net.events e.from.0, zero_at net.events e.to.0) (forward_low net name e linear is);
+  each = λ name e always is. rw (zero_at net.events e.from.0, zero_at net.events e.to.0) (weight_low net name e linear is);
 })
 
 -- the lines of what was found are right

@@ -30,7 +30,7 @@ use Rattle.sheet.specs.declared.mark.Mark.{Mark}
 use Rattle.sheet.specs.declared.pin.Pin.{Pin}
 use Rattle.sheet.specs.Contents.{Contents}
 use Rattle.sheet.specs.Fault.{◌>>=◌, unless}
-use Rattle.sheet.specs.Lanes.{Numbered, first_repeated, follows_rule, has_bad_node, lane_marks, lane_order, mark_at, marks_of, node_of, numbered, numbered_from, order_of, order_rules}
+use Rattle.sheet.specs.Lanes.{Numbered, first_repeated, follows_rule, has_bad_node, lane_marks, lane_order, order_named, mark_at, marks_of, node_of, numbered, numbered_from, order_of, order_rules}
 use Rattle.sheet.specs.Links.{Link, group_rule, is_full, joins, labelled, link_of, link_rows, link_rules, link_to, links_from, number_of, row_by, rule_opened, seen_link, source_of, with_link}
 use Rattle.sheet.specs.Sheet.{read_marks, read_pins, sheet_of}
 use Rattle.itv_cli.specs.Whole.{IsWhole, IsWholeRow, IsWholeRule}
@@ -287,7 +287,7 @@ numbered_within marks number first (lane ∷ lanes) h =
     All-cons (IsNumberedWithin marks) _ _ (omega arith) (numbered_within marks (number + 1) (first + length (lane_marks (number, lane))) lanes (omega arith))
 
 -- the order on a lane is whole
-lane_order_whole : (marks : ℕ) (l : Numbered) (name wave : Option (List ℕ)) → IsNumberedWithin marks l → All (IsWholeRule marks) (lane_order l name wave)
+lane_order_whole : (marks : ℕ) (l : Numbered) (name wave : Option (List ℕ)) → IsNumberedWithin marks l → All (IsWholeRule marks) (order_named l name wave)
 lane_order_whole marks l None wave h = All-nil (IsWholeRule marks)
 lane_order_whole marks l (Some name) None h = All-nil (IsWholeRule marks)
 lane_order_whole marks l (Some name) (Some wave) h = order_of_whole marks l.first l.count h
@@ -296,7 +296,7 @@ lane_order_whole marks l (Some name) (Some wave) h = order_of_whole marks l.firs
 order_rules_whole : (lanes : List LaneText) → All (IsWholeRule (length (marks_of lanes))) (order_rules lanes)
 order_rules_whole lanes =
     let marks : ℕ = length (marks_of lanes) in
-    All-flat_map (IsNumberedWithin marks) (IsWholeRule marks) (λ l. lane_order l l.lane.name l.lane.wave) (λ l h. lane_order_whole marks l l.lane.name l.lane.wave h)
+    All-flat_map (IsNumberedWithin marks) (IsWholeRule marks) lane_order (λ l h. lane_order_whole marks l l.lane.name l.lane.wave h)
     (numbered lanes) (numbered_within marks 0 0 lanes (omega arith))
 
 -- ---- the sheet

@@ -30,9 +30,9 @@ pub record AreTimes (net : Net) (r : Row) (list : List ℤ) : Type 0 where
 -- and the events of the set can be raised by any number.
 pub data IsMax (net : Net) (r : Row) : List Item → Type 0 where
   is_closed : (value : ℤ) (list : List ℤ) → IsGreatest net r.from r.to value → AreTimes net r list → separation list r.from r.to ≡ value
-    → IsMax net r (bound_line greatest (closed value) ∷ times_line list ∷ [])
+      → IsMax net r (bound_line greatest (closed value) ∷ times_line list ∷ [])
   is_unbounded : (list : List ℤ) (set : List Bool) → AreTimes net r list → IsRay net r.from r.to list set
-    → IsMax net r (bound_line greatest unbounded ∷ times_line list ∷ raise_line set ∷ [])
+      → IsMax net r (bound_line greatest unbounded ∷ times_line list ∷ raise_line set ∷ [])
 
 -- the line that names a row
 abbrev pub row_item : Drawn → ℕ → Row → Item

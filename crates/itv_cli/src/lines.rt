@@ -42,17 +42,20 @@ pub fn put_event<K: Sink>(number: u32, name: EventName<'_>, sink: &mut K) -> Res
 {
     let mut digits = Buffer::new();
     let mut cycle = Buffer::new();
-    put_all(sink, &[
-        b"event ",
-        digits.format(number).as_bytes(),
-        b" ",
-        name.part.as_bytes(),
-        b".",
-        &[name.mark],
-        b"@",
-        cycle.format(name.cycle).as_bytes(),
-        b"\n",
-    ])
+    put_all(
+        sink,
+        &[
+            b"event ",
+            digits.format(number).as_bytes(),
+            b" ",
+            name.part.as_bytes(),
+            b".",
+            &[name.mark],
+            b"@",
+            cycle.format(name.cycle).as_bytes(),
+            b"\n",
+        ],
+    )
 }
 
 /// The line with the number of rows.
@@ -81,13 +84,16 @@ fn put_asked<K: Sink>(kind: &RowKind, sink: &mut K) -> Result<(), PutFailed>
         RowKind::Req(range) => {
             let mut low = Buffer::new();
             let mut high = Buffer::new();
-            put_all(sink, &[
-                b" [",
-                end_text(range.low(), &mut low),
-                b",",
-                end_text(range.high(), &mut high),
-                b"]\n",
-            ])
+            put_all(
+                sink,
+                &[
+                    b" [",
+                    end_text(range.low(), &mut low),
+                    b",",
+                    end_text(range.high(), &mut high),
+                    b"]\n",
+                ],
+            )
         }
     }
 }
@@ -110,22 +116,25 @@ fn put_row_names<K: Sink>(
         RowKind::Ask => b" ask ",
         RowKind::Req(_) => b" req ",
     };
-    put_all(sink, &[
-        b"row ",
-        digits.format(number).as_bytes(),
-        word,
-        from.part.as_bytes(),
-        b".",
-        &[from.mark],
-        b"@",
-        from_cycle.format(from.cycle).as_bytes(),
-        b" ",
-        to.part.as_bytes(),
-        b".",
-        &[to.mark],
-        b"@",
-        to_cycle.format(to.cycle).as_bytes(),
-    ])
+    put_all(
+        sink,
+        &[
+            b"row ",
+            digits.format(number).as_bytes(),
+            word,
+            from.part.as_bytes(),
+            b".",
+            &[from.mark],
+            b"@",
+            from_cycle.format(from.cycle).as_bytes(),
+            b" ",
+            to.part.as_bytes(),
+            b".",
+            &[to.mark],
+            b"@",
+            to_cycle.format(to.cycle).as_bytes(),
+        ],
+    )
 }
 
 /// The line that names a row.
@@ -175,7 +184,7 @@ fn put_member<K: Sink>(number: usize, is_in: bool, sink: &mut K) -> Result<(), P
     ensures { Puts K.written K.faults sink.old sink.new (member_text number is_in) result }
 {
     if !is_in {
-        return sink.put(b"");
+        return Ok(());
     }
     let mut digits = Buffer::new();
     put_all(sink, &[b" ", digits.format(number).as_bytes()])

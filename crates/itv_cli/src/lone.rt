@@ -99,7 +99,8 @@ fn push_rule(alloc: Global, network: &mut Network, rule: &Rule) -> Result<(), No
     requires easy { IsTrue (is_easy_rule rule.now) }
     requires room { length network.old.constraints < MAX_CONSTRAINTS }
     ensures { OnOk result (network.new ≡ record network.old {
-        constraints = network.old.constraints ++ option_to_list (constraint_of rule.now) }) }
+      constraints = network.old.constraints ++ option_to_list (constraint_of rule.now);
+    }) }
 {
     let [source] = rule.causes().as_slice() else {
         unreachable!()

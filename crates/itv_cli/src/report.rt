@@ -8,8 +8,8 @@ ghost use Rattle.itv_cli.specs.Right.{BeginsReport, event_items, front_items, ro
 ghost use Rattle.itv_cli.specs.Searching.{IsReady, Solves, WritesRow, WritesRows, WritesReport, answer_lines};
 
 use crate::lines::{
-    put_closed, put_end, put_event, put_event_count, put_heading, put_raise, put_row, put_row_count,
-    put_times, put_unbounded,
+    put_closed, put_end, put_event, put_event_count, put_heading, put_raise, put_row,
+    put_row_count, put_times, put_unbounded,
 };
 use crate::lone::LoneDesign;
 use crate::row::Row;
@@ -86,7 +86,9 @@ fn put_solved<K: Sink>(
     ensures writes { WritesRow K.written K.faults design.now number row.now sink.old sink.new result }
 {
     let answer = search.solve(design.network(), row);
-    put_row(number, &row.kind, design.name(row.from), design.name(row.to), sink)?;
+    let from = design.name(row.from);
+    let to = design.name(row.to);
+    put_row(number, &row.kind, from, to, sink)?;
     put_answer(&answer, &search.times, &search.set, sink)
 }
 

@@ -167,12 +167,7 @@ fn judged_run<H: Shelf, K: Sink>(
 /// its greatest value in whole picoseconds with times that attain it, or that it is unbounded with events that can be raised
 /// by any number. Where it doesn't, the line of its first refusal is written. Bad words and a file that can't be read get
 /// a line of their own. All memory is taken before the first put, and after a put that failed nothing more is put.
-pub fn run<H: Shelf, K: Sink>(
-    alloc: Global,
-    words: &Texts,
-    shelf: &mut H,
-    sink: &mut K,
-) -> Outcome
+pub fn run<H: Shelf, K: Sink>(alloc: Global, words: &Texts, shelf: &mut H, sink: &mut K) -> Outcome
     ensures means { Means
         (call_of H.files H.faults H.last K.written K.faults words.now shelf.old shelf.new sink.old sink.new) result }
     ensures completes { Completes

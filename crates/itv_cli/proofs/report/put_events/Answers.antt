@@ -12,7 +12,7 @@ pub returns-in_err-put_event : goal.returns-in_err-put_event
 returns-in_err-put_event g c =
     let p = err_from_is_err_and c.from_residual.result c.from_residual.ensures.1 in
     rw p.1 (left_cut {D = PutFailed} {E = PutFailed} _ _ _ _ _ (item_text (event_line c.loop-number.number (name_view c.name.result))) (report_text (event_items (c.loop-number.number + 1) (drop (c.loop-number.number + 1) c.args.design.now.names))) _ _ (record {}) p.0 c.loop-number.invariant
-      (events_more c.args.design.now.names c.loop-number.number (name_view c.name.result) (omega arith) c.name.ensures) c.in_err-put_event.ensures)
+    (events_more c.args.design.now.names c.loop-number.number (name_view c.name.result) (omega arith) c.name.ensures) c.in_err-put_event.ensures)
 
 pub loop-number-preserved : goal.loop-number-preserved
 loop-number-preserved g c =

@@ -17,15 +17,15 @@ returns-in_err-put_event_count g c =
     let p = err_from_is_err_and c.from_residual-in_err-put_event_count.result c.from_residual-in_err-put_event_count.ensures.1 in
     let many : length c.args.design.now.names ≡ c.events.result = c.network.ensures.names ∙ sym c.events.ensures.count in
     rw p.1 (items_then PutFailed g.K.Sink.written g.K.Sink.faults c.args.sink.now c.put_heading.new.sink c.put_event_count.new.sink (heading_line 0) (events_line (length c.args.design.now.names) ∷ (event_items 0 c.args.design.now.names ++ rows_line (length c.args.design.now.rows) ∷ [])) (Err p.0) c.in_ok-put_heading.ensures
-      (rw many (items_cut {D = PutFailed} {E = PutFailed} g.K.Sink.written g.K.Sink.faults c.put_heading.new.sink c.put_event_count.new.sink (events_line c.events.result) (event_items 0 c.args.design.now.names ++ rows_line (length c.args.design.now.rows) ∷ []) (record {}) p.0 c.in_err-put_event_count.ensures)))
+    (rw many (items_cut {D = PutFailed} {E = PutFailed} g.K.Sink.written g.K.Sink.faults c.put_heading.new.sink c.put_event_count.new.sink (events_line c.events.result) (event_items 0 c.args.design.now.names ++ rows_line (length c.args.design.now.rows) ∷ []) (record {}) p.0 c.in_err-put_event_count.ensures)))
 
 pub returns-in_err-put_events : goal.returns-in_err-put_events
 returns-in_err-put_events g c =
     let p = err_from_is_err_and c.from_residual-in_err-put_events.result c.from_residual-in_err-put_events.ensures.1 in
     let many : length c.args.design.now.names ≡ c.events.result = c.network.ensures.names ∙ sym c.events.ensures.count in
     rw p.1 (items_then PutFailed g.K.Sink.written g.K.Sink.faults c.args.sink.now c.put_heading.new.sink c.put_events.new.sink (heading_line 0) (events_line (length c.args.design.now.names) ∷ (event_items 0 c.args.design.now.names ++ rows_line (length c.args.design.now.rows) ∷ [])) (Err p.0) c.in_ok-put_heading.ensures
-      (rw many (items_then PutFailed g.K.Sink.written g.K.Sink.faults c.put_heading.new.sink c.put_event_count.new.sink c.put_events.new.sink (events_line c.events.result) (event_items 0 c.args.design.now.names ++ rows_line (length c.args.design.now.rows) ∷ []) (Err p.0) c.in_ok-put_event_count.ensures
-        (lists_cut {D = PutFailed} {E = PutFailed} g.K.Sink.written g.K.Sink.faults c.put_event_count.new.sink c.put_events.new.sink (event_items 0 c.args.design.now.names) (rows_line (length c.args.design.now.rows) ∷ []) (record {}) p.0 c.in_err-put_events.ensures))))
+    (rw many (items_then PutFailed g.K.Sink.written g.K.Sink.faults c.put_heading.new.sink c.put_event_count.new.sink c.put_events.new.sink (events_line c.events.result) (event_items 0 c.args.design.now.names ++ rows_line (length c.args.design.now.rows) ∷ []) (Err p.0) c.in_ok-put_event_count.ensures
+    (lists_cut {D = PutFailed} {E = PutFailed} g.K.Sink.written g.K.Sink.faults c.put_event_count.new.sink c.put_events.new.sink (event_items 0 c.args.design.now.names) (rows_line (length c.args.design.now.rows) ∷ []) (record {}) p.0 c.in_err-put_events.ensures))))
 
 pub returns : goal.returns
 returns g c =
@@ -33,5 +33,5 @@ returns g c =
     let rows : length c.args.design.now.rows ≡ length c.rows.result.now = sym (ap length c.rows.ensures.rows) in
     items_then PutFailed g.K.Sink.written g.K.Sink.faults c.args.sink.now c.put_heading.new.sink c.put_row_count.new.sink (heading_line 0) (events_line (length c.args.design.now.names) ∷ (event_items 0 c.args.design.now.names ++ rows_line (length c.args.design.now.rows) ∷ [])) c.put_row_count.result c.in_ok-put_heading.ensures
     (rw many (items_then PutFailed g.K.Sink.written g.K.Sink.faults c.put_heading.new.sink c.put_event_count.new.sink c.put_row_count.new.sink (events_line c.events.result) (event_items 0 c.args.design.now.names ++ rows_line (length c.args.design.now.rows) ∷ []) c.put_row_count.result c.in_ok-put_event_count.ensures
-      (lists_then PutFailed g.K.Sink.written g.K.Sink.faults c.put_event_count.new.sink c.put_events.new.sink c.put_row_count.new.sink (event_items 0 c.args.design.now.names) (rows_line (length c.args.design.now.rows) ∷ []) c.put_row_count.result c.in_ok-put_events.ensures
-        (item_last g.K.Sink.written g.K.Sink.faults c.put_events.new.sink c.put_row_count.new.sink (rows_line (length c.args.design.now.rows)) c.put_row_count.result (rw rows c.put_row_count.ensures)))))
+    (lists_then PutFailed g.K.Sink.written g.K.Sink.faults c.put_event_count.new.sink c.put_events.new.sink c.put_row_count.new.sink (event_items 0 c.args.design.now.names) (rows_line (length c.args.design.now.rows) ∷ []) c.put_row_count.result c.in_ok-put_events.ensures
+    (item_last g.K.Sink.written g.K.Sink.faults c.put_events.new.sink c.put_row_count.new.sink (rows_line (length c.args.design.now.rows)) c.put_row_count.result (rw rows c.put_row_count.ensures)))))

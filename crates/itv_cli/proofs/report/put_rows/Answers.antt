@@ -11,15 +11,24 @@ returns-in_err-put_solved g c =
     let i = c.loop-number.number in
     let lines = c.loop-number.invariant.1.0 in
     let row = c.in_err-put_solved.ensures.writes in
-    let d = c.args.design.now in
-    (i + 1, lines ++ row_item d i c.row-item.result ∷ row.0, rows_more d i c.row-item.result lines row.0 (rw c.rows-row-items.ensures.rows at c.loop-number-test.true) (rw c.rows-row-items.ensures.rows at c.row-item.is) c.loop-number.invariant.1.1 row.1, rw p.1 tt,
-     rw p.1 (lists_then PutFailed g.K.Sink.written g.K.Sink.faults c.args.sink.now c.loop-number.sink c.put_solved.new.sink lines (row_item d i c.row-item.result ∷ row.0) (Err p.0) c.loop-number.invariant.1.2 row.2))
+    let d = c.args.design.now in (
+      i + 1,
+      lines ++ row_item d i c.row-item.result ∷ row.0,
+      rows_more d i c.row-item.result lines row.0 (rw c.rows-row-items.ensures.rows at c.loop-number-test.true) (rw c.rows-row-items.ensures.rows at c.row-item.is) c.loop-number.invariant.1.1 row.1,
+      rw p.1 tt,
+      rw p.1 (lists_then PutFailed g.K.Sink.written g.K.Sink.faults c.args.sink.now c.loop-number.sink c.put_solved.new.sink lines (row_item d i c.row-item.result ∷ row.0) (Err p.0) c.loop-number.invariant.1.2 row.2),
+    )
 
 pub loop-number-preserved : goal.loop-number-preserved
 loop-number-preserved g c =
     let i = c.loop-number.number in
     let lines = c.loop-number.invariant.1.0 in
     let row = c.in_ok-put_solved.ensures.writes in
-    let d = c.args.design.now in
-    (c.in_ok-put_solved.ensures.ready, (lines ++ row_item d i c.row-item.result ∷ row.0, rows_more d i c.row-item.result lines row.0 (rw c.rows-row-items.ensures.rows at c.loop-number-test.true) (rw c.rows-row-items.ensures.rows at c.row-item.is) c.loop-number.invariant.1.1 row.1,
-     lists_then {D = PutFailed} PutFailed g.K.Sink.written g.K.Sink.faults c.args.sink.now c.loop-number.sink c.put_solved.new.sink lines (row_item d i c.row-item.result ∷ row.0) (Ok tt) c.loop-number.invariant.1.2 row.2))
+    let d = c.args.design.now in (
+      c.in_ok-put_solved.ensures.ready,
+      (
+        lines ++ row_item d i c.row-item.result ∷ row.0,
+        rows_more d i c.row-item.result lines row.0 (rw c.rows-row-items.ensures.rows at c.loop-number-test.true) (rw c.rows-row-items.ensures.rows at c.row-item.is) c.loop-number.invariant.1.1 row.1,
+        lists_then {D = PutFailed} PutFailed g.K.Sink.written g.K.Sink.faults c.args.sink.now c.loop-number.sink c.put_solved.new.sink lines (row_item d i c.row-item.result ∷ row.0) (Ok tt) c.loop-number.invariant.1.2 row.2,
+      ),
+    )

@@ -10,4 +10,4 @@ abbrev pub invariant-loop-number : goal.invariant-loop-number
 invariant-loop-number g l =
     IsReady l.design.net l.search
     × ((lines : List Item) × AreRows l.design 0 (take l.number l.design.rows) lines
-      × Puts {E = PutFailed} g.K.Sink.written g.K.Sink.faults l.fn.sink l.sink (report_text lines) (Ok tt))
+    × Puts {E = PutFailed} g.K.Sink.written g.K.Sink.faults l.fn.sink l.sink (report_text lines) (Ok tt))

@@ -14,18 +14,22 @@ returns-in_err-put_row-clause-writes g c =
     let times = c.solve-answer.new.self.times.items in
     let set = c.solve-answer.new.self.set.items in
     let lines = answer_lines c.solve-answer.result times set in
-    let d = c.args.design.now in
-    (lines, is_max d.net c.args.row.now times set c.solve-answer.result (rw c.network.ensures.network at c.solve-answer.ensures.solved),
-     rw (p.1, sym c.name.ensures, sym c.name-2.ensures)
-     (items_cut {D = PutFailed} {E = PutFailed} g.K.Sink.written g.K.Sink.faults c.args.sink.now c.put_row.new.sink _ lines (record {}) p.0 c.in_err-put_row.ensures))
+    let d = c.args.design.now in (
+      lines,
+      is_max d.net c.args.row.now times set c.solve-answer.result (rw c.network.ensures.network at c.solve-answer.ensures.solved),
+      rw (p.1, sym c.name-from.ensures, sym c.name-to.ensures)
+          (items_cut {D = PutFailed} {E = PutFailed} g.K.Sink.written g.K.Sink.faults c.args.sink.now c.put_row.new.sink _ lines (record {}) p.0 c.in_err-put_row.ensures),
+    )
 
 pub returns-clause-writes : goal.returns-clause-writes
 returns-clause-writes g c =
     let times = c.solve-answer.new.self.times.items in
     let set = c.solve-answer.new.self.set.items in
     let lines = answer_lines c.solve-answer.result times set in
-    let d = c.args.design.now in
-    (lines, is_max d.net c.args.row.now times set c.solve-answer.result (rw c.network.ensures.network at c.solve-answer.ensures.solved),
-     rw (sym c.name.ensures, sym c.name-2.ensures)
-     (items_then PutFailed g.K.Sink.written g.K.Sink.faults c.args.sink.now c.put_row.new.sink c.put_answer.new.sink _ lines c.put_answer.result c.in_ok-put_row.ensures
-       (rw (sym c.deref.ensures.value, sym c.deref-2.ensures.value) c.put_answer.ensures)))
+    let d = c.args.design.now in (
+      lines,
+      is_max d.net c.args.row.now times set c.solve-answer.result (rw c.network.ensures.network at c.solve-answer.ensures.solved),
+      rw (sym c.name-from.ensures, sym c.name-to.ensures)
+          (items_then PutFailed g.K.Sink.written g.K.Sink.faults c.args.sink.now c.put_row.new.sink c.put_answer.new.sink _ lines c.put_answer.result c.in_ok-put_row.ensures
+          (rw (sym c.deref.ensures.value, sym c.deref-2.ensures.value) c.put_answer.ensures)),
+    )

@@ -11,8 +11,8 @@ pub returns-clause-solved : goal.returns-clause-solved
 returns-clause-solved c =
     let s = c.start.ensures in
     let times : (with_items c.args.self.now.times c.times_into.new.out).items ≡ c.times_into.new.out =
-        with_items_is c.args.self.now.times c.times_into.new.out (c.times_into.auto.out ∙ ap length c.deref_mut.ensures.value ∙ sym c.args.self.now.times.ok.0) in
+    with_items_is c.args.self.now.times c.times_into.new.out (c.times_into.auto.out ∙ ap length c.deref_mut.ensures.value ∙ sym c.args.self.now.times.ok.0) in
     let set : (with_items c.args.self.now.set c.ray_into.new.out).items ≡ c.ray_into.new.out =
-        with_items_is c.args.self.now.set c.ray_into.new.out (c.ray_into.auto.out ∙ ap length c.deref_mut-2.ensures.value ∙ sym c.args.self.now.set.ok.0) in
+    with_items_is c.args.self.now.set c.ray_into.new.out (c.ray_into.auto.out ∙ ap length c.deref_mut-2.ensures.value ∙ sym c.args.self.now.set.ok.0) in
     rw (times, set) (solves c.args.net.now c.args.row.now c.start.new.self c.times_into.new.out c.ray_into.new.out c.upper.result
-      (s.stands c.in-Fits.is) s.source c.times_into.ensures.times c.ray_into.ensures.set c.upper.ensures.value)
+    (s.stands c.in-Fits.is) s.source c.times_into.ensures.times c.ray_into.ensures.set c.upper.ensures.value)
