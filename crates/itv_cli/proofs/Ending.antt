@@ -1,17 +1,16 @@
 -- How a run ends, and what its end says.
-use Rattle.std.proofs.Common.{◌≡◌, ◌≢◌, ◌<◌, ◌⊎◌, inl, inr, ℕ, List, Option, Some, None, IsSome, Result, Ok, Err, refl, sym, ◌∙◌, ap, subst, arith, IsSomeAnd}
+use Rattle.std.proofs.Common.{◌≡◌, inl, inr, ℕ, List, Option, Some, None, Result, Ok, Err, refl, sym, ap, arith, IsSomeAnd}
 use Rattle.std.specs.Bool.{⊤}
-use Rattle.itv_base.specs.Outside.{Files, Rose, grown, GrewByFront, Puts}
+use Rattle.itv_base.specs.Outside.{Files, Puts}
 use Rattle.itv_cli.specs.declared.outcome.Outcome.{Outcome}
 use Rattle.itv_cli.specs.declared.outcome.Outcome.TheVariants.{AllPass, Help, SomeFail, Inconsistent, Undecided, Refused, ReadFault, WriteFault, NoMemory, BadWords, CheckRefused}
 use Rattle.itv_base.specs.Outside.{file_of}
-use Rattle.itv_cli.specs.declared.lone.LoneDesign.{LoneDesign}
 use Rattle.itv_cli.specs.Report.{report_text}
 use Rattle.itv_cli.specs.Right.{Drawn}
-use Rattle.itv_cli.specs.Design.{design_of, Verdict, draws, refused, verdict_of, FileStands}
+use Rattle.itv_cli.specs.Design.{Verdict, draws, refused, verdict_of, FileStands}
 use Rattle.itv_cli.specs.Call.{Call, Wrote, Wanted, IsDesign, Means, EndsBy, outcome_of, Completes, RefusesWords, ShowsFaults}
-use Rattle.itv_cli.specs.Call.Wanted.{bad_words, unread, refusal, report}
-use Rattle.itv_cli.specs.Steps.{Tells, Reports, IsKept, end_after}
+use Rattle.itv_cli.specs.Call.Wanted.{report}
+use Rattle.itv_cli.specs.Steps.{Tells, Reports, end_after}
 
 -- what a run tells after a put of a text
 pub tells : {K E : Type 0} (written : K → Option (List ℕ)) (faults : K → ℕ) (old new : K) (text : List ℕ) (end result : Outcome) (put : Result ⊤ E)

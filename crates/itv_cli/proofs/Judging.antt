@@ -1,5 +1,5 @@
 -- What is to be said of the bytes of a file.
-use Rattle.std.proofs.Common.{◌≡◌, ℕ, ◌+◌, ◌<◌, ◌≤◌, min, Bool, true, false, List, length, take, Option, Some, None, IfSome, IsSomeAnd, option_map, Result, Ok, Err, refl, sym, ◌∙◌, ap, inl, inr, arith, cond, subst}
+use Rattle.std.proofs.Common.{◌≡◌, ℕ, ◌<◌, ◌≤◌, Bool, true, false, List, length, take, Option, Some, None, IfSome, IsSomeAnd, option_map, Result, Ok, Err, refl, sym, ◌∙◌, ap, inl, inr, arith, cond, subst}
 use Rattle.std.proofs.lemmas.Option.{none-some, same_Some}
 use Rattle.std.specs.Str.{IsUtf8, is_utf8}
 use Rattle.std.proofs.lemmas.Str.{IsUtf8-from_is_utf8, is_utf8-from_IsUtf8}
@@ -13,7 +13,7 @@ use Rattle.itv_cli.specs.declared.top.Stop.{Stop}
 use Rattle.itv_cli.specs.declared.top.Stop.TheVariants.{Refused, ReadFault, NoMemory}
 use Rattle.itv_cli.specs.declared.refusal.Refusal.TheVariants.{TooLong}
 use Rattle.itv_cli.specs.Design.{Verdict, refused, draws, verdict_of, tree_of, tree_verdict, FileStands}
-use Rattle.itv_cli.specs.Steps.{ReadsTree, Judges, JudgesFile, IsKept}
+use Rattle.itv_cli.specs.Steps.{ReadsTree, Judges, JudgesFile}
 
 pub tree_some : (bytes : List ℕ) (tree : Data) → IsUtf8 bytes → read bytes ≡ Some tree → tree_of bytes ≡ Some tree
 tree_some bytes tree utf8 e = rw (is_utf8-from_IsUtf8 bytes utf8) e

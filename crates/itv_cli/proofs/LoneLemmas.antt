@@ -6,13 +6,12 @@ use Rattle.std.proofs.lemmas.Bool.{false≢true}
 use Rattle.std.proofs.lemmas.Int.{ints}
 use Rattle.std.proofs.lemmas.List.{take_more, length-map}
 use Rattle.std.proofs.lemmas.List.Elements.{filter_map-append, recursion_from_All, All-from_recursion}
-use Rattle.event_graph.specs.Network.{Net, Constraint}
+use Rattle.event_graph.specs.Network.{Net}
 use Rattle.sheet.specs.Rule.{SheetRule}
 use Rattle.sheet.specs.declared.mark.Mark.{Mark}
 use Rattle.sheet.specs.declared.row.SheetRow.{SheetRow}
 use Rattle.sheet.specs.Contents.{Contents}
 use Rattle.itv_cli.specs.declared.row.Row.{Row}
-use Rattle.itv_cli.specs.Right.{Drawn}
 use Rattle.itv_cli.specs.Lone.{constraint_of, event_of, row_of, lone_network, name_of_mark}
 use Rattle.itv_cli.specs.Drawing.{drawn_by, IsDrawn, IsRowOf, name_of_byte}
 use Rattle.itv_cli.specs.Whole.{IsWhole, IsWholeRow}
@@ -22,7 +21,7 @@ use Rattle.itv_base.specs.declared.names.RuleKind.{RuleKind}
 use Rattle.itv_base.specs.declared.names.RuleKind.TheVariants.{Lin, Late, Early}
 use Rattle.event_graph.specs.declared.cause.Cause.{Cause}
 use Rattle.sheet.specs.declared.rule.Source.{Source}
-use Rattle.diff_bounds.specs.Linear.{HoldsZero, IsLinearAroundZero}
+use Rattle.diff_bounds.specs.Linear.{HoldsZero}
 use Rattle.itv_cli.specs.Lone.{cause_of, holds_zero, is_easy, is_easy_rule, is_linear, asks}
 
 option_short : {X : Type 0} (o : Option X) → length (option_to_list o) ≤ 1

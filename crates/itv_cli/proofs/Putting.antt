@@ -1,9 +1,9 @@
 -- Puts one after another.
-use Rattle.std.proofs.Common.{◌≡◌, ℕ, ℤ, ◌+◌, ◌<◌, ◌≤◌, Bool, true, false, List, [], ◌++◌, length, take, drop, get_or, suc, add-one, drop-cons, Option, Some, None, Result, Ok, Err, refl, sym, ◌∙◌, ap, subst, append_assoc, append-nil, arith, length-append}
+use Rattle.std.proofs.Common.{◌≡◌, ℕ, ℤ, ◌+◌, ◌<◌, Bool, List, [], ◌++◌, length, take, drop, get_or, suc, add-one, drop-cons, Option, Result, Ok, Err, refl, sym, ◌∙◌, ap, subst, arith, length-append}
 use Rattle.std.specs.Bool.{⊤}
 use Rattle.std.proofs.lemmas.List.{take-append-le}
 use Rattle.std.proofs.Math.Seq.{take-append-add}
-use Rattle.itv_base.specs.Outside.{grown, GrewByFront, Puts, Rose}
+use Rattle.itv_base.specs.Outside.{grown, Puts}
 use Rattle.itv_base.proofs.Written.{grown-append, grown-nil}
 use Rattle.itv_cli.specs.Report.{time_text, times_text, member_text, members_from}
 

@@ -1,15 +1,13 @@
 -- What a search finds, from what the bounds show.
-use Rattle.std.proofs.Common.{◌≡◌, ◌<◌, ℕ, ℤ, pos, ◌-ℤ◌, ◌≤ℤ◌, Bool, List, length, replicate, Option, Some, None, slice_get, get_or, suc, zero, refl, sym, ◌∙◌, ap, arith}
+use Rattle.std.proofs.Common.{◌≡◌, ℕ, ℤ, pos, Bool, List, replicate, Option, Some, None, slice_get, get_or, suc, zero, refl}
 use Rattle.std.proofs.lemmas.List.{length-replicate}
-use Rattle.itv_base.specs.declared.names.EventId.{EventId}
 use Rattle.event_graph.specs.Network.{Net}
-use Rattle.event_graph.specs.Edges.{IsAlways, Meets, edge}
-use Rattle.event_graph.specs.RootBound.{HasNoRoot, MeetsAlways}
+use Rattle.event_graph.specs.RootBound.{HasNoRoot}
 use Rattle.diff_bounds.specs.Linear.{IsLinearAroundZero}
-use Rattle.diff_bounds.specs.Standing.{Standing, Stands, StandsFrom, IsUpper, ray_of}
+use Rattle.diff_bounds.specs.Standing.{Standing, Stands, ray_of}
 use Rattle.diff_bounds.proofs.Forward.{weight_low}
 use Rattle.itv_cli.specs.declared.row.Row.{Row}
-use Rattle.itv_cli.specs.Right.{AreTimes, IsMax}
+use Rattle.itv_cli.specs.Right.{IsMax}
 use Rattle.itv_cli.specs.Right.IsMax.{is_closed, is_unbounded}
 use Rattle.itv_cli.specs.Searching.{Solves, answer_lines}
 

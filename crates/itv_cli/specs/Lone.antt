@@ -1,5 +1,5 @@
 -- The network of a lone sheet: one part named `U`, in one cycle.
-use Rattle.std.specs.Prelude.{ℕ, ◌&&◌, ◌==◌, ℤ, pos, int_le, Bool, true, false, not, nat_le, if◌then◌else◌, List, [], ◌∷◌, length, map, codes, Option, Some, None}
+use Rattle.std.specs.Prelude.{ℕ, ◌&&◌, ◌==◌, pos, int_le, Bool, true, false, nat_le, if◌then◌else◌, length, map, codes, Option, Some, None}
 use Rattle.std.specs.List.{filter_map, list_all}
 use Rattle.std.specs.Option.{option_map_or}
 use Rattle.itv_base.specs.Range.{Ends}
@@ -7,7 +7,7 @@ use Rattle.itv_base.specs.declared.names.EventId.{EventId}
 use Rattle.itv_base.specs.declared.names.RuleKind.{RuleKind}
 use Rattle.itv_base.specs.declared.names.RuleKind.TheVariants.{Lin, Late, Early}
 use Rattle.event_graph.specs.declared.cause.Cause.{Cause}
-use Rattle.event_graph.specs.Network.{Constraint, Net}
+use Rattle.event_graph.specs.Network.{Constraint}
 use Rattle.sheet.specs.declared.mark.Mark.{Mark}
 use Rattle.sheet.specs.declared.rule.Source.{Source}
 use Rattle.sheet.specs.declared.row.RowKind.{RowKind}

@@ -1,8 +1,7 @@
 -- The lines of a report, and their texts. Every line ends with one line feed.
 use Rattle.std.specs.Prelude.{ℕ, ◌+◌, ℤ, Bool, List, [], ◌∷◌, ◌++◌, codes, decimal, Option, Some, None, if◌then◌else◌}
 use Rattle.std.specs.Fmt.{signed_decimal}
-use Rattle.std.specs.List.{concat, flat_map, enumerate_from, filter_map}
-use Rattle.itv_base.specs.Range.{Ends}
+use Rattle.std.specs.List.{concat, flat_map}
 use Rattle.sheet.specs.declared.row.RowKind.{RowKind}
 use Rattle.sheet.specs.declared.row.RowKind.TheVariants.{Ask, Req}
 

@@ -1,5 +1,5 @@
 -- What a search finds for a row, and the lines that tell it.
-use Rattle.std.specs.Prelude.{◌≡◌, ◌+◌, ℕ, ⊤, ℤ, Bool, List, [], ◌∷◌, length, take, Option, Some, None, Result, OnOk}
+use Rattle.std.specs.Prelude.{◌≡◌, ℕ, ⊤, ℤ, Bool, List, [], ◌∷◌, length, take, Option, Some, None, Result, OnOk}
 use Rattle.event_graph.specs.Network.{Net}
 use Rattle.event_graph.specs.Times.{separation}
 use Rattle.event_graph.specs.Bounds.{IsGreatest, IsRay}

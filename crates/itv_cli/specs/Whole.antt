@@ -1,5 +1,5 @@
 -- What holds of every sheet that is read.
-use Rattle.std.specs.Prelude.{◌≡◌, ◌<◌, ◌≤◌, ℕ, List, length, All}
+use Rattle.std.specs.Prelude.{◌≡◌, ◌<◌, ◌≤◌, ℕ, length, All}
 use Rattle.itv_base.specs.declared.names.RuleKind.TheVariants.{Lin}
 use Rattle.sheet.specs.declared.rule.Source.{Source}
 use Rattle.sheet.specs.declared.row.SheetRow.{SheetRow}

@@ -1,4 +1,4 @@
-use Rattle.std.proofs.Common.{◌++◌, codes, map, Err}
+use Rattle.std.proofs.Common.{◌++◌, codes, Err}
 use Rattle.std.proofs.lemmas.Result.{err_from_is_err_and}
 use Rattle.itv_base.specs.declared.sink.PutFailed.{PutFailed}
 use Rattle.itv_cli.proofs.Putting.{puts_then, puts_cut}

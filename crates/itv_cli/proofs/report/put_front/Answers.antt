@@ -1,8 +1,7 @@
 use Rattle.std.proofs.Common.{[], ◌∷◌, ◌++◌, ◌≡◌, length, Err, sym, ◌∙◌, ap}
 use Rattle.std.proofs.lemmas.Result.{err_from_is_err_and}
 use Rattle.itv_base.specs.declared.sink.PutFailed.{PutFailed}
-use Rattle.itv_base.specs.Outside.{Puts}
-use Rattle.itv_cli.specs.Report.{item_text, report_text, heading_line, events_line, rows_line}
+use Rattle.itv_cli.specs.Report.{heading_line, events_line, rows_line}
 use Rattle.itv_cli.specs.Right.{event_items}
 use Rattle.itv_cli.proofs.Reporting.{items_then, items_cut, item_last, lists_then, lists_cut}
 use Rattle.itv_cli.proofs.report.put_front.Goals as goal

@@ -1,9 +1,9 @@
-use Rattle.std.proofs.Common.{◌≡◌, ◌++◌, ◌∷◌, [], Err, length, take, refl, sym, ◌∙◌, ap, arith}
+use Rattle.std.proofs.Common.{◌≡◌, ◌++◌, ◌∷◌, [], Err, take, refl, arith}
 use Rattle.std.proofs.Math.Seq.{take_all}
 use Rattle.std.proofs.lemmas.Result.{err_from_is_err_and}
 use Rattle.itv_base.specs.declared.sink.PutFailed.{PutFailed}
 use Rattle.itv_cli.specs.Report.{ending_line, end_pass}
-use Rattle.itv_cli.specs.Right.{front_items, BeginsReport, IsReport}
+use Rattle.itv_cli.specs.Right.{front_items, IsReport}
 use Rattle.itv_cli.specs.Right.BeginsReport.{some_rows, whole}
 use Rattle.itv_cli.proofs.Reporting.{lists_then, lists_cut, item_last, on_ok}
 use Rattle.itv_cli.proofs.report.put_report.Goals as goal

@@ -1,4 +1,4 @@
-use Rattle.std.proofs.Common.{◌+◌, ◌++◌, ◌∷◌, ◌<◌, Err, Ok, length, arith, sym, ap}
+use Rattle.std.proofs.Common.{◌+◌, ◌++◌, ◌∷◌, Err, Ok}
 use Rattle.std.proofs.lemmas.Result.{err_from_is_err_and}
 use Rattle.itv_base.specs.declared.sink.PutFailed.{PutFailed}
 use Rattle.itv_cli.specs.Right.{row_item}

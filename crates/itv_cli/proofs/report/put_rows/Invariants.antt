@@ -1,4 +1,4 @@
-use Rattle.std.proofs.Common.{◌≡◌, List, take, length, ℕ, ◌≤◌, Ok}
+use Rattle.std.proofs.Common.{List, take, Ok}
 use Rattle.itv_base.specs.Outside.{Puts}
 use Rattle.itv_base.specs.declared.sink.PutFailed.{PutFailed}
 use Rattle.itv_cli.specs.Report.{Item, report_text}

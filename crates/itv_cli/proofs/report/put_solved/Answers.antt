@@ -1,8 +1,6 @@
-use Rattle.std.proofs.Common.{◌≡◌, Err, sym}
+use Rattle.std.proofs.Common.{sym}
 use Rattle.std.proofs.lemmas.Result.{err_from_is_err_and}
 use Rattle.itv_base.specs.declared.sink.PutFailed.{PutFailed}
-use Rattle.itv_cli.specs.Report.{report_text}
-use Rattle.itv_cli.specs.Right.{row_item}
 use Rattle.itv_cli.specs.Searching.{answer_lines}
 use Rattle.itv_cli.proofs.Reporting.{items_then, items_cut}
 use Rattle.itv_cli.proofs.Solving.{is_max}

@@ -1,4 +1,4 @@
-use Rattle.std.proofs.Common.{◌≡◌, sym, ◌∙◌, ap, refl}
+use Rattle.std.proofs.Common.{sym, refl}
 use Rattle.itv_cli.specs.Call.{call_of}
 use Rattle.itv_cli.specs.Call.Wanted.{refusal}
 use Rattle.itv_cli.specs.Refusal.{refusal_text}

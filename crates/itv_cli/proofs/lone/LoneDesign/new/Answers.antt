@@ -1,6 +1,5 @@
 use Rattle.std.proofs.Common.{◌∙◌, ap, map, length}
 use Rattle.std.specs.List.{filter_map}
-use Rattle.event_graph.specs.Network.{Net}
 use Rattle.itv_cli.specs.Lone.{constraint_of, row_of}
 use Rattle.itv_cli.proofs.LoneLemmas.{lone_is, lone_drawn, easy_rules}
 use Rattle.itv_cli.proofs.lone.LoneDesign.new.Goals as goal
