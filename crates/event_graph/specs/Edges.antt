@@ -40,7 +40,7 @@ IsAlways net name =
     IsSome (edge net name)
     × IsSomeAnd (slice_get net.constraints name.constraint) (λ c. IsTrue (holds_always c.kind (length c.causes) name.side))
 
--- the side on which times meet the edge of some cause alone
+-- the side on which times meet the edge of some cause alone (a linear constraint has no such side)
 abbrev pub choice_side : RuleKind → Side
 choice_side Lin = Upper
 choice_side Late = Upper

@@ -17,8 +17,8 @@ pub fn ray_is_unbounded()
     ensures { RayIsUnbounded }
 {}
 
-/// A constraint holds exactly where its always-edges are met and, if it is a latest or an earliest one, the edge of some cause on
-/// the choice side is met or that end is open.
+/// A constraint holds exactly where its always-edges are met and, if it is a latest or an earliest one,
+/// the edge of some cause on the choice side is met or that end is open.
 pub fn holds_by_edges()
     ensures { HoldsByEdges }
 {}

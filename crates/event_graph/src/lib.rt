@@ -1,6 +1,6 @@
-//! Networks of timing constraints between events: linear, latest and earliest ones, which times satisfy them, and their edges.
-//! The contract of the crate: `broken` gives none exactly where the times satisfy the network, else the least number of a
-//! constraint that they break, and `edge`, `is_always` and `choices_fit` are what the definitions of the network say.
+//! Networks of timing constraints between events, linear, latest and earliest: which times satisfy one,
+//! its edges and its cause choices. The contract of the crate: `broken` gives none exactly where the times
+//! satisfy the network, else the least number of a constraint that they break.
 #![tactic(auto)]
 
 mod cause;

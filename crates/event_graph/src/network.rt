@@ -17,8 +17,8 @@ use itv_base::{
 use std::alloc::Global;
 use std::marker::Model;
 
-/// A network: a number of events, named by numbers from 0, and the constraints on their times, numbered from 0 in the order in
-/// which they were added.
+/// A network: a number of events, named by their numbers from 0, and the constraints on their times,
+/// numbered from 0 in the order in which they were added. All ends are in picoseconds.
 #[derive(Debug, Drop)]
 pub struct Network {
     events: u32,
@@ -69,8 +69,9 @@ impl Network {
         self.rules.is_empty()
     }
 
-    /// Adds the constraint that the time of `to` less that of `from` lies in the range. The answer is `Full`, with the number of
-    /// constraints, exactly where there are [`MAX_CONSTRAINTS`]. After a refusal the network is unchanged.
+    /// Adds the constraint that the time of `to` less that of `from`, which are events of the network,
+    /// lies in the range. The answer is `Full` with the number of constraints exactly where there are
+    /// [`MAX_CONSTRAINTS`] of them. After a refusal the network is unchanged.
     pub fn push_linear(
         &mut self,
         alloc: Global,
@@ -88,8 +89,10 @@ impl Network {
         self.push(alloc, RuleKind::Lin, to, &[Cause { event: from, range }])
     }
 
-    /// Adds the constraint that the target comes at the latest of its causes, of which there are 1 to [`MAX_CAUSES`], each delayed
-    /// within its range. The answer is `Full` as for `push_linear`. After a refusal the network is unchanged.
+    /// Adds the constraint that the target comes at the latest of its causes, each delayed within its
+    /// range: no earlier than every cause with its low end, and no later than some cause with its high
+    /// end. There are 1 to [`MAX_CAUSES`] causes, and all events are of the network. The answer is
+    /// `Full` as for [`Network::push_linear`]. After a refusal the network is unchanged.
     pub fn push_late(
         &mut self,
         alloc: Global,
@@ -108,8 +111,10 @@ impl Network {
         self.push(alloc, RuleKind::Late, target, causes)
     }
 
-    /// Adds the constraint that the target comes at the earliest of its causes, of which there are 1 to [`MAX_CAUSES`], each
-    /// delayed within its range. The answer is `Full` as for `push_linear`. After a refusal the network is unchanged.
+    /// Adds the constraint that the target comes at the earliest of its causes, each delayed within its
+    /// range: no later than every cause with its high end, and no earlier than some cause with its low
+    /// end. There are 1 to [`MAX_CAUSES`] causes, and all events are of the network. The answer is
+    /// `Full` as for [`Network::push_linear`]. After a refusal the network is unchanged.
     pub fn push_early(
         &mut self,
         alloc: Global,
@@ -128,7 +133,7 @@ impl Network {
         self.push(alloc, RuleKind::Early, target, causes)
     }
 
-    // Adds a constraint.
+    // Adds a constraint of any kind.
     fn push(
         &mut self,
         alloc: Global,
@@ -136,8 +141,10 @@ impl Network {
         target: EventId,
         causes: &[Cause],
     ) -> Result<(), PushFault>
-        requires { IsConstraint self.old.events (record { kind = kind; target = target; causes = causes.now }) }
-        ensures added { OnOk result (self.new ≡ with_constraint self.old (record { kind = kind; target = target; causes = causes.now })) }
+        requires { IsConstraint self.old.events
+            (record { kind = kind; target = target; causes = causes.now }) }
+        ensures added { OnOk result (self.new ≡ with_constraint self.old
+            (record { kind = kind; target = target; causes = causes.now })) }
         ensures room { OnOk result (length self.old.constraints < MAX_CONSTRAINTS) }
         ensures fault { IfErr result (IsPushFault (length self.old.constraints)) }
         ensures unchanged { OnErr result (self.new ≡ self.old) }
@@ -155,26 +162,30 @@ impl Network {
         Ok(())
     }
 
-    /// The kind of a constraint.
+    /// The kind of a constraint that is there.
     pub fn kind(&self, constraint: u32) -> RuleKind
         requires { constraint < length self.now.constraints }
-        ensures { option_map (λ (c : Constraint). c.kind) (slice_get self.now.constraints constraint) ≡ Some result }
+        ensures { option_map (λ (c : Constraint). c.kind)
+            (slice_get self.now.constraints constraint) ≡ Some result }
     {
         self.rules[constraint as usize].kind
     }
 
-    /// The target of a constraint. That of a linear one is its to-event.
+    /// The target of a constraint that is there. That of a linear one is its to-event.
     pub fn target(&self, constraint: u32) -> EventId
         requires { constraint < length self.now.constraints }
-        ensures { option_map (λ (c : Constraint). c.target) (slice_get self.now.constraints constraint) ≡ Some result }
+        ensures { option_map (λ (c : Constraint). c.target)
+            (slice_get self.now.constraints constraint) ≡ Some result }
     {
         self.rules[constraint as usize].target
     }
 
-    /// The number of causes of a latest or earliest constraint, and 0 for a linear one.
+    /// The number of causes of a latest or earliest constraint that is there, and 0 for a linear one.
+    /// Each constraint has a cause 0, though.
     pub fn cause_count(&self, constraint: u32) -> u32
         requires { constraint < length self.now.constraints }
-        ensures count { option_map cause_count_of (slice_get self.now.constraints constraint) ≡ Some result }
+        ensures count { option_map cause_count_of
+            (slice_get self.now.constraints constraint) ≡ Some result }
         ensures each { (cause : ℕ) → cause < result → IsSome (cause_at self.now constraint cause) }
         ensures first { IsSome (cause_at self.now constraint 0) }
     {
@@ -185,7 +196,8 @@ impl Network {
         }
     }
 
-    /// A cause of a constraint. Cause 0 of a linear one, its only cause, is its from-event with its range.
+    /// A cause that is there of a constraint. Cause 0 of a linear one, the only one that it has, is its
+    /// from-event with its range.
     pub fn cause(&self, constraint: u32, cause: u32) -> Cause
         requires { IsSome (cause_at self.now constraint cause) }
         ensures { cause_at self.now constraint cause ≡ Some result }
@@ -194,7 +206,9 @@ impl Network {
         rule.causes[cause as usize]
     }
 
-    /// The edge of a name. There is none exactly where the constraint or the cause is not there, or the end on that side is open.
+    /// The edge of a name. There is none exactly where the constraint or the cause is not there, or the
+    /// end on that side is open. The upper edge leads from the cause to the target, and its weight is the
+    /// high end. The lower edge leads back, and its weight is minus the low end.
     pub fn edge(&self, name: EdgeName) -> Option<Edge>
         ensures edge { result ≡ edge self.now name }
         ensures weight { IfSome result (λ e. IsEnd (Some e.weight)) }
@@ -206,8 +220,9 @@ impl Network {
         cause.edge(rule.target, name.side)
     }
 
-    /// Whether there is an edge of this name that all satisfying times meet by its side alone: both sides of a linear
-    /// constraint, the lower side of a latest one, the upper side of an earliest one, and both sides where there is only one cause.
+    /// Whether there is an edge of this name, and it is an always-edge, which is met whatever cause is
+    /// chosen: on both sides of a linear constraint, on the lower side of a latest one, on the upper side
+    /// of an earliest one, and on both sides where there is a single cause.
     pub fn is_always(&self, name: EdgeName) -> bool
         ensures { IsTrue result ↔ IsAlways self.now name }
     {
@@ -217,7 +232,8 @@ impl Network {
         }
     }
 
-    /// Whether the cause choices, the product of the numbers of causes of the latest and earliest constraints, are at most this many.
+    /// Whether the cause choices, the product of the numbers of causes of the latest and earliest
+    /// constraints, are at most this many. They may be more than a number of 64 bits can tell.
     pub fn choices_fit(&self, most: u64) -> bool
         ensures { IsTrue result ↔ (cause_choices self.now.constraints ≤ most) }
     {
@@ -231,8 +247,8 @@ impl Network {
         product <= most
     }
 
-    /// The least number of a constraint that the times break, or none exactly where the times satisfy the network. The times are
-    /// in picoseconds, one per event.
+    /// The least number of a constraint that the times break, or none exactly where the times satisfy the
+    /// network. The times are in picoseconds, one per event, each below 2^61 in absolute value.
     pub fn broken(&self, times: &[i64]) -> Option<u32>
         requires count { length times.now ≡ self.now.events }
         requires times { All IsTime times.now }

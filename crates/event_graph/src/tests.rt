@@ -59,7 +59,8 @@ fn of_own_event(alloc: Global, low: i64, high: i64) -> Result<Network, Fail> {
     Ok(net)
 }
 
-// The events a, b and j, with `a->b @lin [100,300]` and a second constraint of the causes `a->j [500,700]` and `b->j [200,400]`.
+// The events a, b and j, with `a->b @lin [100,300]` and a second constraint of the causes `a->j [500,700]`
+// and `b->j [200,400]`.
 fn of_two_causes(alloc: Global, kind: RuleKind) -> Result<Network, Fail> {
     let mut net = Network::new(alloc, 3)?;
     let first = [cause(0, (Some(100), Some(300)))?];
@@ -72,7 +73,8 @@ fn of_two_causes(alloc: Global, kind: RuleKind) -> Result<Network, Fail> {
     Ok(net)
 }
 
-// The network of three events whose latest constraints have these numbers of causes, with the delays 0, 1, 2 and so on.
+// The network of three events whose latest constraints have these numbers of causes, with the delays 0,
+// 1, 2 and so on.
 fn with_causes(alloc: Global, counts: &[i64]) -> Result<Network, Fail> {
     let mut net = Network::new(alloc, 3)?;
     for count in counts {
@@ -104,8 +106,8 @@ fn expect_broken(rt: &impl Abort, net: &Network, rows: &[([i64; 3], Option<u32>)
     }
 }
 
-// Compares the edges of both kinds of constraint with what is wanted: the name, the two events and the weight of an edge if there is
-// one, and whether it is an always-edge.
+// Compares edges with what is wanted: the constraint, the cause and the side of the name, then the two
+// events and the weight of the edge if there is one, and whether it is an always-edge.
 fn expect_edges(
     rt: &impl Abort,
     net: &Network,
