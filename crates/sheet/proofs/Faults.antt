@@ -1,5 +1,5 @@
 -- Handing a fault on.
-use Rattle.std.proofs.Common.{◌≡◌, Result, Ok, Err, refl, ap}
+use Rattle.std.proofs.Common.{◌≡◌, Result, Err, ap}
 use Rattle.sheet.specs.declared.fault.SheetFault.{SheetFault}
 use Rattle.sheet.specs.declared.fault.SheetFault.TheVariants.{BadNode, DoubleMark, DoublePin, BadEdge, Label, NoMark, TooManyCauses, NoMemory}
 use Rattle.sheet.specs.Answer.{HasFault}

@@ -1,5 +1,5 @@
 -- The table of groups, with one link more.
-use Rattle.std.proofs.Common.{◌≡◌, ℕ, zero, suc, ◌+◌, ◌<◌, Bool, true, false, ◌||◌, ◌&&◌, ◌==◌, cond, not, if◌then◌else◌, List, [], ◌∷◌, ◌++◌, length, map, set, get_or, Option, Some, None, Result, Ok, Err, refl, ap, sym, ◌∙◌, ◌⊎◌, inl, inr, add-zero, arith, rules}
+use Rattle.std.proofs.Common.{◌≡◌, ℕ, suc, ◌+◌, Bool, true, false, ◌||◌, ◌&&◌, ◌==◌, cond, not, if◌then◌else◌, List, [], ◌∷◌, ◌++◌, length, map, set, get_or, Option, Some, None, Result, Ok, Err, refl, ap, sym, ◌∙◌, ◌⊎◌, inl, inr, add-zero, arith}
 use Rattle.std.specs.Prelude.{nat_le, ⊤}
 use Rattle.std.specs.List.{list_any, position_from}
 use Rattle.std.specs.Option.{option_copied, option_eq}
@@ -9,18 +9,18 @@ use Rattle.std.proofs.lemmas.List.{append-nil, append_assoc, length-append, leng
 use Rattle.itv_base.specs.declared.names.RuleKind.{RuleKind}
 use Rattle.itv_base.specs.declared.names.RuleKind.TheVariants as rules
 use Rattle.label_grammar.specs.declared.label.Kind.{Kind}
-use Rattle.label_grammar.specs.declared.label.Kind.TheVariants.{Lin, Late, Early, Req, Ask}
+use Rattle.label_grammar.specs.declared.label.Kind.TheVariants.{Lin, Req, Ask}
 use Rattle.sheet.specs.declared.groups.Group.{Group}
 use Rattle.sheet.specs.Rule.{SheetRule}
 use Rattle.sheet.specs.Links.{Link, is_cause, is_full, same_tag, joins, source_of, with_link, link_rules}
 use Rattle.sheet.specs.Groups.{opens, openers, kind_of, same_group, group_link, Places, place_of, StandsFor, AddsLink}
-use Rattle.sheet.proofs.Joins.{joins-same, joins-itself, joins-cause, joins-comm, joins-no_cause}
+use Rattle.sheet.proofs.Joins.{joins-same, joins-itself, joins-comm, joins-no_cause}
 use Rattle.sheet.proofs.Openers.{linear_rule, rule_for, link_rules-map, openers-push, opens-joined, any-openers, ChangesAt, list_any-same, both_false}
 use Rattle.sheet.proofs.OneMore.{list_any-none, not_full, full-rule, rules-linear, rules-row, rules-first, rules-unopened, rules-joined, rule_for-joined, with_cause}
-use Rattle.sheet.specs.Answer.{HasFault, Gives}
+use Rattle.sheet.specs.Answer.{Gives}
 use Rattle.sheet.proofs.Faults.{HasFault-on}
 use Rattle.sheet.specs.declared.fault.SheetFault.{SheetFault}
-use Rattle.sheet.specs.declared.fault.SheetFault.TheVariants.{TooManyCauses, NoMemory}
+use Rattle.sheet.specs.declared.fault.SheetFault.TheVariants.{TooManyCauses}
 
 -- ---- the first place at which a test passes
 

@@ -1,11 +1,9 @@
 -- The marks of lanes, one after another.
-use Rattle.std.proofs.Common.{◌≡◌, ℕ, zero, suc, ◌+◌, ◌-◌, ◌<◌, ◌≤◌, All, Bool, true, false, cond, if◌then◌else◌, eqb, List, [], ◌∷◌, ◌++◌, length, map, drop, get_or, Option, Some, None, Result, Ok, Err, refl, ap, sym, ◌∙◌, arith, rules, subst}
+use Rattle.std.proofs.Common.{◌≡◌, ℕ, ◌+◌, ◌-◌, ◌<◌, ◌≤◌, true, false, cond, List, [], ◌∷◌, ◌++◌, length, map, drop, get_or, Some, None, Ok, Err, ap, ◌∙◌, arith, rules}
 use Rattle.std.specs.Prelude.{nat_eq, position, filter_map, slice_get}
 use Rattle.std.specs.List.{list_any, enumerate_from, flat_map, position_from, IsDistinct}
 use Rattle.std.specs.Cmp.{nat_eq_equiv}
 use Rattle.std.proofs.lemmas.Bool.{eqb-true}
-use Rattle.std.proofs.lemmas.Grind.{common_steps}
-use Rattle.std.proofs.lemmas.Iterator.Adapters.{position_from-zero}
 use Rattle.std.proofs.lemmas.List.{drop_more, drop_all, map_push, append_assoc, length-append, length-map}
 use Rattle.std.proofs.lemmas.List.Elements.{All-push, All-map, All-contains}
 use Rattle.std.proofs.lemmas.Map.Keys.{IsDistinct-push}

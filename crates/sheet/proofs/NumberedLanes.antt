@@ -1,11 +1,10 @@
 -- Lanes with their numbers and spans.
-use Rattle.std.proofs.Common.{◌≡◌, ℕ, zero, suc, ◌+◌, ◌<◌, List, [], ◌∷◌, length, map, drop, get_or, Option, Some, None, refl, ap, sym, ◌∙◌, add-one, add-zero, zero-add, arith}
+use Rattle.std.proofs.Common.{◌≡◌, ℕ, zero, suc, ◌+◌, List, [], ◌∷◌, length, map, drop, get_or, Some, refl, ap, ◌∙◌, add-one, add-zero, zero-add, arith}
 use Rattle.std.specs.Prelude.{slice_get}
 use Rattle.std.proofs.lemmas.List.{length-map}
-use Rattle.std.proofs.lemmas.Option.{slice_get_read}
 use Rattle.wavejson.specs.declared.lane_text.LaneText.{LaneText}
 use Rattle.sheet.specs.declared.lanes.Span.{Span}
-use Rattle.sheet.specs.Lanes.{Numbered, numbered, numbered_from, lane_marks}
+use Rattle.sheet.specs.Lanes.{numbered, numbered_from, lane_marks}
 use Rattle.sheet.specs.Steps.{span_of, spans_of, numbered_by}
 
 length-numbered_from : (number first : ℕ) (lanes : List LaneText) → length (numbered_from number first lanes) ≡ length lanes

@@ -1,8 +1,8 @@
 -- The rules of links with one link more: there is one rule more, or one cause more in a rule, or all is as it was.
-use Rattle.std.proofs.Common.{◌≡◌, ℕ, zero, suc, ◌+◌, ◌<◌, Bool, true, false, ◌||◌, ◌&&◌, cond, not, if◌then◌else◌, List, [], ◌∷◌, ◌++◌, length, map, filter, set, get_or, Option, Some, None, refl, ap, sym, ◌∙◌, ◌⊎◌, inl, inr, arith}
+use Rattle.std.proofs.Common.{◌≡◌, ℕ, Bool, true, false, cond, List, [], ◌∷◌, ◌++◌, length, map, filter, Some, refl, ap, sym, ◌∙◌, ◌⊎◌, inl, inr}
 use Rattle.std.specs.Prelude.{nat_le}
 use Rattle.std.specs.List.{list_any, position_from}
-use Rattle.std.proofs.lemmas.List.{append-nil, append_assoc, length-append, length-map, map-append}
+use Rattle.std.proofs.lemmas.List.{append-nil, length-map, map-append}
 use Rattle.std.proofs.lemmas.List.Elements.{filter-append}
 use Rattle.label_grammar.specs.declared.label.Kind.{Kind}
 use Rattle.label_grammar.specs.declared.label.Kind.TheVariants.{Lin, Late, Early, Req, Ask}
@@ -12,7 +12,7 @@ use Rattle.sheet.specs.Rule.{SheetRule}
 use Rattle.sheet.specs.Links.{Link, is_cause, is_full, joins, source_of, group_rule, link_rules}
 use Rattle.sheet.specs.Groups.{opens_by, opens, openers, kind_of}
 use Rattle.sheet.proofs.Joins.{joins-same, joins-itself, joins-cause, joins-comm, joins-no_cause}
-use Rattle.sheet.proofs.Openers.{linear_rule, rule_by, rule_for, link_rules-map, openers-push, any-openers, list_any-same, opens-joined, opens_by-cause, map_none, both_false, at_most-openers, ChangesAt, changes-at}
+use Rattle.sheet.proofs.Openers.{linear_rule, rule_by, rule_for, link_rules-map, openers-push, any-openers, map_none, both_false, at_most-openers, ChangesAt, changes-at}
 
 -- ---- filters
 

@@ -1,9 +1,9 @@
 -- The links that open a rule, and the rules as a map over them.
-use Rattle.std.proofs.Common.{◌≡◌, ℕ, zero, suc, ◌+◌, ◌<◌, Bool, true, false, ◌||◌, ◌&&◌, cond, not, if◌then◌else◌, List, [], ◌∷◌, ◌++◌, length, map, filter, take, set, get_or, Option, Some, None, refl, ap, sym, ◌∙◌, arith}
+use Rattle.std.proofs.Common.{◌≡◌, ℕ, ◌+◌, ◌<◌, Bool, true, false, ◌||◌, ◌&&◌, cond, not, if◌then◌else◌, List, [], ◌∷◌, ◌++◌, length, map, take, set, get_or, Option, Some, None, refl, ap, sym, ◌∙◌, arith}
 use Rattle.std.specs.Prelude.{filter_map}
 use Rattle.std.specs.List.{list_any, cons_option, enumerate_from, position_from}
 use Rattle.std.proofs.Math.Bool.{or-false, or-true, and-false}
-use Rattle.std.proofs.lemmas.List.{append-nil, append_assoc, length-append, length_push, map-append, take_at, set_at, get_or_at}
+use Rattle.std.proofs.lemmas.List.{append-nil, append_assoc, length-append, length_push, take_at, set_at, get_or_at}
 use Rattle.std.proofs.lemmas.List.Folds.{list_any-append}
 use Rattle.label_grammar.specs.declared.label.Kind.{Kind}
 use Rattle.label_grammar.specs.declared.label.Kind.TheVariants.{Lin, Late, Early, Req, Ask}
@@ -11,7 +11,7 @@ use Rattle.itv_base.specs.declared.names.RuleKind.TheVariants as rules
 use Rattle.sheet.specs.Rule.{SheetRule}
 use Rattle.sheet.specs.Groups.{opens_by, opens, openers_from, openers}
 use Rattle.sheet.specs.Links.{Link, is_cause, joins, source_of, group_rule, rule_opened, link_rules}
-use Rattle.sheet.proofs.Joins.{joins-same, joins-itself, joins-cause, joins-comm, joins-no_cause}
+use Rattle.sheet.proofs.Joins.{joins-same, joins-cause, joins-comm}
 
 abbrev pub linear_rule : Link → SheetRule
 linear_rule link = record { kind = rules.Lin; target = link.to; causes = source_of link ∷ [] }

@@ -1,5 +1,5 @@
 -- The sheet of a drawing, step by step.
-use Rattle.std.proofs.Common.{◌≡◌, [], List, ◌++◌, Result, Ok, Err, refl, ap, ◌∙◌}
+use Rattle.std.proofs.Common.{◌≡◌, [], List, ◌++◌, Result, Ok, Err, ap}
 use Rattle.wavejson.specs.Drawing.{Drawing}
 use Rattle.sheet.specs.declared.edges.EdgeRules.{EdgeRules}
 use Rattle.sheet.specs.declared.fault.SheetFault.{SheetFault}

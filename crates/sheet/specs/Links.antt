@@ -1,6 +1,6 @@
 -- The rules and rows that the edges of a drawing give.
-use Rattle.std.specs.Prelude.{ℕ, ◌+◌, ◌&&◌, ◌==◌, Bool, true, false, not, nat_eq, nat_le, if◌then◌else◌, List, [], ◌∷◌, ◌++◌, length, map, filter, take, Option, Some, None, position, unwrap_or, Result, Ok, Err}
-use Rattle.std.specs.List.{enumerate_from, filter_map, flat_map, list_any}
+use Rattle.std.specs.Prelude.{ℕ, ◌+◌, ◌&&◌, ◌==◌, Bool, true, false, nat_le, if◌then◌else◌, List, [], ◌∷◌, ◌++◌, length, map, filter, take, Option, Some, None, position, unwrap_or, Result, Ok, Err}
+use Rattle.std.specs.List.{enumerate_from, filter_map, list_any}
 use Rattle.std.specs.Str.{bytes_eq}
 use Rattle.itv_base.specs.Range.{Ends}
 use Rattle.itv_base.specs.declared.names.RuleKind.{RuleKind}
@@ -14,7 +14,6 @@ use Rattle.label_grammar.specs.Answer.{judged}
 use Rattle.label_grammar.specs.Edge.{EdgeSeen, comment, timing, malformed, edge_of}
 use Rattle.sheet.specs.declared.mark.Mark.{Mark}
 use Rattle.sheet.specs.declared.rule.Source.{Source}
-use Rattle.sheet.specs.declared.row.RowKind.{RowKind}
 use Rattle.sheet.specs.declared.row.RowKind.TheVariants as asked
 use Rattle.sheet.specs.declared.row.SheetRow.{SheetRow}
 use Rattle.sheet.specs.declared.fault.SheetFault.{SheetFault}

@@ -1,5 +1,5 @@
 -- The sheet of a drawing, or its first fault.
-use Rattle.std.specs.Prelude.{ℕ, nat_eq, List, [], ◌++◌, Option, Some, None, position, Result, Ok, Err}
+use Rattle.std.specs.Prelude.{nat_eq, List, [], ◌++◌, position, Result, Ok}
 use Rattle.std.specs.Str.{bytes_eq}
 use Rattle.wavejson.specs.Drawing.{Drawing}
 use Rattle.wavejson.specs.declared.lane_text.LaneText.{LaneText}
@@ -10,7 +10,7 @@ use Rattle.sheet.specs.declared.fault.SheetFault.TheVariants.{BadNode, DoubleMar
 use Rattle.sheet.specs.Fault.{◌>>=◌, unless}
 use Rattle.sheet.specs.Contents.{Contents}
 use Rattle.sheet.specs.Lanes.{has_bad_node, marks_of, pins_of, order_rules, first_repeated}
-use Rattle.sheet.specs.Links.{Link, links_from, link_rules, link_rows}
+use Rattle.sheet.specs.Links.{links_from, link_rules, link_rows}
 
 -- the marks of the lanes; else the first lane with a bad node, or the first mark that stands before
 unfoldable pub read_marks : List LaneText → Result (List Mark) SheetFault

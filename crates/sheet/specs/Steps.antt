@@ -1,5 +1,5 @@
 -- What the calls of this crate do one after another, on the way to a sheet.
-use Rattle.std.specs.Prelude.{ℕ, ◌<◌, Bool, All, List, [], ◌∷◌, ◌++◌, map, option_map, filter_map, nat_eq, Result, Ok, Option}
+use Rattle.std.specs.Prelude.{ℕ, ◌<◌, Bool, All, List, ◌++◌, map, nat_eq, Result, Ok}
 use Rattle.std.specs.List.{IsDistinct}
 use Rattle.std.specs.Str.{bytes_eq}
 use Rattle.wavejson.specs.declared.lane_text.LaneText.{LaneText}

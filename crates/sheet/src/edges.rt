@@ -18,14 +18,16 @@ use itv_base::{MAX_CAUSES, NoMemory, RuleKind, Texts};
 use label_grammar::Kind;
 use std::alloc::Global;
 
-/// Rules in order, and the rows of the edges.
+/// What the edges of a drawing give.
 #[derive(Debug, Drop)]
 pub struct EdgeRules {
     pub rules: Rules,
     pub rows: SheetRows,
 }
 
-/// The rules of the edges behind other rules, and their rows; or the first fault of an edge.
+/// The rules of the edges, behind those that are given, and the rows of the edges; or the first fault of an edge.
+///
+/// The edges are read once. Where a cause belongs is looked up in a table that has the place of the rule of each group.
 pub fn read_edges(
     alloc: Global,
     marks: &[Mark],
@@ -38,6 +40,7 @@ pub fn read_edges(
     let mut places = Places::new(alloc);
     let mut rows = SheetRows::new(alloc);
     for n in 0..edges.len() {
+        // A `?` on a link gets no proof, since it holds a text beside a range.
         let link = match read_link(marks, n, edges.get(n).as_text()) {
             Ok(Some(link)) => link,
             Ok(None) => continue,

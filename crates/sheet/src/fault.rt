@@ -5,7 +5,7 @@ ghost use Rattle.sheet.specs.declared.fault.SheetFault.TheVariants.{NoMemory};
 
 use itv_base::NoMemory as OutOfMemory;
 use label_grammar::LabelFault;
-use std::alloc::{AllocError, AllocFailed};
+use std::alloc::AllocFailed;
 use thiserror::Error;
 
 /// The first fault of a drawing: those of its lanes before those of its edges, and in each the order below. Lanes and edges
@@ -35,14 +35,6 @@ pub enum SheetFault {
     TooManyCauses(u64),
     #[error("out of memory")]
     NoMemory,
-}
-
-impl From<AllocError> for SheetFault {
-    ghost from_gives = { λ _ e. e ≡ NoMemory };
-
-    fn from(_: AllocError) -> SheetFault {
-        SheetFault::NoMemory
-    }
 }
 
 impl<T: Drop> From<AllocFailed<T>> for SheetFault {

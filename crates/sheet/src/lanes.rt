@@ -28,7 +28,7 @@ pub struct LaneMarks {
     pub spans: Vec<Span>,
 }
 
-/// The marks of all lanes. No character is a mark twice, so there are few.
+/// The marks of all lanes, or the first fault of a node. No character is a mark twice, so there are few.
 pub fn read_marks(alloc: Global, lanes: &Lanes) -> Result<LaneMarks, SheetFault>
     ensures answer { Gives (λ read. read.marks) result (read_marks lanes.now) }
     ensures few { IfOk result (λ read. length read.marks ≤ 128) }
@@ -97,24 +97,26 @@ fn node_of(lane: &LaneText) -> &[u8]
     }
 }
 
-// Puts the marks of a lane at the end.
+// Puts the marks of a lane at the end, as far as none stood before.
 fn push_marks(marks: &mut Marks, number: u64, lane: &LaneText) -> Result<(), SheetFault>
     ensures answer { Gives (λ _. marks.new) result (with_marks marks.old (lane_marks (number, lane.now))) }
     ensures distinct { OnOk result (AreMarks marks.old → AreMarks marks.new) }
 {
     let node = node_of(lane);
-    for (place, b) in node.iter().enumerate() {
-        if !is_mark(*b) {
+    for (place, name) in node.iter().enumerate() {
+        if !is_mark(*name) {
             continue;
         }
-        if has_mark(marks.as_slice(), *b) {
-            return Err(SheetFault::DoubleMark(*b));
+        // Found here, before the next kind is worked out: a hostile node has many marks, and a kind is a walk over the wave.
+        if has_mark(marks.as_slice(), *name) {
+            return Err(SheetFault::DoubleMark(*name));
         }
+        let place = place as u64;
         marks.push(Mark {
             lane: number,
-            place: place as u64,
-            name: *b,
-            kind: drawn_kind(lane, place as u64),
+            place,
+            name: *name,
+            kind: drawn_kind(lane, place),
         })?;
     }
     Ok(())

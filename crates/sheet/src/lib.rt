@@ -17,6 +17,8 @@ mod row;
 mod rows;
 mod rule;
 mod sheet;
+#[cfg(test)]
+mod tests;
 
 pub use fault::SheetFault;
 pub use mark::{Mark, Marks};

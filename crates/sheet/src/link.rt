@@ -30,6 +30,7 @@ pub fn read_link<'a>(marks: &[Mark], n: u64, text: &'a str) -> Result<Option<Lin
         EdgeText::Malformed => return Err(SheetFault::BadEdge(n)),
         EdgeText::Timing { from, to, label } => (from, to, label),
     };
+    // A `?` on a value that holds a text beside a range gets no proof.
     let label = match read_label(label) {
         Ok(label) => label,
         Err(fault) => return Err(SheetFault::Label(n, fault)),
@@ -44,13 +45,10 @@ fn number_of(marks: &[Mark], name: u8) -> Option<u32>
     requires { length marks.now ≤ 128 }
     ensures { result ≡ number_of marks.now name }
 {
-    match place_of(marks, name) {
-        Some(place) => Some(place as u32),
-        None => None,
-    }
+    position_of(marks, name).map(|number| number as u32)
 }
 
-fn place_of(marks: &[Mark], name: u8) -> Option<usize>
+fn position_of(marks: &[Mark], name: u8) -> Option<usize>
     ensures { result ≡ number_of marks.now name }
 {
     marks.iter().position(|mark| mark.name == name)

@@ -15,19 +15,20 @@ use itv_base::Text;
 use std::alloc::Global;
 use wavejson::{LaneText, Lanes};
 
-/// The pins of lanes whose marks are given.
+/// The pins of lanes, where the spans of their marks are known; or the first lane with the name of an earlier pin.
 pub fn read_pins(alloc: Global, lanes: &Lanes, spans: &[Span]) -> Result<Pins, SheetFault>
     requires { spans.now ≡ spans_of lanes.now }
     ensures { Gives (λ pins. pins) result (read_pins lanes.now) }
 {
     let mut pins = Pins::new(alloc);
     for (k, span) in spans.iter().enumerate() {
-        push_pin(alloc, &mut pins, k as u64, lanes.get(k as u64), *span)?;
+        let number = k as u64;
+        push_pin(alloc, &mut pins, number, lanes.get(number), *span)?;
     }
     Ok(pins)
 }
 
-// Puts the pin of a lane at the end, if it is one and none has its name.
+// Puts a lane at the end, if it is a pin and none has its name.
 fn push_pin(
     alloc: Global,
     pins: &mut Pins,

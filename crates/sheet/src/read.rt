@@ -12,8 +12,14 @@ use crate::sheet::Sheet;
 use std::alloc::Global;
 use wavejson::Diagram;
 
-/// The sheet of a drawing, or its first fault in the order of [`SheetFault`]. `NoMemory` may come in place of either; no sheet
-/// was made then.
+/// The sheet of a drawing, or its first fault in the order of [`SheetFault`].
+///
+/// A mark is a visible character of ASCII other than `.` in a lane's `node`; its kind is what the lane's wave draws at that
+/// place. A pin is a lane with a name and a mark. The rules are the order of the marks on each lane with a name and a wave, and
+/// then what the timing labels of the edges say; an edge whose label does not begin with `@` means nothing. Ranges are in
+/// picoseconds and shifts in cycles.
+///
+/// `NoMemory` may come in place of a sheet or a fault. After any fault no sheet was made.
 pub fn read_sheet(alloc: Global, diagram: &Diagram) -> Result<Sheet, SheetFault>
     ensures { Gives (λ sheet. sheet) result (sheet_of diagram.now) }
 {

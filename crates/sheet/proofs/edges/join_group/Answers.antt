@@ -1,4 +1,4 @@
-use Rattle.std.proofs.Common.{◌≡◌, ◌∙◌, sym, refl, ap, rules}
+use Rattle.std.proofs.Common.{◌∙◌, sym, refl}
 use Rattle.sheet.proofs.GroupTable.{adds-first, adds-cause}
 use Rattle.sheet.specs.Steps.{link_view}
 use Rattle.sheet.proofs.edges.join_group.Goals as goal

@@ -1,4 +1,3 @@
-use Rattle.std.proofs.Common.{◌≡◌, ◌∙◌, sym, refl, ap}
 use Rattle.sheet.proofs.GroupTable.{adds-linear, adds-row}
 use Rattle.sheet.specs.Steps.{link_view}
 use Rattle.sheet.proofs.edges.push_link.Goals as goal

@@ -1,9 +1,8 @@
-use Rattle.std.proofs.Common.{◌≡◌, ◌∙◌, [], ◌∷◌, ◌++◌, sym, refl, ap}
+use Rattle.std.proofs.Common.{◌∙◌, [], ◌∷◌, ◌++◌, sym}
 use Rattle.std.proofs.lemmas.Result.{err_from_is_err_and}
-use Rattle.sheet.specs.Links.{links_from}
-use Rattle.sheet.specs.Steps.{link_view, rules_and_rows}
+use Rattle.sheet.specs.Steps.{link_view}
 use Rattle.sheet.proofs.EdgeWalk.{edge-fault, edge-comment, edge-link, edge-full, link_rows-push, ArePlaces-from_StandsFor}
-use Rattle.sheet.proofs.Faults.{HasFault-on, HasFault-first}
+use Rattle.sheet.proofs.Faults.{HasFault-first}
 use Rattle.sheet.proofs.edges.read_edges.Goals as goal
 
 pub push_link-requires : goal.push_link-requires

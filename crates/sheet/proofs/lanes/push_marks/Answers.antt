@@ -1,4 +1,4 @@
-use Rattle.std.proofs.Common.{◌≡◌, ◌∙◌, sym}
+use Rattle.std.proofs.Common.{◌∙◌, sym}
 use Rattle.sheet.proofs.LaneLists.{node-stood, node-new, AreMarks-push}
 use Rattle.sheet.proofs.lanes.push_marks.Goals as goal
 

@@ -1,7 +1,5 @@
-use Rattle.std.proofs.Common.{◌≡◌, ◌∙◌, ap, sym, length, arith}
-use Rattle.std.specs.List.{flat_map}
+use Rattle.std.proofs.Common.{ap, length, arith}
 use Rattle.std.proofs.lemmas.List.{append_assoc}
-use Rattle.sheet.specs.Lanes.{lane_order}
 use Rattle.sheet.proofs.NumberedLanes.{length-spans_of, numbered-read}
 use Rattle.sheet.proofs.order.push_lane_orders.Goals as goal
 

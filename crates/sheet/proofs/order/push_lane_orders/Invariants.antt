@@ -1,7 +1,6 @@
 use Rattle.std.proofs.Common.{◌≡◌, ◌++◌, drop}
 use Rattle.std.specs.List.{flat_map}
 use Rattle.sheet.specs.Lanes.{numbered, lane_order, order_rules}
-use Rattle.sheet.proofs.NumberedLanes.{numbered-read}
 use Rattle.sheet.proofs.order.push_lane_orders.Given as goal
 
 abbrev pub invariant-loop-k : goal.invariant-loop-k

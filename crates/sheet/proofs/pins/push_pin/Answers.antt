@@ -1,4 +1,4 @@
-use Rattle.std.proofs.Common.{◌≡◌, ◌∙◌, sym, refl}
+use Rattle.std.proofs.Common.{◌∙◌, sym}
 use Rattle.sheet.proofs.PinLists.{pin-named, pin-stood, pin-new}
 use Rattle.sheet.proofs.pins.push_pin.Goals as goal
 

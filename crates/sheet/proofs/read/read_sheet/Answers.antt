@@ -1,4 +1,3 @@
-use Rattle.std.proofs.Common.{◌≡◌, ◌∙◌, sym, refl, ap}
 use Rattle.std.proofs.lemmas.Result.{err_from_is_err_and}
 use Rattle.sheet.proofs.SheetSteps.{marks-fault, pins-fault, edges-fault, sheet-ok}
 use Rattle.sheet.proofs.read.read_sheet.Goals as goal
