@@ -10,14 +10,14 @@ use crate::characters::is_mark;
 pub enum EdgeText<'a> {
     /// The label does not begin with `@`, so the edge means nothing.
     Comment,
-    /// The edge goes from one mark to another. The label, not yet read, begins with `@`.
+    /// The edge goes from one mark to another, each a visible character of ASCII. The label, not yet read, begins with `@`.
     Timing { from: u8, to: u8, label: &'a str },
     /// The label begins with `@`, and the word before it does not name two marks.
     Malformed,
 }
 
-/// Cuts the text of an edge, as `a~>b @lin [0,250]`: a shape word, a space and a label. The first and the last character of
-/// the shape word are the marks that it joins, and those between are not looked at.
+/// Cuts the text of an edge, as `a~>b @lin [0,250]`, at its first space into a shape word and a label. The shape word has at
+/// least three characters. The first and the last are the marks that it joins, and those between are not looked at.
 #[tactic(auto, unfolding(crate::specs::Edge::edge_of))]
 pub fn read_edge<'a>(text: &'a str) -> EdgeText<'a>
     ensures { edge_view result ≡ edge_of text.now }

@@ -20,7 +20,7 @@ pub struct EndPair<'a> {
     pub high: Option<Number<'a>>,
 }
 
-/// A label as it is written.
+/// A label as it is written, its ends of any size and in any order.
 #[derive(Clone, Copy)]
 pub struct Form<'a> {
     pub kind: Kind,

@@ -10,13 +10,13 @@ use itv_base::Range;
 pub enum Kind {
     /// The separation of the two events lies in the range.
     Lin,
-    /// One of the edges of which the latest counts.
+    /// One of the causes of a target that comes at the latest of them, each delayed within its range.
     Late,
-    /// One of the edges of which the earliest counts.
+    /// One of the causes of a target that comes at the earliest of them, each delayed within its range.
     Early,
-    /// The separation is demanded to lie in the range.
+    /// The separation is demanded to lie in the range, which constrains nothing.
     Req,
-    /// The separation is asked for.
+    /// The separation is asked for, which constrains nothing.
     Ask,
 }
 
@@ -41,7 +41,7 @@ pub struct Label<'a> {
     pub kind: Kind,
     /// How many cycles the from-event is before the to-event, 0 to 64.
     pub shift: u32,
-    /// What tells groups of edges apart: 1 to 16 letters of ASCII, digits or `_`.
+    /// What tells apart the groups of causes of one target: 1 to 16 letters of ASCII, digits or `_`.
     pub tag: Option<&'a str>,
     /// The range of the separation in picoseconds. An ask alone has none.
     pub range: Option<Range>,

@@ -10,7 +10,8 @@ use crate::characters::{is_mark, is_name};
 pub enum WireText<'a> {
     /// There are not two spaces, or the label does not begin with `@`, so the wire means nothing.
     Comment,
-    /// The wire goes from a mark of one part to a mark of another. The label, not yet read, begins with `@`.
+    /// The wire goes from a mark of one part to a mark of another, each mark a visible character of ASCII. The label, not yet
+    /// read, begins with `@`.
     Timing {
         from_part: &'a str,
         from_mark: u8,
@@ -34,8 +35,8 @@ fn read_part_mark(word: &str) -> Option<(&str, u8)>
     }
 }
 
-/// Cuts the text of a wire, as `U1.a U2.b @ask`: two words and a label, parted by its first two spaces. Each word is the name
-/// of a part, a full stop and a mark.
+/// Cuts the text of a wire, as `U1.a U2.b @ask`, at its first two spaces into two words and a label. Each word is the name of
+/// a part (1 to 16 letters of ASCII, digits or `_`), a full stop and a mark.
 #[tactic(auto, unfolding(crate::specs::Wire::wire_of))]
 pub fn read_wire<'a>(text: &'a str) -> WireText<'a>
     ensures { wire_view result ≡ wire_of text.now }
