@@ -135,7 +135,7 @@ fn the_first_put_that_fails_leaves_nothing(rt: HostRuntime) -> Result<(), Fail> 
 fn a_full_sink_holds_the_front_of_the_text(rt: HostRuntime) -> Result<(), Fail> {
     for (file, word, end, text) in RUNS {
         for room in 0..=text.len() {
-            let mut sink = SinkMem::new(rt.alloc(), room as u32)?;
+            let mut sink = SinkMem::new(rt.alloc(), u32::try_from(room)?)?;
             let outcome = run_into(rt.alloc(), file, word, &mut sink)?;
             let wanted = if room < text.len() {
                 Outcome::WriteFault

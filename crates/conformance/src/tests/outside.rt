@@ -10,7 +10,7 @@ use std::{fs, str};
 #[test]
 fn real_files_are_fetched_by_their_names(rt: HostRuntime) -> Result<(), Fail> {
     let alloc = rt.alloc();
-    let length = FIRST.len() as u32;
+    let length = u32::try_from(FIRST.len())?;
     assert_eq!(rt; length, 101);
     fs::write(&rt, "conformance_first.json", FIRST)?;
     fs::write(&rt, "conformance_empty.json", "")?;
