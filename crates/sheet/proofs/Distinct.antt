@@ -1,14 +1,10 @@
 -- Elements put at the end one by one, where no key stands before.
-use Rattle.std.proofs.Common.{◌≡◌, Bool, true, false, ◌||◌, List, [], ◌∷◌, ◌++◌, map, Option, Some, None, Ok, Err, refl, ap, sym, ◌∙◌}
+use Rattle.std.proofs.Common.{◌≡◌, Bool, true, false, List, [], ◌∷◌, ◌++◌, map, Option, Some, None, Ok, Err, refl, ap, sym, ◌∙◌}
 use Rattle.std.specs.List.{list_any}
 use Rattle.std.proofs.lemmas.List.{append-nil, append_assoc, map_push}
 use Rattle.sheet.specs.declared.fault.SheetFault.{SheetFault}
 use Rattle.sheet.specs.Fault.{◌>>=◌, unless}
 use Rattle.sheet.specs.Steps.{with_distinct}
-
-pub list_any-map : {X Y : Type 0} (p : Y → Bool) (f : X → Y) (xs : List X) → list_any p (map f xs) ≡ list_any (λ x. p (f x)) xs
-list_any-map p f [] = refl
-list_any-map p f (x ∷ xs) = ap (λ r. p (f x) || r) (list_any-map p f xs)
 
 module _ {X K : Type 0} (same : K → K → Bool) (key : X → K) (fault : X → SheetFault) where
   pub with_distinct-nil : (done : List X) → with_distinct same key fault done [] ≡ Ok done

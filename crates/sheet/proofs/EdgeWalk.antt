@@ -13,9 +13,9 @@ use Rattle.sheet.specs.Fault.{◌>>=◌}
 use Rattle.sheet.specs.Groups.{openers, place_of, group_link, Places, ArePlaces, StandsFor}
 use Rattle.sheet.specs.Links.{Link, joins, link_of, with_link, links_from, link_rules, link_rows, row_by}
 use Rattle.sheet.specs.Rule.{SheetRule}
-use Rattle.sheet.proofs.LaneLists.{drop-read}
 use Rattle.sheet.proofs.Faults.{HasFault-on}
 use Rattle.sheet.proofs.Openers.{rule_for, link_rules-map}
+use Rattle.sheet.proofs.Lists.{drop-read}
 
 -- What was read of the edges before number n: links, their rules behind others, the table of their groups, and their rows.
 pub record EdgesRead (marks : List Mark) (edges : List (List ℕ)) (front : List SheetRule) (n : ℕ) (all : List SheetRule) (places : Places) (rows : List SheetRow) : Type 0 where

@@ -1,5 +1,5 @@
 -- The table of groups, with one link more.
-use Rattle.std.proofs.Common.{◌≡◌, ℕ, suc, ◌+◌, Bool, true, false, ◌||◌, ◌&&◌, ◌==◌, cond, not, if◌then◌else◌, List, [], ◌∷◌, ◌++◌, length, map, set, get_or, Option, Some, None, Result, Ok, Err, refl, ap, sym, ◌∙◌, ◌⊎◌, inl, inr, add-zero, arith}
+use Rattle.std.proofs.Common.{◌≡◌, ℕ, ◌+◌, Bool, true, false, ◌&&◌, ◌==◌, cond, not, if◌then◌else◌, List, [], ◌∷◌, ◌++◌, length, map, set, get_or, Option, Some, None, Result, Ok, Err, refl, ap, sym, ◌∙◌, ◌⊎◌, inl, inr}
 use Rattle.std.specs.Prelude.{nat_le, ⊤}
 use Rattle.std.specs.List.{list_any, position_from}
 use Rattle.std.specs.Option.{option_copied, option_eq}
@@ -15,46 +15,14 @@ use Rattle.sheet.specs.Rule.{SheetRule}
 use Rattle.sheet.specs.Links.{Link, is_cause, is_full, same_tag, joins, source_of, with_link, link_rules}
 use Rattle.sheet.specs.Groups.{opens, openers, kind_of, same_group, group_link, Places, place_of, StandsFor, AddsLink}
 use Rattle.sheet.proofs.Joins.{joins-same, joins-itself, joins-comm, joins-no_cause}
-use Rattle.sheet.proofs.Openers.{linear_rule, rule_for, link_rules-map, openers-push, opens-joined, any-openers, ChangesAt, list_any-same, both_false}
-use Rattle.sheet.proofs.OneMore.{list_any-none, not_full, full-rule, rules-linear, rules-row, rules-first, rules-unopened, rules-joined, rule_for-joined, with_cause}
+use Rattle.sheet.proofs.Openers.{linear_rule, rule_for, link_rules-map, openers-push, opens-joined, any-openers}
+use Rattle.sheet.proofs.OneMore.{not_full, full-rule, rules-linear, rules-row, rules-first, rules-unopened, rules-joined, rule_for-joined, with_cause}
 use Rattle.sheet.specs.Answer.{Gives}
 use Rattle.sheet.proofs.Faults.{HasFault-on}
 use Rattle.sheet.specs.declared.fault.SheetFault.{SheetFault}
 use Rattle.sheet.specs.declared.fault.SheetFault.TheVariants.{TooManyCauses}
-
--- ---- the first place at which a test passes
-
-module _ {X : Type 0} (p : X → Bool) where
-  pub position_from-none : (n : ℕ) (xs : List X) → list_any p xs ≡ false → position_from p n xs ≡ None
-  position_from-none n [] none = refl
-  position_from-none n (x ∷ xs) none =
-      let parts = both_false (p x) (list_any p xs) none in
-      rw parts.0 (position_from-none (n + 1) xs parts.1)
-
-  none_by : (b : Bool) (n : ℕ) (more : Option ℕ) (any : Bool) → cond b (Some n) more ≡ None → (more ≡ None → any ≡ false) → (b || any) ≡ false
-  none_by true n more any is rest = cc
-  none_by false n more any is rest = rest is
-
-  pub none-from_position : (n : ℕ) (xs : List X) → position_from p n xs ≡ None → list_any p xs ≡ false
-  none-from_position n [] is = refl
-  none-from_position n (x ∷ xs) is = none_by (p x) n (position_from p (n + 1) xs) (list_any p xs) is (none-from_position (n + 1) xs)
-
-  pub position_from-other : (n : ℕ) (xs : List X) (x : X) → p x ≡ false → position_from p n (xs ++ x ∷ []) ≡ position_from p n xs
-  position_from-other n [] x other = rw other
-  position_from-other n (y ∷ xs) x other = ap (λ more. cond (p y) (Some n) more) (position_from-other (n + 1) xs x other)
-
-  shifted : (n m : ℕ) → n + 1 + m ≡ n + suc m
-  shifted n m = omega arith
-
-  pub position_from-push : (n : ℕ) (xs : List X) (x : X) → list_any p xs ≡ false → p x ≡ true → position_from p n (xs ++ x ∷ []) ≡ Some (n + length xs)
-  position_from-push n [] x none here = rw here (ap Some (sym (add-zero n)))
-  position_from-push n (y ∷ xs) x none here =
-      let parts = both_false (p y) (list_any p xs) none in
-      rw parts.0 (position_from-push (n + 1) xs x parts.1 here ∙ ap Some (shifted n (length xs)))
-
-pub position_from-same : {X : Type 0} (p q : X → Bool) (n : ℕ) (xs : List X) → ((x : X) → p x ≡ q x) → position_from p n xs ≡ position_from q n xs
-position_from-same p q n [] same = refl
-position_from-same p q n (x ∷ xs) same = rw (same x, position_from-same p q (n + 1) xs same)
+use Rattle.sheet.proofs.Lists.{list_any-same, list_any-none, position_from-none, none-from_position, position_from-other, position_from-push, position_from-same}
+use Rattle.sheet.proofs.OneChange.{ChangesAt}
 
 -- ---- groups
 

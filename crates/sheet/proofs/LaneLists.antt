@@ -9,7 +9,6 @@ use Rattle.std.proofs.lemmas.List.Elements.{All-push, All-map, All-contains}
 use Rattle.std.proofs.lemmas.Map.Keys.{IsDistinct-push}
 use Rattle.std.proofs.lemmas.Map.Views.{Contains-from_any}
 use Rattle.std.proofs.lemmas.Map.Steps.{length-le_from_distinct_below}
-use Rattle.std.proofs.lemmas.Option.{get_or_from_slice_get, slice_get_within}
 use Rattle.wave_string.specs.declared.mark_kind.MarkKind.{MarkKind}
 use Rattle.wavejson.specs.declared.lane_text.LaneText.{LaneText}
 use Rattle.label_grammar.specs.Characters.{is_mark}
@@ -21,13 +20,8 @@ use Rattle.sheet.specs.Sheet.{read_marks}
 use Rattle.sheet.specs.Steps.{AreMarks, with_marks, span_of}
 use Rattle.sheet.specs.declared.fault.SheetFault.{SheetFault}
 use Rattle.sheet.specs.declared.fault.SheetFault.TheVariants.{BadNode, DoubleMark}
-use Rattle.sheet.proofs.Distinct.{list_any-map, with_distinct-stood, with_distinct-nil, with_distinct-new, with_distinct-append, with_distinct-ok}
-
--- what is left of a list, of which the next element was read
-pub drop-read : {X : Type 0} (xs : List X) (k : ℕ) (x : X) → slice_get xs k ≡ Some x → drop k xs ≡ x ∷ drop (k + 1) xs
-drop-read xs k x read =
-    let within : k < length xs = slice_get_within xs k x read in
-    drop_more xs k x within ∙ ap (λ y. y ∷ drop (k + 1) xs) (get_or_from_slice_get xs k x x read)
+use Rattle.sheet.proofs.Distinct.{with_distinct-stood, with_distinct-nil, with_distinct-new, with_distinct-append, with_distinct-ok}
+use Rattle.sheet.proofs.Lists.{drop-read, list_any-map}
 
 -- ---- the marks of a lane
 

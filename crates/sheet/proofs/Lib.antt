@@ -1,3 +1,5 @@
+pub mod Lists
+pub mod OneChange
 pub mod Faults
 pub mod Distinct
 pub mod LaneLists

@@ -12,23 +12,9 @@ use Rattle.sheet.specs.Rule.{SheetRule}
 use Rattle.sheet.specs.Links.{Link, is_cause, is_full, joins, source_of, group_rule, link_rules}
 use Rattle.sheet.specs.Groups.{opens_by, opens, openers, kind_of}
 use Rattle.sheet.proofs.Joins.{joins-same, joins-itself, joins-cause, joins-comm, joins-no_cause}
-use Rattle.sheet.proofs.Openers.{linear_rule, rule_by, rule_for, link_rules-map, openers-push, any-openers, map_none, both_false, at_most-openers, ChangesAt, changes-at}
-
--- ---- filters
-
-filter-none : {X : Type 0} (p : X → Bool) (xs : List X) → list_any p xs ≡ false → filter p xs ≡ []
-filter-none p [] none = refl
-filter-none p (x ∷ xs) none =
-    let parts = both_false (p x) (list_any p xs) none in
-    rw parts.0 (filter-none p xs parts.1)
-
-filter-same : {X : Type 0} (p q : X → Bool) (xs : List X) → ((x : X) → p x ≡ q x) → filter p xs ≡ filter q xs
-filter-same p q [] same = refl
-filter-same p q (x ∷ xs) same = rw (same x, filter-same p q xs same)
-
-pub list_any-none : {X : Type 0} (p : X → Bool) (xs : List X) → ((x : X) → p x ≡ false) → list_any p xs ≡ false
-list_any-none p [] none = refl
-list_any-none p (x ∷ xs) none = rw (none x) (list_any-none p xs none)
+use Rattle.sheet.proofs.Openers.{linear_rule, rule_by, rule_for, link_rules-map, openers-push, any-openers, at_most-openers}
+use Rattle.sheet.proofs.Lists.{list_any-none, filter-none, filter-same, map_none}
+use Rattle.sheet.proofs.OneChange.{ChangesAt, changes-at}
 
 -- a link that joins none is not full
 pub not_full : (links : List Link) (link : Link) → list_any (joins link) links ≡ false → is_full links link ≡ false

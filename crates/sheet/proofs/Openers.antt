@@ -1,9 +1,9 @@
 -- The links that open a rule, and the rules as a map over them.
-use Rattle.std.proofs.Common.{◌≡◌, ℕ, ◌+◌, ◌<◌, Bool, true, false, ◌||◌, ◌&&◌, cond, not, if◌then◌else◌, List, [], ◌∷◌, ◌++◌, length, map, take, set, get_or, Option, Some, None, refl, ap, sym, ◌∙◌, arith}
+use Rattle.std.proofs.Common.{◌≡◌, ℕ, ◌+◌, Bool, true, false, ◌||◌, ◌&&◌, cond, not, if◌then◌else◌, List, [], ◌∷◌, ◌++◌, length, map, take, Some, None, refl, ap, sym, ◌∙◌}
 use Rattle.std.specs.Prelude.{filter_map}
-use Rattle.std.specs.List.{list_any, cons_option, enumerate_from, position_from}
+use Rattle.std.specs.List.{list_any, cons_option, enumerate_from}
 use Rattle.std.proofs.Math.Bool.{or-false, or-true, and-false}
-use Rattle.std.proofs.lemmas.List.{append-nil, append_assoc, length-append, length_push, take_at, set_at, get_or_at}
+use Rattle.std.proofs.lemmas.List.{append-nil, append_assoc, length_push, take_at}
 use Rattle.std.proofs.lemmas.List.Folds.{list_any-append}
 use Rattle.label_grammar.specs.declared.label.Kind.{Kind}
 use Rattle.label_grammar.specs.declared.label.Kind.TheVariants.{Lin, Late, Early, Req, Ask}
@@ -12,6 +12,7 @@ use Rattle.sheet.specs.Rule.{SheetRule}
 use Rattle.sheet.specs.Groups.{opens_by, opens, openers_from, openers}
 use Rattle.sheet.specs.Links.{Link, is_cause, joins, source_of, group_rule, rule_opened, link_rules}
 use Rattle.sheet.proofs.Joins.{joins-same, joins-cause, joins-comm}
+use Rattle.sheet.proofs.Lists.{list_any-same, AtMostOne}
 
 abbrev pub linear_rule : Link → SheetRule
 linear_rule link = record { kind = rules.Lin; target = link.to; causes = source_of link ∷ [] }
@@ -73,11 +74,7 @@ openers-push links link = openers_from-push [] links link
 
 -- ---- which opener a link joins
 
-pub list_any-same : {X : Type 0} (p q : X → Bool) (xs : List X) → ((x : X) → p x ≡ q x) → list_any p xs ≡ list_any q xs
-list_any-same p q [] same = refl
-list_any-same p q (x ∷ xs) same = rw (same x, list_any-same p q xs same)
-
-pub opens_by-cause : (before : List Link) (link : Link) (kind : Kind) → is_cause kind ≡ true → opens_by before link kind ≡ not (list_any (joins link) before)
+opens_by-cause : (before : List Link) (link : Link) (kind : Kind) → is_cause kind ≡ true → opens_by before link kind ≡ not (list_any (joins link) before)
 opens_by-cause before link Lin e = cc
 opens_by-cause before link Late e = refl
 opens_by-cause before link Early e = refl
@@ -129,12 +126,6 @@ openers_from-some link before (l ∷ rest) new =
 pub any-openers : (link : Link) (links : List Link) → list_any (joins link) (openers links) ≡ list_any (joins link) links
 any-openers link links = openers_from-some link [] links refl
 
--- ---- at most one element passes a test
-
-abbrev pub AtMostOne : {X : Type 0} → (X → Bool) → List X → Type 0
-AtMostOne p [] = Unit {0}
-AtMostOne p (x ∷ xs) = (p x ≡ true → list_any p xs ≡ false) × AtMostOne p xs
-
 at_most_head : (opened : Bool) (link l : Link) (more : List Link) → (joins link l ≡ true → list_any (joins link) more ≡ false) → AtMostOne (joins link) more
     → AtMostOne (joins link) (cond opened (l ∷ []) [] ++ more)
 at_most_head true link l more none rest = (none, rest)
@@ -150,63 +141,3 @@ at_most_from link before (l ∷ rest) =
 -- a link joins at most one opener
 pub at_most-openers : (link : Link) (links : List Link) → AtMostOne (joins link) (openers links)
 at_most-openers link links = at_most_from link [] links
-
--- ---- a map that changes at the one element that passes a test
-
-pub both_false : (a b : Bool) → (a || b) ≡ false → (a ≡ false) × (b ≡ false)
-both_false true b e = cc
-both_false false b e = (refl, e)
-
-pub map_none : {X Y : Type 0} (f g : X → Y) (p : X → Bool) (xs : List X) → ((x : X) → p x ≡ false → g x ≡ f x) → list_any p xs ≡ false → map g xs ≡ map f xs
-map_none f g p [] same none = refl
-map_none f g p (x ∷ xs) same none =
-    let parts = both_false (p x) (list_any p xs) none in
-    rw (same x parts.0, map_none f g p xs same parts.1)
-
--- The elements of f stand behind others, and from f to g they change at this place alone, at the element that passes.
-pub record ChangesAt {X Y : Type 0} (f g : X → Y) (p : X → Bool) (front : List Y) (xs : List X) (place : ℕ) : Type 0 where
-  pub element : X
-  pub passes : p element ≡ true
-  pub within : place < length (front ++ map f xs)
-  pub stands : (d : Y) → get_or (front ++ map f xs) place d ≡ f element
-  pub after : front ++ map g xs ≡ set (front ++ map f xs) place (g element)
-
-changes_here : {X Y : Type 0} (f g : X → Y) (p : X → Bool) (front : List Y) (x : X) (xs : List X) (place : ℕ) → length front ≡ place → p x ≡ true
-    → map g xs ≡ map f xs → ChangesAt f g p front (x ∷ xs) place
-changes_here f g p front x xs place long passes rest = record {
-  element = x;
-  passes = passes;
-  within = omega (arith, long, length-append front (f x ∷ map f xs));
-  stands = λ d. get_or_at front (f x) (map f xs) d place long;
-  after = rw (rest, set_at front (f x) (map f xs) (g x) place long);
-}
-
-changes_behind : {X Y : Type 0} (f g : X → Y) (p : X → Bool) (front : List Y) (x : X) (xs : List X) (place : ℕ) → g x ≡ f x
-    → ChangesAt f g p (front ++ f x ∷ []) xs place → ChangesAt f g p front (x ∷ xs) place
-changes_behind f g p front x xs place same at =
-    let moved = append_assoc front (f x ∷ []) (map f xs) in
-    record {
-      element = at.element;
-      passes = at.passes;
-      within = rw moved at at.within;
-      stands = λ d. rw moved at (at.stands d);
-      after = rw same (sym (append_assoc front (f x ∷ []) (map g xs)) ∙ rw moved at at.after);
-    }
-
-same_place : (a b : ℕ) → ◌≡◌ {A = Option ℕ} (Some a) (Some b) → a ≡ b
-same_place a b e = cc
-
-changes_by : {X Y : Type 0} (f g : X → Y) (p : X → Bool) (b : Bool) (front : List Y) (x : X) (xs : List X) (place : ℕ) → p x ≡ b
-    → cond b (Some (length front)) (position_from p (length front + 1) xs) ≡ Some place → ((y : X) → p y ≡ false → g y ≡ f y) → (p x ≡ true → list_any p xs ≡ false)
-    → (position_from p (length (front ++ f x ∷ [])) xs ≡ Some place → ChangesAt f g p (front ++ f x ∷ []) xs place)
-    → ChangesAt f g p front (x ∷ xs) place
-changes_by f g p true front x xs place e at same one more =
-    changes_here f g p front x xs place (same_place _ _ at) e (map_none f g p xs same (one e))
-changes_by f g p false front x xs place e at same one more =
-    changes_behind f g p front x xs place (same x e) (more (rw length_push at))
-
-pub changes-at : {X Y : Type 0} (f g : X → Y) (p : X → Bool) (front : List Y) (xs : List X) (place : ℕ) → position_from p (length front) xs ≡ Some place
-    → AtMostOne p xs → ((x : X) → p x ≡ false → g x ≡ f x) → ChangesAt f g p front xs place
-changes-at f g p front [] place at one same = cc
-changes-at f g p front (x ∷ xs) place at one same =
-    changes_by f g p (p x) front x xs place refl at same one.0 (λ more. changes-at f g p (front ++ f x ∷ []) xs place more one.1 same)

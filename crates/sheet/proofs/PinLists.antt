@@ -14,7 +14,8 @@ use Rattle.sheet.specs.Lanes.{Numbered, numbered, pin_of}
 use Rattle.sheet.specs.Steps.{with_pins, numbered_by}
 use Rattle.sheet.specs.Fault.{◌>>=◌}
 use Rattle.sheet.proofs.NumberedLanes.{length-numbered}
-use Rattle.sheet.proofs.Distinct.{list_any-map, with_distinct-stood, with_distinct-nil, with_distinct-new, with_distinct-append}
+use Rattle.sheet.proofs.Distinct.{with_distinct-stood, with_distinct-nil, with_distinct-new, with_distinct-append}
+use Rattle.sheet.proofs.Lists.{list_any-map}
 
 -- ---- one pin
 

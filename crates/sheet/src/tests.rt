@@ -177,7 +177,7 @@ fn the_first_fault_is_told(rt: HostRuntime) -> Result<(), Fail> {
     Ok(())
 }
 
-// A drawing with a remark and then that many latest causes of one target.
+// A drawing with one earliest cause of a target, and then with that many latest ones.
 fn crowded(alloc: Global, causes: u32) -> Result<String, AllocError> {
     let mut drawing = String::new(alloc);
     drawing.push_str(r#"{"signal":[{"node":"aj"}],"edge":["a->j @early [0,1]""#)?;
