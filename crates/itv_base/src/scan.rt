@@ -1,17 +1,17 @@
-//! Cutting texts, and reading the numbers in them.
+//! Cutting texts.
 
-ghost use Rattle.std.specs.Prelude.{◌≡◌, if◌then◌else◌, nat_le, Some, None, IsTrue};
-ghost use Rattle.std.specs.List.{take_while, prefix_len, list_all};
+ghost use Rattle.std.specs.Prelude.{◌≡◌};
+ghost use Rattle.std.specs.List.{take_while, prefix_len};
 ghost use Rattle.std.specs.Option.{option_copied};
 ghost use Rattle.std.specs.Char.{is_ascii_digit};
-ghost use Rattle.label_grammar.specs.Characters.{is_name_byte};
-ghost use Rattle.label_grammar.specs.Reading.{stripped, after_while, is_numeral, value_of};
+ghost use Rattle.itv_base.specs.Characters.{is_name_byte};
+ghost use Rattle.itv_base.specs.Cuts.{stripped, after_while};
 
 use crate::characters::is_name_byte;
 
 /// The text behind a front, if it stands there.
 pub fn strip<'a>(text: &'a str, front: &str) -> Option<&'a str>
-    ensures { option_copied result ≡ stripped front.now text.now }
+    ensures rest { option_copied result ≡ stripped front.now text.now }
 {
     text.strip_prefix(front)
 }
@@ -42,27 +42,4 @@ pub fn split_name(text: &str) -> (&str, &str)
     ensures rest { result.1.now ≡ after_while is_name_byte text.now }
 {
     text.split_at(name_len(text.as_bytes()))
-}
-
-fn are_digits(bytes: &[u8]) -> bool
-    ensures { result ≡ list_all is_ascii_digit bytes.now }
-{
-    bytes.iter().all(|b| b.is_ascii_digit())
-}
-
-/// Whether a text is a number in decimal, without a zero in front.
-pub fn is_numeral(text: &str) -> bool
-    ensures { result ≡ is_numeral text.now }
-{
-    let bytes = text.as_bytes();
-    are_digits(bytes) && !bytes.is_empty() && (bytes[0] != b'0' || bytes.len() == 1)
-}
-
-/// The number that a numeral writes, unless it is above a limit.
-pub fn value_up_to(numeral: &str, limit: u64) -> Option<u64>
-    requires { IsTrue (is_numeral numeral.now) }
-    ensures { result ≡ (if nat_le (value_of numeral.now) limit then Some (value_of numeral.now) else None) }
-{
-    let value = numeral.parse::<u64>().ok()?;
-    (value <= limit).then_some(value)
 }

@@ -9,8 +9,8 @@ use Rattle.std.proofs.lemmas.Bool.{eqb-true, eq-eqb}
 use Rattle.std.proofs.lemmas.Bool.Decides.{nat_tests}
 use Rattle.std.proofs.lemmas.List.Sums.{prefix_len-le-length, prefix_len_passes}
 use Rattle.std.proofs.lemmas.Str.{IsCharBoundary-start, IsCharBoundary-after_ascii}
-use Rattle.label_grammar.specs.Characters.{is_name_byte}
-use Rattle.label_grammar.specs.Reading.{stripped}
+use Rattle.itv_base.specs.Characters.{is_name_byte}
+use Rattle.itv_base.specs.Cuts.{stripped}
 
 -- ---- behind a run
 

@@ -8,9 +8,8 @@ use Rattle.std.proofs.lemmas.List.{append-nil, nil_from_length}
 use Rattle.std.proofs.lemmas.Nat.{mod-mul-add, div-mul-add}
 use Rattle.std.proofs.lemmas.Str.{digit_value_digit}
 use Rattle.std.proofs.lemmas.Int.Digits.{digits_value_is, digits_of_step, all_below_base_digits_of, first_digits_of, number_digits_of, number_after_ge}
-use Rattle.label_grammar.specs.Label.{number_text}
-use Rattle.label_grammar.specs.Reading.{is_numeral, value_of}
-use Rattle.label_grammar.proofs.Numbers.{digit_range, IsNumeral, numeral_is}
+use Rattle.itv_base.specs.Numerals.{number_text, is_numeral, value_of}
+use Rattle.itv_base.proofs.Numbers.{digit_range, IsNumeral, numeral_is}
 
 -- the digits of a number that digits follow, where the number is not 0
 digits_after : (n : ℕ) (ds : List ℕ) → 0 < n → AllBelowBase 10 ds → digits_of 10 (number_from_digits_after 10 n ds) ≡ digits_of 10 n ++ ds

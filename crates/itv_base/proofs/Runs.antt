@@ -5,7 +5,7 @@ use Rattle.std.proofs.Math.Numerals.{one-add}
 use Rattle.std.proofs.lemmas.Bool.{and_parts, not-true}
 use Rattle.std.proofs.lemmas.List.{take-append-drop}
 use Rattle.std.proofs.lemmas.List.Sums.{take_while-cons}
-use Rattle.label_grammar.specs.Reading.{after_while}
+use Rattle.itv_base.specs.Cuts.{after_while}
 
 -- no byte that passes stands first
 abbrev pub stops : (ℕ → Bool) → List ℕ → Bool
