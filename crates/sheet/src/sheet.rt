@@ -1,6 +1,7 @@
 //! A sheet as it was read.
 
 ghost use Rattle.std.specs.Prelude.{◌≡◌};
+ghost use Rattle.sheet.specs.Whole.{IsWhole};
 
 use crate::mark::Marks;
 use crate::pin::Pins;
@@ -19,16 +20,20 @@ pub struct Sheet {
 
 impl Model for Sheet {
     ghost use Rattle.sheet.specs.Contents.{Contents};
+    ghost use Rattle.sheet.specs.Whole.{IsWhole};
 
     ghost Value = { Contents };
 
     ghost view = { λ s. record { marks = s.marks; pins = s.pins; rules = s.rules; rows = s.rows } };
+
+    ghost invariant = { λ s. IsWhole (record { marks = s.marks; pins = s.pins; rules = s.rules; rows = s.rows }) };
 }
 
 impl Sheet {
     /// The marks, numbered from 0 lane by lane and then by place.
     pub fn marks(&self) -> &Marks
-        ensures { result.now ≡ self.now.marks }
+        ensures marks { result.now ≡ self.now.marks }
+        ensures whole { IsWhole self.now }
     {
         &self.marks
     }
