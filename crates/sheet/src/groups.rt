@@ -45,7 +45,7 @@ pub type Places<'a> = HashMap<Group<'a>, usize>;
 
 /// The place of the rule of a group, if it has one.
 pub fn place_of<'a>(places: &Places<'a>, group: Group<'a>) -> Option<usize>
-    ensures { result ≡ place_of places.now group.entry }
+    ensures place { result ≡ place_of places.now group.entry }
 {
     places.get(&group).copied()
 }
@@ -56,7 +56,7 @@ pub fn put_place<'a>(
     group: Group<'a>,
     place: usize,
 ) -> Result<(), OutOfMemory>
-    ensures { OnOk result ((other : Group) → place_of places.new other
+    ensures places { OnOk result ((other : Group) → place_of places.new other
         ≡ (if same_group group.entry other then Some place else place_of places.old other)) }
 {
     places.insert(group, place)?;

@@ -22,7 +22,7 @@ use wavejson::Diagram;
 ///
 /// `NoMemory` may come in place of a sheet or a fault. After any fault no sheet was made.
 pub fn read_sheet(alloc: Global, diagram: &Diagram) -> Result<Sheet, SheetFault>
-    ensures { Gives is_memory (λ sheet. sheet) result (sheet_of diagram.now) }
+    ensures answer { Gives is_memory (λ sheet. sheet) result (sheet_of diagram.now) }
 {
     let lanes = diagram.lanes();
     let LaneMarks { marks, spans } = read_marks(alloc, lanes)?;

@@ -40,21 +40,21 @@ impl Sheet {
 
     /// The pins in the order of their lanes.
     pub fn pins(&self) -> &Pins
-        ensures { result.now ≡ self.now.pins }
+        ensures pins { result.now ≡ self.now.pins }
     {
         &self.pins
     }
 
     /// The rules in the order in which they become constraints: the order on the lanes, and then the edges.
     pub fn rules(&self) -> &Rules
-        ensures { result.now ≡ self.now.rules }
+        ensures rules { result.now ≡ self.now.rules }
     {
         &self.rules
     }
 
     /// The separations that are asked for, in the order of their edges.
     pub fn rows(&self) -> &SheetRows
-        ensures { result.now ≡ self.now.rows }
+        ensures rows { result.now ≡ self.now.rows }
     {
         &self.rows
     }
