@@ -1,3 +1,4 @@
+pub mod FewMarks
 pub mod Lists
 pub mod OneChange
 pub mod Faults
@@ -11,3 +12,4 @@ pub mod OneMore
 pub mod GroupTable
 pub mod EdgeWalk
 pub mod SheetSteps
+pub mod WholeSheets

@@ -1,3 +1,4 @@
+pub mod Reading
 pub mod Rule
 pub mod Contents
 pub mod Fault
@@ -6,4 +7,4 @@ pub mod Links
 pub mod Steps
 pub mod Groups
 pub mod Sheet
-pub mod Answer
+pub mod Whole
