@@ -1,7 +1,7 @@
 -- The fault of a reading, step by step.
-use Rattle.std.proofs.Common.{◌≡◌, ℕ, suc, ◌+◌, ◌-◌, ◌<◌, Bool, true, false, List, [], ◌∷◌, length, drop, map, get_or, Result, Ok, Err, refl, sym, ap, subst, ◌∙◌, arith, add-one, drop-cons}
+use Rattle.std.proofs.Common.{◌≡◌, ℕ, suc, ◌+◌, ◌-◌, ◌<◌, Bool, true, false, List, [], ◌∷◌, length, drop, map, get_or, Option, Some, None, Result, Ok, Err, IfOk, refl, sym, ap, ◌∙◌, arith, add-one, drop-cons}
 use Rattle.std.proofs.lemmas.List.{drop-map}
-use Rattle.itv_base.specs.Reading.{◌>>=◌, walk, walk_to, Unless, HasFault}
+use Rattle.itv_base.specs.Reading.{◌>>=◌, unless, walk, walk_to, Unless, HasFault}
 
 -- ---- faults handed on
 
@@ -51,17 +51,23 @@ pub walk_fault_map : {V X A F : Type 0} (is_memory : F → Bool) (step : ℕ →
 walk_fault_map is_memory step f n k done xs v fault h is next =
     HasFault-on is_memory (step n done (f v)) (walk step n done (drop k (map f xs))) fault (λ d failed. rw (next_at f xs k v h is, failed) refl) next
 
-keeps_at : {A B F : Type 0} (P : A → Type 0) (r : Result A F) (f : A → Result B F) (last : B) (Q : B → Type 0)
-    → ((more : A) → r ≡ Ok more → P more) → ((more : A) → P more → f more ≡ Ok last → Q last) → (r >>= f) ≡ Ok last → Q last
-keeps_at P (Ok more) f last Q first next e = next more (first more refl) e
-keeps_at P (Err fault) f last Q first next e = absurd cc
+-- ---- what holds of a value that is read
 
--- what each step keeps, the walk keeps
-pub walk_keeps : {X A F : Type 0} (P : A → Type 0) (step : ℕ → A → X → Result A F) (n : ℕ) (done last : A) (xs : List X)
-    → ((m : ℕ) (now more : A) (x : X) → P now → step m now x ≡ Ok more → P more) → P done → walk step n done xs ≡ Ok last → P last
-walk_keeps P step n done last [] keeps start e = let same : done ≡ last = cc in subst P same start
-walk_keeps P step n done last (x ∷ xs) keeps start e =
-    keeps_at P (step n done x) (λ more. walk step (n + 1) more xs) last P (λ more is. keeps n done more x start is) (λ more now rest. walk_keeps P step (n + 1) more last xs keeps now rest) e
+-- what holds after the first step gives what holds after the second
+pub IfOk-bind : {A B F : Type 0} (P : A → Type 0) (Q : B → Type 0) (reading : Result A F) (f : A → Result B F) → IfOk reading P → ((x : A) → P x → IfOk (f x) Q) → IfOk (reading >>= f) Q
+IfOk-bind P Q (Ok x) f h then = then x h
+IfOk-bind P Q (Err fault) f h then = tt
+
+-- what holds of a value with nothing wrong holds of what comes
+pub IfOk-unless : {A X F : Type 0} (P : A → Type 0) (o : Option X) (fault : X → F) (value : A) → (o ≡ None → P value) → IfOk (unless o fault value) P
+IfOk-unless P None fault value h = h refl
+IfOk-unless P (Some x) fault value h = tt
+
+-- what each step keeps holds at the end
+pub IfOk-walk : {X A F : Type 0} (P : A → Type 0) (step : ℕ → A → X → Result A F) → ((n : ℕ) (done : A) (x : X) → P done → IfOk (step n done x) P)
+    → (n : ℕ) (done : A) (xs : List X) → P done → IfOk (walk step n done xs) P
+IfOk-walk P step keeps n done [] h = h
+IfOk-walk P step keeps n done (x ∷ xs) h = IfOk-bind P P (step n done x) _ (keeps n done x h) (λ more held. IfOk-walk P step keeps (n + 1) more xs held)
 
 -- ---- walks over numbers
 

@@ -8,14 +8,14 @@ use Rattle.sheet.specs.declared.fault.SheetFault.{SheetFault}
 use Rattle.sheet.specs.declared.groups.Group.{Group}
 use Rattle.sheet.specs.declared.mark.Mark.{Mark}
 use Rattle.sheet.specs.declared.row.SheetRow.{SheetRow}
-use Rattle.sheet.specs.Reading.{◌>>=◌, walk, HasFault}
+use Rattle.itv_base.specs.Reading.{◌>>=◌, walk, HasFault}
 use Rattle.sheet.specs.Fault.{is_memory, sheet_fault}
 use Rattle.sheet.specs.declared.groups.GroupFault.{GroupFault}
 use Rattle.sheet.specs.declared.groups.GroupFault.TheVariants.{TooManyCauses, NoMemory}
 use Rattle.sheet.specs.Groups.{openers, place_of, group_link, Places, ArePlaces, StandsFor, TellsFull}
 use Rattle.sheet.specs.Links.{Link, is_full, joins, link_of, with_link, with_edge, links_of, link_rules, link_rows, row_by}
 use Rattle.sheet.specs.Rule.{SheetRule}
-use Rattle.sheet.proofs.Faults.{HasFault-on}
+use Rattle.itv_base.proofs.Faults.{HasFault-on}
 use Rattle.sheet.proofs.Openers.{rule_for, link_rules-map}
 use Rattle.sheet.proofs.Lists.{drop-read}
 

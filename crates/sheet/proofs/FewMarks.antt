@@ -8,7 +8,7 @@ use Rattle.std.proofs.lemmas.Map.Made.{length-le_from_is_member}
 use Rattle.std.proofs.lemmas.Map.Views.{Contains-from_any}
 use Rattle.std.specs.Prelude.{nat_le, not}
 use Rattle.std.specs.Char.{is_ascii_graphic}
-use Rattle.label_grammar.specs.Characters.{is_mark}
+use Rattle.itv_base.specs.Characters.{is_mark}
 use Rattle.sheet.specs.declared.mark.TheConstants.{MAX_MARKS}
 
 -- a number of a range is found in it

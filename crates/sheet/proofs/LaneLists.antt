@@ -8,12 +8,12 @@ use Rattle.std.proofs.lemmas.List.Elements.{All-push, All-map}
 use Rattle.std.proofs.lemmas.Map.Keys.{IsDistinct-push}
 use Rattle.wave_string.specs.declared.mark_kind.MarkKind.{MarkKind}
 use Rattle.wavejson.specs.declared.lane_text.LaneText.{LaneText}
-use Rattle.label_grammar.specs.Characters.{is_mark}
+use Rattle.itv_base.specs.Characters.{is_mark}
 use Rattle.sheet.specs.declared.mark.Mark.{Mark}
 use Rattle.sheet.specs.declared.mark.TheConstants.{MAX_MARKS}
 use Rattle.sheet.proofs.FewMarks.{few_marks}
 use Rattle.sheet.specs.declared.lanes.Span.{Span}
-use Rattle.sheet.specs.Reading.{◌>>=◌, unless}
+use Rattle.itv_base.specs.Reading.{◌>>=◌, unless}
 use Rattle.sheet.specs.Lanes.{mark_at, drawn_kind, lane_marks, marks_of, numbered_from, has_bad_node}
 use Rattle.sheet.specs.Sheet.{read_marks}
 use Rattle.sheet.specs.Steps.{AreMarks, with_marks, span_of}

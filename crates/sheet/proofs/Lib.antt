@@ -1,7 +1,6 @@
 pub mod FewMarks
 pub mod Lists
 pub mod OneChange
-pub mod Faults
 pub mod Distinct
 pub mod LaneLists
 pub mod NumberedLanes

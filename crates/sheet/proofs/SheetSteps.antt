@@ -7,13 +7,13 @@ use Rattle.sheet.specs.declared.mark.Mark.{Mark}
 use Rattle.sheet.specs.declared.pin.Pin.{Pin}
 use Rattle.sheet.specs.Contents.{Contents}
 use Rattle.sheet.specs.Fault.{is_memory}
-use Rattle.sheet.specs.Reading.{◌>>=◌, HasFault}
+use Rattle.itv_base.specs.Reading.{◌>>=◌, HasFault}
 use Rattle.sheet.specs.Lanes.{order_rules}
 use Rattle.sheet.specs.Links.{Link, links_of, link_rules, link_rows}
 use Rattle.sheet.specs.Rule.{SheetRule}
 use Rattle.sheet.specs.Sheet.{read_marks, read_pins, sheet_of}
 use Rattle.sheet.specs.Steps.{rules_and_rows}
-use Rattle.sheet.proofs.Faults.{HasFault-on, HasFault-first}
+use Rattle.itv_base.proofs.Faults.{HasFault-on, HasFault-first}
 
 abbrev contents : List Mark → List Pin → List SheetRule → List Link → Contents
 contents marks pins front links = record { marks = marks; pins = pins; rules = front ++ link_rules links; rows = link_rows links }

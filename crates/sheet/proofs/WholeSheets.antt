@@ -20,7 +20,7 @@ use Rattle.label_grammar.specs.declared.label.Kind.{Kind}
 use Rattle.label_grammar.specs.declared.label.Kind.TheVariants.{Lin, Late, Early, Req, Ask}
 use Rattle.label_grammar.specs.declared.label.LabelFault.{LabelFault}
 use Rattle.label_grammar.specs.Answer.{judged}
-use Rattle.label_grammar.specs.Characters.{is_mark}
+use Rattle.itv_base.specs.Characters.{is_mark}
 use Rattle.label_grammar.specs.Edge.{EdgeSeen, comment, timing, malformed, edge_of}
 use Rattle.label_grammar.specs.Label.{LooseLabel}
 use Rattle.label_grammar.specs.Reading.{label_of}
@@ -29,7 +29,7 @@ use Rattle.sheet.specs.declared.mark.Mark.{Mark}
 use Rattle.sheet.specs.declared.pin.Pin.{Pin}
 use Rattle.sheet.specs.Contents.{Contents}
 use Rattle.sheet.specs.declared.mark.TheConstants.{MAX_MARKS}
-use Rattle.sheet.specs.declared.rule.TheConstants.{MAX_SHIFT}
+use Rattle.itv_base.specs.declared.limits.TheConstants.{MAX_SHIFT}
 use Rattle.itv_base.specs.declared.limits.TheConstants.{MAX_CAUSES}
 use Rattle.itv_base.specs.Range.{Ends, IsEnd, IsRange, has_wide, is_above, is_reversed, is_wide}
 use Rattle.label_grammar.specs.Label.{IsProper}
@@ -38,7 +38,7 @@ use Rattle.sheet.specs.Lanes.{Numbered, first_repeated, follows_rule, has_bad_no
 use Rattle.sheet.specs.Links.{Link, group_rule, is_full, joins, labelled, link_of, link_rows, link_rules, link_to, links_of, number_of, open_ends, row_by, rule_opened, seen_link, source_of, is_cause, with_edge, with_link}
 use Rattle.sheet.specs.Sheet.{read_marks, read_pins, sheet_of}
 use Rattle.sheet.specs.Whole.{IsWhole, IsWholeRow, IsWholeRule, IsWholeSource}
-use Rattle.sheet.proofs.Faults.{IfOk-bind, IfOk-unless, IfOk-walk}
+use Rattle.itv_base.proofs.Faults.{IfOk-bind, IfOk-unless, IfOk-walk}
 use Rattle.sheet.proofs.FewMarks.{few_marks}
 use Rattle.sheet.proofs.Joins.{joins-same, joins-itself}
 use Rattle.sheet.proofs.Lists.{both_false, filter-same}

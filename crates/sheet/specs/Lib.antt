@@ -1,4 +1,8 @@
-pub mod Reading
+pub use Rattle.itv_base.specs.Range
+pub use Rattle.itv_base.specs.Reading
+pub use Rattle.label_grammar.specs.Label
+pub use Rattle.label_grammar.specs.Edge
+pub use Rattle.wavejson.specs.Drawing
 pub mod Rule
 pub mod Contents
 pub mod Fault

@@ -19,7 +19,7 @@ use Rattle.sheet.specs.declared.row.RowKind.TheVariants as asked
 use Rattle.sheet.specs.declared.row.SheetRow.{SheetRow}
 use Rattle.sheet.specs.declared.fault.SheetFault.{SheetFault}
 use Rattle.sheet.specs.declared.fault.SheetFault.TheVariants.{BadEdge, Label, NoMark, TooManyCauses}
-use Rattle.sheet.specs.Reading.{◌>>=◌, walk}
+use Rattle.itv_base.specs.Reading.{◌>>=◌, walk}
 use Rattle.sheet.specs.Rule.{SheetRule}
 
 -- ---- one edge

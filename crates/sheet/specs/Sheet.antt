@@ -7,7 +7,7 @@ use Rattle.sheet.specs.declared.mark.Mark.{Mark}
 use Rattle.sheet.specs.declared.pin.Pin.{Pin}
 use Rattle.sheet.specs.declared.fault.SheetFault.{SheetFault}
 use Rattle.sheet.specs.declared.fault.SheetFault.TheVariants.{BadNode, DoubleMark, DoublePin}
-use Rattle.sheet.specs.Reading.{◌>>=◌, unless}
+use Rattle.itv_base.specs.Reading.{◌>>=◌, unless}
 use Rattle.sheet.specs.Contents.{Contents}
 use Rattle.sheet.specs.Lanes.{has_bad_node, marks_of, pins_of, order_rules, first_repeated}
 use Rattle.sheet.specs.Links.{links_of, link_rules, link_rows}

@@ -3,7 +3,7 @@ use Rattle.std.specs.Prelude.{◌≡◌, ℕ, Bool, true, All, List, ◌++◌, m
 use Rattle.std.specs.List.{IsDistinct}
 use Rattle.std.specs.Str.{bytes_eq}
 use Rattle.wavejson.specs.declared.lane_text.LaneText.{LaneText}
-use Rattle.label_grammar.specs.Characters.{is_mark}
+use Rattle.itv_base.specs.Characters.{is_mark}
 use Rattle.label_grammar.specs.Label.{label_view}
 use Rattle.sheet.specs.declared.edges.EdgeRules.{EdgeRules}
 use Rattle.sheet.specs.declared.fault.SheetFault.{SheetFault}
@@ -12,7 +12,7 @@ use Rattle.sheet.specs.declared.lanes.Span.{Span}
 use Rattle.sheet.specs.declared.link.Link as code
 use Rattle.sheet.specs.declared.mark.Mark.{Mark}
 use Rattle.sheet.specs.declared.pin.Pin.{Pin}
-use Rattle.sheet.specs.Reading.{◌>>=◌, unless}
+use Rattle.itv_base.specs.Reading.{◌>>=◌, unless}
 use Rattle.sheet.specs.Lanes.{Numbered, numbered, first_repeated}
 use Rattle.sheet.specs.Links.{Link, link_rules, link_rows}
 use Rattle.sheet.specs.Rule.{SheetRule}

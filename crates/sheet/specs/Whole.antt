@@ -9,7 +9,7 @@ use Rattle.sheet.specs.declared.pin.Pin.{Pin}
 use Rattle.sheet.specs.declared.row.RowKind.{RowKind}
 use Rattle.sheet.specs.declared.row.RowKind.TheVariants.{Ask, Req}
 use Rattle.sheet.specs.declared.row.SheetRow.{SheetRow}
-use Rattle.sheet.specs.declared.rule.TheConstants.{MAX_SHIFT}
+use Rattle.itv_base.specs.declared.limits.TheConstants.{MAX_SHIFT}
 use Rattle.sheet.specs.declared.rule.Source.{Source}
 use Rattle.sheet.specs.Rule.{SheetRule}
 use Rattle.sheet.specs.Contents.{Contents}

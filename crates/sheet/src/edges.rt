@@ -2,7 +2,7 @@
 
 ghost use Rattle.std.specs.Prelude.{◌≡◌, ◌≤◌, ◌++◌, ◌∷◌, [], List, length, nat_le, if◌then◌else◌, true, Ok, Err, OnOk, IfOk};
 ghost use Rattle.sheet.specs.Fault.{is_memory};
-ghost use Rattle.sheet.specs.Reading.{Gives};
+ghost use Rattle.itv_base.specs.Reading.{Gives};
 ghost use Rattle.sheet.specs.Groups.{ArePlaces, StandsFor, AddsCause, AddsLink, kind_of};
 ghost use Rattle.sheet.specs.Links.{Link as LinkSeen, links_of, is_cause, source_of};
 ghost use Rattle.sheet.specs.Rule.{SheetRule};

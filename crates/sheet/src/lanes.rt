@@ -2,9 +2,9 @@
 
 ghost use Rattle.std.specs.Prelude.{◌≡◌, ◌+◌, ◌<◌, ◌≤◌, ℕ, List, All, length, option_map, position, nat_eq, IsTrue, IfOk, OnOk};
 ghost use Rattle.std.specs.List.{list_all, list_any};
-ghost use Rattle.label_grammar.specs.Characters.{is_mark};
+ghost use Rattle.itv_base.specs.Characters.{is_mark};
 ghost use Rattle.sheet.specs.Fault.{is_memory};
-ghost use Rattle.sheet.specs.Reading.{Gives};
+ghost use Rattle.itv_base.specs.Reading.{Gives};
 ghost use Rattle.sheet.specs.Lanes.{is_node_byte, node_of, has_bad_node, drawn_kind, lane_marks};
 ghost use Rattle.sheet.specs.Sheet.{read_marks};
 ghost use Rattle.sheet.specs.Steps.{AreMarks, with_marks, spans_of};

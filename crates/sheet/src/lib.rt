@@ -25,5 +25,5 @@ pub use mark::{MAX_MARKS, Mark, Marks};
 pub use pin::{Pin, Pins};
 pub use read::read_sheet;
 pub use row::{RowKind, SheetRow, SheetRows};
-pub use rule::{MAX_SHIFT, Rule, Rules, Source, Sources};
+pub use rule::{Rule, Rules, Source, Sources};
 pub use sheet::Sheet;

@@ -2,7 +2,7 @@
 
 ghost use Rattle.std.specs.Prelude.{◌≡◌, ◌≤◌, length, option_map, unwrap_or};
 ghost use Rattle.sheet.specs.Fault.{is_memory};
-ghost use Rattle.sheet.specs.Reading.{Gives};
+ghost use Rattle.itv_base.specs.Reading.{Gives};
 ghost use Rattle.sheet.specs.Links.{number_of, link_of, source_of, open_ends};
 ghost use Rattle.sheet.specs.Steps.{link_view};
 

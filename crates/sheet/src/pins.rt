@@ -4,7 +4,7 @@ ghost use Rattle.std.specs.Prelude.{◌≡◌, option_to_list};
 ghost use Rattle.std.specs.List.{list_any};
 ghost use Rattle.std.specs.Str.{bytes_eq};
 ghost use Rattle.sheet.specs.Fault.{is_memory};
-ghost use Rattle.sheet.specs.Reading.{Gives};
+ghost use Rattle.itv_base.specs.Reading.{Gives};
 ghost use Rattle.sheet.specs.Lanes.{pin_of};
 ghost use Rattle.sheet.specs.Sheet.{read_pins};
 ghost use Rattle.sheet.specs.Steps.{with_pins, spans_of, numbered_by};

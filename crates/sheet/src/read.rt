@@ -1,7 +1,7 @@
 //! Reading a sheet from a drawing.
 
 ghost use Rattle.sheet.specs.Fault.{is_memory};
-ghost use Rattle.sheet.specs.Reading.{Gives};
+ghost use Rattle.itv_base.specs.Reading.{Gives};
 ghost use Rattle.sheet.specs.Sheet.{sheet_of};
 
 use crate::edges::{EdgeRules, read_edges};

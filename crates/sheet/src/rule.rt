@@ -5,9 +5,6 @@ ghost use Rattle.std.specs.Prelude.{◌≡◌, ◌++◌, ◌∷◌, [], OnOk, On
 use itv_base::{Listing, NoMemory, Range, RuleKind};
 use std::marker::Model;
 
-/// Cycles that a cause may stand before its target.
-pub const MAX_SHIFT: u32 = 64;
-
 /// A cause of a rule: a mark by number, how many cycles before the target it stands, and the range of its delay.
 #[derive(Clone, Copy, Debug, PartialEq, Eq)]
 pub struct Source {

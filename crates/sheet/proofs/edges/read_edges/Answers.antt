@@ -3,7 +3,7 @@ use Rattle.std.proofs.lemmas.Result.{err_from_is_err_and}
 use Rattle.sheet.specs.Fault.{is_memory, sheet_fault}
 use Rattle.sheet.specs.Steps.{link_view}
 use Rattle.sheet.proofs.EdgeWalk.{edge-fault, edge-comment, edge-link, edge-full, link_rows-push, ArePlaces-from_StandsFor}
-use Rattle.sheet.proofs.Faults.{HasFault-first}
+use Rattle.itv_base.proofs.Faults.{HasFault-first}
 use Rattle.sheet.proofs.edges.read_edges.Goals as goal
 
 pub push_link-requires : goal.push_link-requires

@@ -4,7 +4,7 @@ use Rattle.std.proofs.lemmas.Result.{err_from_is_err_and}
 use Rattle.sheet.specs.declared.mark.TheConstants.{MAX_MARKS}
 use Rattle.sheet.specs.Fault.{is_memory}
 use Rattle.sheet.specs.Sheet.{read_marks}
-use Rattle.sheet.proofs.Faults.{HasFault-on}
+use Rattle.itv_base.proofs.Faults.{HasFault-on}
 use Rattle.sheet.proofs.LaneLists.{AreMarks-none, length-le_from_AreMarks, lanes-fault, lanes-more, lanes-end, marks-grew, spans-step, read_marks-bad, read_marks-good}
 use Rattle.sheet.proofs.lanes.read_marks.Goals as goal
 

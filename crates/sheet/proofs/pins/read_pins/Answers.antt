@@ -2,7 +2,7 @@ use Rattle.std.proofs.Common.{◌∙◌, ap, sym, refl, length, arith}
 use Rattle.std.proofs.lemmas.Result.{err_from_is_err_and}
 use Rattle.sheet.specs.Fault.{is_memory}
 use Rattle.sheet.specs.Sheet.{read_pins}
-use Rattle.sheet.proofs.Faults.{HasFault-on}
+use Rattle.itv_base.proofs.Faults.{HasFault-on}
 use Rattle.sheet.proofs.NumberedLanes.{length-spans_of, numbered-read}
 use Rattle.sheet.proofs.PinLists.{pins-fault, pins-more}
 use Rattle.sheet.proofs.pins.read_pins.Goals as goal
