@@ -4,3 +4,4 @@ mod LoneLemmas
 mod ListTexts
 mod Reporting
 mod Solving
+mod Statuses

@@ -1,6 +1,6 @@
 -- What the end of a run says: where it comes from, and what was written. The claim is `Means`; what stands above it are its words, and what
 -- stands below follows from it.
-use Rattle.std.specs.Prelude.{◌≡◌, ◌<◌, ◌⊎◌, List, Option, Some, None, IsSome, codes, ℕ}
+use Rattle.std.specs.Prelude.{◌≡◌, ◌<◌, ◌⊎◌, List, Option, Some, None, IsSome, codes, ℕ, [], false}
 use Rattle.itv_base.specs.Outside.{Files, ShelfTold, SinkTold, file_of, Rose, FailedFor, grown, CutShort}
 use Rattle.itv_cli.specs.declared.outcome.Outcome.{Outcome}
 use Rattle.itv_cli.specs.declared.outcome.Outcome.TheVariants.{AllPass, Help, SomeFail, Inconsistent, Undecided, Refused, ReadFault, WriteFault, NoMemory, BadWords, CheckRefused}
@@ -17,6 +17,13 @@ pub record Call : Type 0 where
   pub shelf_after : ShelfTold
   pub sink_before : SinkTold
   pub sink_after : SinkTold
+
+-- files of which nothing is told, before a run, and an output of which nothing is told
+abbrev pub nothing_failed : ShelfTold
+nothing_failed = record { files = None; faults = 0; last = []; is_faithful = false }
+
+abbrev pub nothing_written : SinkTold
+nothing_written = record { written = None; faults = 0 }
 
 abbrev pub call_of : List (List ℕ) → ShelfTold → ShelfTold → SinkTold → SinkTold → Call
 call_of words shelf shelf' sink sink' = record { words = words; shelf_before = shelf; shelf_after = shelf'; sink_before = sink; sink_after = sink' }
@@ -98,6 +105,11 @@ Means call WriteFault = HasWriteFault call
 Means call NoMemory = IsUntouched call
 Means call BadWords = HasBadWords call
 Means call CheckRefused = ⊥
+
+-- What an end says of a run on some words over files and an output of which nothing is told: of the counts of faults, the name that failed
+-- last, and that some text or design was as it says.
+abbrev pub MeansOutside : List (List ℕ) → Outcome → Type 0
+MeansOutside words outcome = (shelf : ShelfTold) × (sink : SinkTold) × Means (call_of words nothing_failed shelf nothing_written sink) outcome
 
 -- ---- which end comes: these follow from what the ends say
 

@@ -10,8 +10,10 @@ mod outcome;
 mod refusal;
 mod report;
 mod search;
+mod system;
 mod top;
 mod words;
 
 pub use outcome::Outcome;
+pub use system::{program, run_outside, status_of, words_of};
 pub use top::run;
