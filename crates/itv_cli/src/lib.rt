@@ -3,15 +3,17 @@
 //! The one contract is that of `run`: where it ends with a report, the report is right.
 #![tactic(auto)]
 
+mod asked;
 mod lines;
 mod lone;
 mod outcome;
 mod refusal;
 mod report;
-mod row;
 mod search;
+mod system;
 mod top;
 mod words;
 
 pub use outcome::Outcome;
+pub use system::{program, run_outside, status_of, words_of};
 pub use top::run;

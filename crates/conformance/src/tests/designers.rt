@@ -9,32 +9,20 @@ fn drawings_for_wavedrom_are_read(rt: HostRuntime) -> Result<(), Fail> {
         &rt,
         rt.alloc(),
         &[
-            (
-                r#"{"signal":[]}"#,
-                "itv report 0\nevents 0\nrows 0\nend pass\n",
-            ),
+            (r#"{"signal":[]}"#, "", &[]),
             // a clock, a bus with data and a wire
             (
                 r#"{"signal":[{"name":"clk","wave":"p......"},{"name":"bus","wave":"x.34.5x","data":"head body tail"},
                 {"name":"wire","wave":"0.1..0."}]}"#,
-                "itv report 0\nevents 0\nrows 0\nend pass\n",
+                "",
+                &[],
             ),
             // a group, an empty object, a comment edge and `config`. Nothing bounds b from a: the lane says only that b is not before.
             (
                 r#"{"signal":[["bus",{"name":"A","wave":"0.1","node":"a.b","phase":0.5},{}],{"node":"...c"}],
                 "edge":["a~>q see note","a->b @ask"],"config":{"hscale":2}}"#,
-                "itv report 0
-events 3
-event 0 U.a@0
-event 1 U.b@0
-event 2 U.c@0
-rows 1
-row 0 ask U.a@0 U.b@0
-max unbounded
-times 0 0 0
-raise 1 2
-end pass
-",
+                "abc",
+                &[("ab", "max unbounded\ntimes 0 0 0\nraise 1 2\n")],
             ),
             // Arrows of all shapes, of which one has a delay. Events that nothing bounds from b stand at 120 with d; each lane's second
             // event is not before its first, and d is 120 after b.
@@ -47,24 +35,11 @@ end pass
                 {"name":"E","wave":"0....10.......1","node":".....ef...."}],
                 "edge":["a~b t1","c-~a t2","c-~>d time 3","d~-e","e~>f","f->g","g-~>h","h~>i some text","h~->j",
                     "b-|->d @lin [0,120] tPD","b->d @ask how late"]}"#,
-                "itv report 0
-events 10
-event 0 U.a@0
-event 1 U.j@0
-event 2 U.b@0
-event 3 U.i@0
-event 4 U.c@0
-event 5 U.h@0
-event 6 U.d@0
-event 7 U.g@0
-event 8 U.e@0
-event 9 U.f@0
-rows 1
-row 0 ask U.b@0 U.d@0
-max 120
-times 120 120 0 120 120 120 120 120 120 120
-end pass
-",
+                "ajbichdgef",
+                &[(
+                    "bd",
+                    "max 120\ntimes 120 120 0 120 120 120 120 120 120 120\n",
+                )],
             ),
             // Groups in groups, spacers, gaps, a head, a foot, a period and a phase. From the clock to the acknowledgement 1000 and 5000
             // add up; back, the write is not after the acknowledgement, and the clock has no latest time after the write.
@@ -80,22 +55,11 @@ end pass
                     ["Slave",{"name":"ack","wave":"x01x|0.1x","node":" .k"}]],
                 "edge":["w-~>k @lin [0,5000] tACK","c~>w @lin [*,1000] tCO","c->k @ask cycle","k->c @ask"],
                 "foot":{"text":["tspan","foot"],"tock":9},"config":{"hscale":1,"skin":"narrow"}}"#,
-                "itv report 0
-events 4
-event 0 U.c@0
-event 1 U.w@0
-event 2 U.a@0
-event 3 U.k@0
-rows 2
-row 0 ask U.c@0 U.k@0
-max 6000
-times 0 1000 6000 6000
-row 1 ask U.k@0 U.c@0
-max unbounded
-times 0 0 0 0
-raise 0 2
-end pass
-",
+                "cwak",
+                &[
+                    ("ck", "max 6000\ntimes 0 1000 6000 6000\n"),
+                    ("kc", "max unbounded\ntimes 0 0 0 0\nraise 0 2\n"),
+                ],
             ),
         ],
     )

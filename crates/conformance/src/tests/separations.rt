@@ -1,7 +1,6 @@
 //! Greatest separations, worked out by hand from the rules of each file.
 
-use super::{FIRST, FIRST_REPORT, all_pass, bytes_end};
-use itv_cli::Outcome;
+use super::{FIRST, all_pass};
 use std::test::Fail;
 
 #[test]
@@ -10,68 +9,33 @@ fn a_greatest_separation_comes_with_times_that_attain_it(rt: HostRuntime) -> Res
         &rt,
         rt.alloc(),
         &[
-            (FIRST, FIRST_REPORT),
+            (FIRST, "ab", &[("ab", "max 250\ntimes 0 250\n")]),
             // an event and itself, behind and before another row
             (
                 r#"{"signal":[{"node":"a"},{"node":"b"}],"edge":["a->b @lin [0,250]","a->a @ask","a->b @ask"]}"#,
-                "itv report 0
-events 2
-event 0 U.a@0
-event 1 U.b@0
-rows 2
-row 0 ask U.a@0 U.a@0
-max 0
-times 0 250
-row 1 ask U.a@0 U.b@0
-max 250
-times 0 250
-end pass
-",
+                "ab",
+                &[
+                    ("aa", "max 0\ntimes 0 250\n"),
+                    ("ab", "max 250\ntimes 0 250\n"),
+                ],
             ),
             // against the rule: a is at most 7 after b, since b is at least -7 after a
             (
                 r#"{"signal":[{"node":"ab"}],"edge":["a->b @lin [-7,250]","b->a @ask"]}"#,
-                "itv report 0
-events 2
-event 0 U.a@0
-event 1 U.b@0
-rows 1
-row 0 ask U.b@0 U.a@0
-max 7
-times 7 0
-end pass
-",
+                "ab",
+                &[("ba", "max 7\ntimes 7 0\n")],
             ),
             // b is at most 10 after a by the first rule, and at most 4 by the second, whose low end is -4; at least 0 by the first
             (
                 r#"{"signal":[{"node":"ab"}],"edge":["a->b @lin [0,10]","b->a @lin [-4,6]","a->b @ask","b->a @ask"]}"#,
-                "itv report 0
-events 2
-event 0 U.a@0
-event 1 U.b@0
-rows 2
-row 0 ask U.a@0 U.b@0
-max 4
-times 0 4
-row 1 ask U.b@0 U.a@0
-max 0
-times 0 0
-end pass
-",
+                "ab",
+                &[("ab", "max 4\ntimes 0 4\n"), ("ba", "max 0\ntimes 0 0\n")],
             ),
             // both events at one time
             (
                 r#"{"signal":[{"node":"ab"}],"edge":["a->b @lin [0,0]","a->b @ask"]}"#,
-                "itv report 0
-events 2
-event 0 U.a@0
-event 1 U.b@0
-rows 1
-row 0 ask U.a@0 U.b@0
-max 0
-times 0 0
-end pass
-",
+                "ab",
+                &[("ab", "max 0\ntimes 0 0\n")],
             ),
         ],
     )
@@ -87,59 +51,32 @@ fn bounds_go_through_several_rules(rt: HostRuntime) -> Result<(), Fail> {
             (
                 r#"{"signal":[{"node":"abc"}],"edge":["a->b @lin [*,3]","b->c @lin [*,4]","c->a @lin [*,5]",
                 "a->c @ask","c->b @ask","b->a @ask"]}"#,
-                "itv report 0
-events 3
-event 0 U.a@0
-event 1 U.b@0
-event 2 U.c@0
-rows 3
-row 0 ask U.a@0 U.c@0
-max 7
-times 0 3 7
-row 1 ask U.c@0 U.b@0
-max 8
-times 5 8 0
-row 2 ask U.b@0 U.a@0
-max 9
-times 9 0 4
-end pass
-",
+                "abc",
+                &[
+                    ("ac", "max 7\ntimes 0 3 7\n"),
+                    ("cb", "max 8\ntimes 5 8 0\n"),
+                    ("ba", "max 9\ntimes 9 0 4\n"),
+                ],
             ),
             // three ways from a to d, and each gives 30
             (
                 r#"{"signal":[{"node":"abcd"}],"edge":["a->b @lin [0,10]","a->c @lin [0,20]","b->d @lin [0,20]",
                 "c->d @lin [0,10]","a->d @lin [0,30]","a->d @ask"]}"#,
-                "itv report 0
-events 4
-event 0 U.a@0
-event 1 U.b@0
-event 2 U.c@0
-event 3 U.d@0
-rows 1
-row 0 ask U.a@0 U.d@0
-max 30
-times 0 10 20 30
-end pass
-",
+                "abcd",
+                &[("ad", "max 30\ntimes 0 10 20 30\n")],
             ),
             // the greatest ends: twice a second forwards, and backwards once, since c is never before b
             (
                 r#"{"signal":[{"node":"abc"}],"edge":["a->b @lin [-1000000000000,1000000000000]",
                 "b->c @lin [0,1000000000000]","a->c @ask","c->a @ask"]}"#,
-                "itv report 0
-events 3
-event 0 U.a@0
-event 1 U.b@0
-event 2 U.c@0
-rows 2
-row 0 ask U.a@0 U.c@0
-max 2000000000000
-times 0 1000000000000 2000000000000
-row 1 ask U.c@0 U.a@0
-max 1000000000000
-times 1000000000000 0 0
-end pass
-",
+                "abc",
+                &[
+                    (
+                        "ac",
+                        "max 2000000000000\ntimes 0 1000000000000 2000000000000\n",
+                    ),
+                    ("ca", "max 1000000000000\ntimes 1000000000000 0 0\n"),
+                ],
             ),
         ],
     )
@@ -155,79 +92,32 @@ fn an_unbounded_separation_comes_with_events_to_raise(rt: HostRuntime) -> Result
             // no high end: b at a's time or later
             (
                 r#"{"signal":[{"name":"D","node":"a"},{"name":"Q","node":"b"}],"edge":["a->b @lin [0,*]","a->b @ask"]}"#,
-                "itv report 0
-events 2
-event 0 U.a@0
-event 1 U.b@0
-rows 1
-row 0 ask U.a@0 U.b@0
-max unbounded
-times 0 0
-raise 1
-end pass
-",
+                "ab",
+                &[("ab", "max unbounded\ntimes 0 0\nraise 1\n")],
             ),
             // no rule at all
             (
                 r#"{"signal":[{"node":"ab"}],"edge":["a->b @ask"]}"#,
-                "itv report 0
-events 2
-event 0 U.a@0
-event 1 U.b@0
-rows 1
-row 0 ask U.a@0 U.b@0
-max unbounded
-times 0 0
-raise 1
-end pass
-",
+                "ab",
+                &[("ab", "max unbounded\ntimes 0 0\nraise 1\n")],
             ),
             // the high end bounds b from a; a from b it leaves open: b is at most 5 after a wherever a is raised to
             (
                 r#"{"signal":[{"node":"ab"}],"edge":["a->b @lin [*,5]","b->a @ask"]}"#,
-                "itv report 0
-events 2
-event 0 U.a@0
-event 1 U.b@0
-rows 1
-row 0 ask U.b@0 U.a@0
-max unbounded
-times 0 0
-raise 0
-end pass
-",
+                "ab",
+                &[("ba", "max unbounded\ntimes 0 0\nraise 0\n")],
             ),
             // c goes up alone: b is at most 5 after a, and at 5 it is
             (
                 r#"{"signal":[{"node":"abc"}],"edge":["a->b @lin [*,5]","a->c @ask"]}"#,
-                "itv report 0
-events 3
-event 0 U.a@0
-event 1 U.b@0
-event 2 U.c@0
-rows 1
-row 0 ask U.a@0 U.c@0
-max unbounded
-times 0 5 5
-raise 2
-end pass
-",
+                "abc",
+                &[("ac", "max unbounded\ntimes 0 5 5\nraise 2\n")],
             ),
             // c is at most 5 after b, so b goes up with it
             (
                 r#"{"signal":[{"node":"abc"}],"edge":["a->b @lin [*,*]","b->c @lin [0,5]","a->c @ask"]}"#,
-                "itv report 0
-events 3
-event 0 U.a@0
-event 1 U.b@0
-event 2 U.c@0
-rows 1
-row 0 ask U.a@0 U.c@0
-max unbounded
-times 0 0 0
-raise 1 2
-end pass
-",
+                "abc",
+                &[("ac", "max unbounded\ntimes 0 0 0\nraise 1 2\n")],
             ),
         ],
     )
@@ -242,31 +132,14 @@ fn what_reaches_into_another_cycle_gives_nothing(rt: HostRuntime) -> Result<(), 
             // the rule is not there, so nothing bounds b
             (
                 r#"{"signal":[{"node":"ab"}],"edge":["a->b @lin+1 [0,250]","a->b @lin+64 [0,3]","a->b @ask"]}"#,
-                "itv report 0
-events 2
-event 0 U.a@0
-event 1 U.b@0
-rows 1
-row 0 ask U.a@0 U.b@0
-max unbounded
-times 0 0
-raise 1
-end pass
-",
+                "ab",
+                &[("ab", "max unbounded\ntimes 0 0\nraise 1\n")],
             ),
             // the first row is not there, and the second is row 0
             (
                 r#"{"signal":[{"node":"ab"}],"edge":["a->b @ask+1","a->b @lin [0,250]","b->b @ask"]}"#,
-                "itv report 0
-events 2
-event 0 U.a@0
-event 1 U.b@0
-rows 1
-row 0 ask U.b@0 U.b@0
-max 0
-times 0 0
-end pass
-",
+                "ab",
+                &[("bb", "max 0\ntimes 0 0\n")],
             ),
         ],
     )
@@ -278,7 +151,7 @@ fn a_chain_of_all_marks_adds_up(rt: HostRuntime) -> Result<(), Fail> {
     let alloc = rt.alloc();
     let mut nodes = String::new(alloc);
     let mut edges = String::new(alloc);
-    let mut events = String::new(alloc);
+    let mut marks = String::new(alloc);
     let mut times = String::new(alloc);
     let mut before = None;
     let mut count = 0u32;
@@ -292,7 +165,7 @@ fn a_chain_of_all_marks_adds_up(rt: HostRuntime) -> Result<(), Fail> {
             edges.push_str(edge.as_str())?;
         }
         nodes.push_str(text.as_str())?;
-        events.push_str(format!(in alloc; "event {count} U.{mark}@0\n")?.as_str())?;
+        marks.push(mark)?;
         times.push_str(format!(in alloc; " {}", count.wrapping_mul(10))?.as_str())?;
         before = Some(text);
         count = count.saturating_add(1);
@@ -301,13 +174,10 @@ fn a_chain_of_all_marks_adds_up(rt: HostRuntime) -> Result<(), Fail> {
     let file = format!(in alloc;
         r#"{{"signal":[{{"node":"{nodes}"}}],"edge":[{edges}"!->~ @ask"]}}"#
     )?;
-    let report = format!(in alloc;
-        "itv report 0\nevents 93\n{events}rows 1\nrow 0 ask U.!@0 U.~@0\nmax 920\ntimes{times}\nend pass\n"
-    )?;
-    bytes_end(
+    let answer = format!(in alloc; "max 920\ntimes{times}\n")?;
+    all_pass(
         &rt,
         alloc,
-        file.as_bytes(),
-        (Outcome::AllPass, report.as_str()),
+        &[(file.as_str(), marks.as_str(), &[("!~", answer.as_str())])],
     )
 }

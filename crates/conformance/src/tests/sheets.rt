@@ -71,15 +71,8 @@ fn lanes_of_one_name_may_stand_without_marks(rt: HostRuntime) -> Result<(), Fail
         &[(
             r#"{"signal":[{"name":"A","node":"a"},{"name":"A","node":". ."},{"name":"A","wave":"01"},
                 {"name":"","node":"b"},{"name":"","node":"c"},{"name":"a","node":"d"}]}"#,
-            "itv report 0
-events 4
-event 0 U.a@0
-event 1 U.b@0
-event 2 U.c@0
-event 3 U.d@0
-rows 0
-end pass
-",
+            "abcd",
+            &[],
         )],
     )
 }
@@ -89,13 +82,6 @@ end pass
 #[test]
 fn marks_of_a_named_wave_come_in_order(rt: HostRuntime) -> Result<(), Fail> {
     let alloc = rt.alloc();
-    let front = "itv report 0
-events 2
-event 0 U.a@0
-event 1 U.b@0
-rows 1
-row 0 ask U.b@0 U.a@0
-";
     let lanes = [
         (r#"{"name":"A","wave":"0.1","node":"a.b"}"#, true),
         (r#"{"name":"A","wave":"p..","node":"ab"}"#, true),
@@ -120,8 +106,7 @@ row 0 ask U.b@0 U.a@0
             false => "max unbounded\ntimes 0 0\nraise 0\n",
         };
         let file = format!(in alloc; r#"{{"signal":[{lane}],"edge":["b->a @ask"]}}"#)?;
-        let report = format!(in alloc; "{front}{answer}end pass\n")?;
-        all_pass(&rt, alloc, &[(file.as_str(), report.as_str())])?;
+        all_pass(&rt, alloc, &[(file.as_str(), "ab", &[("ba", answer)])])?;
     }
     Ok(())
 }
@@ -141,18 +126,7 @@ fn waves_of_all_kinds_are_taken(rt: HostRuntime) -> Result<(), Fail> {
         all_pass(
             &rt,
             alloc,
-            &[(
-                file.as_str(),
-                "itv report 0
-events 1
-event 0 U.c@0
-rows 1
-row 0 ask U.c@0 U.c@0
-max 0
-times 0
-end pass
-",
-            )],
+            &[(file.as_str(), "c", &[("cc", "max 0\ntimes 0\n")])],
         )?;
     }
     Ok(())
