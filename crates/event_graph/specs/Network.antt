@@ -1,6 +1,6 @@
 -- Networks of timing constraints.
-use Rattle.std.specs.Prelude.{◌≡◌, ◌<◌, ◌≤◌, ℕ, List, [], ◌∷◌, ◌++◌, length, All, Option, option_and_then, slice_get}
-use Rattle.itv_base.specs.Range.{Ends}
+use Rattle.std.specs.Prelude.{◌≡◌, ◌<◌, ◌≤◌, ℕ, List, [], ◌∷◌, ◌++◌, length, All, Option, Some, option_and_then, slice_get}
+use Rattle.itv_base.specs.Range.{Ends, IsEnd}
 use Rattle.itv_base.specs.declared.names.EventId.{EventId}
 use Rattle.itv_base.specs.declared.names.RuleKind.{RuleKind}
 use Rattle.itv_base.specs.declared.names.RuleKind.TheVariants.{Lin, Late, Early}
@@ -48,11 +48,20 @@ pub record IsConstraint (events : ℕ) (c : Constraint) : Type 0 where
   pub causes : All (λ (cause : Cause). cause.event.0 < events) c.causes
   pub count : IsCauseCount c.kind (length c.causes)
 
+-- the finite ends of a range are within the limit
+abbrev pub AreEnds : Ends → Type 0
+AreEnds range = IsEnd range.low × IsEnd range.high
+
+-- so are those of the ranges of all causes
+abbrev pub HasEnds : Net → Type 0
+HasEnds net = (constraint cause : ℕ) (c : Cause) → cause_at net constraint cause ≡ Some c → AreEnds c.range
+
 -- a network within the limits, all of whose constraints are between its events
 pub record IsNet (net : Net) : Type 0 where
   pub events : net.events ≤ MAX_EVENTS
   pub constraints : All (IsConstraint net.events) net.constraints
   pub count : length net.constraints ≤ MAX_CONSTRAINTS
+  pub ends : HasEnds net
 
 -- the number of causes to name of a constraint: a linear one has none
 abbrev pub named_causes : RuleKind → ℕ → ℕ

@@ -2,6 +2,7 @@
 
 ghost use Rattle.std.specs.Prelude.{◌≡◌, ◌<◌, ◌↔◌, neg_ℤ, ◌+ℤ◌, IsTrue, IfSome, length, All};
 ghost use Rattle.itv_base.specs.Range.{IsEnd};
+ghost use Rattle.event_graph.specs.Network.{AreEnds};
 ghost use Rattle.event_graph.specs.Times.{IsTime};
 
 use crate::edge::Edge;
@@ -63,6 +64,16 @@ impl Cause {
                 weight: negated(self.range.low()?),
             }),
         }
+    }
+}
+
+// Reads the ends of the ranges of causes, and so tells that they are within the limit.
+pub(crate) fn read_ends(causes: &[Cause])
+    ensures { All (λ (c : Cause). AreEnds c.range) causes.now }
+{
+    for cause in causes {
+        cause.range.low();
+        cause.range.high();
     }
 }
 

@@ -7,10 +7,10 @@ ghost use Rattle.event_graph.specs.Network.{Constraint, IsConstraint, IsNet, IsP
 ghost use Rattle.event_graph.specs.Satisfying.{IsFirstBroken, Satisfies};
 ghost use Rattle.event_graph.specs.Edges.{IsAlways, cause_choices, edge};
 
-use crate::cause::Cause;
+use crate::cause::{Cause, read_ends};
+use crate::constraint::Constraint;
 use crate::edge::Edge;
 use crate::push_fault::PushFault;
-use crate::rule::Rule;
 use itv_base::{
     EdgeName, EventId, MAX_CAUSES, MAX_CONSTRAINTS, MAX_EVENTS, NoMemory, Range, RuleKind,
 };
@@ -22,7 +22,7 @@ use std::marker::Model;
 #[derive(Debug, Drop)]
 pub struct Network {
     events: u32,
-    rules: Vec<Rule>,
+    constraints: Vec<Constraint>,
 }
 
 impl Model for Network {
@@ -30,9 +30,9 @@ impl Model for Network {
 
     ghost Value = { Net };
 
-    ghost view = { λ n. record { events = n.events; constraints = n.rules.items } };
+    ghost view = { λ n. record { events = n.events; constraints = n.constraints.items } };
 
-    ghost invariant = { λ n. IsNet (record { events = n.events; constraints = n.rules.items }) };
+    ghost invariant = { λ n. IsNet (record { events = n.events; constraints = n.constraints.items }) };
 }
 
 impl Network {
@@ -43,11 +43,11 @@ impl Network {
     {
         Ok(Network {
             events,
-            rules: Vec::new(alloc),
+            constraints: Vec::new(alloc),
         })
     }
 
-    /// The number of events.
+    /// The number of events. What a network is holds of each: it is within the limits, and so are the ends of its ranges.
     pub fn events(&self) -> u32
         ensures count { result ≡ self.now.events }
         ensures net { IsNet self.now }
@@ -59,14 +59,14 @@ impl Network {
     pub fn len(&self) -> u32
         ensures { result ≡ length self.now.constraints }
     {
-        self.rules.len() as u32
+        self.constraints.len() as u32
     }
 
     /// Whether there are no constraints.
     pub fn is_empty(&self) -> bool
         ensures { IsTrue result ↔ (self.now.constraints ≡ []) }
     {
-        self.rules.is_empty()
+        self.constraints.is_empty()
     }
 
     /// Adds the constraint that the time of `to` less that of `from`, which are events of the network,
@@ -149,12 +149,13 @@ impl Network {
         ensures fault { IfErr result (IsPushFault (length self.old.constraints)) }
         ensures unchanged { OnErr result (self.new ≡ self.old) }
     {
-        let count = self.rules.len();
+        let count = self.constraints.len();
         if count == MAX_CONSTRAINTS as usize {
             return Err(PushFault::Full(MAX_CONSTRAINTS));
         }
+        read_ends(causes);
         let causes = Vec::from_slice(alloc, causes)?;
-        self.rules.push(Rule {
+        self.constraints.push(Constraint {
             kind,
             target,
             causes,
@@ -168,7 +169,7 @@ impl Network {
         ensures { option_map (λ (c : Constraint). c.kind)
             (slice_get self.now.constraints constraint) ≡ Some result }
     {
-        self.rules[constraint as usize].kind
+        self.constraints[constraint as usize].kind
     }
 
     /// The target of a constraint that is there. That of a linear one is its to-event.
@@ -177,7 +178,7 @@ impl Network {
         ensures { option_map (λ (c : Constraint). c.target)
             (slice_get self.now.constraints constraint) ≡ Some result }
     {
-        self.rules[constraint as usize].target
+        self.constraints[constraint as usize].target
     }
 
     /// The number of causes of a latest or earliest constraint that is there, and 0 for a linear one.
@@ -189,10 +190,10 @@ impl Network {
         ensures each { (cause : ℕ) → cause < result → IsSome (cause_at self.now constraint cause) }
         ensures first { IsSome (cause_at self.now constraint 0) }
     {
-        let rule = &self.rules[constraint as usize];
-        match rule.kind {
+        let constraint = &self.constraints[constraint as usize];
+        match constraint.kind {
             RuleKind::Lin => 0,
-            RuleKind::Late | RuleKind::Early => rule.causes.len() as u32,
+            RuleKind::Late | RuleKind::Early => constraint.causes.len() as u32,
         }
     }
 
@@ -202,8 +203,8 @@ impl Network {
         requires { IsSome (cause_at self.now constraint cause) }
         ensures { cause_at self.now constraint cause ≡ Some result }
     {
-        let rule = &self.rules[constraint as usize];
-        rule.causes[cause as usize]
+        let constraint = &self.constraints[constraint as usize];
+        constraint.causes[cause as usize]
     }
 
     /// The edge of a name. There is none exactly where the constraint or the cause is not there, or the
@@ -215,9 +216,9 @@ impl Network {
         ensures from { IfSome result (λ e. e.from.0 < self.now.events) }
         ensures to { IfSome result (λ e. e.to.0 < self.now.events) }
     {
-        let rule = self.rules.get(name.constraint as usize)?;
-        let cause = rule.causes.get(name.cause as usize)?;
-        cause.edge(rule.target, name.side)
+        let constraint = self.constraints.get(name.constraint as usize)?;
+        let cause = constraint.causes.get(name.cause as usize)?;
+        cause.edge(constraint.target, name.side)
     }
 
     /// Whether there is an edge of this name, and it is an always-edge, which is met whatever cause is
@@ -226,9 +227,9 @@ impl Network {
     pub fn is_always(&self, name: EdgeName) -> bool
         ensures { IsTrue result ↔ IsAlways self.now name }
     {
-        match self.rules.get(name.constraint as usize) {
+        match self.constraints.get(name.constraint as usize) {
             None => false,
-            Some(rule) => rule.holds_always(name.side) && self.edge(name).is_some(),
+            Some(constraint) => constraint.holds_always(name.side) && self.edge(name).is_some(),
         }
     }
 
@@ -238,8 +239,8 @@ impl Network {
         ensures { IsTrue result ↔ (cause_choices self.now.constraints ≤ most) }
     {
         let mut product: u64 = 1;
-        for rule in &self.rules {
-            match product.checked_mul(rule.choices()) {
+        for constraint in &self.constraints {
+            match product.checked_mul(constraint.choices()) {
                 Some(larger) => product = larger,
                 None => return false,
             }
@@ -255,8 +256,8 @@ impl Network {
         ensures none { IsNone result ↔ Satisfies times.now self.now }
         ensures first { IfSome result (IsFirstBroken times.now self.now) }
     {
-        for (number, rule) in self.rules.iter().enumerate() {
-            if !rule.holds(times) {
+        for (number, constraint) in self.constraints.iter().enumerate() {
+            if !constraint.holds(times) {
                 return Some(number as u32);
             }
         }

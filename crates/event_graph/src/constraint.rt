@@ -9,21 +9,21 @@ use std::marker::Model;
 
 /// A constraint: its kind, its target and its causes. A linear one has its from-event as its one cause.
 #[derive(Debug, Drop)]
-pub struct Rule {
+pub struct Constraint {
     pub kind: RuleKind,
     pub target: EventId,
     pub causes: Vec<Cause>,
 }
 
-impl Model for Rule {
+impl Model for Constraint {
     ghost use Rattle.event_graph.specs.Network.{Constraint};
 
     ghost Value = { Constraint };
 
-    ghost view = { λ r. record { kind = r.kind; target = r.target; causes = r.causes.items } };
+    ghost view = { λ c. record { kind = c.kind; target = c.target; causes = c.causes.items } };
 }
 
-impl Rule {
+impl Constraint {
     ghost use Rattle.event_graph.specs.Network.{IsCauseCount, IsConstraint};
     ghost use Rattle.event_graph.specs.Satisfying.{Holds};
     ghost use Rattle.event_graph.specs.Edges.{choices_of, holds_always};
