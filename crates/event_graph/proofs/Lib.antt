@@ -7,3 +7,5 @@ pub mod Ends
 pub mod ByEdges
 pub mod SoundProofs
 pub mod ProofCounts
+pub mod ReadingOn
+pub mod Rising

@@ -1,5 +1,5 @@
 -- Networks of timing constraints.
-use Rattle.std.specs.Prelude.{◌≡◌, ◌<◌, ◌≤◌, ℕ, List, [], ◌∷◌, ◌++◌, length, All, Option, Some, option_and_then, slice_get}
+use Rattle.std.specs.Prelude.{◌≡◌, ◌<◌, ◌≤◌, ℕ, List, [], ◌∷◌, ◌++◌, length, All, Option, Some, option_and_then, slice_get, count_by, nat_lt}
 use Rattle.itv_base.specs.Range.{Ends, IsEnd}
 use Rattle.itv_base.specs.declared.names.EventId.{EventId}
 use Rattle.itv_base.specs.declared.names.RuleKind.{RuleKind}
@@ -71,6 +71,14 @@ named_causes Early count = count
 
 abbrev pub cause_count_of : Constraint → ℕ
 cause_count_of c = named_causes c.kind (length c.causes)
+
+-- how many constraints have two or more causes to choose from
+abbrev pub splittable_count : Net → ℕ
+splittable_count net = count_by (λ (c : Constraint). nat_lt 1 (cause_count_of c)) net.constraints
+
+-- each constraint has a single cause, so there is nothing to choose
+abbrev pub HasNoChoices : Net → Type 0
+HasNoChoices net = All (λ (c : Constraint). length c.causes ≡ 1) net.constraints
 
 -- the network with one more constraint
 abbrev pub with_constraint : Net → Constraint → Net

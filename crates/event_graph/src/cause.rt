@@ -17,6 +17,7 @@ pub struct Cause {
 
 impl Cause {
     ghost use Rattle.event_graph.specs.Satisfying.{IsAfter, IsBefore};
+    ghost use Rattle.event_graph.specs.Step.Rising.{StaysAfter, StaysBefore};
     ghost use Rattle.event_graph.specs.Edges.{side_edge};
 
     // Whether the target comes no earlier than the cause and its low end.
@@ -45,6 +46,32 @@ impl Cause {
         self.range
             .high()
             .is_none_or(|high| limit <= delayed(time, high))
+    }
+
+    // Whether the target comes no earlier than the cause and its low end, however far a set is raised.
+    pub(crate) fn low_stays(&self, times: &[i64], set: &[bool], target: EventId) -> bool
+        requires cause { self.now.event.0 < length times.now }
+        requires target { target.0 < length times.now }
+        requires set { length set.now ≡ length times.now }
+        requires times { All IsTime times.now }
+        ensures { IsTrue result ↔ StaysAfter times.now set.now target self.now }
+    {
+        self.low_allows(times, target)
+            && (self.range.low().is_none() || !set[self.event.0 as usize] || set[target.0 as usize])
+    }
+
+    // Whether the target comes no later than the cause and its high end, however far a set is raised.
+    pub(crate) fn high_stays(&self, times: &[i64], set: &[bool], target: EventId) -> bool
+        requires cause { self.now.event.0 < length times.now }
+        requires target { target.0 < length times.now }
+        requires set { length set.now ≡ length times.now }
+        requires times { All IsTime times.now }
+        ensures { IsTrue result ↔ StaysBefore times.now set.now target self.now }
+    {
+        self.high_allows(times, target)
+            && (self.range.high().is_none()
+                || !set[target.0 as usize]
+                || set[self.event.0 as usize])
     }
 
     // The edge of the cause on one side, or none where that end is open.

@@ -2,9 +2,12 @@
 
 ghost use Rattle.std.specs.Prelude.{◌≡◌, ◌<◌, ◌≤◌, ◌↔◌, ℕ, IsTrue, IsSome, IsNone, IfOk, IfErr, IfSome, OnOk, OnErr, Some, [], All, length, option_map, slice_get};
 ghost use Rattle.itv_base.specs.Range.{IsEnd};
-ghost use Rattle.event_graph.specs.Times.{IsTime};
-ghost use Rattle.event_graph.specs.Network.{Constraint, IsConstraint, IsNet, IsPushFault, cause_at, cause_count_of, earliest, latest, linear, with_constraint};
-ghost use Rattle.event_graph.specs.Satisfying.{IsFirstBroken, Satisfies};
+ghost use Rattle.std.specs.List.{AllWithin};
+ghost use Rattle.event_graph.specs.Bounds.{IsRay};
+ghost use Rattle.event_graph.specs.Step.Rising.{Stays};
+ghost use Rattle.event_graph.specs.Times.{IsTime, raised};
+ghost use Rattle.event_graph.specs.Network.{Constraint, IsConstraint, IsNet, IsPushFault, cause_at, cause_count_of, earliest, latest, linear, splittable_count, with_constraint};
+ghost use Rattle.event_graph.specs.Satisfying.{Holds, IsFirstBroken, Satisfies};
 ghost use Rattle.event_graph.specs.Edges.{IsAlways, cause_choices, edge};
 
 use crate::cause::{Cause, read_ends};
@@ -248,19 +251,79 @@ impl Network {
         product <= most
     }
 
+    /// The number of constraints with two or more causes to choose from.
+    pub fn splittable_count(&self) -> u32
+        ensures { result ≡ splittable_count self.now }
+    {
+        self.constraints
+            .iter()
+            .filter(|constraint| constraint.is_splittable())
+            .count() as u32
+    }
+
     /// The least number of a constraint that the times break, or none exactly where the times satisfy the
     /// network. The times are in picoseconds, one per event, each below 2^61 in absolute value.
     pub fn broken(&self, times: &[i64]) -> Option<u32>
         requires count { length times.now ≡ self.now.events }
         requires times { All IsTime times.now }
         ensures none { IsNone result ↔ Satisfies times.now self.now }
-        ensures first { IfSome result (IsFirstBroken times.now self.now) }
+        ensures first { IfSome result (IsFirstBroken times.now self.now 0) }
     {
-        for (number, constraint) in self.constraints.iter().enumerate() {
-            if !constraint.holds(times) {
-                return Some(number as u32);
+        self.broken_from(times, 0)
+    }
+
+    /// The least number, from one on, of a constraint that the times break, or none exactly where they meet
+    /// all of those. So a loop that goes on behind each answer goes over the constraints once. The times are as
+    /// for [`Network::broken`].
+    pub fn broken_from(&self, times: &[i64], start: u32) -> Option<u32>
+        requires count { length times.now ≡ self.now.events }
+        requires times { All IsTime times.now }
+        ensures none { IsNone result
+            ↔ AllWithin (Holds times.now) self.now.constraints start (length self.now.constraints) }
+        ensures first { IfSome result (IsFirstBroken times.now self.now start) }
+    {
+        for number in start..self.len() {
+            if !self.constraints[number as usize].holds(times) {
+                return Some(number);
             }
         }
         None
     }
+
+    /// Whether the times satisfy the network however far the events of a set are raised, all by one number.
+    /// There are a time and a flag for each event, and the times are as for [`Network::broken`].
+    pub fn stays(&self, times: &[i64], set: &[bool]) -> bool
+        requires count { length times.now ≡ self.now.events }
+        requires set { length set.now ≡ self.now.events }
+        requires times { All IsTime times.now }
+        ensures { IsTrue result ↔ ((by : ℕ) → Satisfies (raised set.now by times.now) self.now) }
+    {
+        all_stay(&self.constraints, times, set)
+    }
+
+    /// Whether times and a set of events show that a pair of events of the network is unbounded: the set holds
+    /// `to` and not `from`, and the times satisfy the network however far its events are raised. The times and
+    /// the set are as for [`Network::stays`].
+    pub fn is_ray(&self, times: &[i64], set: &[bool], from: EventId, to: EventId) -> bool
+        requires count { length times.now ≡ self.now.events }
+        requires set { length set.now ≡ self.now.events }
+        requires times { All IsTime times.now }
+        requires from { from.0 < self.now.events }
+        requires to { to.0 < self.now.events }
+        ensures { IsTrue result ↔ IsRay self.now from to times.now set.now }
+    {
+        set[to.0 as usize] && !set[from.0 as usize] && self.stays(times, set)
+    }
+}
+
+// Whether times meet each constraint however far the events of a set are raised.
+fn all_stay(constraints: &[Constraint], times: &[i64], set: &[bool]) -> bool
+    requires constraints { All (IsConstraint (length times.now)) constraints.now }
+    requires times { All IsTime times.now }
+    requires set { length set.now ≡ length times.now }
+    ensures { IsTrue result ↔ All (Stays times.now set.now) constraints.now }
+{
+    constraints
+        .iter()
+        .all(|constraint| constraint.stays(times, set))
 }
