@@ -44,21 +44,6 @@ length_within room chosen h =
     length-le_from_distinct_below (map number_of chosen) room (distinct room chosen h) (λ number any. below room chosen number h any) in
     omega (arith, length-map chosen number_of)
 
-pub table_push : (causes : List (Option ℕ)) (chosen : Case) (choice : Choice) → IsTable causes chosen → choice.constraint < length causes
-    → cause_chosen chosen choice.constraint ≡ None → IsTable (set causes choice.constraint (Some choice.cause)) (choice ∷ chosen)
-table_push causes chosen choice table within free =
-    let same_length : length (set causes choice.constraint (Some choice.cause)) ≡ length causes = length-set causes choice.constraint (Some choice.cause) in
-    record {
-      choices = subst (λ room. AreChoices room (choice ∷ chosen)) (sym same_length) (within, free, table.choices);
-      each = λ number there.
-          let there_before : number < length causes = omega arith in
-          elim (cases_eq number choice.constraint) [
-            | inl same ↦ rw (same, eq-eqb choice.constraint choice.constraint refl) (get_or-set_same causes choice.constraint (Some choice.cause) None within)
-            | inr other ↦ rw (ne_eqb choice.constraint number (λ same. other (sym same)))
-                (get_or-set_other causes choice.constraint number (Some choice.cause) None other ∙ table.each number there_before)
-          ];
-    }
-
 pub table_pop : (causes : List (Option ℕ)) (chosen : Case) (choice : Choice) → IsTable causes (choice ∷ chosen) → IsTable (set causes choice.constraint None) chosen
 table_pop causes chosen choice table =
     let same_length : length (set causes choice.constraint None) ≡ length causes = length-set causes choice.constraint None in

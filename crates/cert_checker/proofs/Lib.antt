@@ -2,5 +2,5 @@ pub mod Deciding
 pub mod Reading
 pub mod Choosing
 pub mod Telling
-pub mod Stepping
+pub mod Splitting
 pub mod Walking
