@@ -9,3 +9,4 @@ pub mod SoundProofs
 pub mod ProofCounts
 pub mod ReadingOn
 pub mod Rising
+pub mod Spelling

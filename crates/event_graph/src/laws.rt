@@ -1,5 +1,6 @@
 //! Laws of networks and of proofs over them. Each is the contract of a function that does nothing.
 
+ghost use Rattle.event_graph.specs.Trees.{ProofIsTree};
 ghost use Rattle.event_graph.specs.Laws.{HoldsByEdges, LeastIsReversedGreatest, NoRootIsInconsistent, ProofBounds, ProofIsWithinChoices, ProofOfNothing, RayIsUnbounded, ReadingLeavesCases, RootBoundEncloses, SatisfyingIsMeetingAlways, SatisfyingMeetsAlways, ShiftKeepsSatisfying, SingleCauseIsLinear, StoppedProofIsBelowChoices};
 
 /// Times satisfy a network exactly where they do with one number added to all of them.
@@ -57,6 +58,11 @@ pub fn proof_bounds()
 /// No times satisfy a network for which there is a proof of nothing.
 pub fn proof_of_nothing()
     ensures { ProofOfNothing }
+{}
+
+/// Lines spell a proof exactly where they are those of a tree that proves its goal.
+pub fn proof_is_tree()
+    ensures { ProofIsTree }
 {}
 
 /// The cases that the accepted lines of a proof leave open do not depend on what is to be shown.
