@@ -34,7 +34,12 @@ impl Model for Checker {
 
     ghost Value = { Checking };
 
-    ghost view = { λ c. record { goal = goal_view c.goal; is_open = c.is_open; chosen = c.chosen.chosen; room = c.chosen.room } };
+    ghost view = { λ c. record {
+      goal = goal_view c.goal;
+      is_open = c.is_open;
+      chosen = c.chosen.chosen;
+      room = c.chosen.room;
+    } };
 }
 
 impl Checker {
@@ -52,7 +57,7 @@ impl Checker {
 
     /// Begins a proof for a goal, whatever was taken before: one case is open, in which nothing is chosen.
     pub fn begin(&mut self, net: &Network, goal: Goal)
-        requires { self.old.room ≡ length net.now.constraints }
+        requires room { self.old.room ≡ length net.now.constraints }
         ensures goal { self.new.goal ≡ goal_view goal }
         ensures open { open_cases net.now self.new ≡ [] ∷ [] }
         ensures stands { StandsFor net.now self.new }
@@ -64,7 +69,7 @@ impl Checker {
 
     /// Takes the next line of the proof that was begun, or tells its first fault and changes nothing.
     pub fn take(&mut self, net: &Network, line: &Line<'_>) -> Result<(), CheckFault>
-        requires { StandsFor net.now self.old }
+        requires stands { StandsFor net.now self.old }
         ensures fault { Tells result
             (fault_of_line net.now self.old.goal (open_cases net.now self.old) (lent_line line.now)) }
         ensures taken { OnOk result (open_cases net.now self.new
@@ -92,7 +97,7 @@ impl Checker {
 
     /// Whether no case is open: the lines that were taken are a whole proof.
     pub fn is_done(&self) -> bool
-        ensures { (net : Net) → (IsTrue result ↔ (open_cases net self.now ≡ [])) }
+        ensures done { (net : Net) → (IsTrue result ↔ (open_cases net self.now ≡ [])) }
     {
         !self.is_open
     }
@@ -103,7 +108,9 @@ fn split(net: &Network, chosen: &mut Decisions, constraint: u32) -> Result<(), C
     requires room { chosen.old.room ≡ length net.now.constraints }
     requires case { IsCase net.now chosen.old.chosen }
     ensures fault { Tells result (fault_of_split net.now chosen.old.chosen constraint) }
-    ensures chosen { OnOk result (chosen.new ≡ record chosen.old { chosen = (record { constraint = constraint; cause = 0 }) ∷ chosen.old.chosen }) }
+    ensures chosen { OnOk result (chosen.new ≡ record chosen.old {
+      chosen = (record { constraint = constraint; cause = 0 }) ∷ chosen.old.chosen;
+    }) }
     ensures case { IsCase net.now chosen.new.chosen }
     ensures unchanged { OnErr result (chosen.new ≡ chosen.old) }
 {

@@ -16,7 +16,7 @@ pub fn check_ray(net: &Network, times: &[i64], ray: &[bool], from: EventId, to: 
     requires times { All IsTime times.now }
     requires from { from.0 < net.now.events }
     requires to { to.0 < net.now.events }
-    ensures { IsTrue result ↔ IsRay net.now from to times.now ray.now }
+    ensures ray { IsTrue result ↔ IsRay net.now from to times.now ray.now }
 {
     net.is_ray(times, ray, from, to)
 }

@@ -41,8 +41,8 @@ impl Model for Network {
 impl Network {
     /// A network of a number of events, at most [`MAX_EVENTS`], without constraints.
     pub fn new(alloc: Global, events: u32) -> Result<Network, NoMemory>
-        requires { events ≤ MAX_EVENTS }
-        ensures { IfOk result (λ net. net ≡ record { events = events; constraints = [] }) }
+        requires events { events ≤ MAX_EVENTS }
+        ensures net { IfOk result (λ net. net ≡ record { events = events; constraints = [] }) }
     {
         Ok(Network {
             events,
@@ -60,14 +60,14 @@ impl Network {
 
     /// The number of constraints.
     pub fn len(&self) -> u32
-        ensures { result ≡ length self.now.constraints }
+        ensures count { result ≡ length self.now.constraints }
     {
         self.constraints.len() as u32
     }
 
     /// Whether there are no constraints.
     pub fn is_empty(&self) -> bool
-        ensures { IsTrue result ↔ (self.now.constraints ≡ []) }
+        ensures empty { IsTrue result ↔ (self.now.constraints ≡ []) }
     {
         self.constraints.is_empty()
     }
@@ -168,8 +168,8 @@ impl Network {
 
     /// The kind of a constraint that is there.
     pub fn kind(&self, constraint: u32) -> RuleKind
-        requires { constraint < length self.now.constraints }
-        ensures { option_map (λ (c : Constraint). c.kind)
+        requires there { constraint < length self.now.constraints }
+        ensures kind { option_map (λ (c : Constraint). c.kind)
             (slice_get self.now.constraints constraint) ≡ Some result }
     {
         self.constraints[constraint as usize].kind
@@ -177,8 +177,8 @@ impl Network {
 
     /// The target of a constraint that is there. That of a linear one is its to-event.
     pub fn target(&self, constraint: u32) -> EventId
-        requires { constraint < length self.now.constraints }
-        ensures { option_map (λ (c : Constraint). c.target)
+        requires there { constraint < length self.now.constraints }
+        ensures target { option_map (λ (c : Constraint). c.target)
             (slice_get self.now.constraints constraint) ≡ Some result }
     {
         self.constraints[constraint as usize].target
@@ -187,7 +187,7 @@ impl Network {
     /// The number of causes of a latest or earliest constraint that is there, and 0 for a linear one.
     /// Each constraint has a cause 0, though.
     pub fn cause_count(&self, constraint: u32) -> u32
-        requires { constraint < length self.now.constraints }
+        requires there { constraint < length self.now.constraints }
         ensures count { option_map cause_count_of
             (slice_get self.now.constraints constraint) ≡ Some result }
         ensures each { (cause : ℕ) → cause < result → IsSome (cause_at self.now constraint cause) }
@@ -203,8 +203,8 @@ impl Network {
     /// A cause that is there of a constraint. Cause 0 of a linear one, the only one that it has, is its
     /// from-event with its range.
     pub fn cause(&self, constraint: u32, cause: u32) -> Cause
-        requires { IsSome (cause_at self.now constraint cause) }
-        ensures { cause_at self.now constraint cause ≡ Some result }
+        requires there { IsSome (cause_at self.now constraint cause) }
+        ensures cause { cause_at self.now constraint cause ≡ Some result }
     {
         let constraint = &self.constraints[constraint as usize];
         constraint.causes[cause as usize]
@@ -228,7 +228,7 @@ impl Network {
     /// chosen: on both sides of a linear constraint, on the lower side of a latest one, on the upper side
     /// of an earliest one, and on both sides where there is a single cause.
     pub fn is_always(&self, name: EdgeName) -> bool
-        ensures { IsTrue result ↔ IsAlways self.now name }
+        ensures always { IsTrue result ↔ IsAlways self.now name }
     {
         match self.constraints.get(name.constraint as usize) {
             None => false,
@@ -239,7 +239,7 @@ impl Network {
     /// Whether the cause choices, the product of the numbers of causes of the latest and earliest
     /// constraints, are at most this many. They may be more than a number of 64 bits can tell.
     pub fn choices_fit(&self, most: u64) -> bool
-        ensures { IsTrue result ↔ (cause_choices self.now.constraints ≤ most) }
+        ensures fit { IsTrue result ↔ (cause_choices self.now.constraints ≤ most) }
     {
         let mut product: u64 = 1;
         for constraint in &self.constraints {
@@ -253,7 +253,7 @@ impl Network {
 
     /// The number of constraints with two or more causes to choose from.
     pub fn splittable_count(&self) -> u32
-        ensures { result ≡ splittable_count self.now }
+        ensures count { result ≡ splittable_count self.now }
     {
         self.constraints
             .iter()
@@ -296,7 +296,7 @@ impl Network {
         requires count { length times.now ≡ self.now.events }
         requires set { length set.now ≡ self.now.events }
         requires times { All IsTime times.now }
-        ensures { IsTrue result ↔ ((by : ℕ) → Satisfies (raised set.now by times.now) self.now) }
+        ensures stays { IsTrue result ↔ ((by : ℕ) → Satisfies (raised set.now by times.now) self.now) }
     {
         all_stay(&self.constraints, times, set)
     }
@@ -310,7 +310,7 @@ impl Network {
         requires times { All IsTime times.now }
         requires from { from.0 < self.now.events }
         requires to { to.0 < self.now.events }
-        ensures { IsTrue result ↔ IsRay self.now from to times.now set.now }
+        ensures ray { IsTrue result ↔ IsRay self.now from to times.now set.now }
     {
         set[to.0 as usize] && !set[from.0 as usize] && self.stays(times, set)
     }

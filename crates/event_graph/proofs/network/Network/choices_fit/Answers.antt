@@ -20,4 +20,4 @@ returns-in-None c =
     let more = product_more _ _ _ _ _ within here c.choices.ensures.value c.loop-constraint.invariant in
     let past : c.args.most < c.loop-constraint.product * c.choices.result = not_below _ _ c.ranges.most.fits c.in-None.ensures in
     let passes : c.args.most < cause_choices c.args.self.now.constraints = product_passes _ _ _ _ _ all more past in
-    ((λ yes. (cc)), (λ fits. absurd (omega arith)))
+    record { fit = ((λ yes. (cc)), (λ fits. absurd (omega arith))) }

@@ -10,4 +10,4 @@ returns c =
     let stay : IsTrue c.all_stay.result ↔ All (Stays c.args.times.now c.args.set.now) c.args.self.now.constraints =
     subst (λ (cs : List Constraint). IsTrue c.all_stay.result ↔ All (Stays c.args.times.now c.args.set.now) cs) items c.all_stay.ensures in
     let satisfy = raised_satisfy c.args.self.now c.args.times.now c.args.set.now c.requires.count c.requires.set in
-    ((λ yes. satisfy.1 (stay.0 yes)), (λ h. stay.1 (satisfy.0 h)))
+    record { stays = ((λ yes. satisfy.1 (stay.0 yes)), (λ h. stay.1 (satisfy.0 h))) }
