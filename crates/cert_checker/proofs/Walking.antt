@@ -1,9 +1,10 @@
 -- A walk so far, and one edge more.
-use Rattle.std.proofs.Common.{◌≡◌, ◌<◌, ◌+◌, ◌*◌, ℕ, zero, suc, ℤ, pos, neg_ℤ, ◌+ℤ◌, ◌≤ℤ◌, List, [], ◌∷◌, length, get_or, drop, Option, Some, None, sym, ap, ◌∙◌, refl, arith}
+use Rattle.std.proofs.Common.{◌≡◌, ◌<◌, ◌+◌, ◌*◌, ℕ, zero, suc, ℤ, pos, neg_ℤ, ◌+ℤ◌, ◌≤ℤ◌, List, [], ◌∷◌, length, get_or, drop, Option, Some, None, unsigned_abs, sym, ap, ◌∙◌, refl, arith}
 use Rattle.std.specs.Option.{option_or}
 use Rattle.std.proofs.lemmas.Int.{ints}
 use Rattle.std.proofs.lemmas.List.{at_drop_more}
 use Rattle.itv_base.specs.Range.{IsEnd}
+use Rattle.itv_base.specs.declared.limits.TheConstants.{END_LIMIT}
 use Rattle.itv_base.specs.declared.names.EdgeName.{EdgeName}
 use Rattle.itv_base.specs.declared.names.EventId.{EventId}
 use Rattle.event_graph.specs.declared.edge.Edge.{Edge}
@@ -15,7 +16,7 @@ use Rattle.cert_checker.specs.Faults.{end_of, fault_of_edge, fault_of_walk, is_u
 
 -- the greatest sum of so many weights
 abbrev pub farthest : ℕ → ℕ
-farthest place = 1000000000000 * place
+farthest place = unsigned_abs END_LIMIT * place
 
 -- the fault of the whole walk is that of the rest from here, and the sum so far and that of the rest make the whole
 pub record Walks (net : Net) (chosen : Case) (from to : EventId) (names : List EdgeName) (place : ℕ) (at : EventId) (sum : ℤ) : Type 0 where
