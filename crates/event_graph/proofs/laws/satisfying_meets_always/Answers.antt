@@ -2,4 +2,4 @@ use Rattle.event_graph.proofs.ByEdges.{satisfying_meets_always}
 use Rattle.event_graph.proofs.laws.satisfying_meets_always.Goals as goal
 
 pub returns : goal.returns
-returns c = satisfying_meets_always
+returns c = record { law = satisfying_meets_always }

@@ -2,4 +2,4 @@ use Rattle.event_graph.proofs.Shifting.{shift_keeps_satisfying}
 use Rattle.event_graph.proofs.laws.shift_keeps_satisfying.Goals as goal
 
 pub returns : goal.returns
-returns c = shift_keeps_satisfying
+returns c = record { law = shift_keeps_satisfying }

@@ -1,0 +1,9 @@
+use Rattle.std.proofs.Common.{◌≡◌, length}
+use Rattle.cert_checker.proofs.decisions.Decisions.clear.Given as goal
+
+-- the table keeps its places
+abbrev pub invariant-loop : goal.invariant-loop
+invariant-loop l = l.self.room ≡ l.fn.self.room
+
+abbrev pub decreases-loop : goal.decreases-loop
+decreases-loop l = length l.self.chosen

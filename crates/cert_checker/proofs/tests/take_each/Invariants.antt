@@ -1,0 +1,6 @@
+use Rattle.cert_checker.specs.Checking.{StandsFor}
+use Rattle.cert_checker.proofs.tests.take_each.Given as goal
+
+-- the checker stands in a proof for the network
+abbrev pub invariant-loop-line : goal.invariant-loop-line
+invariant-loop-line g l = StandsFor l.net l.checker

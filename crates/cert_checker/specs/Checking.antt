@@ -1,0 +1,49 @@
+-- What a checker of proofs stands at.
+use Rattle.std.specs.Prelude.{◌≡◌, ◌<◌, ◌+◌, ◌-◌, ◌++◌, ℕ, Bool, true, false, List, [], ◌∷◌, length, Option, Some, None, Result, Ok, Err, slice_get}
+use Rattle.event_graph.specs.Network.{Net}
+use Rattle.event_graph.specs.Proof.{Bound, Case, MaySplit, Nothing, ProofGoal, cases_from, count_causes}
+use Rattle.cert_checker.specs.declared.check_fault.CheckFault.{CheckFault}
+use Rattle.cert_checker.specs.declared.goal.Goal.{Goal}
+use Rattle.cert_checker.specs.declared.goal.Goal.TheVariants as goals
+
+abbrev pub goal_view : Goal → ProofGoal
+goal_view (goals.Bound from to value) = Bound from to value
+goal_view goals.Nothing = Nothing
+
+-- its goal, whether a case is open, the choices of the first open case, and how many choices it has room for
+pub record Checking : Type 0 where
+  pub goal : ProofGoal
+  pub is_open : Bool
+  pub chosen : Case
+  pub room : ℕ
+
+-- The choices of one case tell all other open cases of a proof that is read in order: the causes after the chosen one, of the latest choice and
+-- then of each one before it.
+abbrev pub siblings : Net → Case → List Case
+siblings net [] = []
+siblings net (choice ∷ above) =
+    cases_from above choice.constraint (choice.cause + 1) (count_causes (slice_get net.constraints choice.constraint) - (choice.cause + 1)) ++ siblings net above
+
+abbrev pub open_by : Net → Bool → Case → List Case
+open_by net true chosen = chosen ∷ siblings net chosen
+open_by net false chosen = []
+
+-- the cases that are open
+abbrev pub open_cases : Net → Checking → List Case
+open_cases net checking = open_by net checking.is_open checking.chosen
+
+-- each choice is of a constraint that may be split in the case before it, and of one of its causes
+abbrev pub IsCase : Net → Case → Type 0
+IsCase net [] = Unit {0}
+IsCase net (choice ∷ above) =
+    MaySplit net above choice.constraint × (choice.cause < count_causes (slice_get net.constraints choice.constraint)) × IsCase net above
+
+-- a checker stands in a proof for a network
+pub record StandsFor (net : Net) (checking : Checking) : Type 0 where
+  pub room : checking.room ≡ length net.constraints
+  pub case : IsCase net checking.chosen
+
+-- the answer is this fault, or it is a value where there is none
+abbrev pub Tells : {A : Type 0} → Result A CheckFault → Option CheckFault → Type 0
+Tells (Ok x) fault = fault ≡ None
+Tells (Err e) fault = fault ≡ Some e

@@ -1,0 +1,4 @@
+pub mod Faults
+pub mod Checking
+pub mod Laws
+pub mod Step

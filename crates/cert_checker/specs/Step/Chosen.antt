@@ -1,0 +1,32 @@
+-- The choices of a case, with a table of them by constraint.
+use Rattle.std.specs.Prelude.{◌≡◌, ◌==◌, ◌<◌, ◌≤◌, ℕ, if◌then◌else◌, List, [], ◌∷◌, length, reverse, Option, Some, None, slice_index_or, vec_capacity}
+use Rattle.event_graph.specs.Proof.{Case}
+use Rattle.cert_checker.specs.declared.decisions.Decisions.TheInside.{Inside}
+
+-- for how many constraints there is a place in the table, and the choices, the latest one first
+pub record Chosen : Type 0 where
+  pub room : ℕ
+  pub chosen : Case
+
+-- the cause that is chosen of a constraint, where one is
+abbrev pub cause_chosen : Case → ℕ → Option ℕ
+cause_chosen [] number = None
+cause_chosen (choice ∷ above) number = if choice.constraint == number then Some choice.cause else cause_chosen above number
+
+-- each choice is of a constraint below a number, of which no cause is chosen before
+abbrev pub AreChoices : ℕ → Case → Type 0
+AreChoices room [] = Unit {0}
+AreChoices room (choice ∷ above) = (choice.constraint < room) × (cause_chosen above choice.constraint ≡ None) × AreChoices room above
+
+abbrev pub chosen_in : Inside → Chosen
+chosen_in d = record { room = length d.causes.items; chosen = reverse d.choices.items }
+
+-- each choice is of a constraint that has a place in the table, and the table has what is chosen of each
+pub record IsTable (causes : List (Option ℕ)) (chosen : Case) : Type 0 where
+  pub choices : AreChoices (length causes) chosen
+  pub each : (number : ℕ) → number < length causes → slice_index_or causes number None ≡ cause_chosen chosen number
+
+-- there is room for a choice of each constraint
+pub record IsNoted (d : Inside) : Type 0 where
+  pub room : length d.causes.items ≤ vec_capacity d.choices
+  pub table : IsTable d.causes.items (reverse d.choices.items)

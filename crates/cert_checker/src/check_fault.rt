@@ -1,0 +1,50 @@
+//! Why a line of a proof is refused.
+
+use std::error::Error;
+use std::fmt;
+
+/// The first fault of a line of a proof, in the order in which they are looked for. The edges of a path or of a
+/// loop have places from 0, and sums are in picoseconds.
+#[derive(Clone, Copy, Debug, PartialEq, Eq)]
+pub enum CheckFault {
+    /// The lines before are a whole proof already.
+    AfterEnd,
+    /// The constraint of a split is not there, or it is a linear one.
+    NoSuchConstraint,
+    /// The constraint of a split is split above already.
+    AlreadySplit,
+    /// A path stands in a proof that no times satisfy.
+    PathHere,
+    /// There are this many edges, more than the network has events.
+    TooLong(usize),
+    /// There is no edge of the name at this place.
+    BadEdge(usize),
+    /// The edge at this place is no always-edge, nor the choice side of a cause that is chosen.
+    NotChosen(usize),
+    /// The edge at this place does not begin where the one before ends, or the first edge of a path not at its
+    /// from-event; at the number of edges, that the path does not end at its to-event, or the loop where it began.
+    Broken(usize),
+    /// The path has this sum, which exceeds the value.
+    SumTooGreat(i64),
+    /// The loop has this sum, which is not negative.
+    NotNegative(i64),
+}
+
+impl fmt::Display for CheckFault {
+    fn fmt<W: fmt::Write>(&self, f: &mut fmt::Formatter<W>) -> fmt::Result {
+        match self {
+            CheckFault::AfterEnd => write!(f, "the proof is whole before this line"),
+            CheckFault::NoSuchConstraint => write!(f, "there is no such constraint to split"),
+            CheckFault::AlreadySplit => write!(f, "the constraint is split above"),
+            CheckFault::PathHere => write!(f, "a proof of nothing has no paths"),
+            CheckFault::TooLong(count) => write!(f, "{count} edges are more than there are events"),
+            CheckFault::BadEdge(place) => write!(f, "there is no edge of the name at {place}"),
+            CheckFault::NotChosen(place) => write!(f, "the edge at {place} may not be used here"),
+            CheckFault::Broken(place) => write!(f, "the edges are broken at {place}"),
+            CheckFault::SumTooGreat(sum) => write!(f, "the sum {sum} exceeds the value"),
+            CheckFault::NotNegative(sum) => write!(f, "the sum {sum} is not negative"),
+        }
+    }
+}
+
+impl Error for CheckFault {}

@@ -1,0 +1,80 @@
+//! The choices of a case.
+
+ghost use Rattle.std.specs.Prelude.{◌≡◌, ◌<◌, ℕ, [], ◌∷◌, None, IfOk, IfSome, MatchOption};
+ghost use Rattle.cert_checker.specs.Step.Chosen.{cause_chosen};
+
+use crate::choice::Choice;
+use itv_base::NoMemory;
+use std::alloc::Global;
+use std::marker::Model;
+
+/// A stack of choices, at most one of each constraint, and a table that tells the choice of a constraint at one
+/// look. Contracts see for how many constraints there is room, and the choices, the latest one first.
+#[derive(Debug, Drop)]
+pub struct Decisions {
+    // The choices, the oldest one first.
+    choices: Vec<Choice>,
+    // The cause that is chosen of each constraint, where one is.
+    causes: Vec<Option<u32>>,
+}
+
+impl Model for Decisions {
+    ghost use Rattle.cert_checker.specs.Step.Chosen.{Chosen, IsNoted, chosen_in};
+
+    ghost Value = { Chosen };
+
+    ghost view = { chosen_in };
+
+    ghost invariant = { IsNoted };
+}
+
+impl Decisions {
+    /// No choices, and room for one of each of so many constraints. Takes all the memory that is ever needed.
+    pub fn new(alloc: Global, room: u32) -> Result<Decisions, NoMemory>
+        ensures { IfOk result (λ d. d ≡ record { room = room; chosen = [] }) }
+    {
+        let count = room as usize;
+        Ok(Decisions {
+            choices: Vec::with_capacity(alloc, count)?,
+            causes: vec![in alloc; None; count]?,
+        })
+    }
+
+    /// Takes all choices away.
+    pub fn clear(&mut self)
+        ensures { self.new ≡ record self.old { chosen = [] } }
+    {
+        while self.pop().is_some() {}
+    }
+
+    /// Adds a choice of a constraint of which no cause is chosen.
+    pub fn push(&mut self, choice: Choice)
+        requires constraint { choice.constraint < self.old.room }
+        requires free { cause_chosen self.old.chosen choice.constraint ≡ None }
+        ensures { self.new ≡ record self.old { chosen = choice ∷ self.old.chosen } }
+    {
+        self.choices.push_reserved(choice);
+        self.causes[choice.constraint as usize] = Some(choice.cause);
+    }
+
+    /// Takes the latest choice away, if there is one.
+    pub fn pop(&mut self) -> Option<Choice>
+        ensures room { self.new.room ≡ self.old.room }
+        ensures choice { MatchOption result ((self.old.chosen ≡ []) × (self.new.chosen ≡ []))
+            (λ choice. self.old.chosen ≡ choice ∷ self.new.chosen) }
+        ensures there { IfSome result (λ choice. choice.constraint < self.new.room) }
+        ensures free { IfSome result (λ choice. cause_chosen self.new.chosen choice.constraint ≡ None) }
+    {
+        let choice = self.choices.pop()?;
+        self.causes[choice.constraint as usize] = None;
+        Some(choice)
+    }
+
+    /// The cause that is chosen of a constraint, if one is.
+    pub fn cause_of(&self, constraint: u32) -> Option<u32>
+        requires { constraint < self.now.room }
+        ensures { result ≡ cause_chosen self.now.chosen constraint }
+    {
+        self.causes[constraint as usize]
+    }
+}

@@ -1,0 +1,21 @@
+//! A checker of proofs by cases that no separation of a pair of events exceeds a value, or that no times satisfy
+//! a network. It takes the lines of a proof one after another. The contract of the crate: `take` accepts a line
+//! exactly where the reading of proofs does, else it tells the line's first fault and changes nothing.
+#![tactic(auto)]
+
+mod check_fault;
+mod checker;
+mod choice;
+mod decisions;
+mod goal;
+pub mod laws;
+mod ray;
+mod walk;
+
+pub use check_fault::CheckFault;
+pub use checker::Checker;
+pub use goal::Goal;
+pub use ray::check_ray;
+
+#[cfg(test)]
+mod tests;
