@@ -1,6 +1,6 @@
 //! The joins of nets.
 
-ghost use Rattle.std.specs.Prelude.{◌≡◌, ◌+◌, ◌<◌, ◌^◌, ◌++◌, [], length, OnOk, OnErr};
+ghost use Rattle.std.specs.Prelude.{◌≡◌, ◌+◌, ◌<◌, ◌≤◌, ◌^◌, ◌++◌, [], length, OnOk, OnErr};
 ghost use Rattle.compose.specs.Joins.{join_at, joins_of_pins, pin_joins};
 
 use crate::mark::DesignMark;
@@ -97,7 +97,8 @@ impl Joins {
 
     /// How many joins there are.
     pub fn count(&self) -> u128
-        ensures { result ≡ length self.now }
+        ensures count { result ≡ length self.now }
+        ensures within { result ≤ 2 ^ 96 }
     {
         let mut count = 0;
         for pin in &self.pins {
