@@ -354,5 +354,10 @@ fn faults_have_texts(rt: HostRuntime) -> Result<(), Fail> {
     assert_eq!(rt; full.as_str(), "the network has 65536 constraints already");
     let want = format!(in rt.alloc(); "{}", PushFault::NoMemory)?;
     assert_eq!(rt; want.as_str(), "out of memory");
+    let unwritten = format!(in rt.alloc(); "{ScribeFailed}")?;
+    assert_eq!(rt;
+        unwritten.as_str(),
+        "a line of a proof could not be written"
+    );
     Ok(())
 }

@@ -1,4 +1,4 @@
--- Lemmas on taking a state back, mark by mark.
+-- Lemmas on taking a state back, level by level.
 use Rattle.std.proofs.Common.{◌≡◌, ℕ, suc, ◌+◌, ◌*◌, ◌<◌, ◌≤◌, cond, nat_lt, List, [], ◌∷◌, ◌++◌, length, get_or, set, drop, map, All, Contains, refl, sym, ap, ◌∙◌, subst, inl, inr, arith, length-set, length-drop, get_or-set_other}
 use Rattle.std.proofs.Math.Nat.{mul-suc}
 use Rattle.std.proofs.lemmas.List.{take_all, drop_all, take-append-le, drop-append-le, length-take-le, map_push, length_push}
@@ -8,7 +8,7 @@ use Rattle.std.proofs.lemmas.Bool.{cases_eq, le-ltb, lt-ltb}
 use Rattle.itv_base.specs.declared.names.EdgeName.{EdgeName}
 use Rattle.trail.specs.declared.undo.Slot.{Slot}
 use Rattle.trail.specs.declared.undo.Saved.{Saved}
-use Rattle.trail.specs.declared.undo.Mark.{Mark}
+use Rattle.trail.specs.declared.undo.LevelStart.{LevelStart}
 use Rattle.trail.specs.Undo.{State, state_at, graphs_at, graph_of, IsLogged, IsUndoable}
 use Rattle.trail.proofs.SlotsBefore.{length-slots_before, slots_before-set_saved, slots_before-save}
 
@@ -24,30 +24,30 @@ with_slot state i x = record state { slots = set state.slots i x }
 abbrev pub with_saved : State → ℕ → Slot → Slot → State
 with_saved state i was x = record state { slots = set state.slots i x; saved = state.saved ++ record { slot = i; was = was } ∷ [] }
 
--- the mark of a level that begins here
-abbrev pub mark_here : State → Mark
-mark_here state = record { edges = length state.edges; saved = length state.saved }
+-- where a level starts that begins here
+abbrev pub start_here : State → LevelStart
+start_here state = record { edges = length state.edges; saved = length state.saved }
 
-state_at-edge : (state : State) (m : Mark) (e : EdgeName) → m.edges ≤ length state.edges → state_at (with_edge state e) m ≡ state_at state m
+state_at-edge : (state : State) (m : LevelStart) (e : EdgeName) → m.edges ≤ length state.edges → state_at (with_edge state e) m ≡ state_at state m
 state_at-edge state m e within = rw take-append-le
 
-state_at-slot : (state : State) (m : Mark) (i : ℕ) (x : Slot) → Contains (map (λ e. e.slot) (drop m.saved state.saved)) i → state_at (with_slot state i x) m ≡ state_at state m
+state_at-slot : (state : State) (m : LevelStart) (i : ℕ) (x : Slot) → Contains (map (λ e. e.slot) (drop m.saved state.saved)) i → state_at (with_slot state i x) m ≡ state_at state m
 state_at-slot state m i x logged = rw (slots_before-set_saved (drop m.saved state.saved) state.slots i x logged)
 
-state_at-saved : (state : State) (m : Mark) (i : ℕ) (was x : Slot) → m.saved ≤ length state.saved → was ≡ get_or state.slots i was → state_at (with_saved state i was x) m ≡ state_at state m
+state_at-saved : (state : State) (m : LevelStart) (i : ℕ) (was x : Slot) → m.saved ≤ length state.saved → was ≡ get_or state.slots i was → state_at (with_saved state i was x) m ≡ state_at state m
 state_at-saved state m i was x within read =
     rw (drop-append-le, take-append-le, slots_before-save (drop m.saved state.saved) state.slots i was x read)
 
-state_at-here : (state : State) → state_at state (mark_here state) ≡ state
+state_at-here : (state : State) → state_at state (start_here state) ≡ state
 state_at-here state =
     let edges_end : length state.edges ≤ length state.edges = omega arith in
     let saved_end : length state.saved ≤ length state.saved = omega arith in
     rw (take_all (length state.edges) state.edges edges_end, drop_all (length state.saved) state.saved saved_end, take_all (length state.saved) state.saved saved_end)
 
 -- no slot was set by a level that isn't there
-levels-le : (state : State) (marks : List Mark) → IsUndoable state marks → All (λ s. s.level ≤ length marks) state.slots
+levels-le : (state : State) (starts : List LevelStart) → IsUndoable state starts → All (λ s. s.level ≤ length starts) state.slots
 levels-le state [] undoable = All-weaker (λ s. s.level ≡ 0) (λ s. s.level ≤ 0) (λ s e. omega arith) state.slots undoable.0
-levels-le state (m ∷ marks) undoable = undoable.0.not_later
+levels-le state (m ∷ starts) undoable = undoable.0.not_later
 
 -- 1 for a slot that is still to be saved at this level, else 0
 abbrev to_save : ℕ → Slot → ℕ
@@ -60,7 +60,7 @@ to_save-unset : (level : ℕ) (s : Slot) → s.level < level → to_save level s
 to_save-unset level s below = rw (lt-ltb s.level level below)
 
 -- The log of the last level, after each of the changes.
-module _ (state : State) (m : Mark) (level : ℕ) (h : IsLogged state m level) where
+module _ (state : State) (m : LevelStart) (level : ℕ) (h : IsLogged state m level) where
   IsLogged-edge : (e : EdgeName) → IsLogged (with_edge state e) m level
   IsLogged-edge e = record {
     edges_within = omega (arith, length_push state.edges e);
@@ -129,96 +129,96 @@ module _ (state : State) (m : Mark) (level : ℕ) (h : IsLogged state m level) w
         }
 
 -- what changes in a level leaves what is below it
-IsUndoable-moved : (state after : State) (m : Mark) (marks : List Mark) → state_at after m ≡ state_at state m → IsLogged after m (suc (length marks)) → IsUndoable state (m ∷ marks) → IsUndoable after (m ∷ marks)
-IsUndoable-moved state after m marks same logged undoable =
-    (logged, subst (λ below. IsUndoable below marks) (sym same) undoable.1)
+IsUndoable-moved : (state after : State) (m : LevelStart) (starts : List LevelStart) → state_at after m ≡ state_at state m → IsLogged after m (suc (length starts)) → IsUndoable state (m ∷ starts) → IsUndoable after (m ∷ starts)
+IsUndoable-moved state after m starts same logged undoable =
+    (logged, subst (λ below. IsUndoable below starts) (sym same) undoable.1)
 
-graphs_at-moved : (state after : State) (m : Mark) (marks : List Mark) → state_at after m ≡ state_at state m → graphs_at after (m ∷ marks) ≡ graphs_at state (m ∷ marks)
-graphs_at-moved state after m marks same = ap (λ below. graph_of below ∷ graphs_at below marks) same
+graphs_at-moved : (state after : State) (m : LevelStart) (starts : List LevelStart) → state_at after m ≡ state_at state m → graphs_at after (m ∷ starts) ≡ graphs_at state (m ∷ starts)
+graphs_at-moved state after m starts same = ap (λ below. graph_of below ∷ graphs_at below starts) same
 
-pub IsUndoable-edge : (state : State) (marks : List Mark) (e : EdgeName) → IsUndoable state marks → IsUndoable (with_edge state e) marks
+pub IsUndoable-edge : (state : State) (starts : List LevelStart) (e : EdgeName) → IsUndoable state starts → IsUndoable (with_edge state e) starts
 IsUndoable-edge state [] e undoable = undoable
-IsUndoable-edge state (m ∷ marks) e undoable =
-    IsUndoable-moved state (with_edge state e) m marks (state_at-edge state m e undoable.0.edges_within) (IsLogged-edge state m _ undoable.0 e) undoable
+IsUndoable-edge state (m ∷ starts) e undoable =
+    IsUndoable-moved state (with_edge state e) m starts (state_at-edge state m e undoable.0.edges_within) (IsLogged-edge state m _ undoable.0 e) undoable
 
-pub graphs_at-edge : (state : State) (marks : List Mark) (e : EdgeName) → IsUndoable state marks → graphs_at (with_edge state e) marks ≡ graphs_at state marks
+pub graphs_at-edge : (state : State) (starts : List LevelStart) (e : EdgeName) → IsUndoable state starts → graphs_at (with_edge state e) starts ≡ graphs_at state starts
 graphs_at-edge state [] e undoable = refl
-graphs_at-edge state (m ∷ marks) e undoable =
-    graphs_at-moved state (with_edge state e) m marks (state_at-edge state m e undoable.0.edges_within)
+graphs_at-edge state (m ∷ starts) e undoable =
+    graphs_at-moved state (with_edge state e) m starts (state_at-edge state m e undoable.0.edges_within)
 
 -- A slot is set whose stamp was set at this level already.
 module _ (state : State) (i : ℕ) (was x : Slot) (below : i < length state.slots) (read : was ≡ get_or state.slots i was) where
-  pub IsUndoable-slot : (marks : List Mark) → x.level ≡ length marks → length marks ≤ was.level → IsUndoable state marks → IsUndoable (with_slot state i x) marks
+  pub IsUndoable-slot : (starts : List LevelStart) → x.level ≡ length starts → length starts ≤ was.level → IsUndoable state starts → IsUndoable (with_slot state i x) starts
   IsUndoable-slot [] now at undoable = (All-set (λ s. s.level ≡ 0) state.slots i x now undoable.0, undoable.1)
-  IsUndoable-slot (m ∷ marks) now at undoable =
-      IsUndoable-moved state (with_slot state i x) m marks (state_at-slot state m i x (slot_logged state m _ undoable.0 i was x below read now at)) (IsLogged-slot state m _ undoable.0 i was x below read now at) undoable
+  IsUndoable-slot (m ∷ starts) now at undoable =
+      IsUndoable-moved state (with_slot state i x) m starts (state_at-slot state m i x (slot_logged state m _ undoable.0 i was x below read now at)) (IsLogged-slot state m _ undoable.0 i was x below read now at) undoable
 
-  pub graphs_at-slot : (marks : List Mark) → x.level ≡ length marks → length marks ≤ was.level → IsUndoable state marks → graphs_at (with_slot state i x) marks ≡ graphs_at state marks
+  pub graphs_at-slot : (starts : List LevelStart) → x.level ≡ length starts → length starts ≤ was.level → IsUndoable state starts → graphs_at (with_slot state i x) starts ≡ graphs_at state starts
   graphs_at-slot [] now at undoable = refl
-  graphs_at-slot (m ∷ marks) now at undoable =
-      graphs_at-moved state (with_slot state i x) m marks (state_at-slot state m i x (slot_logged state m _ undoable.0 i was x below read now at))
+  graphs_at-slot (m ∷ starts) now at undoable =
+      graphs_at-moved state (with_slot state i x) m starts (state_at-slot state m i x (slot_logged state m _ undoable.0 i was x below read now at))
 
-  pub IsUndoable-saved : (marks : List Mark) → x.level ≡ length marks → was.level < length marks → IsUndoable state marks → IsUndoable (with_saved state i was x) marks
+  pub IsUndoable-saved : (starts : List LevelStart) → x.level ≡ length starts → was.level < length starts → IsUndoable state starts → IsUndoable (with_saved state i was x) starts
   IsUndoable-saved [] now unset undoable = absurd (omega arith)
-  IsUndoable-saved (m ∷ marks) now unset undoable =
-      IsUndoable-moved state (with_saved state i was x) m marks (state_at-saved state m i was x undoable.0.saved_within read) (IsLogged-saved state m _ undoable.0 i was x below read now unset) undoable
+  IsUndoable-saved (m ∷ starts) now unset undoable =
+      IsUndoable-moved state (with_saved state i was x) m starts (state_at-saved state m i was x undoable.0.saved_within read) (IsLogged-saved state m _ undoable.0 i was x below read now unset) undoable
 
-  pub graphs_at-saved : (marks : List Mark) → x.level ≡ length marks → was.level < length marks → IsUndoable state marks → graphs_at (with_saved state i was x) marks ≡ graphs_at state marks
+  pub graphs_at-saved : (starts : List LevelStart) → x.level ≡ length starts → was.level < length starts → IsUndoable state starts → graphs_at (with_saved state i was x) starts ≡ graphs_at state starts
   graphs_at-saved [] now unset undoable = absurd (omega arith)
-  graphs_at-saved (m ∷ marks) now unset undoable =
-      graphs_at-moved state (with_saved state i was x) m marks (state_at-saved state m i was x undoable.0.saved_within read)
+  graphs_at-saved (m ∷ starts) now unset undoable =
+      graphs_at-moved state (with_saved state i was x) m starts (state_at-saved state m i was x undoable.0.saved_within read)
 
 -- a level begins
-pub IsUndoable-mark : (state : State) (marks : List Mark) → IsUndoable state marks → IsUndoable state (mark_here state ∷ marks)
-IsUndoable-mark state marks undoable =
+pub IsUndoable-start : (state : State) (starts : List LevelStart) → IsUndoable state starts → IsUndoable state (start_here state ∷ starts)
+IsUndoable-start state starts undoable =
     let saved_end : length state.saved ≤ length state.saved = omega arith in
     let none = drop_all (length state.saved) state.saved saved_end in
-    let level = suc (length marks) in
-    let set_before = levels-le state marks undoable in (
+    let level = suc (length starts) in
+    let set_before = levels-le state starts undoable in (
       record {
         edges_within = omega arith;
         saved_within = omega arith;
         present = subst (All (λ e. e.slot < length state.slots)) (sym none) (All-nil (λ e. e.slot < length state.slots));
-        not_later = All-weaker (λ s. s.level ≤ length marks) (λ s. s.level ≤ level) (λ s le. omega arith) state.slots set_before;
+        not_later = All-weaker (λ s. s.level ≤ length starts) (λ s. s.level ≤ level) (λ s le. omega arith) state.slots set_before;
         logged = λ i d lt e. absurd (omega (arith, set_before i d lt));
         once = omega (arith, ap length none, count_by-le-length (λ s. nat_lt s.level level) state.slots);
       },
-      subst (λ below. IsUndoable below marks) (sym (state_at-here state)) undoable,
+      subst (λ below. IsUndoable below starts) (sym (state_at-here state)) undoable,
     )
 
-pub graphs_at-mark : (state : State) (marks : List Mark) → graphs_at state (mark_here state ∷ marks) ≡ graph_of state ∷ graphs_at state marks
-graphs_at-mark state marks = ap (λ below. graph_of below ∷ graphs_at below marks) (state_at-here state)
+pub graphs_at-start : (state : State) (starts : List LevelStart) → graphs_at state (start_here state ∷ starts) ≡ graph_of state ∷ graphs_at state starts
+graphs_at-start state starts = ap (λ below. graph_of below ∷ graphs_at below starts) (state_at-here state)
 
 -- a level has saved each slot at most once
-length-log : (state : State) (m : Mark) (level : ℕ) → IsLogged state m level → length state.saved ≤ m.saved + length state.slots
+length-log : (state : State) (m : LevelStart) (level : ℕ) → IsLogged state m level → length state.saved ≤ m.saved + length state.slots
 length-log state m level h = omega (arith, length-drop m.saved state.saved, h.once)
 
 -- there are no more saved slots than slots at each level
-length-saved : (state : State) (marks : List Mark) → IsUndoable state marks → length state.saved ≤ length state.slots * length marks
+length-saved : (state : State) (starts : List LevelStart) → IsUndoable state starts → length state.saved ≤ length state.slots * length starts
 length-saved state [] undoable = omega (arith, ap length undoable.1)
-length-saved state (m ∷ marks) undoable =
+length-saved state (m ∷ starts) undoable =
     omega (
       arith,
       length-log state m _ undoable.0,
-      length-saved (state_at state m) marks undoable.1,
+      length-saved (state_at state m) starts undoable.1,
       length-take-le m.saved state.saved undoable.0.saved_within,
-      ap (λ n. n * length marks) (length-slots_before (drop m.saved state.saved) state.slots),
-      mul-suc (length state.slots) (length marks),
+      ap (λ n. n * length starts) (length-slots_before (drop m.saved state.saved) state.slots),
+      mul-suc (length state.slots) (length starts),
     )
 
 -- where a slot is still to be saved, there is room for it
-pub room-saved : (state : State) (marks : List Mark) (i : ℕ) (was : Slot) → IsUndoable state marks → i < length state.slots → was ≡ get_or state.slots i was → was.level < length marks → length state.saved < length state.slots * length marks
+pub room-saved : (state : State) (starts : List LevelStart) (i : ℕ) (was : Slot) → IsUndoable state starts → i < length state.slots → was ≡ get_or state.slots i was → was.level < length starts → length state.saved < length state.slots * length starts
 room-saved state [] i was undoable below read unset = absurd (omega arith)
-room-saved state (m ∷ marks) i was undoable below read unset =
+room-saved state (m ∷ starts) i was undoable below read unset =
     omega (
       arith,
       length-drop m.saved state.saved,
       undoable.0.once,
       undoable.0.saved_within,
-      get_or-le-sum_by (to_save (suc (length marks))) state.slots i was below,
-      ap (to_save (suc (length marks))) (sym read) ∙ to_save-unset (suc (length marks)) was unset,
-      length-saved (state_at state m) marks undoable.1,
+      get_or-le-sum_by (to_save (suc (length starts))) state.slots i was below,
+      ap (to_save (suc (length starts))) (sym read) ∙ to_save-unset (suc (length starts)) was unset,
+      length-saved (state_at state m) starts undoable.1,
       length-take-le m.saved state.saved undoable.0.saved_within,
-      ap (λ n. n * length marks) (length-slots_before (drop m.saved state.saved) state.slots),
-      mul-suc (length state.slots) (length marks),
+      ap (λ n. n * length starts) (length-slots_before (drop m.saved state.saved) state.slots),
+      mul-suc (length state.slots) (length starts),
     )

@@ -12,15 +12,15 @@ abbrev pub stack_in : Inside → Stack
 stack_in t = record {
   levels = t.levels;
   current = graph_of (state_in t);
-  below = graphs_at (state_in t) (reverse t.marks.items);
+  below = graphs_at (state_in t) (reverse t.starts.items);
 }
 
--- there are no more edges and marks than levels, there is room for all that may come, and every level can be taken back
+-- no more edges are there and no more levels began than there may be levels, there is room for all that may come, and every level can be taken back
 pub record IsSound (t : Inside) : Type 0 where
   pub few_levels : t.levels < 2 ^ 32
   pub few_edges : length t.edges.items ≤ t.levels
-  pub few_marks : length t.marks.items ≤ t.levels
+  pub few_starts : length t.starts.items ≤ t.levels
   pub edge_room : t.levels ≤ vec_capacity t.edges
-  pub mark_room : t.levels ≤ vec_capacity t.marks
+  pub start_room : t.levels ≤ vec_capacity t.starts
   pub saved_room : length t.slots.items * t.levels ≤ vec_capacity t.saved
-  pub undoable : IsUndoable (state_in t) (reverse t.marks.items)
+  pub undoable : IsUndoable (state_in t) (reverse t.starts.items)

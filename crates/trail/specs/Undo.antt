@@ -1,9 +1,9 @@
--- How a stack of graphs is kept: one graph, a log of the slots that were overwritten, and a mark for each level.
+-- How a stack of graphs is kept: one graph, a log of the slots that were overwritten, and where each level began.
 use Rattle.std.specs.Prelude.{◌≡◌, ℕ, suc, ◌+◌, ◌<◌, ◌≤◌, List, [], ◌∷◌, length, take, drop, map, All, Contains, slice_index_or, slice_set, count_by, nat_lt}
 use Rattle.itv_base.specs.declared.names.EdgeName.{EdgeName}
 use Rattle.trail.specs.declared.undo.Slot.{Slot}
 use Rattle.trail.specs.declared.undo.Saved.{Saved}
-use Rattle.trail.specs.declared.undo.Mark.{Mark}
+use Rattle.trail.specs.declared.undo.LevelStart.{LevelStart}
 use Rattle.trail.specs.Stack.{Graph}
 
 -- the edges and the slots as they are, and the log of saved slots, the oldest first
@@ -17,8 +17,8 @@ abbrev pub slots_before : List Saved → List Slot → List Slot
 slots_before [] slots = slots
 slots_before (e ∷ saved) slots = slice_set (slots_before saved slots) e.slot e.was
 
--- the state in which the mark was made
-abbrev pub state_at : State → Mark → State
+-- the state in which a level began
+abbrev pub state_at : State → LevelStart → State
 state_at s m = record {
   edges = take m.edges s.edges;
   slots = slots_before (drop m.saved s.saved) s.slots;
@@ -28,15 +28,15 @@ state_at s m = record {
 abbrev pub graph_of : State → Graph
 graph_of s = record { edges = s.edges; stamps = map (λ slot. slot.stamp) s.slots }
 
--- the graphs at the marks, the last mark first
-abbrev pub graphs_at : State → List Mark → List Graph
+-- the graphs in which levels began, the last level first
+abbrev pub graphs_at : State → List LevelStart → List Graph
 graphs_at s [] = []
-graphs_at s (m ∷ marks) = graph_of (state_at s m) ∷ graphs_at (state_at s m) marks
+graphs_at s (m ∷ starts) = graph_of (state_at s m) ∷ graphs_at (state_at s m) starts
 
--- The log since the last mark, which began this level: the mark lies within the state; the log names slots that are there; no
+-- The log of the last level: where it began lies within the state; the log names slots that are there; no
 -- slot was set by a later level; each slot that this level set is in the log; and those in the log and those that this level
 -- hasn't set are no more than all slots, since a level logs a slot once.
-pub record IsLogged (s : State) (m : Mark) (level : ℕ) : Type 0 where
+pub record IsLogged (s : State) (m : LevelStart) (level : ℕ) : Type 0 where
   pub edges_within : m.edges ≤ length s.edges
   pub saved_within : m.saved ≤ length s.saved
   pub present : All (λ e. e.slot < length s.slots) (drop m.saved s.saved)
@@ -44,7 +44,7 @@ pub record IsLogged (s : State) (m : Mark) (level : ℕ) : Type 0 where
   pub logged : (i : ℕ) (d : Slot) → i < length s.slots → (slice_index_or s.slots i d).level ≡ level → Contains (map (λ e. e.slot) (drop m.saved s.saved)) i
   pub once : length (drop m.saved s.saved) + count_by (λ slot. nat_lt slot.level level) s.slots ≤ length s.slots
 
--- the state can be taken back mark by mark, the last mark first; before the first mark no slot was set by a level
-abbrev pub IsUndoable : State → List Mark → Type 0
+-- the state can be taken back level by level, the last one first; before the first level no slot was set by one
+abbrev pub IsUndoable : State → List LevelStart → Type 0
 IsUndoable s [] = All (λ slot. slot.level ≡ 0) s.slots × (s.saved ≡ [])
-IsUndoable s (m ∷ marks) = IsLogged s m (suc (length marks)) × IsUndoable (state_at s m) marks
+IsUndoable s (m ∷ starts) = IsLogged s m (suc (length starts)) × IsUndoable (state_at s m) starts

@@ -143,7 +143,7 @@ fn steps_do_what_they_do_to_whole_copies(rt: HostRuntime) -> Result<(), Fail> {
         Set(0, 5),
         Set(1, 4),
         Pop,
-        // Edges are added below and above a mark, up to the last one.
+        // Edges are added before and behind the start of a level, up to the last one.
         Add(1),
         Push,
         Add(2),

@@ -4,7 +4,7 @@ ghost use Rattle.std.specs.Prelude.{◌≡◌, ℕ, ◌<◌, ◌≤◌, [], ◌�
 ghost use Rattle.trail.specs.Stack.{new_stack, after_pop, after_push, with_edge, with_stamp};
 
 use crate::stamp::Stamp;
-use crate::undo::{Mark, Saved, Slot, put_back};
+use crate::undo::{LevelStart, Saved, Slot, put_back};
 use itv_base::{EdgeName, NoMemory};
 use std::alloc::Global;
 use std::marker::Model;
@@ -22,7 +22,7 @@ pub struct Trail {
     // The undo log of all levels, the oldest entry first.
     saved: Vec<Saved>,
     // Where each level began, the oldest level first.
-    marks: Vec<Mark>,
+    starts: Vec<LevelStart>,
 }
 
 impl Model for Trail {
@@ -50,7 +50,7 @@ impl Trail {
             edges: Vec::with_capacity(alloc, level_count)?,
             slots: vec![in alloc; Slot::UNSET; slot_count]?,
             saved: Vec::with_capacity(alloc, slot_count * level_count)?,
-            marks: Vec::with_capacity(alloc, level_count)?,
+            starts: Vec::with_capacity(alloc, level_count)?,
         })
     }
 
@@ -60,7 +60,7 @@ impl Trail {
     {
         self.edges.clear();
         self.saved.clear();
-        self.marks.clear();
+        self.starts.clear();
         self.slots.fill(Slot::UNSET);
     }
 
@@ -69,11 +69,11 @@ impl Trail {
         requires { length self.old.below < self.old.levels }
         ensures { self.new ≡ after_push self.old }
     {
-        let mark = Mark {
+        let start = LevelStart {
             edges: self.edges.len(),
             saved: self.saved.len(),
         };
-        self.marks.push_reserved(mark);
+        self.starts.push_reserved(start);
     }
 
     /// Takes the current graph away: the one below it is current again, as it stood when it was pushed.
@@ -82,10 +82,10 @@ impl Trail {
         ensures below { self.new ≡ after_pop self.old }
         ensures slots { length self.new.current.stamps ≡ length self.old.current.stamps }
     {
-        let mark = self.marks.pop().unwrap();
-        put_back(&mut self.slots, &self.saved[mark.saved..]);
-        self.saved.truncate(mark.saved);
-        self.edges.truncate(mark.edges);
+        let start = self.starts.pop().unwrap();
+        put_back(&mut self.slots, &self.saved[start.saved..]);
+        self.saved.truncate(start.saved);
+        self.edges.truncate(start.edges);
     }
 
     /// Puts an edge at the end of the current graph's edges.
@@ -115,7 +115,7 @@ impl Trail {
         ensures count { result ≡ length self.now.below }
         ensures within { result ≤ self.now.levels }
     {
-        self.marks.len() as u32
+        self.starts.len() as u32
     }
 
     /// How many edges the current graph has.

@@ -32,7 +32,7 @@ pub struct Saved {
 
 /// Where a level began: how many edges and how many saved slots there were.
 #[derive(Clone, Copy, Debug)]
-pub struct Mark {
+pub struct LevelStart {
     pub edges: usize,
     pub saved: usize,
 }

@@ -9,6 +9,6 @@ returns c =
       edges = c.in_ok-with_capacity.field-0;
       slots = c.in_ok-vec.field-0;
       saved = c.in_ok-with_capacity-2.field-0;
-      marks = c.in_ok-with_capacity-3.field-0;
+      starts = c.in_ok-with_capacity-3.field-0;
     } in
     stack_in-new_stack made c.args.slots c.in_ok-with_capacity.ensures.items (c.in_ok-vec.ensures.items_if_clones_equal (λ y same. same)) c.in_ok-with_capacity-3.ensures.items

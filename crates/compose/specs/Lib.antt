@@ -1,0 +1,4 @@
+pub mod Rule
+pub mod Joins
+pub mod Design
+pub mod Numbers
