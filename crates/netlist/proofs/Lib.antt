@@ -3,3 +3,4 @@ pub mod PinLists
 pub mod NetSteps
 pub mod NetlistSteps
 pub mod WholeNetlists
+pub mod SheetNames
