@@ -4,3 +4,4 @@ pub mod Pieces
 pub mod Whole
 pub mod Judging
 pub mod Sequence
+pub mod Proper

@@ -1,8 +1,6 @@
 -- Every sheet that is read is whole.
 use Rattle.std.proofs.Common.{◌≡◌, ℕ, ◌+◌, ◌-◌, ◌<◌, ◌≤◌, ◌≢◌, Bool, true, false, cond, nat_eq, ◌==◌, List, [], ◌∷◌, ◌++◌, length, map, ltb, take, All, Option, Some, None, IfSome, position, Result, Ok, Err, IfOk, refl, sym, ◌∙◌, ap, append_assoc, append-nil, length-append, unwrap_or, arith}
 use Rattle.std.specs.Str.{bytes_eq}
-use Rattle.std.specs.Prelude.{ℤ, ◌≤ℤ◌}
-use Rattle.std.specs.Option.{option_map_or}
 use Rattle.std.proofs.lemmas.Int.{ints}
 use Rattle.std.specs.Cmp.{IsEquivalence}
 use Rattle.std.specs.List.{IsDistinct, cons_option, enumerate_from, filter, filter_map, flat_map, list_any, position_or_len, range_with_len}
@@ -31,9 +29,9 @@ use Rattle.sheet.specs.Contents.{Contents}
 use Rattle.sheet.specs.declared.mark.TheConstants.{MAX_MARKS}
 use Rattle.itv_base.specs.declared.limits.TheConstants.{MAX_SHIFT}
 use Rattle.itv_base.specs.declared.limits.TheConstants.{MAX_CAUSES}
-use Rattle.itv_base.specs.Range.{Ends, IsEnd, IsRange, has_wide, is_above, is_reversed, is_wide}
+use Rattle.itv_base.specs.Range.{Ends, IsRange}
 use Rattle.label_grammar.specs.Label.{IsProper}
-use Rattle.label_grammar.proofs.Judging.{spells_proper}
+use Rattle.label_grammar.proofs.Proper.{judged_is_proper, proper_range}
 use Rattle.sheet.specs.Lanes.{Numbered, first_repeated, follows_rule, has_bad_node, lane_marks, lane_order, order_named, mark_at, marks_of, node_of, numbered, numbered_from, order_of, order_rules, pin_named, pin_of, pins_of}
 use Rattle.sheet.specs.Links.{Link, group_rule, is_full, joins, labelled, link_of, link_rows, link_rules, link_to, links_of, number_of, open_ends, row_by, rule_opened, seen_link, source_of, is_cause, with_edge, with_link}
 use Rattle.sheet.specs.Sheet.{read_marks, read_pins, sheet_of}
@@ -41,7 +39,7 @@ use Rattle.sheet.specs.Whole.{IsWhole, IsWholeRow, IsWholeRule, IsWholeSource}
 use Rattle.itv_base.proofs.Faults.{IfOk-bind, IfOk-unless, IfOk-walk}
 use Rattle.sheet.proofs.FewMarks.{few_marks}
 use Rattle.sheet.proofs.Joins.{joins-same, joins-itself}
-use Rattle.sheet.proofs.Lists.{both_false, filter-same}
+use Rattle.sheet.proofs.Lists.{filter-same}
 
 -- ---- lists and answers
 
@@ -136,31 +134,9 @@ pub record IsWholeLink (marks : ℕ) (link : Link) : Type 0 where
   pub shift : link.label.shift ≤ MAX_SHIFT
   pub range : IsRange (ends_of link.label)
 
-is_end : (end : Option ℤ) → is_wide end ≡ false → IsEnd end
-is_end None narrow = tt
-is_end (Some value) narrow = grind (arith, ints)
-
-is_ordered : (low high : Option ℤ) → is_above low high ≡ false → IfSome low (λ l. IfSome high (λ h. l ≤ℤ h))
-is_ordered None high ordered = tt
-is_ordered (Some low) None ordered = tt
-is_ordered (Some low) (Some high) ordered = grind (arith, ints)
-
--- ends that are within the limit and not the wrong way round are a range
-is_range : (ends : Ends) → has_wide ends ≡ false → is_reversed ends ≡ false → IsRange ends
-is_range ends narrow ordered =
-    let both = both_false (is_wide ends.low) (is_wide ends.high) narrow in (is_end ends.low both.0, is_end ends.high both.1, is_ordered ends.low ends.high ordered)
-
-proper_range : (ends : Option Ends) → option_map_or has_wide ends false ≡ false → option_map_or is_reversed ends false ≡ false → IsRange (unwrap_or ends open_ends)
-proper_range None narrow ordered = (tt, tt, tt)
-proper_range (Some ends) narrow ordered = is_range ends narrow ordered
-
--- what is read of a label is proper
-pub judged_is_proper : (text : List ℕ) → IfOk (judged (label_of text)) IsProper
-judged_is_proper text = ok_at (judged (label_of text)) refl
-  where
-    ok_at : (r : Result LooseLabel LabelFault) → judged (label_of text) ≡ r → IfOk r IsProper
-    ok_at (Ok label) is = (spells_proper text (label_of text) label refl is).0
-    ok_at (Err fault) is = tt
+range_whole : (ends : Option Ends) → IfSome ends IsRange → IsRange (unwrap_or ends open_ends)
+range_whole None h = (tt, tt, tt)
+range_whole (Some ends) h = h
 
 -- a link is between the marks that were found
 link_to_whole : (n marks : ℕ) (label : LooseLabel) (a b : Option ℕ) (from to : ℕ) → IsProper label → IfSome a (λ k. k < marks) → IfSome b (λ k. k < marks)
@@ -168,7 +144,7 @@ link_to_whole : (n marks : ℕ) (label : LooseLabel) (a b : Option ℕ) (from to
 link_to_whole n marks label None b from to proper in_a in_b = tt
 link_to_whole n marks label (Some a) None from to proper in_a in_b = tt
 link_to_whole n marks label (Some a) (Some b) from to proper in_a in_b =
-    record { from = in_a; to = in_b; shift = proper.loose.shift; range = proper_range label.ends proper.narrow proper.ordered }
+    record { from = in_a; to = in_b; shift = proper.loose.shift; range = range_whole label.ends (proper_range label proper) }
 
 -- the number of a mark is below that of all marks
 number_within : (marks : List Mark) (name : ℕ) → IfSome (number_of marks name) (λ k. k < length marks)

@@ -1,0 +1,80 @@
+//! A design as it was composed.
+
+ghost use Rattle.std.specs.Prelude.{◌≡◌, ◌<◌, Some, length, slice_get};
+ghost use Rattle.compose.specs.Design.{IsDesign};
+
+use crate::joins::Joins;
+use crate::wire_row::WireRows;
+use crate::wire_rule::WireRules;
+use itv_base::Texts;
+use sheet::Sheet;
+use std::marker::Model;
+
+/// A design: its cycles, its parts with their names and sheets, the joins of its nets, and the rules and rows of its wires.
+/// It borrows the sheets and copies none of them.
+#[derive(Debug, Drop)]
+pub struct Design<'a> {
+    pub(crate) cycles: u32,
+    pub(crate) parts: Texts,
+    pub(crate) sheets: Vec<&'a Sheet>,
+    pub(crate) joins: Joins,
+    pub(crate) rules: WireRules,
+    pub(crate) rows: WireRows,
+}
+
+impl<'a> Model for Design<'a> {
+    ghost use Rattle.std.specs.Prelude.{map};
+    ghost use Rattle.compose.specs.Design.{Composed, IsDesign};
+
+    ghost Value = { Composed };
+
+    ghost view = { λ d. record { cycles = d.cycles; parts = d.parts; sheets = map (λ s. s.now) d.sheets.items; joins = d.joins; rules = d.rules; rows = d.rows } };
+
+    ghost invariant = { λ d. IsDesign (record { cycles = d.cycles; parts = d.parts; sheets = map (λ s. s.now) d.sheets.items; joins = d.joins; rules = d.rules; rows = d.rows }) };
+}
+
+impl<'a> Design<'a> {
+    /// How many cycles are drawn, from 1 to [`MAX_CYCLES`](itv_base::MAX_CYCLES).
+    pub fn cycles(&self) -> u32
+        ensures cycles { result ≡ self.now.cycles }
+        ensures design { IsDesign self.now }
+    {
+        self.cycles
+    }
+
+    /// The names of the parts in order.
+    pub fn parts(&self) -> &Texts
+        ensures { result.now ≡ self.now.parts }
+    {
+        &self.parts
+    }
+
+    /// The sheet of a part that is there.
+    pub fn sheet_of(&self, part: u32) -> &Sheet
+        requires { part < length self.now.sheets }
+        ensures { slice_get self.now.sheets part ≡ Some result.now }
+    {
+        self.sheets[part as usize]
+    }
+
+    /// The joins of the nets: net by net, in a net pin by pin, for a pin mark by mark.
+    pub fn joins(&self) -> &Joins
+        ensures { result.now ≡ self.now.joins }
+    {
+        &self.joins
+    }
+
+    /// The rules of the wires in the order of their first wires.
+    pub fn wire_rules(&self) -> &WireRules
+        ensures { result.now ≡ self.now.rules }
+    {
+        &self.rules
+    }
+
+    /// The rows of the wires in order.
+    pub fn wire_rows(&self) -> &WireRows
+        ensures { result.now ≡ self.now.rows }
+    {
+        &self.rows
+    }
+}

@@ -1,0 +1,109 @@
+//! The joins of nets.
+
+ghost use Rattle.std.specs.Prelude.{◌≡◌, ◌+◌, ◌<◌, ◌≤◌, ◌^◌, ◌++◌, [], length, OnOk, OnErr};
+ghost use Rattle.compose.specs.Joins.{join_at, joins_of_pins, pin_joins};
+
+use crate::mark::DesignMark;
+use itv_base::{NoMemory, Range};
+use std::alloc::Global;
+use std::marker::Model;
+
+/// A join: the mark `from` drives the mark `to` of the same cycle, with a delay in picoseconds.
+#[derive(Clone, Copy, Debug, PartialEq, Eq)]
+pub struct Join {
+    pub from: DesignMark,
+    pub to: DesignMark,
+    pub delay: Range,
+}
+
+/// The joins of one pin of a net: mark k of the driving pin drives mark k of this pin, for each of their `marks` marks, with
+/// the net's delay. `driver` and `driven` are the first marks of the two pins.
+#[derive(Clone, Copy, Debug, PartialEq, Eq)]
+pub struct PinJoins {
+    pub driver: DesignMark,
+    pub driven: DesignMark,
+    pub marks: u32,
+    pub delay: Range,
+}
+
+impl PinJoins {
+    /// The join of mark k of the two pins, counted from 0.
+    pub fn join(&self, k: u32) -> Join
+        requires driver { self.now.driver.mark + k < 2 ^ 32 }
+        requires driven { self.now.driven.mark + k < 2 ^ 32 }
+        ensures { result ≡ join_at self.now k }
+    {
+        Join {
+            from: mark_behind(self.driver, k),
+            to: mark_behind(self.driven, k),
+            delay: self.delay,
+        }
+    }
+}
+
+// The mark of the same part that stands so many numbers behind.
+fn mark_behind(mark: DesignMark, k: u32) -> DesignMark
+    requires { mark.mark + k < 2 ^ 32 }
+    ensures { result ≡ record { part = mark.part; mark = mark.mark + k } }
+{
+    DesignMark {
+        part: mark.part,
+        mark: mark.mark + k,
+    }
+}
+
+/// The joins of nets: net by net, in a net pin by pin, for a pin mark by mark. A netlist of four megabytes may have tens of
+/// millions of them, so they are kept pin by pin. Contracts see the list of all joins.
+#[derive(Debug, Drop)]
+pub struct Joins {
+    pins: Vec<PinJoins>,
+}
+
+impl Model for Joins {
+    ghost use Rattle.std.specs.Prelude.{List};
+    ghost use Rattle.compose.specs.declared.joins.Join.{Join};
+    ghost use Rattle.compose.specs.Joins.{joins_of_pins};
+
+    ghost Value = { List Join };
+
+    ghost view = { λ j. joins_of_pins j.pins.items };
+}
+
+impl Joins {
+    /// No joins. It takes no memory yet.
+    pub fn new(alloc: Global) -> Joins
+        ensures { result ≡ [] }
+    {
+        Joins {
+            pins: Vec::new(alloc),
+        }
+    }
+
+    /// Puts the joins of a pin at the end. Where memory is not found the joins are unchanged.
+    pub fn push(&mut self, pin: PinJoins) -> Result<(), NoMemory>
+        ensures ok { OnOk result (self.new ≡ self.old ++ pin_joins pin) }
+        ensures err { OnErr result (self.new ≡ self.old) }
+    {
+        self.pins.push(pin)?;
+        Ok(())
+    }
+
+    /// The pins, whose joins are all joins in order.
+    pub fn pins(&self) -> &[PinJoins]
+        ensures { joins_of_pins result.now ≡ self.now }
+    {
+        &self.pins
+    }
+
+    /// How many joins there are.
+    pub fn count(&self) -> u128
+        ensures count { result ≡ length self.now }
+        ensures within { result ≤ 2 ^ 96 }
+    {
+        let mut count = 0;
+        for pin in &self.pins {
+            count += u128::from(pin.marks);
+        }
+        count
+    }
+}

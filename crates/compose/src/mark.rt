@@ -1,0 +1,8 @@
+//! The marks of a design.
+
+/// A mark of a design: the number of its part, and its number on the part's sheet, both from 0.
+#[derive(Clone, Copy, Debug, PartialEq, Eq)]
+pub struct DesignMark {
+    pub part: u32,
+    pub mark: u32,
+}

@@ -1,0 +1,6 @@
+pub mod Elements
+pub mod PinLists
+pub mod NetSteps
+pub mod NetlistSteps
+pub mod WholeNetlists
+pub mod SheetNames

@@ -1,0 +1,179 @@
+-- Rules and rows of a design are between its marks.
+use Rattle.std.proofs.Common.{inl, inr, length-append, ◌≡◌, ℕ, zero, suc, ◌+◌, ◌-◌, ◌*◌, ◌^◌, ◌<◌, ◌≤◌, Bool, true, false, cond, List, [], ◌∷◌, ◌++◌, length, map, get_or, All, Option, Some, None, IfSome, refl, ap, sym, ◌∙◌, arith}
+use Rattle.std.specs.Prelude.{filter, slice_get, sum_by}
+use Rattle.std.specs.List.{flat_map}
+use Rattle.std.proofs.Math.ListN.{get_or-append}
+use Rattle.std.proofs.Math.Seq.{drop-append_seam}
+use Rattle.std.proofs.lemmas.Bool.{cases_lt}
+use Rattle.std.proofs.lemmas.List.{length-map}
+use Rattle.std.proofs.lemmas.List.Elements.{All-append, All-cons, All-drop, All-filter, All-head, All-map, All-nil, All-pop, All-tail, All-weaker}
+use Rattle.std.proofs.lemmas.List.Sums.{sum_by-le}
+use Rattle.std.proofs.lemmas.Option.{get_or_from_slice_get, slice_get_within}
+use Rattle.sheet.specs.declared.row.SheetRow.{SheetRow}
+use Rattle.sheet.specs.declared.rule.Source.{Source}
+use Rattle.sheet.specs.Rule.{SheetRule}
+use Rattle.sheet.specs.Contents.{Contents}
+use Rattle.sheet.specs.Whole.{IsCauseCount, IsWhole, IsWholeRow, IsWholeRule, IsWholeSource}
+use Rattle.sheet.specs.declared.mark.TheConstants.{MAX_MARKS}
+use Rattle.compose.specs.declared.joins.Join.{Join}
+use Rattle.compose.specs.declared.joins.PinJoins.{PinJoins}
+use Rattle.compose.specs.Joins.{first_joins, join_at, pin_joins}
+use Rattle.compose.specs.declared.wire_rule.WireSource.{WireSource}
+use Rattle.compose.specs.declared.wire_row.WireRow.{WireRow}
+use Rattle.compose.specs.Rule.{DesignRule}
+use Rattle.compose.specs.Design.{Composed, IsDesign, IsJoinOf, IsMarkOf, IsRuleOf, IsWireRowOf}
+use Rattle.compose.specs.Numbers.{join_rule, mark_count, number_of, wire_row, wire_rule, wire_source}
+use Rattle.unroll.specs.Cycle.{part_rows, part_rules, row_behind, rows_of, rule_behind, rules_of, source_behind}
+use Rattle.unroll.specs.Cycles.{row_exists, rule_exists}
+use Rattle.unroll.specs.Step.Between.{IsRowBetween, IsRuleBetween}
+use Rattle.unroll.specs.Step.Kept.{kept_rows, kept_rules}
+use Rattle.unroll.proofs.PartLists.{mark_count_cons, number_within}
+
+-- what holds of all holds of the one at a place
+pub All-slice_get : {X : Type 0} (P : X → Type 0) (xs : List X) (i : ℕ) (x : X) → All P xs → slice_get xs i ≡ Some x → P x
+All-slice_get P xs i x all read = rw (get_or_from_slice_get xs i x x read) at (all i x (slice_get_within xs i x read))
+
+-- ---- of sheets
+
+rule_between : (marks : ℕ) (rule : SheetRule) → IsWholeRule marks rule → IsRuleBetween marks rule
+rule_between marks rule h = record {
+  target = h.target;
+  causes = All-weaker (IsWholeSource marks) (λ source. source.mark < marks) (λ source whole. whole.mark) rule.causes h.causes;
+  count = h.count;
+}
+
+row_between : (marks : ℕ) (row : SheetRow) → IsWholeRow marks row → IsRowBetween marks row
+row_between marks row h = record { from = h.from; to = h.to }
+
+pub rules_between : (sheet : Contents) → IsWhole sheet → All (IsRuleBetween (length sheet.marks)) sheet.rules
+rules_between sheet h = All-weaker (IsWholeRule (length sheet.marks)) (IsRuleBetween (length sheet.marks)) (rule_between (length sheet.marks)) sheet.rules h.rules
+
+pub rows_between : (sheet : Contents) → IsWhole sheet → All (IsRowBetween (length sheet.marks)) sheet.rows
+rows_between sheet h = All-weaker (IsWholeRow (length sheet.marks)) (IsRowBetween (length sheet.marks)) (row_between (length sheet.marks)) sheet.rows h.rows
+
+more_marks : (few many : ℕ) → few ≤ many → (rule : SheetRule) → IsRuleBetween few rule → IsRuleBetween many rule
+more_marks few many le rule h = record {
+  target = omega (arith, le, h.target);
+  causes = All-weaker (λ source. source.mark < few) (λ source. source.mark < many) (λ source less. omega (arith, le, less)) rule.causes h.causes;
+  count = h.count;
+}
+
+-- the rules and rows of a sheet are between few marks
+pub sheet_rules : (sheet : Contents) → IsWhole sheet → All (IsRuleBetween MAX_MARKS) sheet.rules
+sheet_rules sheet h =
+    let few : length sheet.marks ≤ MAX_MARKS = h.marks in
+    All-weaker (IsRuleBetween (length sheet.marks)) (IsRuleBetween MAX_MARKS) (more_marks (length sheet.marks) MAX_MARKS few) sheet.rules (rules_between sheet h)
+
+pub sheet_rows : (sheet : Contents) → IsWhole sheet → All (IsRowBetween MAX_MARKS) sheet.rows
+sheet_rows sheet h =
+    let few : length sheet.marks ≤ MAX_MARKS = h.marks in
+    All-weaker (IsRowBetween (length sheet.marks)) (IsRowBetween MAX_MARKS) (λ row between. record { from = omega (arith, few, between.from); to = omega (arith, few, between.to) }) sheet.rows (rows_between sheet h)
+
+-- ---- of parts
+
+rule_behind_between : (first few many : ℕ) → first + few ≤ many → (rule : SheetRule) → IsRuleBetween few rule → IsRuleBetween many (rule_behind first rule)
+rule_behind_between first few many le rule h = record {
+  target = omega (arith, le, h.target);
+  causes = All-map (λ source. source.mark < many) (source_behind first) rule.causes
+      (All-weaker (λ source. source.mark < few) (λ source. first + source.mark < many) (λ source less. omega (arith, le, less)) rule.causes h.causes);
+  count = rw (length-map rule.causes (source_behind first)) h.count;
+}
+
+part_rules_between : (first many : ℕ) (sheets : List Contents) → All IsWhole sheets → first + mark_count sheets ≤ many → All (IsRuleBetween many) (part_rules first sheets)
+part_rules_between first many [] all le = All-nil (IsRuleBetween many)
+part_rules_between first many (sheet ∷ sheets) all le =
+    let whole = All-head IsWhole sheet sheets all in
+    let count = mark_count_cons sheet sheets in
+    All-append (IsRuleBetween many) (map (rule_behind first) sheet.rules) (part_rules (first + length sheet.marks) sheets)
+    (All-map (IsRuleBetween many) (rule_behind first) sheet.rules
+    (All-weaker (IsRuleBetween (length sheet.marks)) (λ rule. IsRuleBetween many (rule_behind first rule)) (rule_behind_between first (length sheet.marks) many (omega (arith, le, count))) sheet.rules (rules_between sheet whole)))
+    (part_rules_between (first + length sheet.marks) many sheets (All-tail IsWhole sheet sheets all) (omega (arith, le, count)))
+
+part_rows_between : (first many : ℕ) (sheets : List Contents) → All IsWhole sheets → first + mark_count sheets ≤ many → All (IsRowBetween many) (part_rows first sheets)
+part_rows_between first many [] all le = All-nil (IsRowBetween many)
+part_rows_between first many (sheet ∷ sheets) all le =
+    let whole = All-head IsWhole sheet sheets all in
+    let count = mark_count_cons sheet sheets in
+    let few : first + length sheet.marks ≤ many = omega (arith, le, count) in
+    All-append (IsRowBetween many) (map (row_behind first) sheet.rows) (part_rows (first + length sheet.marks) sheets)
+    (All-map (IsRowBetween many) (row_behind first) sheet.rows
+    (All-weaker (IsRowBetween (length sheet.marks)) (λ row. IsRowBetween many (row_behind first row)) (λ row h. record { from = omega (arith, few, h.from); to = omega (arith, few, h.to) }) sheet.rows (rows_between sheet whole)))
+    (part_rows_between (first + length sheet.marks) many sheets (All-tail IsWhole sheet sheets all) (omega (arith, le, count)))
+
+-- ---- of nets and wires
+
+join_between : (sheets : List Contents) (join : Join) → IsJoinOf sheets join → IsRuleBetween (mark_count sheets) (join_rule sheets join)
+join_between sheets join h = record {
+  target = number_within sheets join.to h.1;
+  causes = All-cons (λ (source : Source). source.mark < mark_count sheets) (record { mark = number_of sheets join.from; shift = 0; range = join.delay }) [] (number_within sheets join.from h.0)
+      (All-nil (λ (source : Source). source.mark < mark_count sheets));
+  count = refl;
+}
+
+wire_between : (sheets : List Contents) (rule : DesignRule) → IsRuleOf sheets rule → IsRuleBetween (mark_count sheets) (wire_rule sheets rule)
+wire_between sheets rule h = record {
+  target = number_within sheets rule.target h.target;
+  causes = All-map (λ (source : Source). source.mark < mark_count sheets) (wire_source sheets) rule.causes
+      (All-weaker (λ (source : WireSource). IsMarkOf sheets source.mark) (λ source. number_of sheets source.mark < mark_count sheets) (λ source there. number_within sheets source.mark there) rule.causes h.causes);
+  count = rw (length-map rule.causes (wire_source sheets)) h.count;
+}
+
+-- ---- of a design
+
+all_rules_between : (d : Composed) → IsDesign d → All (IsRuleBetween (mark_count d.sheets)) (rules_of d)
+all_rules_between d h =
+    let all : ℕ = mark_count d.sheets in
+    All-append (IsRuleBetween all) (part_rules 0 d.sheets) (map (join_rule d.sheets) d.joins ++ map (wire_rule d.sheets) d.rules) (part_rules_between 0 all d.sheets h.sheets (omega arith))
+    (All-append (IsRuleBetween all) (map (join_rule d.sheets) d.joins) (map (wire_rule d.sheets) d.rules)
+    (All-map (IsRuleBetween all) (join_rule d.sheets) d.joins (All-weaker (IsJoinOf d.sheets) (λ join. IsRuleBetween all (join_rule d.sheets join)) (join_between d.sheets) d.joins h.joins))
+    (All-map (IsRuleBetween all) (wire_rule d.sheets) d.rules (All-weaker (IsRuleOf d.sheets) (λ rule. IsRuleBetween all (wire_rule d.sheets rule)) (wire_between d.sheets) d.rules h.rules)))
+
+-- the rules that are kept are between the marks
+pub kept_rules_between : (d : Composed) → IsDesign d → All (IsRuleBetween (mark_count d.sheets)) (kept_rules d.cycles (rules_of d))
+kept_rules_between d h = All-filter (λ rule. rule_exists (d.cycles - 1) rule) (IsRuleBetween (mark_count d.sheets)) (rules_of d) (all_rules_between d h)
+
+all_rows_between : (d : Composed) → IsDesign d → All (IsRowBetween (mark_count d.sheets)) (rows_of d)
+all_rows_between d h =
+    let all : ℕ = mark_count d.sheets in
+    All-append (IsRowBetween all) (part_rows 0 d.sheets) (map (wire_row d.sheets) d.rows) (part_rows_between 0 all d.sheets h.sheets (omega arith))
+    (All-map (IsRowBetween all) (wire_row d.sheets) d.rows
+    (All-weaker (IsWireRowOf d.sheets) (λ row. IsRowBetween all (wire_row d.sheets row)) (λ row there. record { from = number_within d.sheets row.from there.0; to = number_within d.sheets row.to there.1 }) d.rows h.rows))
+
+-- so are the rows that are kept
+pub kept_rows_between : (d : Composed) → IsDesign d → All (IsRowBetween (mark_count d.sheets)) (kept_rows d.cycles (rows_of d))
+kept_rows_between d h = All-filter (λ row. row_exists (d.cycles - 1) row) (IsRowBetween (mark_count d.sheets)) (rows_of d) (all_rows_between d h)
+
+-- a design has few marks
+pub few_marks : (d : Composed) → IsDesign d → mark_count d.sheets ≤ 2 ^ 15
+few_marks d h =
+    let each : All (λ (sheet : Contents). length sheet.marks ≤ MAX_MARKS) d.sheets = All-weaker IsWhole (λ sheet. length sheet.marks ≤ MAX_MARKS) (λ sheet whole. whole.marks) d.sheets h.sheets in
+    let most : mark_count d.sheets ≤ length d.sheets * MAX_MARKS = sum_by-le (λ (sheet : Contents). length sheet.marks) MAX_MARKS d.sheets each in
+    omega (arith, most, h.few)
+
+-- ---- joins of pins
+
+All-front : {X : Type 0} (P : X → Type 0) (xs ys : List X) → All P (xs ++ ys) → All P xs
+All-front P xs ys all = λ k d within. rw (get_or-append xs ys d k within) at (all k d (omega (arith, within, length-append xs ys)))
+
+All-back : {X : Type 0} (P : X → Type 0) (xs ys : List X) → All P (xs ++ ys) → All P ys
+All-back P xs ys all = rw (drop-append_seam xs ys) at (All-drop P (length xs) (xs ++ ys) all)
+
+-- what holds of all that elements give holds of what one gives
+pub All-flat_map-at : {X Y : Type 0} (P : Y → Type 0) (f : X → List Y) (xs : List X) (i : ℕ) (x : X) → i < length xs → x ≡ get_or xs i x → All P (flat_map f xs) → All P (f x)
+All-flat_map-at P f [] i x within is all = absurd (omega (arith, within))
+All-flat_map-at P f (y ∷ xs) zero x within is all = rw is (All-front P (f y) (flat_map f xs) all)
+All-flat_map-at P f (y ∷ xs) (suc i) x within is all = All-flat_map-at P f xs i x (omega (arith, within)) is (All-back P (f y) (flat_map f xs) all)
+
+last_or_earlier : (P : Join → Type 0) (pin : PinJoins) (n k : ℕ) → k < suc n → (k < n → P (join_at pin k)) → P (join_at pin n) → P (join_at pin k)
+last_or_earlier P pin n k less earlier last =
+    elim (cases_lt k n) [ inl before ↦ earlier before | inr past ↦ let same : k ≡ n = omega (arith, less, past) in rw same last ]
+
+first_joins_at : (P : Join → Type 0) (pin : PinJoins) (n k : ℕ) → k < n → All P (first_joins pin n) → P (join_at pin k)
+first_joins_at P pin zero k less all = absurd (omega (arith, less))
+first_joins_at P pin (suc n) k less all =
+    let parts = All-pop P (first_joins pin (suc n)) (first_joins pin n) (Some (join_at pin n)) refl all in
+    last_or_earlier P pin n k less (λ before. first_joins_at P pin n k before parts.0) parts.1
+
+-- each mark of the pin has a join
+pub join_there : (sheets : List Contents) (pin : PinJoins) (k : ℕ) → k < pin.marks → All (IsJoinOf sheets) (pin_joins pin) → IsJoinOf sheets (join_at pin k)
+join_there sheets pin k less all = first_joins_at (IsJoinOf sheets) pin pin.marks k less all

@@ -1,0 +1,96 @@
+-- How often rules and rows exist.
+use Rattle.std.proofs.Common.{◌≡◌, ℕ, zero, suc, ◌+◌, ◌-◌, ◌*◌, ◌<◌, ◌≤◌, Bool, true, false, cond, nat_le, List, [], ◌∷◌, ◌++◌, length, map, get_or, take, refl, ap, sym, ◌∙◌, arith}
+use Rattle.std.specs.Prelude.{sum_by}
+use Rattle.std.specs.List.{list_all}
+use Rattle.std.proofs.Math.Nat.{mul-suc}
+use Rattle.std.proofs.lemmas.Bool.{cond_both, le-leb, leb-false, leb-true}
+use Rattle.std.proofs.lemmas.List.{length-map, map-append, take_more}
+use Rattle.std.proofs.lemmas.List.Folds.{list_all-map}
+use Rattle.std.proofs.lemmas.List.Sums.{sum_by-append, sum_by-cons, sum_by_push}
+use Rattle.sheet.specs.declared.row.SheetRow.{SheetRow}
+use Rattle.sheet.specs.declared.rule.Source.{Source}
+use Rattle.sheet.specs.Rule.{SheetRule}
+use Rattle.sheet.specs.Contents.{Contents}
+use Rattle.compose.specs.declared.joins.Join.{Join}
+use Rattle.compose.specs.Numbers.{join_rule, mark_count}
+use Rattle.unroll.specs.declared.counts.Counts.{Counts}
+use Rattle.unroll.specs.Cycle.{part_rows, part_rules, row_behind, rule_behind}
+use Rattle.unroll.specs.Step.Counting.{AreCounts, how_often, row_cycles, rule_cycles, splittable_cycles, sums}
+use Rattle.unroll.proofs.PartLists.{mark_count_push, part_rows_push, part_rules_push}
+
+-- tests that agree hold equally often
+pub how_often_same : (a b : ℕ → Bool) (n : ℕ) → ((cycle : ℕ) → a cycle ≡ b cycle) → how_often a n ≡ how_often b n
+how_often_same a b zero same = refl
+how_often_same a b (suc n) same = rw (how_often_same a b n same, same n) refl
+
+-- from a cycle on
+pub how_often_from : (shift n : ℕ) → how_often (λ cycle. nat_le shift cycle) n ≡ n - shift
+how_often_from shift zero = omega arith
+how_often_from shift (suc n) =
+    let before = how_often_from shift n in
+    cond_both (nat_le shift n) 1 0 (λ k. how_often (λ cycle. nat_le shift cycle) n + k ≡ suc n - shift) (λ yes. omega (arith, before, leb-true shift n yes)) (λ no. omega (arith, before, leb-false shift n no))
+
+-- other causes that stand as many cycles before
+pub sources_same : {X : Type 0} (f : X → Source) (shift : X → ℕ) (causes : List X) (last n : ℕ) → ((x : X) → (f x).shift ≡ shift x)
+    → ((cycle : ℕ) → list_all (λ x. nat_le (shift x) cycle) causes ≡ nat_le last cycle)
+    → how_often (λ cycle. nat_le last cycle) n ≡ how_often (λ cycle. list_all (λ source. nat_le source.shift cycle) (map f causes)) n
+sources_same f shift causes last n same all =
+    how_often_same _ _ n (λ cycle. sym (all cycle) ∙ sym (shifts_same f shift causes cycle same) ∙ sym (list_all-map (λ (source : Source). nat_le source.shift cycle) f causes)) where
+      shifts_same : {X : Type 0} (f : X → Source) (shift : X → ℕ) (causes : List X) (cycle : ℕ) → ((x : X) → (f x).shift ≡ shift x)
+          → list_all (λ x. nat_le (f x).shift cycle) causes ≡ list_all (λ x. nat_le (shift x) cycle) causes
+      shifts_same f shift [] cycle same = refl
+      shifts_same f shift (x ∷ xs) cycle same = rw (same x, shifts_same f shift xs cycle same) refl
+
+-- one element more
+pub sum_map_more : {X Y : Type 0} (g : Y → ℕ) (f : X → Y) (xs : List X) (i : ℕ) (x : X) → i < length xs → x ≡ get_or xs i x
+    → sum_by g (map f (take (i + 1) xs)) ≡ sum_by g (map f (take i xs)) + g (f x)
+sum_map_more g f xs i x within is =
+    ap (λ ys. sum_by g (map f ys)) (take_more xs i x within ∙ ap (λ y. take i xs ++ y ∷ []) (sym is)) ∙ ap (sum_by g) (map-append f (take i xs) (x ∷ [])) ∙ sum_by_push g (map f (take i xs)) (f x)
+
+-- ---- rules
+
+-- a rule with two or more causes
+pub splittable_counted : (n : ℕ) (rule : SheetRule) → 2 ≤ length rule.causes → splittable_cycles n rule ≡ rule_cycles n rule
+splittable_counted n rule two = rw (le-leb 2 (length rule.causes) two) refl
+
+zero_le : (n : ℕ) → nat_le 0 n ≡ true
+zero_le n = le-leb 0 n (omega arith)
+
+join_counted : (n : ℕ) (sheets : List Contents) (join : Join) → rule_cycles n (join_rule sheets join) ≡ n
+join_counted n sheets join =
+    let from_first = how_often_from 0 n in
+    let always = how_often_same (λ cycle. list_all (λ source. nat_le source.shift cycle) (join_rule sheets join).causes) (λ cycle. nat_le 0 cycle) n (λ cycle. rw (zero_le cycle) refl) in
+    omega (arith, always, from_first)
+
+-- a join exists in each cycle
+pub joins_counted : (n : ℕ) (sheets : List Contents) (joins : List Join) → sum_by (rule_cycles n) (map (join_rule sheets) joins) ≡ n * length joins
+joins_counted n sheets [] = omega arith
+joins_counted n sheets (join ∷ joins) =
+    let here = sum_by-cons (rule_cycles n) (join_rule sheets join) (map (join_rule sheets) joins) in
+    here ∙ rw (join_counted n sheets join, joins_counted n sheets joins, mul-suc n (length joins)) (omega arith)
+
+-- and has one cause
+pub joins_unsplittable : (n : ℕ) (sheets : List Contents) (joins : List Join) → sum_by (splittable_cycles n) (map (join_rule sheets) joins) ≡ 0
+joins_unsplittable n sheets [] = refl
+joins_unsplittable n sheets (join ∷ joins) = sum_by-cons (splittable_cycles n) (join_rule sheets join) (map (join_rule sheets) joins) ∙ rw (joins_unsplittable n sheets joins) refl
+
+-- ---- counts
+
+-- two counts together
+pub counts_together : (most other n : ℕ) (rules rules' : List SheetRule) (rows rows' : List SheetRow) (a b : Counts) → AreCounts most n rules rows a → AreCounts other n rules' rows' b
+    → AreCounts (most + other) n (rules ++ rules') (rows ++ rows') (sums a b)
+counts_together most other n rules rules' rows rows' a b h k = record {
+  marks = rw (h.marks, k.marks) refl;
+  constraints = rw (h.constraints, k.constraints) (sym (sum_by-append (rule_cycles n) rules rules'));
+  splittable = rw (h.splittable, k.splittable) (sym (sum_by-append (splittable_cycles n) rules rules'));
+  rows = rw (h.rows, k.rows) (sym (sum_by-append (row_cycles n) rows rows'));
+}
+
+-- one part more
+pub part_counted : (n : ℕ) (sheets : List Contents) (sheet : Contents) (a b : Counts)
+    → AreCounts (mark_count sheets) n (part_rules 0 sheets) (part_rows 0 sheets) a
+    → ((first : ℕ) → AreCounts (length sheet.marks) n (map (rule_behind first) sheet.rules) (map (row_behind first) sheet.rows) b)
+    → AreCounts (mark_count (sheets ++ sheet ∷ [])) n (part_rules 0 (sheets ++ sheet ∷ [])) (part_rows 0 (sheets ++ sheet ∷ [])) (sums a b)
+part_counted n sheets sheet a b h k =
+    rw (mark_count_push sheets sheet, part_rules_push 0 sheets sheet, part_rows_push 0 sheets sheet)
+    (counts_together (mark_count sheets) (length sheet.marks) n (part_rules 0 sheets) (map (rule_behind (0 + mark_count sheets)) sheet.rules) (part_rows 0 sheets) (map (row_behind (0 + mark_count sheets)) sheet.rows) a b h (k (0 + mark_count sheets)))

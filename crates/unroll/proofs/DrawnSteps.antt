@@ -1,0 +1,131 @@
+-- What is made step by step is what a design draws, and the counts are those of what it draws.
+use Rattle.std.proofs.Common.{◌≡◌, ℕ, ◌+◌, ◌-◌, ◌*◌, ◌<◌, ◌≤◌, Bool, true, false, cond, List, [], ◌∷◌, ◌++◌, length, map, All, Option, Some, None, IfSome, Ok, Err, refl, ap, sym, ◌∙◌, arith}
+use Rattle.std.specs.Prelude.{sum_by}
+use Rattle.std.specs.List.{cons_option, filter_map}
+use Rattle.std.proofs.lemmas.Bool.{cond_both, ltb-false}
+use Rattle.std.proofs.lemmas.Nat.{mul-add-lt}
+use Rattle.std.proofs.lemmas.List.Elements.{All-cons, All-head, All-nil, All-tail}
+use Rattle.itv_base.specs.declared.limits.TheConstants.{MAX_CONSTRAINTS, MAX_EVENTS}
+use Rattle.event_graph.specs.Network.{Net}
+use Rattle.sheet.specs.declared.row.SheetRow.{SheetRow}
+use Rattle.sheet.specs.Rule.{SheetRule}
+use Rattle.compose.specs.Design.{Composed, IsDesign}
+use Rattle.compose.specs.Numbers.{mark_count}
+use Rattle.unroll.specs.declared.counted.Counted.{Counted}
+use Rattle.unroll.specs.declared.counts.Counts.{Counts}
+use Rattle.unroll.specs.declared.names.EventLabel.{EventLabel}
+use Rattle.unroll.specs.declared.row.Row.{Row}
+use Rattle.unroll.specs.Cycle.{rows_of, rules_of}
+use Rattle.unroll.specs.Cycles.{constraints_of, event_in, in_cycles, row_exists, row_in, rows_in}
+use Rattle.unroll.specs.Drawn.{IsRowOf, drawn_of}
+use Rattle.unroll.specs.Limits.{counts_by, counts_of, first_passed, unrolled, within}
+use Rattle.unroll.specs.Step.Between.{IsRowBetween}
+use Rattle.unroll.specs.Step.Counting.{AreCounts}
+use Rattle.unroll.specs.Step.Kept.{kept_rows, kept_rules}
+use Rattle.unroll.specs.Step.Labels.{IsKept, drawn_by, labels_from}
+use Rattle.unroll.proofs.BetweenLists.{kept_rows_between}
+use Rattle.unroll.proofs.KeptLists.{constraints_counted, kept_constraints, kept_rows_in, rows_counted, splittable_counted_all}
+use Rattle.unroll.proofs.NameLists.{All-in_cycles, labels_inside, labels_length, labels_tell}
+
+-- ---- counts
+
+-- the counts are those of what is drawn
+pub limits_counted : (d : Composed) (counts : Counts) → AreCounts (mark_count d.sheets) d.cycles (rules_of d) (rows_of d) counts
+    → counts_by (d.cycles * counts.marks) counts.constraints counts.rows counts.splittable ≡ counts_of (drawn_of d)
+limits_counted d counts h =
+    let marks : ℕ = mark_count d.sheets in
+    let constraints : counts.constraints ≡ length (constraints_of marks (rules_of d) d.cycles) = h.constraints ∙ sym (constraints_counted marks d.cycles (rules_of d)) in
+    let rows : counts.rows ≡ length (rows_in marks (rows_of d) d.cycles) = h.rows ∙ sym (rows_counted marks d.cycles (rows_of d)) in
+    let splittable = h.splittable ∙ sym (splittable_counted_all marks d.cycles (rules_of d)) in
+    rw (h.marks, constraints, rows, splittable) refl
+
+cond_none : {X : Type 0} (test : Bool) (x : X) (other : Option X) → cond test (Some x) other ≡ None → (test ≡ false) × (other ≡ None)
+cond_none true x other h = absurd (cc)
+cond_none false x other h = (refl, h)
+
+-- what passes no limit
+pub none_passed : (events constraints rows splittable : ℕ) → first_passed (counts_by events constraints rows splittable) ≡ None → (events ≤ MAX_EVENTS) × (constraints ≤ MAX_CONSTRAINTS)
+none_passed events constraints rows splittable none =
+    let first = cond_none _ _ _ none in
+    let second = cond_none _ _ _ first.1 in
+    (ltb-false MAX_EVENTS events first.0, ltb-false MAX_CONSTRAINTS constraints second.0)
+
+pub drawn_within : (d : Composed) → first_passed (counts_of (drawn_of d)) ≡ None → unrolled d ≡ Ok (drawn_of d)
+unfolding unrolled
+drawn_within d none = ap (within (drawn_of d)) none
+
+pub drawn_past : (d : Composed) (passed : Counted) → first_passed (counts_of (drawn_of d)) ≡ Some passed → unrolled d ≡ Err passed
+unfolding unrolled
+drawn_past d passed is = ap (within (drawn_of d)) is
+
+-- ---- rows are between events
+
+chosen : {X : Type 0} (b : Bool) (x : X) (P : X → Type 0) → P x → IfSome (cond b (Some x) None) P
+chosen true x P h = h
+chosen false x P h = tt
+
+more_hold : {X : Type 0} (P : X → Type 0) (o : Option X) (xs : List X) → IfSome o P → All P xs → All P (cons_option o xs)
+more_hold P None xs p all = all
+more_hold P (Some x) xs p all = All-cons P x xs p all
+
+rows_of_cycle : (net : Net) (marks cycle n : ℕ) (rows : List SheetRow) → cycle < n → net.events ≡ n * marks → All (IsRowBetween marks) rows → All (IsRowOf net) (filter_map (row_in marks cycle) rows)
+rows_of_cycle net marks cycle n [] less is all = All-nil (IsRowOf net)
+rows_of_cycle net marks cycle n (row ∷ rows) less is all =
+    let here = All-head (IsRowBetween marks) row rows all in
+    let from = mul-add-lt (cycle - row.shift) marks row.from n (omega (arith, less)) here.from in
+    let to = mul-add-lt cycle marks row.to n less here.to in
+    let drawn : Row = record { kind = row.kind; from = event_in marks (cycle - row.shift) row.from; to = event_in marks cycle row.to } in
+    more_hold (IsRowOf net) (row_in marks cycle row) (filter_map (row_in marks cycle) rows) (chosen (row_exists cycle row) drawn (IsRowOf net) (omega (arith, is, from), omega (arith, is, to)))
+    (rows_of_cycle net marks cycle n rows less is (All-tail (IsRowBetween marks) row rows all))
+
+pub rows_inside : (net : Net) (marks n : ℕ) (rows : List SheetRow) → net.events ≡ n * marks → All (IsRowBetween marks) rows → All (IsRowOf net) (rows_in marks rows n)
+rows_inside net marks n rows is all = All-in_cycles (IsRowOf net) (λ cycle. filter_map (row_in marks cycle) rows) n (λ cycle less. rows_of_cycle net marks cycle n rows less is all)
+
+-- ---- the whole
+
+-- what was made step by step
+pub record IsMade (d : Composed) (net : Net) (texts : List (List ℕ)) (labels : List EventLabel) (asked : List Row) : Type 0 where
+  pub network : net ≡ record { events = d.cycles * mark_count d.sheets; constraints = constraints_of (mark_count d.sheets) (kept_rules d.cycles (rules_of d)) d.cycles }
+  pub parts : texts ≡ d.parts
+  pub names : labels ≡ in_cycles (λ cycle. labels_from cycle 0 d.sheets) d.cycles
+  pub rows : asked ≡ rows_in (mark_count d.sheets) (kept_rows d.cycles (rows_of d)) d.cycles
+
+pub made_kept : (d : Composed) (net : Net) (texts : List (List ℕ)) (labels : List EventLabel) (asked : List Row) → IsDesign d → IsMade d net texts labels asked → IsKept net texts labels asked
+made_kept d net texts labels asked h made =
+    let events : net.events ≡ d.cycles * mark_count d.sheets = ap (λ (n : Net). n.events) made.network in
+    record {
+      names = rw (made.names, labels_length d.sheets d.cycles) (sym events);
+      parts = rw (made.names, made.parts) (labels_inside d.parts d.sheets d.cycles h.parts);
+      rows = rw made.rows (rows_inside net (mark_count d.sheets) d.cycles (kept_rows d.cycles (rows_of d)) events (kept_rows_between d h));
+    }
+
+pub made_is : (d : Composed) (net : Net) (texts : List (List ℕ)) (labels : List EventLabel) (asked : List Row) → IsDesign d → IsMade d net texts labels asked → drawn_by net texts labels asked ≡ drawn_of d
+made_is d net texts labels asked h made =
+    let marks : ℕ = mark_count d.sheets in
+    rw (made.network, made.parts, made.names, made.rows, kept_constraints marks d.cycles (rules_of d), kept_rows_in marks d.cycles (rows_of d), labels_tell d.parts d.sheets d.cycles h.parts) refl
+
+-- what the steps answer, put together
+pub made_by : (d : Composed) (marks cycles : ℕ) (rules : List SheetRule) (asked : List SheetRow) (net : Net) (texts : List (List ℕ)) (labels : List EventLabel) (rows : List Row)
+    → marks ≡ mark_count d.sheets → cycles ≡ d.cycles → rules ≡ kept_rules d.cycles (rules_of d) → asked ≡ kept_rows d.cycles (rows_of d)
+    → net ≡ record { events = cycles * marks; constraints = constraints_of marks rules cycles } → texts ≡ d.parts → labels ≡ in_cycles (λ cycle. labels_from cycle 0 d.sheets) d.cycles → rows ≡ rows_in marks asked cycles
+    → IsMade d net texts labels rows
+made_by d marks cycles rules asked net texts labels rows same_marks same_cycles same_rules same_asked network parts names given = record {
+  network = network ∙ rw (same_marks, same_cycles, same_rules) refl;
+  parts = parts;
+  names = names;
+  rows = given ∙ rw (same_marks, same_cycles, same_asked) refl;
+}
+
+-- what is kept takes as much room as all
+pub kept_room : (d : Composed) (marks cycles : ℕ) (rules : List SheetRule) → marks ≡ mark_count d.sheets → cycles ≡ d.cycles → rules ≡ kept_rules d.cycles (rules_of d)
+    → length (constraints_of marks rules cycles) ≡ length (constraints_of (mark_count d.sheets) (rules_of d) d.cycles)
+kept_room d marks cycles rules same_marks same_cycles same_rules = rw (same_marks, same_cycles, same_rules) (ap length (kept_constraints (mark_count d.sheets) d.cycles (rules_of d)))
+
+-- what is found of the counts is found of what is drawn
+pub passed_of : (d : Composed) (cycles : ℕ) (counts : Counts) (found : Option Counted) → cycles ≡ d.cycles → AreCounts (mark_count d.sheets) d.cycles (rules_of d) (rows_of d) counts
+    → found ≡ first_passed (counts_by (cycles * counts.marks) counts.constraints counts.rows counts.splittable) → found ≡ first_passed (counts_of (drawn_of d))
+passed_of d cycles counts found same h is = (rw same at is) ∙ ap first_passed (limits_counted d counts h)
+
+-- what passes no limit has few constraints
+pub few_constraints : (d : Composed) → None ≡ first_passed (counts_of (drawn_of d)) → length (constraints_of (mark_count d.sheets) (rules_of d) d.cycles) ≤ MAX_CONSTRAINTS
+few_constraints d none = (none_passed (drawn_of d).net.events (length (drawn_of d).net.constraints) (length (drawn_of d).rows) _ (sym none)).1

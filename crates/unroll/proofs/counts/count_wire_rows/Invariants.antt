@@ -1,0 +1,12 @@
+use Rattle.std.proofs.Common.{◌≡◌, ◌*◌, ◌≤◌, List, map, take}
+use Rattle.std.specs.Prelude.{sum_by}
+use Rattle.sheet.specs.Contents.{Contents}
+use Rattle.compose.specs.Numbers.{wire_row}
+use Rattle.unroll.specs.Step.Counting.{row_cycles}
+use Rattle.unroll.proofs.counts.count_wire_rows.Given as goal
+
+abbrev pub invariant-loop-row : goal.invariant-loop-row
+invariant-loop-row l = record {
+  count : (sheets : List Contents) → l.count ≡ sum_by (row_cycles l.cycles) (map (wire_row sheets) (take l.row-index l.rows));
+  within : l.count ≤ l.row-index * 256;
+}

@@ -1,0 +1,39 @@
+-- One cycle of a design: the rules and rows between its numbered marks.
+use Rattle.std.specs.Prelude.{ℕ, ◌+◌, List, [], ◌∷◌, ◌++◌, length, map}
+use Rattle.sheet.specs.declared.row.SheetRow.{SheetRow}
+use Rattle.sheet.specs.declared.rule.Source.{Source}
+use Rattle.sheet.specs.Rule.{SheetRule}
+use Rattle.sheet.specs.Contents.{Contents}
+use Rattle.compose.specs.Design.{Composed}
+use Rattle.compose.specs.Numbers.{join_rule, wire_row, wire_rule}
+
+-- ---- rules
+
+abbrev pub source_behind : ℕ → Source → Source
+source_behind first source = record { mark = first + source.mark; shift = source.shift; range = source.range }
+
+-- the rule of a sheet whose marks stand behind so many others
+abbrev pub rule_behind : ℕ → SheetRule → SheetRule
+rule_behind first rule = record { kind = rule.kind; target = first + rule.target; causes = map (source_behind first) rule.causes }
+
+-- the rules of the sheets of parts, the marks of the first of which stand behind so many others
+abbrev pub part_rules : ℕ → List Contents → List SheetRule
+part_rules first [] = []
+part_rules first (sheet ∷ sheets) = map (rule_behind first) sheet.rules ++ part_rules (first + length sheet.marks) sheets
+
+-- the rules of the parts, then of the nets, then of the wires
+abbrev pub rules_of : Composed → List SheetRule
+rules_of d = part_rules 0 d.sheets ++ (map (join_rule d.sheets) d.joins ++ map (wire_rule d.sheets) d.rules)
+
+-- ---- rows
+
+abbrev pub row_behind : ℕ → SheetRow → SheetRow
+row_behind first row = record { kind = row.kind; from = first + row.from; to = first + row.to; shift = row.shift }
+
+abbrev pub part_rows : ℕ → List Contents → List SheetRow
+part_rows first [] = []
+part_rows first (sheet ∷ sheets) = map (row_behind first) sheet.rows ++ part_rows (first + length sheet.marks) sheets
+
+-- the rows of the parts, and then of the wires
+abbrev pub rows_of : Composed → List SheetRow
+rows_of d = part_rows 0 d.sheets ++ map (wire_row d.sheets) d.rows

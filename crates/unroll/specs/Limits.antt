@@ -1,0 +1,53 @@
+-- The limits of a drawn network, and the first one that it passes.
+use Rattle.std.specs.Prelude.{◌≡◌, ℕ, ◌+◌, ◌*◌, Bool, nat_le, nat_lt, List, [], ◌∷◌, length, filter, find, Option, Some, None, Result, Ok, Err}
+use Rattle.itv_base.specs.declared.limits.TheConstants.{MAX_CELLS, MAX_CONSTRAINTS, MAX_EVENTS, MAX_MATRIX_EVENTS, MAX_ROWS, MAX_SEARCH_CELLS}
+use Rattle.event_graph.specs.Network.{Constraint}
+use Rattle.compose.specs.Design.{Composed}
+use Rattle.unroll.specs.declared.limit.Limit.{Limit}
+use Rattle.unroll.specs.declared.limit.Limit.TheVariants.{Events, Constraints, Rows, Cells, SearchCells, MatrixEvents}
+use Rattle.unroll.specs.declared.counted.Counted.{Counted}
+use Rattle.unroll.specs.Drawn.{Drawn, drawn_of}
+
+-- how much a limit allows
+abbrev pub most_of : Limit → ℕ
+most_of Events = MAX_EVENTS
+most_of Constraints = MAX_CONSTRAINTS
+most_of Rows = MAX_ROWS
+most_of Cells = MAX_CELLS
+most_of SearchCells = MAX_SEARCH_CELLS
+most_of MatrixEvents = MAX_MATRIX_EVENTS
+
+abbrev pub counted : Limit → ℕ → Counted
+counted limit count = record { limit = limit; count = count }
+
+-- Of so many events, constraints, rows, and constraints with two or more causes, what the limits speak of, in the order in which
+-- they are looked at. Each row takes a cell for each event. So does each level of the search, of which there is one for each
+-- constraint with two or more causes, and the graph below all levels.
+abbrev pub counts_by : ℕ → ℕ → ℕ → ℕ → List Counted
+counts_by events constraints rows splittable =
+    counted Events events
+    ∷ counted Constraints constraints
+    ∷ counted Rows rows
+    ∷ counted Cells (events * rows)
+    ∷ counted SearchCells (events * (splittable + 1))
+    ∷ []
+
+-- the constraint has two or more causes to choose from
+abbrev pub is_splittable : Constraint → Bool
+is_splittable c = nat_le 2 (length c.causes)
+
+abbrev pub counts_of : Drawn → List Counted
+counts_of drawn = counts_by drawn.net.events (length drawn.net.constraints) (length drawn.rows) (length (filter is_splittable drawn.net.constraints))
+
+-- the first one of which there is more than its limit allows
+abbrev pub first_passed : List Counted → Option Counted
+first_passed counts = find (λ c. nat_lt (most_of c.limit) c.count) counts
+
+-- a drawn network that passes no limit, or the first limit that it passes with how much there is
+abbrev pub within : Drawn → Option Counted → Result Drawn Counted
+within drawn None = Ok drawn
+within drawn (Some passed) = Err passed
+
+-- what a design draws, within the limits
+unfoldable pub unrolled : Composed → Result Drawn Counted
+unrolled d = within (drawn_of d) (first_passed (counts_of (drawn_of d)))

@@ -1,0 +1,5 @@
+pub mod Counting
+pub mod Kept
+pub mod Between
+pub mod Labels
+pub mod Firsts

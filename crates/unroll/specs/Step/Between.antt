@@ -1,0 +1,15 @@
+-- Rules and rows between marks below a number.
+use Rattle.std.specs.Prelude.{◌<◌, ℕ, length, All}
+use Rattle.sheet.specs.declared.row.SheetRow.{SheetRow}
+use Rattle.sheet.specs.declared.rule.Source.{Source}
+use Rattle.sheet.specs.Rule.{SheetRule}
+use Rattle.sheet.specs.Whole.{IsCauseCount}
+
+pub record IsRuleBetween (marks : ℕ) (rule : SheetRule) : Type 0 where
+  pub target : rule.target < marks
+  pub causes : All (λ (source : Source). source.mark < marks) rule.causes
+  pub count : IsCauseCount rule.kind (length rule.causes)
+
+pub record IsRowBetween (marks : ℕ) (row : SheetRow) : Type 0 where
+  pub from : row.from < marks
+  pub to : row.to < marks

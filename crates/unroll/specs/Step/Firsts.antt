@@ -1,0 +1,17 @@
+-- The numbers of the first marks of parts.
+use Rattle.std.specs.Prelude.{◌≡◌, ◌≤◌, ℕ, ◌+◌, List, [], ◌∷◌, length}
+use Rattle.itv_base.specs.declared.limits.TheConstants.{MAX_EVENTS}
+use Rattle.sheet.specs.Contents.{Contents}
+use Rattle.compose.specs.Design.{Composed, IsDesign}
+use Rattle.compose.specs.Numbers.{mark_count}
+
+-- where the first part has so many marks before it
+abbrev pub firsts_of : ℕ → List Contents → List ℕ
+firsts_of first [] = []
+firsts_of first (sheet ∷ sheets) = first ∷ firsts_of (first + length sheet.marks) sheets
+
+-- a design with few marks, and the numbers of the first marks of its parts
+pub record IsNumbered (d : Composed) (firsts : List ℕ) : Type 0 where
+  pub design : IsDesign d
+  pub few : mark_count d.sheets ≤ MAX_EVENTS
+  pub stand : firsts ≡ firsts_of 0 d.sheets

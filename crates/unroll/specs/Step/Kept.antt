@@ -1,0 +1,12 @@
+-- The rules and rows that exist in some cycle.
+use Rattle.std.specs.Prelude.{ℕ, ◌-◌, List, filter}
+use Rattle.sheet.specs.declared.row.SheetRow.{SheetRow}
+use Rattle.sheet.specs.Rule.{SheetRule}
+use Rattle.unroll.specs.Cycles.{row_exists, rule_exists}
+
+-- those that exist in the last cycle: what exists in a cycle exists in all that come after it
+abbrev pub kept_rules : ℕ → List SheetRule → List SheetRule
+kept_rules cycles rules = filter (λ rule. rule_exists (cycles - 1) rule) rules
+
+abbrev pub kept_rows : ℕ → List SheetRow → List SheetRow
+kept_rows cycles rows = filter (λ row. row_exists (cycles - 1) row) rows

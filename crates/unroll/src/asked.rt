@@ -1,0 +1,117 @@
+//! The rows of one cycle of a design, by the numbers of its marks.
+
+ghost use Rattle.std.specs.Prelude.{◌≡◌, ◌≤◌, ◌++◌, ◌∷◌, [], All, IfOk, OnOk, map};
+ghost use Rattle.itv_base.specs.declared.limits.TheConstants.{MAX_EVENTS};
+ghost use Rattle.compose.specs.Design.{IsWireRowOf};
+ghost use Rattle.compose.specs.Numbers.{wire_row};
+ghost use Rattle.unroll.specs.Cycle.{part_rows, row_behind, rows_of};
+ghost use Rattle.unroll.specs.Step.Between.{IsRowBetween};
+ghost use Rattle.unroll.specs.Step.Kept.{kept_rows};
+
+use crate::numbered::Numbered;
+use compose::WireRow;
+use itv_base::NoMemory;
+use sheet::{MAX_MARKS, RowKind, SheetRow};
+use std::alloc::Global;
+
+/// The rows of a design that exist in some cycle: those of the parts and of the wires.
+pub fn rows_of(alloc: Global, design: &Numbered<'_>) -> Result<Vec<SheetRow>, NoMemory>
+    ensures { IfOk result (λ rows. rows.items ≡ kept_rows design.now.cycles (rows_of design.now)) }
+{
+    let mut rows = Vec::new(alloc);
+    keep_parts(&mut rows, design)?;
+    keep_wires(&mut rows, design, design.design().wire_rows().as_slice())?;
+    Ok(rows)
+}
+
+// Puts a row at the end, if it exists in some cycle.
+fn keep(rows: &mut Vec<SheetRow>, cycles: u32, row: SheetRow) -> Result<(), NoMemory>
+    requires { 1 ≤ cycles }
+    ensures { OnOk result (rows.new.items ≡ rows.old.items ++ kept_rows cycles (row ∷ [])) }
+{
+    if row.shift < cycles {
+        let kind: RowKind = row.kind;
+        rows.push(SheetRow { kind, ..row })?;
+    }
+    Ok(())
+}
+
+// ---- parts
+
+// The rows of the parts.
+fn keep_parts(rows: &mut Vec<SheetRow>, design: &Numbered<'_>) -> Result<(), NoMemory>
+    ensures { OnOk result (rows.new.items
+        ≡ rows.old.items ++ kept_rows design.now.cycles (part_rows 0 design.now.sheets)) }
+{
+    let parts = design.design().parts().len() as u32;
+    let cycles = design.design().cycles();
+    for part in 0..parts {
+        let first = design.first_of(part);
+        let sheet = design.design().sheet_of(part);
+        keep_rows(rows, cycles, first, sheet.rows().as_slice())?;
+    }
+    Ok(())
+}
+
+// The rows of a sheet behind so many marks.
+fn keep_rows(
+    rows: &mut Vec<SheetRow>,
+    cycles: u32,
+    first: u32,
+    more: &[SheetRow],
+) -> Result<(), NoMemory>
+    requires cycles { 1 ≤ cycles }
+    requires between { All (IsRowBetween MAX_MARKS) more.now }
+    requires first { first ≤ MAX_EVENTS }
+    ensures { OnOk result (rows.new.items
+        ≡ rows.old.items ++ kept_rows cycles (map (row_behind first) more.now)) }
+{
+    for row in more {
+        keep(rows, cycles, row_behind(first, row))?;
+    }
+    Ok(())
+}
+
+fn row_behind(first: u32, row: &SheetRow) -> SheetRow
+    requires between { IsRowBetween MAX_MARKS row.now }
+    requires first { first ≤ MAX_EVENTS }
+    ensures { result ≡ row_behind first row.now }
+{
+    SheetRow {
+        kind: row.kind,
+        from: first + row.from,
+        to: first + row.to,
+        shift: row.shift,
+    }
+}
+
+// ---- wires
+
+// The rows of wires.
+fn keep_wires(
+    rows: &mut Vec<SheetRow>,
+    design: &Numbered<'_>,
+    wires: &[WireRow],
+) -> Result<(), NoMemory>
+    requires { All (IsWireRowOf design.now.sheets) wires.now }
+    ensures { OnOk result (rows.new.items ≡ rows.old.items
+        ++ kept_rows design.now.cycles (map (wire_row design.now.sheets) wires.now)) }
+{
+    let cycles = design.design().cycles();
+    for wire in wires {
+        keep(rows, cycles, wire_row(design, wire))?;
+    }
+    Ok(())
+}
+
+fn wire_row(design: &Numbered<'_>, row: &WireRow) -> SheetRow
+    requires { IsWireRowOf design.now.sheets row.now }
+    ensures { result ≡ wire_row design.now.sheets row.now }
+{
+    SheetRow {
+        kind: row.kind,
+        from: design.number_of(row.from),
+        to: design.number_of(row.to),
+        shift: row.shift,
+    }
+}

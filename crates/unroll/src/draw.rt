@@ -1,0 +1,66 @@
+//! Drawing a design.
+
+ghost use Rattle.std.specs.Prelude.{◌≡◌, ◌≤◌, ◌*◌, IfOk, length};
+ghost use Rattle.itv_base.specs.declared.limits.TheConstants.{MAX_CONSTRAINTS, MAX_EVENTS};
+ghost use Rattle.compose.specs.Numbers.{mark_count};
+ghost use Rattle.unroll.specs.Drawn.{drawn_of};
+ghost use Rattle.unroll.specs.Limits.{unrolled};
+ghost use Rattle.unroll.specs.Answer.{Gives};
+
+use crate::asked::rows_of;
+use crate::counted::{Counted, first_passed};
+use crate::counts::Counts;
+use crate::fault::UnrollFault;
+use crate::names::{copied, labels_of};
+use crate::network::network_of;
+use crate::numbered::Numbered;
+use crate::row::rows_in;
+use crate::rules::rules_of;
+use crate::unrolled::Unrolled;
+use compose::Design;
+use itv_base::NoMemory;
+use std::alloc::Global;
+
+/// What a design draws, cycle by cycle: its events, its constraints and its rows; or the first limit that this passes, with how
+/// much there is. All is counted before memory is taken for any of it, so that a design that passes a limit is refused in a time
+/// that grows as the design itself.
+///
+/// `NoMemory` may come in place of either. After a refusal nothing was made.
+pub fn unroll(alloc: Global, design: &Design<'_>) -> Result<Unrolled, UnrollFault>
+    ensures { Gives result (unrolled design.now) }
+{
+    let counts = Counts::of(design);
+    if let Some(passed) = first_passed(design.cycles(), counts) {
+        return Err(too_many(passed));
+    }
+    Ok(draw(alloc, design, counts.marks as u32)?)
+}
+
+// The refusal by a limit that is passed.
+fn too_many(passed: Counted) -> UnrollFault
+    ensures { result ≡ UnrollFault.TooMany passed.limit passed.count }
+{
+    UnrollFault::TooMany {
+        limit: passed.limit,
+        count: passed.count,
+    }
+}
+
+// What a design draws that passes no limit.
+fn draw(alloc: Global, design: &Design<'_>, marks: u32) -> Result<Unrolled, NoMemory>
+    requires marks { marks ≡ mark_count design.now.sheets }
+    requires events { design.now.cycles * marks ≤ MAX_EVENTS }
+    requires constraints { length (drawn_of design.now).net.constraints ≤ MAX_CONSTRAINTS }
+    ensures { IfOk result (λ drawn. drawn ≡ drawn_of design.now) }
+{
+    let cycles = design.cycles();
+    let numbered = Numbered::new(alloc, design)?;
+    let rules = rules_of(alloc, &numbered)?;
+    let asked = rows_of(alloc, &numbered)?;
+    Ok(Unrolled {
+        network: network_of(alloc, marks, cycles, &rules)?,
+        parts: copied(alloc, design.parts())?,
+        labels: labels_of(alloc, design)?,
+        rows: rows_in(alloc, marks, cycles, &asked)?,
+    })
+}

@@ -1,0 +1,202 @@
+//! The rules of one cycle of a design, by the numbers of its marks.
+
+ghost use Rattle.std.specs.Prelude.{◌≡◌, ◌≤◌, ◌<◌, ◌++◌, ◌∷◌, [], ℕ, All, IfOk, OnOk, length, map};
+ghost use Rattle.itv_base.specs.declared.limits.TheConstants.{MAX_EVENTS};
+ghost use Rattle.compose.specs.Design.{IsJoinOf, IsMarkOf, IsRuleOf};
+ghost use Rattle.compose.specs.Joins.{joins_of_pins, pin_joins};
+ghost use Rattle.compose.specs.Numbers.{join_rule, wire_rule, wire_source};
+ghost use Rattle.unroll.specs.Cycle.{part_rules, rule_behind, rules_of, source_behind};
+ghost use Rattle.unroll.specs.Step.Between.{IsRuleBetween};
+ghost use Rattle.unroll.specs.Step.Kept.{kept_rules};
+
+use crate::network::rule_exists;
+use crate::numbered::Numbered;
+use compose::{Join, PinJoins, WireRule, WireSource};
+use itv_base::{NoMemory, RuleKind};
+use sheet::{MAX_MARKS, Rule, Source, Sources};
+use std::alloc::Global;
+
+/// The rules of a design that exist in some cycle: those of the parts, of the nets and of the wires.
+pub fn rules_of(alloc: Global, design: &Numbered<'_>) -> Result<Vec<Rule>, NoMemory>
+    ensures { IfOk result (λ rules. rules.items ≡ kept_rules design.now.cycles (rules_of design.now)) }
+{
+    let mut rules = Vec::new(alloc);
+    keep_parts(alloc, &mut rules, design)?;
+    keep_joins(alloc, &mut rules, design, design.design().joins().pins())?;
+    keep_wires(
+        alloc,
+        &mut rules,
+        design,
+        design.design().wire_rules().as_slice(),
+    )?;
+    Ok(rules)
+}
+
+// Puts a rule at the end, if it exists in some cycle.
+fn keep(rules: &mut Vec<Rule>, cycles: u32, rule: Rule) -> Result<(), NoMemory>
+    requires { 1 ≤ cycles }
+    ensures { OnOk result (rules.new.items ≡ rules.old.items ++ kept_rules cycles (rule ∷ [])) }
+{
+    if rule_exists(cycles - 1, &rule) {
+        rules.push(rule)?;
+    }
+    Ok(())
+}
+
+// ---- parts
+
+// The rules of the parts.
+fn keep_parts(alloc: Global, rules: &mut Vec<Rule>, design: &Numbered<'_>) -> Result<(), NoMemory>
+    ensures { OnOk result (rules.new.items
+        ≡ rules.old.items ++ kept_rules design.now.cycles (part_rules 0 design.now.sheets)) }
+{
+    let parts = design.design().parts().len() as u32;
+    let cycles = design.design().cycles();
+    for part in 0..parts {
+        let first = design.first_of(part);
+        let sheet = design.design().sheet_of(part);
+        keep_rules(alloc, rules, cycles, first, sheet.rules().as_slice())?;
+    }
+    Ok(())
+}
+
+// The rules of a sheet behind so many marks.
+fn keep_rules(
+    alloc: Global,
+    rules: &mut Vec<Rule>,
+    cycles: u32,
+    first: u32,
+    more: &[Rule],
+) -> Result<(), NoMemory>
+    requires cycles { 1 ≤ cycles }
+    requires between { All (IsRuleBetween MAX_MARKS) more.now }
+    requires first { first ≤ MAX_EVENTS }
+    ensures { OnOk result (rules.new.items
+        ≡ rules.old.items ++ kept_rules cycles (map (rule_behind first) more.now)) }
+{
+    for rule in more {
+        keep(rules, cycles, rule_behind(alloc, first, rule)?)?;
+    }
+    Ok(())
+}
+
+fn rule_behind(alloc: Global, first: u32, rule: &Rule) -> Result<Rule, NoMemory>
+    requires between { IsRuleBetween MAX_MARKS rule.now }
+    requires first { first ≤ MAX_EVENTS }
+    ensures { IfOk result (λ moved. moved ≡ rule_behind first rule.now) }
+{
+    let causes = sources_behind(alloc, first, rule.causes().as_slice())?;
+    Ok(Rule::new(rule.kind(), first + rule.target(), causes))
+}
+
+fn sources_behind(alloc: Global, first: u32, sources: &[Source]) -> Result<Sources, NoMemory>
+    requires marks { All (λ (source : Source). source.mark < MAX_MARKS) sources.now }
+    requires first { first ≤ MAX_EVENTS }
+    ensures { IfOk result (λ causes. causes ≡ map (source_behind first) sources.now) }
+{
+    let mut causes = Sources::new(alloc);
+    for source in sources {
+        causes.push(Source {
+            mark: first + source.mark,
+            ..*source
+        })?;
+    }
+    Ok(causes)
+}
+
+// ---- nets
+
+// The rules of the joins of pins.
+fn keep_joins(
+    alloc: Global,
+    rules: &mut Vec<Rule>,
+    design: &Numbered<'_>,
+    pins: &[PinJoins],
+) -> Result<(), NoMemory>
+    requires { All (IsJoinOf design.now.sheets) (joins_of_pins pins.now) }
+    ensures { OnOk result (rules.new.items ≡ rules.old.items
+        ++ kept_rules design.now.cycles (map (join_rule design.now.sheets) (joins_of_pins pins.now))) }
+{
+    for pin in pins {
+        keep_pin(alloc, rules, design, pin)?;
+    }
+    Ok(())
+}
+
+// The rules of the joins of a pin.
+fn keep_pin(
+    alloc: Global,
+    rules: &mut Vec<Rule>,
+    design: &Numbered<'_>,
+    pin: &PinJoins,
+) -> Result<(), NoMemory>
+    requires { All (IsJoinOf design.now.sheets) (pin_joins pin.now) }
+    ensures { OnOk result (rules.new.items ≡ rules.old.items
+        ++ kept_rules design.now.cycles (map (join_rule design.now.sheets) (pin_joins pin.now))) }
+{
+    let cycles = design.design().cycles();
+    for k in 0..pin.marks {
+        keep(rules, cycles, join_rule(alloc, design, &pin.join(k))?)?;
+    }
+    Ok(())
+}
+
+fn join_rule(alloc: Global, design: &Numbered<'_>, join: &Join) -> Result<Rule, NoMemory>
+    requires { IsJoinOf design.now.sheets join.now }
+    ensures { IfOk result (λ rule. rule ≡ join_rule design.now.sheets join.now) }
+{
+    let mut causes = Sources::new(alloc);
+    causes.push(Source {
+        mark: design.number_of(join.from),
+        shift: 0,
+        range: join.delay,
+    })?;
+    Ok(Rule::new(RuleKind::Lin, design.number_of(join.to), causes))
+}
+
+// ---- wires
+
+// The rules of wires.
+fn keep_wires(
+    alloc: Global,
+    rules: &mut Vec<Rule>,
+    design: &Numbered<'_>,
+    wires: &[WireRule],
+) -> Result<(), NoMemory>
+    requires { All (IsRuleOf design.now.sheets) wires.now }
+    ensures { OnOk result (rules.new.items ≡ rules.old.items
+        ++ kept_rules design.now.cycles (map (wire_rule design.now.sheets) wires.now)) }
+{
+    let cycles = design.design().cycles();
+    for wire in wires {
+        keep(rules, cycles, wire_rule(alloc, design, wire)?)?;
+    }
+    Ok(())
+}
+
+fn wire_rule(alloc: Global, design: &Numbered<'_>, rule: &WireRule) -> Result<Rule, NoMemory>
+    requires { IsRuleOf design.now.sheets rule.now }
+    ensures { IfOk result (λ numbered. numbered ≡ wire_rule design.now.sheets rule.now) }
+{
+    let causes = wire_sources(alloc, design, rule.causes().as_slice())?;
+    Ok(Rule::new(rule.kind(), design.number_of(rule.target()), causes))
+}
+
+fn wire_sources(
+    alloc: Global,
+    design: &Numbered<'_>,
+    sources: &[WireSource],
+) -> Result<Sources, NoMemory>
+    requires { All (λ (source : WireSource). IsMarkOf design.now.sheets source.mark) sources.now }
+    ensures { IfOk result (λ causes. causes ≡ map (wire_source design.now.sheets) sources.now) }
+{
+    let mut causes = Sources::new(alloc);
+    for source in sources {
+        causes.push(Source {
+            mark: design.number_of(source.mark),
+            shift: source.shift,
+            range: source.range,
+        })?;
+    }
+    Ok(causes)
+}
