@@ -1,5 +1,5 @@
 -- Worked cases of what a design draws, by computation.
-use Rattle.std.proofs.Common.{◌≡◌, [], ◌∷◌, Some, pos, refl}
+use Rattle.std.proofs.Common.{None, ◌≡◌, [], ◌∷◌, Some, pos, refl}
 use Rattle.std.specs.Prelude.{codes}
 use Rattle.itv_base.specs.Range.{Ends}
 use Rattle.itv_base.specs.declared.names.RuleKind.TheVariants as rules
@@ -9,7 +9,9 @@ use Rattle.sheet.specs.Rule.{SheetRule}
 use Rattle.sheet.specs.Contents.{Contents}
 use Rattle.compose.specs.Design.{Composed}
 use Rattle.unroll.specs.Cycles.{constraints_of}
+use Rattle.unroll.specs.declared.limit.Limit.TheVariants.{Events, Constraints, Rows, Cells, SearchCells}
 use Rattle.unroll.specs.Drawn.{drawn_of}
+use Rattle.unroll.specs.Limits.{counted, counts_by, first_passed}
 
 abbrev ends : Ends
 ends = record { low = Some (pos 10); high = Some (pos 20) }
@@ -84,3 +86,32 @@ parts_nets_wires = refl
 
 pub wire_row_in_cycle_1 : (drawn_of two_parts).rows ≡ record { kind = Ask; from = record { 0 = 0 }; to = record { 0 = 7 } } ∷ []
 wire_row_in_cycle_1 = refl
+
+-- ---- limits
+
+-- What each limit allows. Of 4,096 events and 244 rows there are 999,424 cells, and of 511 constraints with two or more causes
+-- there are 4,096 times 512 search cells.
+pub at_all_limits : first_passed (counts_by 4096 65536 244 511) ≡ None
+at_all_limits = refl
+
+pub at_rows : first_passed (counts_by 244 0 4096 0) ≡ None
+at_rows = refl
+
+pub at_cells : first_passed (counts_by 1000 0 1000 0) ≡ None
+at_cells = refl
+
+-- what it does not, where the first limit that is passed is told
+pub past_events : first_passed (counts_by 4097 65537 4097 600) ≡ Some (counted Events 4097)
+past_events = refl
+
+pub past_constraints : first_passed (counts_by 4096 65537 4097 600) ≡ Some (counted Constraints 65537)
+past_constraints = refl
+
+pub past_rows : first_passed (counts_by 4096 65536 4097 600) ≡ Some (counted Rows 4097)
+past_rows = refl
+
+pub past_cells : first_passed (counts_by 1000 0 1250 0) ≡ Some (counted Cells 1250000)
+past_cells = refl
+
+pub past_search_cells : first_passed (counts_by 4096 512 0 512) ≡ Some (counted SearchCells 2101248)
+past_search_cells = refl
