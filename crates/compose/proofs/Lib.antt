@@ -1,1 +1,5 @@
 pub mod JoinLists
+pub mod WireWalk
+pub mod PartSheets
+pub mod WholeDesigns
+pub mod ComposeSteps

@@ -1,4 +1,13 @@
+pub use Rattle.itv_base.specs.Range
+pub use Rattle.itv_base.specs.Reading
+pub use Rattle.sheet.specs.Links
 pub mod Rule
 pub mod Joins
 pub mod Design
 pub mod Numbers
+pub mod Fault
+pub mod Sheets
+pub mod Nets
+pub mod Wires
+pub mod Compose
+pub mod Step

@@ -1,11 +1,17 @@
 //! Groups of causes: those of one kind with one target and one tag are the causes of one rule.
 
-ghost use Rattle.std.specs.Prelude.{◌≡◌, if◌then◌else◌, Some, None, OnOk};
-ghost use Rattle.sheet.specs.Groups.{place_of, same_group};
+ghost use Rattle.std.specs.Prelude.{◌≡◌, ◌++◌, ◌∷◌, [], List, length, if◌then◌else◌, true, Some, None, OnOk};
+ghost use Rattle.sheet.specs.Groups.{AddsCause, AddsLink, ArePlaces, StandsFor, kind_of, place_of, same_group};
+ghost use Rattle.sheet.specs.Links.{Link as LinkSeen, is_cause, source_of};
+ghost use Rattle.sheet.specs.Rule.{SheetRule};
+ghost use Rattle.sheet.specs.Steps.{link_view};
 ghost use Rattle.sheet.specs.declared.groups.GroupFault.TheVariants.{NoMemory};
 
-use itv_base::{NoMemory as OutOfMemory, RuleKind};
-use std::alloc::AllocFailed;
+use crate::link::Link;
+use crate::rule::{Rule, Source, Sources};
+use itv_base::{MAX_CAUSES, NoMemory as OutOfMemory, RuleKind};
+use label_grammar::Kind;
+use std::alloc::{AllocFailed, Global};
 use std::collections::HashMap;
 
 /// What the causes of one rule have in common: how the rule reads them, its target by number, and a tag or none.
@@ -43,20 +49,100 @@ impl From<OutOfMemory> for GroupFault {
 /// Where the rule of each group stands among the rules.
 pub type Places<'a> = HashMap<Group<'a>, usize>;
 
-/// The place of the rule of a group, if it has one.
-pub fn place_of<'a>(places: &Places<'a>, group: Group<'a>) -> Option<usize>
-    ensures place { result ≡ place_of places.now group.entry }
+/// Puts the link of edge n into the rules: a linear one as a rule of its own, a cause into the rule of its group, which it opens
+/// where it is the first. A link that is a row changes nothing. After a fault neither the rules nor the table is to be used.
+pub fn push_link<'a>(
+    alloc: Global,
+    rules: &mut Vec<Rule>,
+    places: &mut Places<'a>,
+    n: u64,
+    link: &Link<'a>,
+) -> Result<(), GroupFault>
+    requires { ArePlaces places.old (length rules.old.items) }
+    ensures adds { (front : List SheetRule) (links : List LinkSeen) → StandsFor front links rules.old.items places.old
+        → AddsLink front links n (link_view link.now) result rules.new.items places.new }
+{
+    match link.label.kind {
+        Kind::Lin => {
+            push_rule(alloc, rules, RuleKind::Lin, link)?;
+            Ok(())
+        }
+        Kind::Late => join_group(alloc, rules, places, n, RuleKind::Late, link),
+        Kind::Early => join_group(alloc, rules, places, n, RuleKind::Early, link),
+        Kind::Req | Kind::Ask => Ok(()),
+    }
+}
+
+// Puts a link that is a cause into the rule of its group, or opens a rule for it.
+fn join_group<'a>(
+    alloc: Global,
+    rules: &mut Vec<Rule>,
+    places: &mut Places<'a>,
+    n: u64,
+    kind: RuleKind,
+    link: &Link<'a>,
+) -> Result<(), GroupFault>
+    requires places { ArePlaces places.old (length rules.old.items) }
+    requires kind { kind_of kind ≡ link.now.label.kind }
+    requires cause { is_cause link.now.label.kind ≡ true }
+    ensures { (front : List SheetRule) (links : List LinkSeen) → StandsFor front links rules.old.items places.old
+        → AddsLink front links n (link_view link.now) result rules.new.items places.new }
+{
+    let group = Group {
+        kind,
+        target: link.to,
+        tag: link.label.tag,
+    };
+    match place_of(places, group) {
+        Some(place) => {
+            let rule = &mut rules[place];
+            push_cause(rule, n, link.source())
+        }
+        None => {
+            put_place(places, group, rules.len())?;
+            push_rule(alloc, rules, kind, link)?;
+            Ok(())
+        }
+    }
+}
+
+// Puts a rule with this one cause at the end.
+fn push_rule(
+    alloc: Global,
+    rules: &mut Vec<Rule>,
+    kind: RuleKind,
+    link: &Link<'_>,
+) -> Result<(), OutOfMemory>
+    ensures { OnOk result (rules.new.items ≡ rules.old.items
+        ++ record { kind = kind; target = link.now.to; causes = source_of (link_view link.now) ∷ [] } ∷ []) }
+{
+    let mut causes = Sources::new(alloc);
+    causes.push(link.source())?;
+    rules.push(Rule::new(kind, link.to, causes))?;
+    Ok(())
+}
+
+// Puts the cause of edge n at the end of those of a rule.
+fn push_cause(rule: &mut Rule, n: u64, cause: Source) -> Result<(), GroupFault>
+    ensures { AddsCause rule.old n cause result rule.new }
+{
+    if rule.causes().len() >= MAX_CAUSES as u64 {
+        return Err(GroupFault::TooManyCauses(n));
+    }
+    rule.push_cause(cause)?;
+    Ok(())
+}
+
+// The place of the rule of a group, if it has one.
+fn place_of<'a>(places: &Places<'a>, group: Group<'a>) -> Option<usize>
+    ensures { result ≡ place_of places.now group.entry }
 {
     places.get(&group).copied()
 }
 
-/// Notes the place of the rule of a group.
-pub fn put_place<'a>(
-    places: &mut Places<'a>,
-    group: Group<'a>,
-    place: usize,
-) -> Result<(), OutOfMemory>
-    ensures places { OnOk result ((other : Group) → place_of places.new other
+// Notes the place of the rule of a group.
+fn put_place<'a>(places: &mut Places<'a>, group: Group<'a>, place: usize) -> Result<(), OutOfMemory>
+    ensures { OnOk result ((other : Group) → place_of places.new other
         ≡ (if same_group group.entry other then Some place else place_of places.old other)) }
 {
     places.insert(group, place)?;

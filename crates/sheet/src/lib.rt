@@ -5,7 +5,7 @@
 
 mod edges;
 mod fault;
-pub mod groups;
+mod groups;
 mod lanes;
 mod link;
 mod mark;
@@ -21,9 +21,12 @@ mod sheet;
 mod tests;
 
 pub use fault::SheetFault;
+pub use groups::{Group, GroupFault, Places, push_link};
+pub use link::Link;
 pub use mark::{MAX_MARKS, Mark, Marks};
 pub use pin::{Pin, Pins};
 pub use read::read_sheet;
 pub use row::{RowKind, SheetRow, SheetRows};
+pub use rows::push_row;
 pub use rule::{Rule, Rules, Source, Sources};
 pub use sheet::Sheet;

@@ -58,7 +58,7 @@ fn position_of(marks: &[Mark], name: u8) -> Option<usize>
 impl Link<'_> {
     /// The link as a cause.
     pub fn source(&self) -> Source
-        ensures { result ≡ source_of (link_view self.now) }
+        ensures source { result ≡ source_of (link_view self.now) }
     {
         Source {
             mark: self.from,
@@ -69,7 +69,7 @@ impl Link<'_> {
 
     /// The range of the label, open where it has none.
     pub fn range(&self) -> Range
-        ensures { result ≡ unwrap_or self.now.label.range open_ends }
+        ensures range { result ≡ unwrap_or self.now.label.range open_ends }
     {
         match self.label.range {
             Some(range) => range,

@@ -11,7 +11,7 @@ use label_grammar::Kind;
 
 /// Puts the row at the end of a link that asks for a separation or demands a range of it.
 pub fn push_row(rows: &mut SheetRows, link: &Link<'_>) -> Result<(), NoMemory>
-    ensures { OnOk result (rows.new ≡ rows.old ++ option_to_list (row_by (link_view link.now) link.now.label.kind)) }
+    ensures rows { OnOk result (rows.new ≡ rows.old ++ option_to_list (row_by (link_view link.now) link.now.label.kind)) }
 {
     let kind = match link.label.kind {
         Kind::Req => RowKind::Req(link.range()),

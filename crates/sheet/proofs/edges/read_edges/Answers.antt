@@ -32,16 +32,16 @@ returns-in_err-push_link c =
     let before = c.loop-n.invariant in
     rw (p.1, p.2, ← before.left)
     (HasFault-first is_memory _ _ (sheet_fault c.in_err-push_link.field-0.0) (edge-full c.args.marks.now c.args.edges.now before.links c.loop-n.n c.as_text.result.now (rw c.as_text.ensures.text c.get.ensures.item) (link_view c.in-Ok-Some.link) c.in_err-push_link.field-0.0
-    (rw c.in-Ok-Some.field-0-is at c.in-Ok-Some.ensures) (c.in_err-push_link.ensures c.args.rules.items before.links before.stands)))
+    (rw c.in-Ok-Some.field-0-is at c.in-Ok-Some.ensures) (c.in_err-push_link.ensures.adds c.args.rules.items before.links before.stands)))
 
 pub loop-n-preserved : goal.loop-n-preserved
 loop-n-preserved c =
     let before = c.loop-n.invariant in
-    let added = c.in_ok-push_link.ensures c.args.rules.items before.links before.stands in
+    let added = c.in_ok-push_link.ensures.adds c.args.rules.items before.links before.stands in
     let link = link_view c.in-Ok-Some.link in
     record {
       links = before.links ++ link ∷ [];
       stands = added.1;
-      asked = rw (c.in_ok-push_row.ensures, before.asked) (sym (link_rows-push before.links link));
+      asked = rw (c.in_ok-push_row.ensures.rows, before.asked) (sym (link_rows-push before.links link));
       left = sym (edge-link c.args.marks.now c.args.edges.now before.links c.loop-n.n c.as_text.result.now (rw c.as_text.ensures.text c.get.ensures.item) link (rw c.in-Ok-Some.field-0-is at c.in-Ok-Some.ensures) added.0) ∙ before.left;
     }

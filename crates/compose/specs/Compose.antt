@@ -1,0 +1,31 @@
+-- The design of a netlist and its sheets, or the first fault: the nets are looked at before the wires.
+use Rattle.std.specs.Prelude.{map, List, Result, Ok}
+use Rattle.itv_base.specs.Reading.{◌>>=◌}
+use Rattle.netlist.specs.declared.part.Part.{Part}
+use Rattle.netlist.specs.Contents.{Contents}
+use Rattle.sheet.specs.Contents as sheet
+use Rattle.sheet.specs.Links.{link_rules, link_rows}
+use Rattle.compose.specs.declared.fault.JoinFault.{JoinFault}
+use Rattle.compose.specs.Design.{Composed}
+use Rattle.compose.specs.Nets.{joins_of}
+use Rattle.compose.specs.Sheets.{SheetMap, sheets_of}
+use Rattle.compose.specs.Wires.{design_rule, design_row, wire_links}
+
+-- The design of a netlist whose parts are drawn on these sheets. The wires are grouped into rules as the edges of a sheet are,
+-- as links between the numbers of their marks.
+unfoldable pub composed_on : Contents → List sheet.Contents → Result Composed JoinFault
+composed_on netlist sheets = do
+  joins ← joins_of netlist.parts sheets netlist.nets
+  links ← wire_links netlist.parts sheets netlist.wires
+  Ok (record {
+    cycles = netlist.cycles;
+    parts = map (λ (part : Part). part.name) netlist.parts;
+    sheets = sheets;
+    joins = joins;
+    rules = map (design_rule sheets) (link_rules links);
+    rows = map (design_row sheets) (link_rows links);
+  })
+
+-- the design of a netlist and the sheets that its parts name
+abbrev pub composed : Contents → SheetMap → Result Composed JoinFault
+composed netlist sheets = composed_on netlist (sheets_of sheets netlist.parts)

@@ -1,0 +1,48 @@
+//! The sheets of the parts of a netlist.
+
+ghost use Rattle.std.specs.Prelude.{◌≡◌, All, IfOk, IsSome, Some, length, map};
+ghost use Rattle.netlist.specs.declared.part.Part.{Part as PartSeen};
+ghost use Rattle.sheet.specs.Whole.{IsWhole};
+ghost use Rattle.compose.specs.Sheets.{sheet_named, sheets_of};
+
+use indexmap::IndexMap;
+use itv_base::{NoMemory, Text};
+use netlist::Part;
+use sheet::Sheet;
+use std::alloc::Global;
+
+/// Sheets by their names, in the order in which they were put in.
+pub type Sheets = IndexMap<Text, Sheet>;
+
+/// The sheets that parts are drawn on, part by part.
+pub(crate) fn sheets_of<'a>(
+    alloc: Global,
+    parts: &[Part],
+    sheets: &'a Sheets,
+) -> Result<Vec<&'a Sheet>, NoMemory>
+    requires { All (λ (part : PartSeen). IsSome (sheet_named sheets.now part.sheet)) parts.now }
+    ensures found { IfOk result (λ found. map (λ s. s.now) found.items ≡ sheets_of sheets.now parts.now) }
+    ensures count { IfOk result (λ found. length found.items ≡ length parts.now) }
+    ensures whole { IfOk result (λ found. All IsWhole (map (λ s. s.now) found.items)) }
+{
+    let mut found = Vec::new(alloc);
+    for part in parts {
+        found.push(sheet_named(sheets, &part.sheet))?;
+    }
+    Ok(found)
+}
+
+// The sheet of a name that is there.
+fn sheet_named<'a>(sheets: &'a Sheets, name: &Text) -> &'a Sheet
+    requires { IsSome (sheet_named sheets.now name.now) }
+    ensures found { sheet_named sheets.now name.now ≡ Some result.now }
+    ensures whole { IsWhole result.now }
+{
+    match sheets.get(name) {
+        Some(sheet) => {
+            let _marks = sheet.marks();
+            sheet
+        }
+        None => unreachable!(),
+    }
+}

@@ -1,0 +1,5 @@
+pub mod Elements
+pub mod PinLists
+pub mod NetSteps
+pub mod NetlistSteps
+pub mod WholeNetlists

@@ -1,0 +1,12 @@
+use Rattle.std.proofs.lemmas.Result.{err_from_is_err_and}
+use Rattle.serde_json.specs.View.{view}
+use Rattle.netlist.proofs.NetlistSteps.{nets-fault, nets-are}
+use Rattle.netlist.proofs.read.nets_of.Goals as goal
+
+pub returns-in_err-list : goal.returns-in_err-list
+returns-in_err-list c =
+    let p = err_from_is_err_and c.from_residual.result c.from_residual.ensures.1 in
+    rw (p.1, p.2) (nets-fault (view c.args.tree.now) c.in_err-list.field-0.0 c.in_err-list.ensures)
+
+pub returns : goal.returns
+returns c = rw (nets-are (view c.args.tree.now) _ c.in_ok-list.ensures) c.read_nets.ensures

@@ -1,0 +1,18 @@
+-- What a netlist holds.
+use Rattle.std.specs.Prelude.{ℕ, List, Option}
+use Rattle.itv_base.specs.Range.{Ends}
+use Rattle.netlist.specs.declared.part.Part.{Part}
+use Rattle.netlist.specs.declared.pin.PinText.{PinText}
+use Rattle.netlist.specs.declared.wire.Wire.{Wire}
+
+-- the pins of a net, of which the first one drives, and the range of its delay
+pub record JoinedPins : Type 0 where
+  pub pins : List PinText
+  pub delay : Ends
+
+-- the number of cycles, and the parts, nets and wires in order; a wire that is a comment is none
+pub record Contents : Type 0 where
+  pub cycles : ℕ
+  pub parts : List Part
+  pub nets : List JoinedPins
+  pub wires : List (Option Wire)

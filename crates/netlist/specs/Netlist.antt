@@ -1,0 +1,233 @@
+-- The netlist of a tree, or its first fault. Parts, nets and wires are numbered from 0.
+use Rattle.std.specs.Prelude.{ℕ, ◌==◌, ◌&&◌, nat_le, ℤ, pos, negsuc, Bool, true, false, if◌then◌else◌, List, [], ◌∷◌, ◌++◌, length, codes, Option, Some, None, ok_or, option_map, option_and_then, Result, Ok, Err, ⊤}
+use Rattle.std.specs.List.{list_any, before_first, after_first}
+use Rattle.std.specs.Str.{bytes_eq}
+use Rattle.serde_json.specs.Data.{Data, null, boolean, number, string, array, object, Items, no_items, item}
+use Rattle.serde_json.specs.Find.{get, as_array, as_i64, as_number, as_object, as_str}
+use Rattle.itv_base.specs.Range.{Ends, has_wide, is_reversed}
+use Rattle.itv_base.specs.declared.range.RangeFault.TheVariants.{TooWide, EmptyRange}
+use Rattle.itv_base.specs.declared.limits.TheConstants.{MAX_CYCLES, MAX_PARTS, MAX_SHEET_NAMES}
+use Rattle.label_grammar.specs.declared.label.LabelFault.{LabelFault}
+use Rattle.label_grammar.specs.Answer.{judged}
+use Rattle.itv_base.specs.Characters.{is_name}
+use Rattle.itv_base.specs.Cuts.{is_full_stop}
+use Rattle.label_grammar.specs.Label.{LooseLabel}
+use Rattle.label_grammar.specs.Reading.{label_of}
+use Rattle.label_grammar.specs.Wire.{PartMark, WireSeen, comment, timing, malformed, wire_of}
+use Rattle.netlist.specs.declared.fault.NetlistFault.{NetlistFault}
+use Rattle.netlist.specs.declared.fault.NetlistFault.TheVariants.{NotObject, Version, Cycles, PartsNotList, TooManyParts, Part, DoublePart, TooManySheets, NetsNotList, Net, Delay, EdgesNotList, Edge, Label}
+use Rattle.netlist.specs.declared.part.Part as code
+use Rattle.netlist.specs.declared.pin.PinText.{PinText}
+use Rattle.netlist.specs.declared.wire.Wire.{Wire}
+use Rattle.netlist.specs.Contents.{Contents, JoinedPins}
+use Rattle.itv_base.specs.Reading.{◌>>=◌, walk}
+
+-- ---- what stands under a key
+
+-- the elements of an array, as a list
+abbrev pub elements : Items → List Data
+elements no_items = []
+elements (item d rest) = d ∷ elements rest
+
+abbrev pub list_of : Data → Option (List Data)
+list_of d = option_map elements (as_array d)
+
+abbrev pub list_at : List ℕ → Data → Option (List Data)
+list_at key tree = option_and_then list_of (get key tree)
+
+-- the list under a key that may be missing
+abbrev pub list_if : Option Data → NetlistFault → Result (List Data) NetlistFault
+list_if None fault = Ok []
+list_if (Some d) fault = ok_or (list_of d) fault
+
+abbrev pub text_at : List ℕ → Data → Option (List ℕ)
+text_at key d = option_and_then as_str (get key d)
+
+-- a number without a fraction or an exponent that fits 64 bits with a sign
+abbrev pub whole_of : Data → Option ℤ
+whole_of d = option_and_then as_i64 (as_number d)
+
+abbrev pub whole_at : List ℕ → Data → Option ℤ
+whole_at key d = option_and_then whole_of (get key d)
+
+-- nothing where a test is met, and else a fault
+abbrev pub demand : Bool → NetlistFault → Result ⊤ NetlistFault
+demand true fault = Ok tt
+demand false fault = Err fault
+
+-- ---- the version and the number of cycles
+
+-- the version that this reads
+abbrev pub version_from : ℤ → Option ℕ
+version_from (pos n) = if n == 1 then Some n else None
+version_from (negsuc n) = None
+
+-- from 1 to the greatest number of cycles
+abbrev pub cycles_from : ℤ → Option ℕ
+cycles_from (pos n) = if nat_le 1 n && nat_le n MAX_CYCLES then Some n else None
+cycles_from (negsuc n) = None
+
+unfoldable pub cycles_of : Data → Result ℕ NetlistFault
+cycles_of tree = do
+  _ ← ok_or (as_object tree) NotObject
+  _ ← ok_or (option_and_then version_from (whole_at (codes "itv") tree)) Version
+  ok_or (option_and_then cycles_from (whole_at (codes "cycles") tree)) Cycles
+
+-- ---- parts
+
+abbrev pub part_by : Option (List ℕ) → Option (List ℕ) → Option code.Part
+part_by None sheet = None
+part_by (Some name) None = None
+part_by (Some name) (Some sheet) = if is_name name then Some (record { name = name; sheet = sheet }) else None
+
+-- an object with a name of a part's form and a text for its sheet
+unfoldable pub part_of : Data → Option code.Part
+part_of d = part_by (text_at (codes "name") d) (text_at (codes "sheet") d)
+
+-- a part before has the name
+abbrev pub is_part : List code.Part → List ℕ → Bool
+is_part parts name = list_any (λ (part : code.Part). bytes_eq name part.name) parts
+
+abbrev pub with_part : ℕ → List code.Part → Data → Result (List code.Part) NetlistFault
+with_part n done d = do
+  part ← ok_or (part_of d) (Part n)
+  if is_part done part.name then Err (DoublePart n) else Ok (done ++ part ∷ [])
+
+-- names with one more behind them, if it is new
+abbrev pub with_name : List (List ℕ) → List ℕ → List (List ℕ)
+with_name names name = if list_any (bytes_eq name) names then names else names ++ name ∷ []
+
+-- the distinct names of sheets in the order in which they are first mentioned, behind others
+abbrev pub names_from : List (List ℕ) → List code.Part → List (List ℕ)
+names_from names [] = names
+names_from names (part ∷ parts) = names_from (with_name names part.sheet) parts
+
+abbrev pub sheet_names : List code.Part → List (List ℕ)
+sheet_names parts = names_from [] parts
+
+unfoldable pub parts_of : Data → Result (List code.Part) NetlistFault
+parts_of tree = do
+  listed ← ok_or (list_at (codes "parts") tree) PartsNotList
+  _ ← demand (nat_le (length listed) MAX_PARTS) (TooManyParts (length listed))
+  parts ← walk with_part 0 [] listed
+  _ ← demand (nat_le (length (sheet_names parts)) MAX_SHEET_NAMES) (TooManySheets (length (sheet_names parts)))
+  Ok parts
+
+-- ---- nets
+
+abbrev pub pin_by : List ℕ → List ℕ → Option PinText
+pin_by part lane = if is_name part && nat_le 1 (length lane) then Some (record { part = part; lane = lane }) else None
+
+-- a text that is cut at its first full stop into the name of a part and a lane name that is not empty
+unfoldable pub pin_of : List ℕ → Option PinText
+pin_of text = pin_by (before_first is_full_stop text) (after_first is_full_stop text)
+
+-- all elements read, where each can be
+abbrev pub all_of : {X Y : Type 0} → (X → Option Y) → List X → Option (List Y)
+all_of read [] = Some []
+all_of read (x ∷ xs) = option_and_then (λ y. option_map (λ ys. y ∷ ys) (all_of read xs)) (read x)
+
+abbrev pub unless_empty : {X : Type 0} → List X → Option (List X)
+unless_empty [] = None
+unless_empty (x ∷ xs) = Some (x ∷ xs)
+
+abbrev pub pin_at : Data → Option PinText
+pin_at d = option_and_then pin_of (as_str d)
+
+-- a list of at least one text, each of a pin's form
+abbrev pub pins_of : Data → Option (List PinText)
+pins_of d = option_and_then unless_empty (option_and_then (all_of pin_at) (list_at (codes "pins") d))
+
+-- an end: null is open, and else it is a whole number
+abbrev pub end_of : Data → Option (Option ℤ)
+end_of null = Some None
+end_of (boolean b) = None
+end_of (number n) = option_map (λ value. Some value) (as_i64 n)
+end_of (string s) = None
+end_of (array ds) = None
+end_of (object ms) = None
+
+-- two ends
+abbrev pub ends_by : List Data → Option Ends
+ends_by [] = None
+ends_by (low ∷ []) = None
+ends_by (low ∷ high ∷ []) = option_and_then (λ l. option_map (λ h. record { low = l; high = h }) (end_of high)) (end_of low)
+ends_by (low ∷ high ∷ more ∷ rest) = None
+
+-- the two ends of a delay, which is 0 where it is missing
+abbrev pub delay_of : Option Data → Option Ends
+delay_of None = Some (record { low = Some (pos 0); high = Some (pos 0) })
+delay_of (Some d) = option_and_then ends_by (list_of d)
+
+-- ends that are a range; one that is beyond the limit is told before ends that are the wrong way round
+abbrev pub range_of : ℕ → Ends → Result Ends NetlistFault
+range_of n ends = if has_wide ends then Err (Delay n TooWide) else (if is_reversed ends then Err (Delay n EmptyRange) else Ok ends)
+
+-- the pins and the delay of net n
+unfoldable pub net_of : ℕ → Data → Result JoinedPins NetlistFault
+net_of n d = do
+  pins ← ok_or (pins_of d) (Net n)
+  ends ← ok_or (delay_of (get (codes "delay") d)) (Net n)
+  delay ← range_of n ends
+  Ok (record { pins = pins; delay = delay })
+
+abbrev pub with_net : ℕ → List JoinedPins → Data → Result (List JoinedPins) NetlistFault
+with_net n done d = do
+  net ← net_of n d
+  Ok (done ++ net ∷ [])
+
+unfoldable pub nets_of : Data → Result (List JoinedPins) NetlistFault
+nets_of tree = do
+  listed ← list_if (get (codes "nets") tree) NetsNotList
+  walk with_net 0 [] listed
+
+-- ---- wires
+
+abbrev pub labelled : ℕ → PartMark → PartMark → Result LooseLabel LabelFault → Result (Option Wire) NetlistFault
+labelled n from to (Err fault) = Err (Label n fault)
+labelled n from to (Ok label) = Ok (Some (record {
+  from_part = from.part;
+  from_mark = from.mark;
+  to_part = to.part;
+  to_mark = to.mark;
+  kind = label.kind;
+  shift = label.shift;
+  tag = label.tag;
+  range = label.ends;
+}))
+
+abbrev pub seen_wire : ℕ → WireSeen → Result (Option Wire) NetlistFault
+seen_wire n comment = Ok None
+seen_wire n malformed = Err (Edge n)
+seen_wire n (timing from to label) = labelled n from to (judged (label_of label))
+
+-- what the text of wire n says: nothing where it is a comment
+abbrev pub wire_at : ℕ → Data → Result (Option Wire) NetlistFault
+wire_at n d = do
+  text ← ok_or (as_str d) (Edge n)
+  seen_wire n (wire_of text)
+
+abbrev pub with_wire : ℕ → List (Option Wire) → Data → Result (List (Option Wire)) NetlistFault
+with_wire n done d = do
+  wire ← wire_at n d
+  Ok (done ++ wire ∷ [])
+
+unfoldable pub wires_of : Data → Result (List (Option Wire)) NetlistFault
+wires_of tree = do
+  listed ← list_if (get (codes "edges") tree) EdgesNotList
+  walk with_wire 0 [] listed
+
+-- ---- the whole
+
+-- The netlist of a tree, or its first fault. No other key of the tree, of a part or of a net is read.
+unfoldable pub netlist_of : Data → Result Contents NetlistFault
+netlist_of tree = do
+  cycles ← cycles_of tree
+  parts ← parts_of tree
+  nets ← nets_of tree
+  wires ← wires_of tree
+  Ok (record { cycles = cycles; parts = parts; nets = nets; wires = wires })
+
+-- the netlist that the sheet of a name stands for: one part in one cycle
+abbrev pub lone_netlist : List ℕ → Contents
+lone_netlist sheet = record { cycles = 1; parts = record { name = codes "U"; sheet = sheet } ∷ []; nets = []; wires = [] }

@@ -1,0 +1,47 @@
+//! The version and the number of cycles of a netlist.
+
+ghost use Rattle.std.specs.Prelude.{◌≡◌};
+ghost use Rattle.serde_json.specs.View.{view};
+ghost use Rattle.netlist.specs.Fault.{is_memory};
+ghost use Rattle.netlist.specs.Netlist.{cycles_from, cycles_of, version_from};
+ghost use Rattle.itv_base.specs.Reading.{Gives};
+
+use crate::fault::NetlistFault;
+use crate::tree::whole_at;
+use itv_base::MAX_CYCLES;
+use serde_json::Value;
+
+/// The number of cycles of an object of the version that is read here, or the first fault of this.
+#[tactic(auto, unfolding(crate::specs::Netlist::cycles_of))]
+pub fn read_cycles(tree: &Value) -> Result<u32, NetlistFault>
+    ensures { Gives is_memory (λ cycles. cycles) result (cycles_of (view tree.now)) }
+{
+    if !tree.is_object() {
+        return Err(NetlistFault::NotObject);
+    }
+    let version = whole_at(tree, "itv").and_then(version_from);
+    if version.is_none() {
+        return Err(NetlistFault::Version);
+    }
+    whole_at(tree, "cycles")
+        .and_then(cycles_from)
+        .ok_or(NetlistFault::Cycles)
+}
+
+// The version that a number stands for, if it is read here.
+fn version_from(number: i64) -> Option<u32>
+    ensures { result ≡ version_from number }
+{
+    if number == 1 { Some(1) } else { None }
+}
+
+// A number of cycles that may be drawn.
+fn cycles_from(number: i64) -> Option<u32>
+    ensures { result ≡ cycles_from number }
+{
+    if 1 <= number && number <= MAX_CYCLES as i64 {
+        Some(number as u32)
+    } else {
+        None
+    }
+}

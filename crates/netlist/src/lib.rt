@@ -1,0 +1,27 @@
+//! A netlist: which parts a design has and on which sheets they are drawn, and which nets and wires join them.
+//! It is read from a tree of JSON. Parts, nets, pins and wires are numbered from 0, comments among the wires too.
+//! The one contract: `read_netlist` gives the netlist of the tree, or its first fault exactly where it has one.
+#![tactic(auto)]
+
+mod cycles;
+mod fault;
+mod net;
+mod netlist;
+mod nets;
+mod part;
+mod parts;
+mod pin;
+mod pins;
+mod read;
+mod sheet_names;
+mod tree;
+mod wire;
+mod wires;
+
+pub use fault::NetlistFault;
+pub use net::{Net, Nets};
+pub use netlist::Netlist;
+pub use part::{Part, Parts};
+pub use pin::{PinText, PinTexts};
+pub use read::read_netlist;
+pub use wire::{Wire, Wires};

@@ -1,0 +1,41 @@
+//! The nets of a netlist.
+
+ghost use Rattle.std.specs.Prelude.{◌≡◌};
+
+use crate::pin::PinTexts;
+use itv_base::{Listing, Range};
+use std::marker::Model;
+
+/// A net: its first pin drives each of the others, with a delay in picoseconds.
+#[derive(Debug, Drop)]
+pub struct Net {
+    pub(crate) pins: PinTexts,
+    pub(crate) delay: Range,
+}
+
+impl Model for Net {
+    ghost use Rattle.netlist.specs.Contents.{JoinedPins};
+
+    ghost Value = { JoinedPins };
+
+    ghost view = { λ n. record { pins = n.pins; delay = n.delay } };
+}
+
+impl Net {
+    /// The pins in order, one at least.
+    pub fn pins(&self) -> &PinTexts
+        ensures pins { result.now ≡ self.now.pins }
+    {
+        &self.pins
+    }
+
+    /// The range of the delay from the first pin to each other one, in picoseconds.
+    pub fn delay(&self) -> Range
+        ensures delay { result ≡ self.now.delay }
+    {
+        self.delay
+    }
+}
+
+/// Nets in the order in which they are listed.
+pub type Nets = Listing<Net>;

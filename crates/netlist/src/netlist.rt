@@ -1,0 +1,95 @@
+//! A netlist as it was read.
+
+ghost use Rattle.std.specs.Prelude.{◌≡◌, IfOk};
+ghost use Rattle.netlist.specs.Netlist.{lone_netlist, sheet_names};
+ghost use Rattle.netlist.specs.Whole.{IsNetlist};
+
+use crate::net::Nets;
+use crate::part::{Part, Parts};
+use crate::wire::Wires;
+use itv_base::{NoMemory, Text, Texts};
+use std::alloc::Global;
+use std::marker::Model;
+
+/// The number of cycles, and the parts, nets and wires of a netlist.
+#[derive(Debug, Drop)]
+pub struct Netlist {
+    pub(crate) cycles: u32,
+    pub(crate) parts: Parts,
+    pub(crate) sheet_names: Texts,
+    pub(crate) nets: Nets,
+    pub(crate) wires: Wires,
+}
+
+impl Model for Netlist {
+    ghost use Rattle.std.specs.Prelude.{◌≡◌};
+    ghost use Rattle.netlist.specs.Contents.{Contents};
+    ghost use Rattle.netlist.specs.Netlist.{sheet_names as names_of};
+    ghost use Rattle.netlist.specs.Whole.{IsNetlist};
+
+    ghost Value = { Contents };
+
+    ghost view = { λ n. record { cycles = n.cycles; parts = n.parts; nets = n.nets; wires = n.wires } };
+
+    ghost invariant = { λ n. IsNetlist (record { cycles = n.cycles; parts = n.parts; nets = n.nets; wires = n.wires })
+        × (n.sheet_names ≡ names_of n.parts) };
+}
+
+impl Netlist {
+    /// The netlist that the sheet of a name stands for: one part, `U`, in one cycle.
+    pub fn lone(alloc: Global, sheet: &str) -> Result<Netlist, NoMemory>
+        ensures lone { IfOk result (λ netlist. netlist ≡ lone_netlist sheet.now) }
+    {
+        let mut parts = Parts::new(alloc);
+        parts.push(Part {
+            name: Text::from_text(alloc, "U")?,
+            sheet: Text::from_text(alloc, sheet)?,
+        })?;
+        let mut sheet_names = Texts::new(alloc)?;
+        sheet_names.push(alloc, sheet)?;
+        Ok(Netlist {
+            cycles: 1,
+            parts,
+            sheet_names,
+            nets: Nets::new(alloc),
+            wires: Wires::new(alloc),
+        })
+    }
+
+    /// How many cycles are drawn, from 1 to [`MAX_CYCLES`](itv_base::MAX_CYCLES).
+    pub fn cycles(&self) -> u32
+        ensures cycles { result ≡ self.now.cycles }
+        ensures netlist { IsNetlist self.now }
+    {
+        self.cycles
+    }
+
+    /// The parts in order, at most [`MAX_PARTS`](itv_base::MAX_PARTS). Their names differ.
+    pub fn parts(&self) -> &Parts
+        ensures parts { result.now ≡ self.now.parts }
+    {
+        &self.parts
+    }
+
+    /// The distinct names of the parts' sheets in the order in which they are first mentioned, at most
+    /// [`MAX_SHEET_NAMES`](itv_base::MAX_SHEET_NAMES).
+    pub fn sheet_names(&self) -> &Texts
+        ensures names { result.now ≡ sheet_names self.now.parts }
+    {
+        &self.sheet_names
+    }
+
+    /// The nets in order.
+    pub fn nets(&self) -> &Nets
+        ensures nets { result.now ≡ self.now.nets }
+    {
+        &self.nets
+    }
+
+    /// The wires in order, comments among them.
+    pub fn wires(&self) -> &Wires
+        ensures wires { result.now ≡ self.now.wires }
+    {
+        &self.wires
+    }
+}

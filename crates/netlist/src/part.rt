@@ -1,0 +1,13 @@
+//! The parts of a netlist.
+
+use itv_base::{Listing, Text};
+
+/// A part: its name, 1 to 16 letters of ASCII, digits or `_`, and the name of the sheet that it is drawn on.
+#[derive(Debug, Drop)]
+pub struct Part {
+    pub name: Text,
+    pub sheet: Text,
+}
+
+/// Parts in the order in which they are listed.
+pub type Parts = Listing<Part>;

@@ -1,0 +1,71 @@
+//! Reading the pins of a net.
+
+ghost use Rattle.std.specs.Prelude.{◌≡◌, IfOk, map, option_map, ok_or};
+ghost use Rattle.serde_json.specs.View.{view};
+ghost use Rattle.netlist.specs.Fault.{is_memory};
+ghost use Rattle.netlist.specs.Netlist.{all_of, pin_at, pin_of, pins_of};
+ghost use Rattle.itv_base.specs.Reading.{Gives};
+ghost use Rattle.netlist.specs.declared.fault.NetlistFault.TheVariants as faults;
+
+use crate::fault::NetlistFault;
+use crate::pin::{PinText, PinTexts};
+use crate::tree::list_at;
+use itv_base::{NoMemory, Text, is_name};
+use serde_json::Value;
+use std::alloc::Global;
+
+/// The pins of net n, one at least, or its fault where it has no list of pin texts.
+pub fn read_pins(alloc: Global, n: u64, net: &Value) -> Result<PinTexts, NetlistFault>
+    ensures { Gives is_memory (λ pins. pins) result (ok_or (pins_of (view net.now)) (faults.Net n)) }
+{
+    let Some(list) = list_at(net, "pins") else {
+        return Err(NetlistFault::Net(n));
+    };
+    match pins_in(alloc, list)? {
+        Some(pins) if pins.len() > 0 => Ok(pins),
+        _ => Err(NetlistFault::Net(n)),
+    }
+}
+
+// The pins of the elements of a list, if each of them is one.
+fn pins_in(alloc: Global, list: &[Value]) -> Result<Option<PinTexts>, NoMemory>
+    ensures { IfOk result (λ pins. pins ≡ all_of pin_at (map view list.now)) }
+{
+    let mut pins = PinTexts::new(alloc);
+    for element in list {
+        let Some(pin) = read_pin(alloc, element)? else {
+            return Ok(None);
+        };
+        pins.push(pin)?;
+    }
+    Ok(Some(pins))
+}
+
+// The pin of an element, if it is a text that names one.
+fn read_pin(alloc: Global, element: &Value) -> Result<Option<PinText>, NoMemory>
+    ensures { IfOk result (λ pin. pin ≡ pin_at (view element.now)) }
+{
+    let Some(text) = element.as_str() else {
+        return Ok(None);
+    };
+    let Some((part, lane)) = cut_pin(text) else {
+        return Ok(None);
+    };
+    Ok(Some(PinText {
+        part: Text::from_text(alloc, part)?,
+        lane: Text::from_text(alloc, lane)?,
+    }))
+}
+
+// The name of a part and the name of a lane, which stand before and behind the first full stop of a text.
+#[tactic(auto, unfolding(crate::specs::Netlist::pin_of))]
+fn cut_pin(text: &str) -> Option<(&str, &str)>
+    ensures { option_map (λ pin. record { part = pin.0.now; lane = pin.1.now }) result ≡ pin_of text.now }
+{
+    let (part, lane) = text.split_once('.')?;
+    if is_name(part) && !lane.is_empty() {
+        Some((part, lane))
+    } else {
+        None
+    }
+}

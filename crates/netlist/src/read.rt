@@ -1,0 +1,89 @@
+//! Reading a netlist from a tree.
+
+ghost use Rattle.std.specs.Prelude.{◌≡◌, ◌≤◌, OnOk, IfOk, length};
+ghost use Rattle.serde_json.specs.View.{view};
+ghost use Rattle.netlist.specs.Fault.{is_memory};
+ghost use Rattle.netlist.specs.Netlist.{netlist_of, nets_of, parts_of, sheet_names, wires_of};
+ghost use Rattle.itv_base.specs.Reading.{Gives};
+
+use crate::cycles::read_cycles;
+use crate::fault::NetlistFault;
+use crate::netlist::Netlist;
+use crate::nets::read_nets;
+use crate::part::Parts;
+use crate::parts::read_parts;
+use crate::sheet_names::names_of_sheets;
+use crate::tree::{list_at, list_if};
+use crate::wires::read_wires;
+use crate::{Nets, Wires};
+use itv_base::{MAX_PARTS, MAX_SHEET_NAMES, Texts};
+use serde_json::Value;
+use std::alloc::Global;
+
+/// The netlist of a tree, or its first fault in the order of [`NetlistFault`].
+///
+/// A netlist is an object. `itv` is 1, and `cycles` a whole number from 1 on. `parts` is a list of objects, each with a `name`
+/// and a `sheet`. `nets` may be missing; it is a list of objects, each with `pins`, a list of texts as `U1.ADDR`, and with a
+/// `delay` of two ends in picoseconds (null is open), which is 0 where it is missing. `edges` may be missing; it is a list of
+/// wires as `U1.a U2.b @lin [0,250]`, and a text without two spaces or without a label that begins with `@` is a comment.
+/// Every other key is passed over unread.
+///
+/// `NoMemory` may come in place of a netlist or a fault. After any fault no netlist was made.
+pub fn read_netlist(alloc: Global, tree: &Value) -> Result<Netlist, NetlistFault>
+    ensures answer { Gives is_memory (λ netlist. netlist) result (netlist_of (view tree.now)) }
+{
+    let cycles = read_cycles(tree)?;
+    let NamedParts { parts, sheet_names } = parts_of(alloc, tree)?;
+    let nets = nets_of(alloc, tree)?;
+    let wires = wires_of(alloc, tree)?;
+    Ok(Netlist {
+        cycles,
+        parts,
+        sheet_names,
+        nets,
+        wires,
+    })
+}
+
+// Parts, and the distinct names of their sheets.
+#[derive(Debug, Drop)]
+struct NamedParts {
+    parts: Parts,
+    sheet_names: Texts,
+}
+
+// The parts of a tree, or the first fault of them.
+fn parts_of(alloc: Global, tree: &Value) -> Result<NamedParts, NetlistFault>
+    ensures parts { Gives is_memory (λ read. read.parts) result (parts_of (view tree.now)) }
+    ensures names { IfOk result (λ read. read.sheet_names ≡ sheet_names read.parts) }
+{
+    let Some(list) = list_at(tree, "parts") else {
+        return Err(NetlistFault::PartsNotList);
+    };
+    let count = list.len() as u64;
+    if count > MAX_PARTS {
+        return Err(NetlistFault::TooManyParts(count));
+    }
+    let parts = read_parts(alloc, list)?;
+    let sheet_names = names_of_sheets(alloc, parts.as_slice())?;
+    if sheet_names.len() > MAX_SHEET_NAMES {
+        return Err(NetlistFault::TooManySheets(sheet_names.len()));
+    }
+    Ok(NamedParts { parts, sheet_names })
+}
+
+// The nets of a tree, none where it has no such key, or the first fault of them.
+fn nets_of(alloc: Global, tree: &Value) -> Result<Nets, NetlistFault>
+    ensures { Gives is_memory (λ nets. nets) result (nets_of (view tree.now)) }
+{
+    let list = list_if(tree, "nets", NetlistFault::NetsNotList)?;
+    read_nets(alloc, list)
+}
+
+// The wires of a tree, none where it has no such key, or the first fault of them.
+fn wires_of(alloc: Global, tree: &Value) -> Result<Wires, NetlistFault>
+    ensures { Gives is_memory (λ wires. wires) result (wires_of (view tree.now)) }
+{
+    let list = list_if(tree, "edges", NetlistFault::EdgesNotList)?;
+    read_wires(alloc, list)
+}

@@ -1,9 +1,0 @@
-use Rattle.sheet.proofs.GroupTable.{adds-linear, adds-row}
-use Rattle.sheet.specs.Steps.{link_view}
-use Rattle.sheet.proofs.edges.push_link.Goals as goal
-
-pub returns-in_ok-push_rule-in-Lin : goal.returns-in_ok-push_rule-in-Lin
-returns-in_ok-push_rule-in-Lin c = λ front links stands. adds-linear front links _ _ c.args.n (link_view c.args.link.now) stands _ c.in-Lin.is c.in_ok-push_rule-in-Lin.ensures
-
-pub returns-in-Req : goal.returns-in-Req
-returns-in-Req c = λ front links stands. adds-row front links _ _ c.args.n (link_view c.args.link.now) stands c.in-Req.is
