@@ -44,7 +44,7 @@ impl<'a> Design<'a> {
 
     /// The names of the parts in order.
     pub fn parts(&self) -> &Texts
-        ensures { result.now ≡ self.now.parts }
+        ensures parts { result.now ≡ self.now.parts }
     {
         &self.parts
     }
@@ -52,28 +52,28 @@ impl<'a> Design<'a> {
     /// The sheet of a part that is there.
     pub fn sheet_of(&self, part: u32) -> &Sheet
         requires { part < length self.now.sheets }
-        ensures { slice_get self.now.sheets part ≡ Some result.now }
+        ensures sheet { slice_get self.now.sheets part ≡ Some result.now }
     {
         self.sheets[part as usize]
     }
 
     /// The joins of the nets: net by net, in a net pin by pin, for a pin mark by mark.
     pub fn joins(&self) -> &Joins
-        ensures { result.now ≡ self.now.joins }
+        ensures joins { result.now ≡ self.now.joins }
     {
         &self.joins
     }
 
     /// The rules of the wires in the order of their first wires.
     pub fn wire_rules(&self) -> &WireRules
-        ensures { result.now ≡ self.now.rules }
+        ensures rules { result.now ≡ self.now.rules }
     {
         &self.rules
     }
 
     /// The rows of the wires in order.
     pub fn wire_rows(&self) -> &WireRows
-        ensures { result.now ≡ self.now.rows }
+        ensures rows { result.now ≡ self.now.rows }
     {
         &self.rows
     }

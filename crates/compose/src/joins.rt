@@ -31,7 +31,7 @@ impl PinJoins {
     pub fn join(&self, k: u32) -> Join
         requires driver { self.now.driver.mark + k < 2 ^ 32 }
         requires driven { self.now.driven.mark + k < 2 ^ 32 }
-        ensures { result ≡ join_at self.now k }
+        ensures join { result ≡ join_at self.now k }
     {
         Join {
             from: mark_behind(self.driver, k),
@@ -72,7 +72,7 @@ impl Model for Joins {
 impl Joins {
     /// No joins. It takes no memory yet.
     pub fn new(alloc: Global) -> Joins
-        ensures { result ≡ [] }
+        ensures empty { result ≡ [] }
     {
         Joins {
             pins: Vec::new(alloc),
@@ -90,7 +90,7 @@ impl Joins {
 
     /// The pins, whose joins are all joins in order.
     pub fn pins(&self) -> &[PinJoins]
-        ensures { joins_of_pins result.now ≡ self.now }
+        ensures pins { joins_of_pins result.now ≡ self.now }
     {
         &self.pins
     }

@@ -36,7 +36,7 @@ impl Model for WireRule {
 impl WireRule {
     /// A rule of these parts.
     pub fn new(kind: RuleKind, target: DesignMark, causes: WireSources) -> WireRule
-        ensures { result ≡ record { kind = kind; target = target; causes = causes } }
+        ensures rule { result ≡ record { kind = kind; target = target; causes = causes } }
     {
         WireRule {
             kind,
@@ -47,21 +47,21 @@ impl WireRule {
 
     /// How the rule reads its causes.
     pub fn kind(&self) -> RuleKind
-        ensures { result ≡ self.now.kind }
+        ensures kind { result ≡ self.now.kind }
     {
         self.kind
     }
 
     /// The target.
     pub fn target(&self) -> DesignMark
-        ensures { result ≡ self.now.target }
+        ensures target { result ≡ self.now.target }
     {
         self.target
     }
 
     /// The causes in order.
     pub fn causes(&self) -> &WireSources
-        ensures { result.now ≡ self.now.causes }
+        ensures causes { result.now ≡ self.now.causes }
     {
         &self.causes
     }

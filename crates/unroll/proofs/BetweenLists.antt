@@ -1,6 +1,6 @@
 -- Rules and rows of a design are between its marks.
-use Rattle.std.proofs.Common.{inl, inr, length-append, ◌≡◌, ℕ, zero, suc, ◌+◌, ◌-◌, ◌*◌, ◌^◌, ◌<◌, ◌≤◌, Bool, true, false, cond, List, [], ◌∷◌, ◌++◌, length, map, get_or, All, Option, Some, None, IfSome, refl, ap, sym, ◌∙◌, arith}
-use Rattle.std.specs.Prelude.{filter, slice_get, sum_by}
+use Rattle.std.proofs.Common.{inl, inr, length-append, ◌≡◌, ℕ, zero, suc, ◌+◌, ◌-◌, ◌*◌, ◌^◌, ◌<◌, ◌≤◌, List, [], ◌∷◌, ◌++◌, length, map, get_or, All, Some, refl, arith}
+use Rattle.std.specs.Prelude.{slice_get}
 use Rattle.std.specs.List.{flat_map}
 use Rattle.std.proofs.Math.ListN.{get_or-append}
 use Rattle.std.proofs.Math.Seq.{drop-append_seam}
@@ -13,13 +13,12 @@ use Rattle.sheet.specs.declared.row.SheetRow.{SheetRow}
 use Rattle.sheet.specs.declared.rule.Source.{Source}
 use Rattle.sheet.specs.Rule.{SheetRule}
 use Rattle.sheet.specs.Contents.{Contents}
-use Rattle.sheet.specs.Whole.{IsCauseCount, IsWhole, IsWholeRow, IsWholeRule, IsWholeSource}
+use Rattle.sheet.specs.Whole.{IsWhole, IsWholeRow, IsWholeRule, IsWholeSource}
 use Rattle.sheet.specs.declared.mark.TheConstants.{MAX_MARKS}
 use Rattle.compose.specs.declared.joins.Join.{Join}
 use Rattle.compose.specs.declared.joins.PinJoins.{PinJoins}
 use Rattle.compose.specs.Joins.{first_joins, join_at, pin_joins}
 use Rattle.compose.specs.declared.wire_rule.WireSource.{WireSource}
-use Rattle.compose.specs.declared.wire_row.WireRow.{WireRow}
 use Rattle.compose.specs.Rule.{DesignRule}
 use Rattle.compose.specs.Design.{Composed, IsDesign, IsJoinOf, IsMarkOf, IsRuleOf, IsWireRowOf}
 use Rattle.compose.specs.Numbers.{join_rule, mark_count, number_of, wire_row, wire_rule, wire_source}

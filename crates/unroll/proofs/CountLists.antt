@@ -1,12 +1,14 @@
 -- How often rules and rows exist.
-use Rattle.std.proofs.Common.{◌≡◌, ℕ, zero, suc, ◌+◌, ◌-◌, ◌*◌, ◌<◌, ◌≤◌, Bool, true, false, cond, nat_le, List, [], ◌∷◌, ◌++◌, length, map, get_or, take, refl, ap, sym, ◌∙◌, arith}
+use Rattle.std.proofs.Common.{◌≡◌, ℕ, zero, suc, ◌+◌, ◌-◌, ◌*◌, ◌<◌, Bool, true, nat_le, nat_lt, List, [], ◌∷◌, ◌++◌, length, map, get_or, take, refl, ap, sym, ◌∙◌, arith}
 use Rattle.std.specs.Prelude.{sum_by}
 use Rattle.std.specs.List.{list_all}
 use Rattle.std.proofs.Math.Nat.{mul-suc}
 use Rattle.std.proofs.lemmas.Bool.{cond_both, le-leb, leb-false, leb-true}
-use Rattle.std.proofs.lemmas.List.{length-map, map-append, take_more}
+use Rattle.std.proofs.lemmas.List.{map-append, take_more}
 use Rattle.std.proofs.lemmas.List.Folds.{list_all-map}
 use Rattle.std.proofs.lemmas.List.Sums.{sum_by-append, sum_by-cons, sum_by_push}
+use Rattle.itv_base.specs.declared.names.RuleKind.{RuleKind}
+use Rattle.event_graph.specs.Network.{named_causes}
 use Rattle.sheet.specs.declared.row.SheetRow.{SheetRow}
 use Rattle.sheet.specs.declared.rule.Source.{Source}
 use Rattle.sheet.specs.Rule.{SheetRule}
@@ -15,7 +17,7 @@ use Rattle.compose.specs.declared.joins.Join.{Join}
 use Rattle.compose.specs.Numbers.{join_rule, mark_count}
 use Rattle.unroll.specs.declared.counts.Counts.{Counts}
 use Rattle.unroll.specs.Cycle.{part_rows, part_rules, row_behind, rule_behind}
-use Rattle.unroll.specs.Step.Counting.{AreCounts, how_often, row_cycles, rule_cycles, splittable_cycles, sums}
+use Rattle.unroll.specs.Step.Counting.{AreCounts, how_often, is_splittable, row_cycles, rule_cycles, splittable_cycles, sums}
 use Rattle.unroll.proofs.PartLists.{mark_count_push, part_rows_push, part_rules_push}
 
 -- tests that agree hold equally often
@@ -49,9 +51,12 @@ sum_map_more g f xs i x within is =
 
 -- ---- rules
 
--- a rule with two or more causes
-pub splittable_counted : (n : ℕ) (rule : SheetRule) → 2 ≤ length rule.causes → splittable_cycles n rule ≡ rule_cycles n rule
-splittable_counted n rule two = rw (le-leb 2 (length rule.causes) two) refl
+-- a rule with causes to choose from
+pub splittable_rule : (n : ℕ) (rule : SheetRule) (kind : RuleKind) (count : ℕ) (test : Bool) → kind ≡ rule.kind → count ≡ length rule.causes → test ≡ nat_lt 1 (named_causes kind count) → test ≡ true
+    → splittable_cycles n rule ≡ rule_cycles n rule
+splittable_rule n rule kind count test same_kind same_count answer holds =
+    let is : is_splittable rule ≡ true = sym (rw (same_kind, same_count) at answer) ∙ holds in
+    rw is refl
 
 zero_le : (n : ℕ) → nat_le 0 n ≡ true
 zero_le n = le-leb 0 n (omega arith)

@@ -1,8 +1,7 @@
 -- What is made step by step is what a design draws, and the counts are those of what it draws.
-use Rattle.std.proofs.Common.{◌≡◌, ℕ, ◌+◌, ◌-◌, ◌*◌, ◌<◌, ◌≤◌, Bool, true, false, cond, List, [], ◌∷◌, ◌++◌, length, map, All, Option, Some, None, IfSome, Ok, Err, refl, ap, sym, ◌∙◌, arith}
-use Rattle.std.specs.Prelude.{sum_by}
+use Rattle.std.proofs.Common.{◌≡◌, ℕ, ◌-◌, ◌*◌, ◌<◌, ◌≤◌, Bool, true, false, cond, List, [], ◌∷◌, length, All, Option, Some, None, IfSome, Ok, Err, refl, ap, sym, ◌∙◌, arith}
 use Rattle.std.specs.List.{cons_option, filter_map}
-use Rattle.std.proofs.lemmas.Bool.{cond_both, ltb-false}
+use Rattle.std.proofs.lemmas.Bool.{ltb-false}
 use Rattle.std.proofs.lemmas.Nat.{mul-add-lt}
 use Rattle.std.proofs.lemmas.List.Elements.{All-cons, All-head, All-nil, All-tail}
 use Rattle.itv_base.specs.declared.limits.TheConstants.{MAX_CONSTRAINTS, MAX_EVENTS}
@@ -13,6 +12,7 @@ use Rattle.compose.specs.Design.{Composed, IsDesign}
 use Rattle.compose.specs.Numbers.{mark_count}
 use Rattle.unroll.specs.declared.counted.Counted.{Counted}
 use Rattle.unroll.specs.declared.counts.Counts.{Counts}
+use Rattle.unroll.specs.declared.fault.UnrollFault.TheVariants.{TooMany}
 use Rattle.unroll.specs.declared.names.EventLabel.{EventLabel}
 use Rattle.unroll.specs.declared.row.Row.{Row}
 use Rattle.unroll.specs.Cycle.{rows_of, rules_of}
@@ -24,7 +24,7 @@ use Rattle.unroll.specs.Step.Counting.{AreCounts}
 use Rattle.unroll.specs.Step.Kept.{kept_rows, kept_rules}
 use Rattle.unroll.specs.Step.Labels.{IsKept, drawn_by, labels_from}
 use Rattle.unroll.proofs.BetweenLists.{kept_rows_between}
-use Rattle.unroll.proofs.KeptLists.{constraints_counted, kept_constraints, kept_rows_in, rows_counted, splittable_counted_all}
+use Rattle.unroll.proofs.KeptLists.{constraints_counted, kept_constraints, kept_rows_in, rows_counted, splittable_counted}
 use Rattle.unroll.proofs.NameLists.{All-in_cycles, labels_inside, labels_length, labels_tell}
 
 -- ---- counts
@@ -36,7 +36,7 @@ limits_counted d counts h =
     let marks : ℕ = mark_count d.sheets in
     let constraints : counts.constraints ≡ length (constraints_of marks (rules_of d) d.cycles) = h.constraints ∙ sym (constraints_counted marks d.cycles (rules_of d)) in
     let rows : counts.rows ≡ length (rows_in marks (rows_of d) d.cycles) = h.rows ∙ sym (rows_counted marks d.cycles (rows_of d)) in
-    let splittable = h.splittable ∙ sym (splittable_counted_all marks d.cycles (rules_of d)) in
+    let splittable = h.splittable ∙ sym (splittable_counted (d.cycles * marks) marks d.cycles (rules_of d)) in
     rw (h.marks, constraints, rows, splittable) refl
 
 cond_none : {X : Type 0} (test : Bool) (x : X) (other : Option X) → cond test (Some x) other ≡ None → (test ≡ false) × (other ≡ None)
@@ -54,7 +54,7 @@ pub drawn_within : (d : Composed) → first_passed (counts_of (drawn_of d)) ≡ 
 unfolding unrolled
 drawn_within d none = ap (within (drawn_of d)) none
 
-pub drawn_past : (d : Composed) (passed : Counted) → first_passed (counts_of (drawn_of d)) ≡ Some passed → unrolled d ≡ Err passed
+pub drawn_past : (d : Composed) (passed : Counted) → first_passed (counts_of (drawn_of d)) ≡ Some passed → unrolled d ≡ Err (TooMany passed.limit passed.count)
 unfolding unrolled
 drawn_past d passed is = ap (within (drawn_of d)) is
 

@@ -1,18 +1,17 @@
 -- What is kept gives what all give, and how much all give.
-use Rattle.std.proofs.Common.{◌≡◌, ℕ, zero, suc, ◌+◌, ◌-◌, ◌*◌, ◌<◌, ◌≤◌, Bool, true, false, cond, nat_le, List, [], ◌∷◌, ◌++◌, length, map, Option, Some, None, refl, ap, sym, ◌∙◌, length-append, arith}
+use Rattle.std.proofs.Common.{◌≡◌, ℕ, zero, suc, ◌+◌, ◌-◌, ◌<◌, ◌≤◌, Bool, true, false, cond, nat_le, nat_lt, List, [], ◌∷◌, ◌++◌, length, map, Option, Some, None, refl, ap, sym, ◌∙◌, length-append, arith}
 use Rattle.std.specs.Prelude.{filter, sum_by}
 use Rattle.std.specs.List.{cons_option, filter_map, list_all}
 use Rattle.std.proofs.lemmas.Bool.{and_parts, both_ways, cond_both, le-leb, leb-true}
 use Rattle.std.proofs.lemmas.List.{length-map}
 use Rattle.std.proofs.lemmas.List.Elements.{filter-append}
-use Rattle.std.proofs.lemmas.List.Sums.{sum_by-cons}
-use Rattle.event_graph.specs.Network.{Constraint}
+use Rattle.std.proofs.lemmas.List.Sums.{length-filter, sum_by-cons}
+use Rattle.event_graph.specs.Network.{Constraint, cause_count_of, named_causes, splittable_count}
 use Rattle.sheet.specs.declared.row.SheetRow.{SheetRow}
 use Rattle.sheet.specs.declared.rule.Source.{Source}
 use Rattle.sheet.specs.Rule.{SheetRule}
 use Rattle.unroll.specs.Cycles.{cause_in, constraint_in, constraints_of, event_in, in_cycles, row_exists, row_in, rows_in, rule_exists}
-use Rattle.unroll.specs.Limits.{is_splittable}
-use Rattle.unroll.specs.Step.Counting.{how_often, row_cycles, rule_cycles, splittable_cycles}
+use Rattle.unroll.specs.Step.Counting.{how_often, is_splittable, row_cycles, rule_cycles, splittable_cycles}
 use Rattle.unroll.specs.Step.Kept.{kept_rows, kept_rules}
 
 -- ---- what is kept
@@ -112,6 +111,9 @@ rows_counted marks n rows =
 
 -- ---- those with two or more causes
 
+abbrev has_choice : Constraint → Bool
+has_choice c = nat_lt 1 (cause_count_of c)
+
 filter_in_cycles : {X : Type 0} (p : X → Bool) (each : ℕ → List X) (n : ℕ) → filter p (in_cycles each n) ≡ in_cycles (λ cycle. filter p (each cycle)) n
 filter_in_cycles p each zero = refl
 filter_in_cycles p each (suc n) = filter-append p (in_cycles each n) (each n) ∙ ap (λ xs. xs ++ filter p (each n)) (filter_in_cycles p each n)
@@ -124,13 +126,13 @@ one_chosen p false true y rest is = omega arith
 one_chosen p false false y rest is = omega arith
 
 abbrev splittable_in : ℕ → SheetRule → ℕ
-splittable_in cycle rule = cond (nat_le 2 (length rule.causes)) (cond (rule_exists cycle rule) 1 0) 0
+splittable_in cycle rule = cond (is_splittable rule) (cond (rule_exists cycle rule) 1 0) 0
 
-splittable_of : (marks cycle : ℕ) (rules : List SheetRule) → length (filter is_splittable (filter_map (constraint_in marks cycle) rules)) ≡ sum_by (splittable_in cycle) rules
+splittable_of : (marks cycle : ℕ) (rules : List SheetRule) → length (filter has_choice (filter_map (constraint_in marks cycle) rules)) ≡ sum_by (splittable_in cycle) rules
 splittable_of marks cycle [] = refl
 splittable_of marks cycle (rule ∷ rules) =
-    one_chosen is_splittable (rule_exists cycle rule) (nat_le 2 (length rule.causes)) (record { kind = rule.kind; target = event_in marks cycle rule.target; causes = map (cause_in marks cycle) rule.causes })
-    (filter_map (constraint_in marks cycle) rules) (ap (nat_le 2) (length-map rule.causes (cause_in marks cycle)))
+    one_chosen has_choice (rule_exists cycle rule) (is_splittable rule) (record { kind = rule.kind; target = event_in marks cycle rule.target; causes = map (cause_in marks cycle) rule.causes })
+    (filter_map (constraint_in marks cycle) rules) (ap (λ count. nat_lt 1 (named_causes rule.kind count)) (length-map rule.causes (cause_in marks cycle)))
     ∙ ap (λ n. splittable_in cycle rule + n) (splittable_of marks cycle rules) ∙ sym (sum_by-cons (splittable_in cycle) rule rules)
 
 total_chosen : (many : Bool) (test : ℕ → Bool) (n : ℕ) → total (λ cycle. cond many (cond (test cycle) 1 0) 0) n ≡ cond many (how_often test n) 0
@@ -138,8 +140,8 @@ total_chosen true test n = often_is_total test n
 total_chosen false test zero = refl
 total_chosen false test (suc n) = omega (arith, total_chosen false test n)
 
-pub splittable_counted_all : (marks n : ℕ) (rules : List SheetRule) → length (filter is_splittable (constraints_of marks rules n)) ≡ sum_by (splittable_cycles n) rules
-splittable_counted_all marks n rules =
-    ap length (filter_in_cycles is_splittable (λ cycle. filter_map (constraint_in marks cycle) rules) n)
-    ∙ cycles_counted (λ cycle. filter is_splittable (filter_map (constraint_in marks cycle) rules)) splittable_in rules n (λ cycle. splittable_of marks cycle rules)
-    ∙ sum_by_same _ _ rules (λ rule. total_chosen (nat_le 2 (length rule.causes)) (λ cycle. rule_exists cycle rule) n)
+pub splittable_counted : (events marks n : ℕ) (rules : List SheetRule) → splittable_count (record { events = events; constraints = constraints_of marks rules n }) ≡ sum_by (splittable_cycles n) rules
+splittable_counted events marks n rules =
+    sym (length-filter has_choice (constraints_of marks rules n)) ∙ ap length (filter_in_cycles has_choice (λ cycle. filter_map (constraint_in marks cycle) rules) n)
+    ∙ cycles_counted (λ cycle. filter has_choice (filter_map (constraint_in marks cycle) rules)) splittable_in rules n (λ cycle. splittable_of marks cycle rules)
+    ∙ sum_by_same _ _ rules (λ rule. total_chosen (is_splittable rule) (λ cycle. rule_exists cycle rule) n)

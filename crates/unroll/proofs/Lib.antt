@@ -5,3 +5,4 @@ pub mod KeptLists
 pub mod NameLists
 pub mod BetweenLists
 pub mod DrawnSteps
+pub mod Examples

@@ -1,7 +1,7 @@
 -- The names of events as labels, part by part and cycle by cycle.
-use Rattle.std.proofs.Common.{◌≡◌, ℕ, zero, suc, ◌+◌, ◌*◌, ◌<◌, ◌≤◌, List, [], ◌∷◌, ◌++◌, length, map, get_or, All, refl, ap, sym, ◌∙◌, add-zero, append-nil, append_assoc, length-append, arith}
+use Rattle.std.proofs.Common.{◌≡◌, ℕ, zero, suc, ◌+◌, ◌*◌, ◌<◌, ◌≤◌, List, [], ◌∷◌, ◌++◌, length, map, All, refl, ap, sym, ◌∙◌, add-zero, append-nil, append_assoc, length-append, arith}
 use Rattle.std.specs.Prelude.{slice_get, unwrap_or}
-use Rattle.std.proofs.Math.Nat.{suc-mul, zero-add}
+use Rattle.std.proofs.Math.Nat.{suc-mul}
 use Rattle.std.proofs.Math.Seq.{get_or-append_seam}
 use Rattle.std.proofs.lemmas.List.{length-map, length_push, map-append}
 use Rattle.std.proofs.lemmas.List.Elements.{All-append, All-map, All-nil}
@@ -10,7 +10,6 @@ use Rattle.sheet.specs.declared.mark.Mark.{Mark}
 use Rattle.sheet.specs.Contents.{Contents}
 use Rattle.compose.specs.Numbers.{mark_count}
 use Rattle.unroll.specs.declared.names.EventLabel.{EventLabel}
-use Rattle.unroll.specs.Names.{Name}
 use Rattle.unroll.specs.Cycles.{in_cycles}
 use Rattle.unroll.specs.Drawn.{names_in}
 use Rattle.unroll.specs.Step.Labels.{label_of, labels_from, name_by}

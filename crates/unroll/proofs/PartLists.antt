@@ -1,17 +1,19 @@
 -- The marks, rules and rows of one part more.
-use Rattle.std.proofs.Common.{◌≡◌, ℕ, zero, suc, ◌+◌, ◌-◌, ◌<◌, ◌≤◌, List, [], ◌∷◌, ◌++◌, length, map, get_or, take, Option, Some, None, refl, ap, sym, ◌∙◌, add-zero, append-nil, append_assoc, arith}
-use Rattle.std.specs.Prelude.{IsSomeAnd, filter, slice_get, sum_by}
+use Rattle.std.proofs.Common.{Bool, cond, nat_le, ◌≡◌, ℕ, zero, suc, ◌+◌, ◌-◌, ◌<◌, ◌≤◌, List, [], ◌∷◌, ◌++◌, length, map, get_or, take, Option, Some, None, refl, ap, sym, ◌∙◌, add-zero, append-nil, append_assoc, arith}
+use Rattle.std.specs.Prelude.{IsSomeAnd, slice_get}
 use Rattle.std.proofs.lemmas.List.{get_or_read, length-take-le, take_more}
 use Rattle.std.proofs.lemmas.List.Elements.{filter-append}
+use Rattle.std.proofs.lemmas.List.Folds.{list_all-map}
 use Rattle.std.proofs.lemmas.List.Sums.{sum_by-cons, sum_by-take-le, sum_by_push}
 use Rattle.std.proofs.lemmas.Option.{get_or_from_slice_get, slice_get_within}
 use Rattle.sheet.specs.Contents.{Contents}
+use Rattle.sheet.specs.declared.rule.Source.{Source}
 use Rattle.sheet.specs.Rule.{SheetRule}
 use Rattle.sheet.specs.declared.row.SheetRow.{SheetRow}
 use Rattle.compose.specs.declared.mark.DesignMark.{DesignMark}
 use Rattle.compose.specs.Design.{IsMarkOf}
 use Rattle.compose.specs.Numbers.{mark_count, number_of}
-use Rattle.unroll.specs.Cycle.{part_rows, part_rules, row_behind, rule_behind}
+use Rattle.unroll.specs.Cycle.{part_rows, part_rules, row_behind, rule_behind, source_behind}
 use Rattle.unroll.specs.Cycles.{row_exists, rule_exists}
 use Rattle.unroll.specs.Step.Firsts.{firsts_of}
 use Rattle.unroll.specs.Step.Kept.{kept_rows, kept_rules}
@@ -126,3 +128,11 @@ first_read sheets firsts part read stand within is =
     let there : part < length firsts = omega (arith, ap length stand, length-firsts_of 0 sheets, within) in
     let at : read ≡ get_or (firsts_of 0 sheets) part 0 = get_or_read firsts part read there is 0 ∙ ap (λ xs. get_or xs part 0) stand in
     omega (arith, at, get_or-firsts_of 0 sheets part within)
+
+-- a rule exists wherever its marks stand
+pub exists_behind : (cycle first : ℕ) (rule : SheetRule) → rule_exists cycle (rule_behind first rule) ≡ rule_exists cycle rule
+exists_behind cycle first rule = list_all-map (λ (source : Source). nat_le source.shift cycle) (source_behind first) rule.causes
+
+-- the rule that is kept of one, by whether it exists before it is moved
+pub one_kept : (cycles first : ℕ) (rule : SheetRule) (exists : Bool) → exists ≡ rule_exists (cycles - 1) rule → kept_rules cycles (rule_behind first rule ∷ []) ≡ cond exists (rule_behind first rule ∷ []) []
+one_kept cycles first rule exists is = rw (exists_behind (cycles - 1) first rule, is) refl

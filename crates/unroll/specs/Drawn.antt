@@ -6,7 +6,7 @@ use Rattle.sheet.specs.Contents.{Contents}
 use Rattle.compose.specs.Design.{Composed}
 use Rattle.compose.specs.Numbers.{mark_count}
 use Rattle.unroll.specs.declared.row.Row.{Row}
-use Rattle.unroll.specs.Names.{Name}
+use Rattle.itv_base.specs.Names.{Name}
 use Rattle.unroll.specs.Cycle.{rows_of, rules_of}
 use Rattle.unroll.specs.Cycles.{constraints_of, in_cycles, rows_in}
 

@@ -1,11 +1,13 @@
 -- The limits of a drawn network, and the first one that it passes.
-use Rattle.std.specs.Prelude.{◌≡◌, ℕ, ◌+◌, ◌*◌, Bool, nat_le, nat_lt, List, [], ◌∷◌, length, filter, find, Option, Some, None, Result, Ok, Err}
+use Rattle.std.specs.Prelude.{ℕ, ◌+◌, ◌*◌, nat_lt, List, [], ◌∷◌, length, find, Option, Some, None, Result, Ok, Err}
 use Rattle.itv_base.specs.declared.limits.TheConstants.{MAX_CELLS, MAX_CONSTRAINTS, MAX_EVENTS, MAX_MATRIX_EVENTS, MAX_ROWS, MAX_SEARCH_CELLS}
-use Rattle.event_graph.specs.Network.{Constraint}
+use Rattle.event_graph.specs.Network.{splittable_count}
 use Rattle.compose.specs.Design.{Composed}
 use Rattle.unroll.specs.declared.limit.Limit.{Limit}
 use Rattle.unroll.specs.declared.limit.Limit.TheVariants.{Events, Constraints, Rows, Cells, SearchCells, MatrixEvents}
 use Rattle.unroll.specs.declared.counted.Counted.{Counted}
+use Rattle.unroll.specs.declared.fault.UnrollFault.{UnrollFault}
+use Rattle.unroll.specs.declared.fault.UnrollFault.TheVariants.{TooMany}
 use Rattle.unroll.specs.Drawn.{Drawn, drawn_of}
 
 -- how much a limit allows
@@ -32,22 +34,18 @@ counts_by events constraints rows splittable =
     ∷ counted SearchCells (events * (splittable + 1))
     ∷ []
 
--- the constraint has two or more causes to choose from
-abbrev pub is_splittable : Constraint → Bool
-is_splittable c = nat_le 2 (length c.causes)
-
 abbrev pub counts_of : Drawn → List Counted
-counts_of drawn = counts_by drawn.net.events (length drawn.net.constraints) (length drawn.rows) (length (filter is_splittable drawn.net.constraints))
+counts_of drawn = counts_by drawn.net.events (length drawn.net.constraints) (length drawn.rows) (splittable_count drawn.net)
 
 -- the first one of which there is more than its limit allows
 abbrev pub first_passed : List Counted → Option Counted
 first_passed counts = find (λ c. nat_lt (most_of c.limit) c.count) counts
 
 -- a drawn network that passes no limit, or the first limit that it passes with how much there is
-abbrev pub within : Drawn → Option Counted → Result Drawn Counted
+abbrev pub within : Drawn → Option Counted → Result Drawn UnrollFault
 within drawn None = Ok drawn
-within drawn (Some passed) = Err passed
+within drawn (Some passed) = Err (TooMany passed.limit passed.count)
 
 -- what a design draws, within the limits
-unfoldable pub unrolled : Composed → Result Drawn Counted
+unfoldable pub unrolled : Composed → Result Drawn UnrollFault
 unrolled d = within (drawn_of d) (first_passed (counts_of (drawn_of d)))

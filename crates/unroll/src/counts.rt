@@ -1,14 +1,16 @@
 //! How much a design draws, counted without drawing it.
 
-ghost use Rattle.std.specs.Prelude.{◌≡◌, ◌≤◌, ◌+◌, ◌^◌, ◌++◌, ℕ, List, max, nat_le, length, map, sum_by};
+ghost use Rattle.std.specs.Prelude.{◌≡◌, ◌≤◌, ◌+◌, ◌^◌, ◌++◌, ℕ, List, max, nat_le, nat_lt, length, map, sum_by};
 ghost use Rattle.std.specs.List.{list_all};
 ghost use Rattle.itv_base.specs.declared.limits.TheConstants.{MAX_CYCLES};
+ghost use Rattle.event_graph.specs.Network.{named_causes};
 ghost use Rattle.sheet.specs.Contents.{Contents};
 ghost use Rattle.compose.specs.Numbers.{join_rule, mark_count, wire_row, wire_rule};
 ghost use Rattle.unroll.specs.Cycle.{part_rows, part_rules, row_behind, rows_of, rule_behind, rules_of};
 ghost use Rattle.unroll.specs.Step.Counting.{AreCounts, AreWithin, how_often, row_cycles, rule_cycles, splittable_cycles, sums};
 
 use compose::{Design, Joins, WireRow, WireRule, WireSource};
+use itv_base::RuleKind;
 use sheet::{Rule, Sheet, SheetRow, Source};
 
 /// How much a design draws: the marks of one cycle, and in all cycles the constraints, those with two or more causes, and the
@@ -189,12 +191,12 @@ fn rule_cycles(cycles: u32, rule: &Rule) -> u32
     cycles_from(cycles, last_shift(rule.causes().as_slice()))
 }
 
-// The same for a rule with two or more causes, and else 0.
+// The same for a rule with two or more causes to choose from, and else 0.
 fn splittable_cycles(cycles: u32, rule: &Rule) -> u32
     ensures count { (first : ℕ) → result ≡ splittable_cycles cycles (rule_behind first rule.now) }
     ensures within { result ≤ cycles }
 {
-    if 2 <= rule.causes().len() {
+    if is_splittable(rule.kind(), rule.causes().len()) {
         rule_cycles(cycles, rule)
     } else {
         0
@@ -213,10 +215,20 @@ fn wire_splittable_cycles(cycles: u32, rule: &WireRule) -> u32
         ≡ splittable_cycles cycles (wire_rule sheets rule.now) }
     ensures within { result ≤ cycles }
 {
-    if 2 <= rule.causes().len() {
+    if is_splittable(rule.kind(), rule.causes().len()) {
         wire_rule_cycles(cycles, rule)
     } else {
         0
+    }
+}
+
+// Whether a rule has two or more causes to choose from.
+fn is_splittable(kind: RuleKind, causes: u64) -> bool
+    ensures { result ≡ nat_lt 1 (named_causes kind causes) }
+{
+    match kind {
+        RuleKind::Lin => false,
+        RuleKind::Late | RuleKind::Early => 1 < causes,
     }
 }
 

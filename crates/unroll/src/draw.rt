@@ -2,10 +2,11 @@
 
 ghost use Rattle.std.specs.Prelude.{◌≡◌, ◌≤◌, ◌*◌, IfOk, length};
 ghost use Rattle.itv_base.specs.declared.limits.TheConstants.{MAX_CONSTRAINTS, MAX_EVENTS};
+ghost use Rattle.itv_base.specs.Reading.{Gives};
 ghost use Rattle.compose.specs.Numbers.{mark_count};
 ghost use Rattle.unroll.specs.Drawn.{drawn_of};
 ghost use Rattle.unroll.specs.Limits.{unrolled};
-ghost use Rattle.unroll.specs.Answer.{Gives};
+ghost use Rattle.unroll.specs.Fault.{is_memory};
 
 use crate::asked::rows_of;
 use crate::counted::{Counted, first_passed};
@@ -27,7 +28,7 @@ use std::alloc::Global;
 ///
 /// `NoMemory` may come in place of either. After a refusal nothing was made.
 pub fn unroll(alloc: Global, design: &Design<'_>) -> Result<Unrolled, UnrollFault>
-    ensures { Gives result (unrolled design.now) }
+    ensures answer { Gives is_memory (λ drawn. drawn) result (unrolled design.now) }
 {
     let counts = Counts::of(design);
     if let Some(passed) = first_passed(design.cycles(), counts) {

@@ -24,7 +24,7 @@ pub enum Limit {
 impl Limit {
     /// How much the limit allows.
     pub fn most(self) -> u64
-        ensures { result ≡ most_of self }
+        ensures most { result ≡ most_of self }
     {
         match self {
             Limit::Events => u64::from(MAX_EVENTS),

@@ -75,7 +75,27 @@ fn keep_rules(
         ≡ rules.old.items ++ kept_rules cycles (map (rule_behind first) more.now)) }
 {
     for rule in more {
-        keep(rules, cycles, rule_behind(alloc, first, rule)?)?;
+        keep_rule(alloc, rules, cycles, first, rule)?;
+    }
+    Ok(())
+}
+
+// The rule of a sheet behind so many marks, if it exists in some cycle. Else no memory is taken for it.
+fn keep_rule(
+    alloc: Global,
+    rules: &mut Vec<Rule>,
+    cycles: u32,
+    first: u32,
+    rule: &Rule,
+) -> Result<(), NoMemory>
+    requires cycles { 1 ≤ cycles }
+    requires between { IsRuleBetween MAX_MARKS rule.now }
+    requires first { first ≤ MAX_EVENTS }
+    ensures { OnOk result (rules.new.items
+        ≡ rules.old.items ++ kept_rules cycles (rule_behind first rule.now ∷ [])) }
+{
+    if rule_exists(cycles - 1, rule) {
+        rules.push(rule_behind(alloc, first, rule)?)?;
     }
     Ok(())
 }

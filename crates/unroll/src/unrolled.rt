@@ -1,7 +1,7 @@
 //! Drawn networks.
 
 ghost use Rattle.std.specs.Prelude.{◌≡◌, ◌<◌, All, length};
-ghost use Rattle.unroll.specs.Names.{name_view};
+ghost use Rattle.itv_base.specs.Names.{name_view};
 ghost use Rattle.unroll.specs.Drawn.{IsRowOf, name_of};
 
 use crate::names::EventLabel;
@@ -50,7 +50,7 @@ impl Unrolled {
     /// The name of an event that is there.
     pub fn name(&self, event: EventId) -> EventName<'_>
         requires { event.0 < self.now.net.events }
-        ensures { name_view result ≡ name_of self.now event }
+        ensures name { name_view result ≡ name_of self.now event }
     {
         let label = self.labels[event.0 as usize];
         EventName {

@@ -1,5 +1,6 @@
 -- How much a design draws, counted without drawing it.
-use Rattle.std.specs.Prelude.{◌≡◌, ◌≤◌, ℕ, zero, suc, ◌+◌, Bool, nat_le, if◌then◌else◌, List, length, sum_by}
+use Rattle.std.specs.Prelude.{◌≡◌, ◌≤◌, ℕ, zero, suc, ◌+◌, Bool, nat_lt, if◌then◌else◌, List, length, sum_by}
+use Rattle.event_graph.specs.Network.{named_causes}
 use Rattle.sheet.specs.declared.row.SheetRow.{SheetRow}
 use Rattle.sheet.specs.Rule.{SheetRule}
 use Rattle.unroll.specs.declared.counts.Counts.{Counts}
@@ -17,9 +18,13 @@ rule_cycles cycles rule = how_often (λ cycle. rule_exists cycle rule) cycles
 abbrev pub row_cycles : ℕ → SheetRow → ℕ
 row_cycles cycles row = how_often (λ cycle. row_exists cycle row) cycles
 
--- the same where the rule has two or more causes, and else 0
+-- the rule has two or more causes to choose from
+abbrev pub is_splittable : SheetRule → Bool
+is_splittable rule = nat_lt 1 (named_causes rule.kind (length rule.causes))
+
+-- the same where the rule has causes to choose from, and else 0
 abbrev pub splittable_cycles : ℕ → SheetRule → ℕ
-splittable_cycles cycles rule = if nat_le 2 (length rule.causes) then rule_cycles cycles rule else 0
+splittable_cycles cycles rule = if is_splittable rule then rule_cycles cycles rule else 0
 
 -- no number of the counts is beyond a bound, that of constraints, which has all joins, having a bound of its own
 pub record AreWithin (bound constraints : ℕ) (counts : Counts) : Type 0 where

@@ -5,7 +5,7 @@ use Rattle.sheet.specs.declared.mark.Mark.{Mark}
 use Rattle.sheet.specs.Contents.{Contents}
 use Rattle.unroll.specs.declared.row.Row.{Row}
 use Rattle.unroll.specs.declared.names.EventLabel.{EventLabel}
-use Rattle.unroll.specs.Names.{Name}
+use Rattle.itv_base.specs.Names.{Name}
 use Rattle.unroll.specs.Drawn.{Drawn, IsRowOf}
 
 abbrev pub label_of : ℕ → ℕ → Mark → EventLabel

@@ -11,7 +11,7 @@ loop-part-preserved c =
     let most = c.count_sheet.ensures.within in
     let before = c.loop-part.invariant.within in
     record {
-      counts = rw (take_get sheets part sheet c.sheet_of.ensures, c.plus-counts.ensures)
+      counts = rw (take_get sheets part sheet c.sheet_of.ensures.sheet, c.plus-counts.ensures)
           (part_counted c.args.design.now.cycles (take part sheets) sheet c.loop-part.counts c.count_sheet.result c.loop-part.invariant.counts (rw c.cycles-cycles.ensures.cycles at c.count_sheet.ensures.counts));
       within = rw c.plus-counts.ensures (record {
         marks = omega (arith, most.marks, before.marks);

@@ -1,4 +1,4 @@
-use Rattle.std.proofs.Common.{◌≡◌, ◌*◌, ◌^◌, take}
+use Rattle.std.proofs.Common.{◌*◌, ◌^◌, take}
 use Rattle.compose.specs.Numbers.{mark_count}
 use Rattle.unroll.specs.Cycle.{part_rows, part_rules}
 use Rattle.unroll.specs.Step.Counting.{AreCounts, AreWithin}

@@ -1,4 +1,5 @@
 use Rattle.std.proofs.Common.{◌≡◌, ◌*◌, ◌≤◌, List, map, take}
+use Rattle.itv_base.specs.declared.limits.TheConstants.{MAX_CYCLES}
 use Rattle.std.specs.Prelude.{sum_by}
 use Rattle.sheet.specs.Contents.{Contents}
 use Rattle.compose.specs.Numbers.{wire_row}
@@ -8,5 +9,5 @@ use Rattle.unroll.proofs.counts.count_wire_rows.Given as goal
 abbrev pub invariant-loop-row : goal.invariant-loop-row
 invariant-loop-row l = record {
   count : (sheets : List Contents) → l.count ≡ sum_by (row_cycles l.cycles) (map (wire_row sheets) (take l.row-index l.rows));
-  within : l.count ≤ l.row-index * 256;
+  within : l.count ≤ l.row-index * MAX_CYCLES;
 }

@@ -1,4 +1,4 @@
-use Rattle.std.proofs.Common.{◌∙◌, sym, arith}
+use Rattle.std.proofs.Common.{arith}
 use Rattle.unroll.proofs.CountLists.{how_often_from}
 use Rattle.unroll.proofs.counts.cycles_from.Goals as goal
 

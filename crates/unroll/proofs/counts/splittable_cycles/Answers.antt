@@ -1,11 +1,11 @@
-use Rattle.std.proofs.Common.{◌≤◌, ◌∙◌, ap, length, sym, arith}
+use Rattle.std.proofs.Common.{◌∙◌, ap, length, sym}
 use Rattle.std.proofs.lemmas.List.{length-map}
 use Rattle.unroll.specs.Cycle.{rule_behind, source_behind}
-use Rattle.unroll.proofs.CountLists.{splittable_counted}
+use Rattle.unroll.proofs.CountLists.{splittable_rule}
 use Rattle.unroll.proofs.counts.splittable_cycles.Goals as goal
 
-pub returns-then-len-ge2-clause-count : goal.returns-then-len-ge2-clause-count
-returns-then-len-ge2-clause-count c = λ first.
-    let moved = rule_behind first c.args.rule.now in
-    let two : 2 ≤ length moved.causes = omega (arith, length-map c.args.rule.now.causes (source_behind first), ap length c.causes.ensures, c.len.ensures, c.if-len-ge2.true) in
-    c.rule_cycles.ensures.count first ∙ sym (splittable_counted c.args.cycles moved two)
+pub returns-then-is_splittable-clause-count : goal.returns-then-is_splittable-clause-count
+returns-then-is_splittable-clause-count c = λ first.
+    let count = c.len.ensures.count ∙ ap length c.causes.ensures.causes ∙ sym (length-map c.args.rule.now.causes (source_behind first)) in
+    c.rule_cycles.ensures.count first
+    ∙ sym (splittable_rule c.args.cycles (rule_behind first c.args.rule.now) c.kind.result c.len.result c.is_splittable.result c.kind.ensures.kind count c.is_splittable.ensures c.if-is_splittable.true)

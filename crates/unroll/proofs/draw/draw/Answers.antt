@@ -27,7 +27,7 @@ invariant_of-result c =
     let d = c.args.design.now in
     let rules : c.deref.result.now ≡ kept_rules d.cycles (rules_of d) = c.deref.ensures.value ∙ (rw c.in_ok-numbered.ensures at c.in_ok-rules.ensures) in
     let asked : c.deref-2.result.now ≡ kept_rows d.cycles (rows_of d) = c.deref-2.ensures.value ∙ (rw c.in_ok-numbered.ensures at c.in_ok-asked.ensures) in
-    let parts : c.in_ok-copied.field-0 ≡ d.parts = c.in_ok-copied.ensures ∙ c.parts.ensures in
+    let parts : c.in_ok-copied.field-0 ≡ d.parts = c.in_ok-copied.ensures ∙ c.parts.ensures.parts in
     let made = made_by d c.args.marks c.cycles-cycles.result c.deref.result.now c.deref-2.result.now c.in_ok-network_of.field-0 c.in_ok-copied.field-0 c.in_ok-labels_of.field-0.items c.in_ok-rows_in.field-0
     c.requires.marks c.cycles-cycles.ensures.cycles rules asked c.in_ok-network_of.ensures parts c.in_ok-labels_of.ensures c.in_ok-rows_in.ensures in
     made_kept d c.in_ok-network_of.field-0 c.in_ok-copied.field-0 c.in_ok-labels_of.field-0.items c.in_ok-rows_in.field-0 c.cycles-cycles.ensures.design made
@@ -37,7 +37,7 @@ returns c =
     let d = c.args.design.now in
     let rules : c.deref.result.now ≡ kept_rules d.cycles (rules_of d) = c.deref.ensures.value ∙ (rw c.in_ok-numbered.ensures at c.in_ok-rules.ensures) in
     let asked : c.deref-2.result.now ≡ kept_rows d.cycles (rows_of d) = c.deref-2.ensures.value ∙ (rw c.in_ok-numbered.ensures at c.in_ok-asked.ensures) in
-    let parts : c.in_ok-copied.field-0 ≡ d.parts = c.in_ok-copied.ensures ∙ c.parts.ensures in
+    let parts : c.in_ok-copied.field-0 ≡ d.parts = c.in_ok-copied.ensures ∙ c.parts.ensures.parts in
     let made = made_by d c.args.marks c.cycles-cycles.result c.deref.result.now c.deref-2.result.now c.in_ok-network_of.field-0 c.in_ok-copied.field-0 c.in_ok-labels_of.field-0.items c.in_ok-rows_in.field-0
     c.requires.marks c.cycles-cycles.ensures.cycles rules asked c.in_ok-network_of.ensures parts c.in_ok-labels_of.ensures c.in_ok-rows_in.ensures in
     made_is d c.in_ok-network_of.field-0 c.in_ok-copied.field-0 c.in_ok-labels_of.field-0.items c.in_ok-rows_in.field-0 c.cycles-cycles.ensures.design made

@@ -3,4 +3,4 @@ use Rattle.unroll.proofs.PartLists.{take_get}
 use Rattle.unroll.proofs.names.copied.Goals as goal
 
 pub loop-k-preserved : goal.loop-k-preserved
-loop-k-preserved c = rw (take_get c.args.texts.now c.loop-k.k c.get.result.now c.get.ensures, c.in_ok-push.ensures.ok, c.loop-k.invariant, c.as_text.ensures) refl
+loop-k-preserved c = rw (take_get c.args.texts.now c.loop-k.k c.get.result.now c.get.ensures.item, c.in_ok-push.ensures.ok, c.loop-k.invariant, c.as_text.ensures.text) refl

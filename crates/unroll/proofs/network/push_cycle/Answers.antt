@@ -1,4 +1,4 @@
-use Rattle.std.proofs.Common.{◌≡◌, ◌++◌, append_assoc, ap, length, length-append, take, ◌∙◌, arith}
+use Rattle.std.proofs.Common.{append_assoc, ap, length, length-append, take, arith}
 use Rattle.std.specs.List.{filter_map}
 use Rattle.std.specs.Option.{option_to_list}
 use Rattle.event_graph.specs.Network.{Net}

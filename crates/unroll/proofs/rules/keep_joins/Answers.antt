@@ -1,4 +1,3 @@
-use Rattle.std.proofs.Common.{arith}
 use Rattle.compose.specs.Design.{IsJoinOf}
 use Rattle.compose.specs.Joins.{pin_joins}
 use Rattle.unroll.proofs.BetweenLists.{All-flat_map-at}

@@ -1,4 +1,4 @@
-use Rattle.std.proofs.Common.{◌≡◌, Some, take, ◌∙◌, ap, length, arith}
+use Rattle.std.proofs.Common.{◌≡◌, Some, take, ◌∙◌, ap}
 use Rattle.std.specs.Prelude.{slice_get}
 use Rattle.compose.specs.Design.{Composed}
 use Rattle.sheet.specs.Whole.{IsWhole}
@@ -9,15 +9,15 @@ use Rattle.unroll.proofs.rules.keep_parts.Goals as goal
 pub keep_rules-requires-clause-between : goal.keep_rules-requires-clause-between
 keep_rules-requires-clause-between c =
     let sheet = c.sheet_of-sheet.result.now in
-    let read : slice_get c.args.design.now.sheets c.loop-part.part ≡ Some sheet = rw c.design-in-loop-part.ensures.design at c.sheet_of-sheet.ensures in
-    rw (c.as_slice.ensures, c.rules.ensures) (sheet_rules sheet (All-slice_get IsWhole c.args.design.now.sheets c.loop-part.part sheet c.design.ensures.whole.sheets read))
+    let read : slice_get c.args.design.now.sheets c.loop-part.part ≡ Some sheet = rw c.design-in-loop-part.ensures.design at c.sheet_of-sheet.ensures.sheet in
+    rw (c.as_slice.ensures.items, c.rules.ensures.rules) (sheet_rules sheet (All-slice_get IsWhole c.args.design.now.sheets c.loop-part.part sheet c.design.ensures.whole.sheets read))
 
 pub loop-part-preserved : goal.loop-part-preserved
 loop-part-preserved c =
     let sheets = c.args.design.now.sheets in
     let sheet = c.sheet_of-sheet.result.now in
-    let read : slice_get sheets c.loop-part.part ≡ Some sheet = rw c.design-in-loop-part.ensures.design at c.sheet_of-sheet.ensures in
+    let read : slice_get sheets c.loop-part.part ≡ Some sheet = rw c.design-in-loop-part.ensures.design at c.sheet_of-sheet.ensures.sheet in
     let cycles : c.cycles-cycles.result ≡ c.args.design.now.cycles = c.cycles-cycles.ensures.cycles ∙ ap (λ (d : Composed). d.cycles) c.design-2.ensures.design in
     rw (take_get sheets c.loop-part.part sheet read)
     (parts_kept c.args.design.now.cycles c.first_of-first.result (take c.loop-part.part sheets) sheet c.args.rules.now.items c.loop-part.rules.items c.keep_rules.new.rules.items c.as_slice.result.now
-    c.first_of-first.ensures.first c.loop-part.invariant (c.as_slice.ensures ∙ c.rules.ensures) (rw cycles at c.in_ok-keep_rules.ensures))
+    c.first_of-first.ensures.first c.loop-part.invariant (c.as_slice.ensures.items ∙ c.rules.ensures.rules) (rw cycles at c.in_ok-keep_rules.ensures))

@@ -19,4 +19,4 @@ join-requires-clause-driven c =
     omega (arith, number_within sheets (join_at pin c.loop-k.k).to there.1, c.design.ensures.few)
 
 pub join_rule-requires : goal.join_rule-requires
-join_rule-requires c = rw c.join.ensures (join_there c.args.design.now.sheets c.args.pin.now c.loop-k.k c.loop-k-test.true c.requires)
+join_rule-requires c = rw c.join.ensures.join (join_there c.args.design.now.sheets c.args.pin.now c.loop-k.k c.loop-k-test.true c.requires)

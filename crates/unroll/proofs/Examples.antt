@@ -1,0 +1,117 @@
+-- Worked cases of what a design draws, by computation.
+use Rattle.std.proofs.Common.{None, ◌≡◌, [], ◌∷◌, Some, pos, refl}
+use Rattle.std.specs.Prelude.{codes}
+use Rattle.itv_base.specs.Range.{Ends}
+use Rattle.itv_base.specs.declared.names.RuleKind.TheVariants as rules
+use Rattle.wave_string.specs.declared.mark_kind.MarkKind.TheVariants.{Bare}
+use Rattle.sheet.specs.declared.row.RowKind.TheVariants.{Ask}
+use Rattle.sheet.specs.Rule.{SheetRule}
+use Rattle.sheet.specs.Contents.{Contents}
+use Rattle.compose.specs.Design.{Composed}
+use Rattle.unroll.specs.Cycles.{constraints_of}
+use Rattle.unroll.specs.declared.limit.Limit.TheVariants.{Events, Constraints, Rows, Cells, SearchCells}
+use Rattle.unroll.specs.Drawn.{drawn_of}
+use Rattle.unroll.specs.Limits.{counted, counts_by, first_passed}
+
+abbrev ends : Ends
+ends = record { low = Some (pos 10); high = Some (pos 20) }
+
+-- a sheet of the marks a and j, of which j comes at the latest of its causes, a one cycle before; a to j is asked for in one
+-- cycle and over two
+abbrev late_sheet : Contents
+late_sheet = record {
+  marks = record { lane = 0; place = 0; name = 97; kind = Bare } ∷ record { lane = 1; place = 0; name = 106; kind = Bare } ∷ [];
+  pins = [];
+  rules = record { kind = rules.Late; target = 1; causes = record { mark = 0; shift = 1; range = ends } ∷ [] } ∷ [];
+  rows = record { kind = Ask; from = 0; to = 1; shift = 0 } ∷ record { kind = Ask; from = 0; to = 1; shift = 1 } ∷ [];
+}
+
+abbrev one_part : Composed
+one_part = record { cycles = 2; parts = codes "U1" ∷ []; sheets = late_sheet ∷ []; joins = []; rules = []; rows = [] }
+
+-- In two cycles this draws one constraint, on j in cycle 1, and three rows.
+pub late_by_one_cycle : drawn_of one_part ≡ record {
+  net = record {
+    events = 4;
+    constraints = record { kind = rules.Late; target = record { 0 = 3 }; causes = record { event = record { 0 = 0 }; range = ends } ∷ [] } ∷ [];
+  };
+  names =
+      record { part = codes "U1"; mark = 97; cycle = 0 }
+      ∷ record { part = codes "U1"; mark = 106; cycle = 0 }
+      ∷ record { part = codes "U1"; mark = 97; cycle = 1 }
+      ∷ record { part = codes "U1"; mark = 106; cycle = 1 }
+      ∷ [];
+  rows =
+      record { kind = Ask; from = record { 0 = 0 }; to = record { 0 = 1 } }
+      ∷ record { kind = Ask; from = record { 0 = 2 }; to = record { 0 = 3 } }
+      ∷ record { kind = Ask; from = record { 0 = 0 }; to = record { 0 = 3 } }
+      ∷ [];
+}
+late_by_one_cycle = refl
+
+abbrev mixed : SheetRule
+mixed = record { kind = rules.Late; target = 1; causes = record { mark = 0; shift = 0; range = ends } ∷ record { mark = 0; shift = 2; range = ends } ∷ [] }
+
+-- A group with a cause of the same cycle and one of two cycles before draws nothing before cycle 2.
+pub mixed_shifts : constraints_of 2 (mixed ∷ []) 3
+    ≡ record { kind = rules.Late; target = record { 0 = 5 }; causes = record { event = record { 0 = 4 }; range = ends } ∷ record { event = record { 0 = 0 }; range = ends } ∷ [] } ∷ []
+mixed_shifts = refl
+
+-- Two such parts, whose marks j are joined from the first to the second with no delay, and a wire from the second back to the
+-- first in the next cycle: in each cycle the constraints of the parts come first, then that of the net, then that of the wire.
+abbrev now : Ends
+now = record { low = Some (pos 0); high = Some (pos 0) }
+
+abbrev two_parts : Composed
+two_parts = record {
+  cycles = 2;
+  parts = codes "U1" ∷ codes "U2" ∷ [];
+  sheets = record late_sheet { rows = [] } ∷ record late_sheet { rows = [] } ∷ [];
+  joins = record { from = record { part = 0; mark = 1 }; to = record { part = 1; mark = 1 }; delay = now } ∷ [];
+  rules = record { kind = rules.Lin; target = record { part = 0; mark = 0 }; causes = record { mark = record { part = 1; mark = 1 }; shift = 1; range = ends } ∷ [] } ∷ [];
+  rows = record { kind = Ask; from = record { part = 0; mark = 0 }; to = record { part = 1; mark = 1 }; shift = 1 } ∷ [];
+}
+
+pub parts_nets_wires : (drawn_of two_parts).net ≡ record {
+  events = 8;
+  constraints =
+      record { kind = rules.Lin; target = record { 0 = 3 }; causes = record { event = record { 0 = 1 }; range = now } ∷ [] }
+      ∷ record { kind = rules.Late; target = record { 0 = 5 }; causes = record { event = record { 0 = 0 }; range = ends } ∷ [] }
+      ∷ record { kind = rules.Late; target = record { 0 = 7 }; causes = record { event = record { 0 = 2 }; range = ends } ∷ [] }
+      ∷ record { kind = rules.Lin; target = record { 0 = 7 }; causes = record { event = record { 0 = 5 }; range = now } ∷ [] }
+      ∷ record { kind = rules.Lin; target = record { 0 = 4 }; causes = record { event = record { 0 = 3 }; range = ends } ∷ [] }
+      ∷ [];
+}
+parts_nets_wires = refl
+
+pub wire_row_in_cycle_1 : (drawn_of two_parts).rows ≡ record { kind = Ask; from = record { 0 = 0 }; to = record { 0 = 7 } } ∷ []
+wire_row_in_cycle_1 = refl
+
+-- ---- limits
+
+-- What each limit allows. Of 4,096 events and 244 rows there are 999,424 cells, and of 511 constraints with two or more causes
+-- there are 4,096 times 512 search cells.
+pub at_all_limits : first_passed (counts_by 4096 65536 244 511) ≡ None
+at_all_limits = refl
+
+pub at_rows : first_passed (counts_by 244 0 4096 0) ≡ None
+at_rows = refl
+
+pub at_cells : first_passed (counts_by 1000 0 1000 0) ≡ None
+at_cells = refl
+
+-- what it does not, where the first limit that is passed is told
+pub past_events : first_passed (counts_by 4097 65537 4097 600) ≡ Some (counted Events 4097)
+past_events = refl
+
+pub past_constraints : first_passed (counts_by 4096 65537 4097 600) ≡ Some (counted Constraints 65537)
+past_constraints = refl
+
+pub past_rows : first_passed (counts_by 4096 65536 4097 600) ≡ Some (counted Rows 4097)
+past_rows = refl
+
+pub past_cells : first_passed (counts_by 1000 0 1250 0) ≡ Some (counted Cells 1250000)
+past_cells = refl
+
+pub past_search_cells : first_passed (counts_by 4096 512 0 512) ≡ Some (counted SearchCells 2101248)
+past_search_cells = refl

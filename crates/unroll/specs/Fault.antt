@@ -1,0 +1,9 @@
+-- Why a design is not drawn.
+use Rattle.std.specs.Prelude.{Bool, true, false}
+use Rattle.unroll.specs.declared.fault.UnrollFault.{UnrollFault}
+use Rattle.unroll.specs.declared.fault.UnrollFault.TheVariants.{NoMemory, TooMany}
+
+-- memory was wanted and not found
+abbrev pub is_memory : UnrollFault → Bool
+is_memory (TooMany limit count) = false
+is_memory NoMemory = true
