@@ -3,3 +3,4 @@ pub mod NumberLaws
 pub mod Cutting
 pub mod Plain
 pub mod Printing
+pub mod Looping

@@ -1,6 +1,6 @@
 -- Lines and their ends: a line ends with one line feed, and its words stand with one space between each two.
 use Rattle.std.specs.Prelude.{ℕ, ◌==◌, Bool, List, [], ◌∷◌, ◌++◌}
-use Rattle.std.specs.List.{flat_map, join_with_byte}
+use Rattle.std.specs.List.{join_with_byte}
 use Rattle.line_words.specs.Words.{Word}
 
 abbrev pub is_feed : ℕ → Bool
@@ -14,10 +14,6 @@ ended line = line ++ 10 ∷ []
 abbrev pub line_of : List Word → List ℕ
 line_of words = join_with_byte 32 words
 
--- ---- the same line as a writer puts it: the first word, and each other behind a space
-
+-- a word behind a space
 abbrev pub spaced : Word → List ℕ
 spaced word = 32 ∷ word
-
-abbrev pub ended_words : Word → List Word → List ℕ
-ended_words first others = first ++ (flat_map spaced others ++ 10 ∷ [])

@@ -3,7 +3,7 @@
 ghost use Rattle.std.specs.Prelude.{map, ◌∷◌};
 ghost use Rattle.std.specs.List.{flat_map};
 ghost use Rattle.itv_base.specs.Outside.{Puts};
-ghost use Rattle.line_words.specs.Lines.{ended, ended_words, line_of, spaced};
+ghost use Rattle.line_words.specs.Lines.{ended, line_of, spaced};
 
 use itv_base::{PutFailed, Sink, put_all};
 
@@ -24,19 +24,12 @@ fn put_others<K: Sink>(others: &[&[u8]], sink: &mut K) -> Result<(), PutFailed>
     Ok(())
 }
 
-// The first word, each other behind a space, and the end of the line.
-fn put_apart<K: Sink>(first: &[u8], others: &[&[u8]], sink: &mut K) -> Result<(), PutFailed>
-    ensures { Puts (K.told sink.old) (K.told sink.new) (ended_words first.now (map (λ w. w.now) others.now)) result }
-{
-    sink.put(first)?;
-    put_others(others, sink)?;
-    sink.put(b"\n")
-}
-
 /// Puts the line of the words and its end. Where a put failed a front of it was written, and the sink's count of faults rose.
 pub fn put_words<K: Sink>(first: &[u8], others: &[&[u8]], sink: &mut K) -> Result<(), PutFailed>
     ensures puts { Puts (K.told sink.old) (K.told sink.new)
         (ended (line_of (first.now ∷ map (λ w. w.now) others.now))) result }
 {
-    put_apart(first, others, sink)
+    sink.put(first)?;
+    put_others(others, sink)?;
+    sink.put(b"\n")
 }
