@@ -1,0 +1,15 @@
+//! Reports: their lines as items, the text of each, and reading a text back line by line.
+//! The contract: `write_item` writes the text of an item, and `read_report` gives the report that a text is, or else the first
+//! line at which it begins none.
+#![tactic(auto)]
+
+mod fault;
+mod item;
+mod owned;
+mod place;
+mod words;
+
+pub use fault::ReportFault;
+pub use item::Item;
+pub use place::{Place, Spot};
+pub use words::{EndWord, FindingWord, Which};
