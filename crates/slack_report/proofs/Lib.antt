@@ -6,3 +6,4 @@ pub mod PlainLines
 pub mod Finishing
 pub mod Walking
 pub mod Judging
+mod SetLoop

@@ -72,18 +72,38 @@ ending_in word =
 
 -- ---- lines
 
+-- a number, or that there is none
+abbrev pub lone_bound : Word → Option Bound
+lone_bound word = or_else (option_map bounds.Closed (long_in word)) (when (is_word word (codes "unbounded")) (Some bounds.Unbounded))
+
+-- a limit with nothing attained
+abbrev pub limit_in : Word → Word → Option Bound
+limit_in word limit = when (is_word word (codes "within")) (option_map (λ most. bounds.Within most None) (open_in limit))
+
+-- a limit and what was attained
+abbrev pub found_in : Word → Word → Word → Word → Option Bound
+found_in word limit mid value =
+    when (is_word word (codes "within") && is_word mid (codes "found")) (open_in limit >>= λ most. long_in value >>= λ found. Some (bounds.Within most (Some found)))
+
 unfoldable pub bound_in : List Word → Option Bound
 bound_in [] = None
-bound_in (word ∷ []) = or_else (option_map bounds.Closed (long_in word)) (when (is_word word (codes "unbounded")) (Some bounds.Unbounded))
-bound_in (word ∷ limit ∷ []) = when (is_word word (codes "within")) (option_map (λ most. bounds.Within most None) (open_in limit))
+bound_in (word ∷ []) = lone_bound word
+bound_in (word ∷ limit ∷ []) = limit_in word limit
 bound_in (word ∷ limit ∷ mid ∷ []) = None
-bound_in (word ∷ limit ∷ mid ∷ value ∷ []) = when (is_word word (codes "within") && is_word mid (codes "found")) (open_in limit >>= λ most. long_in value >>= λ found. Some (bounds.Within most (Some found)))
+bound_in (word ∷ limit ∷ mid ∷ value ∷ []) = found_in word limit mid value
 bound_in (word ∷ limit ∷ mid ∷ value ∷ other ∷ words) = None
+
+abbrev pub lone_verdict : Word → Option Verdict
+lone_verdict word = if is_word word (codes "pass") then Some verdicts.Pass else when (is_word word (codes "undecided")) (Some verdicts.Undecided)
+
+-- a verdict that tells the side
+abbrev pub fail_in : Word → Word → Option Verdict
+fail_in word side = when (is_word word (codes "fail")) (if is_word side (codes "high") then Some verdicts.FailHigh else when (is_word side (codes "low")) (Some verdicts.FailLow))
 
 unfoldable pub verdict_in : List Word → Option Verdict
 verdict_in [] = None
-verdict_in (word ∷ []) = if is_word word (codes "pass") then Some verdicts.Pass else when (is_word word (codes "undecided")) (Some verdicts.Undecided)
-verdict_in (word ∷ side ∷ []) = when (is_word word (codes "fail")) (if is_word side (codes "high") then Some verdicts.FailHigh else when (is_word side (codes "low")) (Some verdicts.FailLow))
+verdict_in (word ∷ []) = lone_verdict word
+verdict_in (word ∷ side ∷ []) = fail_in word side
 verdict_in (word ∷ side ∷ other ∷ words) = None
 
 -- a number for each event

@@ -7,6 +7,8 @@ mod fault;
 mod item;
 mod owned;
 mod place;
+mod read_list;
+mod read_word;
 mod words;
 
 pub use fault::ReportFault;
