@@ -9,6 +9,7 @@ mod owned;
 mod place;
 mod read_list;
 mod read_word;
+mod step;
 mod words;
 
 pub use fault::ReportFault;
