@@ -5,6 +5,7 @@
 
 mod fault;
 mod item;
+mod order;
 mod owned;
 mod place;
 mod read_list;
