@@ -6,4 +6,5 @@ pub mod PlainLines
 pub mod Finishing
 pub mod Walking
 pub mod Judging
+mod Gathering
 mod SetLoop

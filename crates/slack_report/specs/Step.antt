@@ -1,3 +1,4 @@
 -- Words of private contracts.
 pub mod Within
 pub mod Cuts
+pub mod Answers

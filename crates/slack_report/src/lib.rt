@@ -5,15 +5,20 @@
 
 mod fault;
 mod item;
+mod items;
 mod order;
 mod owned;
 mod place;
 mod read_list;
 mod read_word;
+mod read;
+mod report;
 mod step;
 mod words;
 
 pub use fault::ReportFault;
 pub use item::Item;
+pub use items::Items;
 pub use place::{Place, Spot};
+pub use report::{Report, read_report};
 pub use words::{EndWord, FindingWord, Which};
