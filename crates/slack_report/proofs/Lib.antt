@@ -6,5 +6,6 @@ pub mod PlainLines
 pub mod Finishing
 pub mod Walking
 pub mod Judging
+mod Printing
 mod Gathering
 mod SetLoop

@@ -2,3 +2,4 @@
 pub mod Within
 pub mod Cuts
 pub mod Answers
+pub mod Printed

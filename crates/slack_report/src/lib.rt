@@ -15,6 +15,7 @@ mod read;
 mod report;
 mod step;
 mod words;
+mod write;
 
 pub use fault::ReportFault;
 pub use item::Item;
@@ -22,3 +23,4 @@ pub use items::Items;
 pub use place::{Place, Spot};
 pub use report::{Report, read_report};
 pub use words::{EndWord, FindingWord, Which};
+pub use write::{LINE_ROOM, write_item};
