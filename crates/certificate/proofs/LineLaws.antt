@@ -197,3 +197,8 @@ pub tells_bad : (text : List ℕ) (r : Result OwnedLine LineFault) → IsLineRea
 tells_bad text (Ok owned) read bad line spells = cc
 tells_bad text (Err BadLine) read bad line spells = none-some line (sym read ∙ line_is_read text line spells)
 tells_bad text (Err NoMemory) read bad line spells = absurd (cc)
+
+-- two lines have two texts
+pub line_texts_differ : (a b : ProofLine) → IsProofLine a → IsProofLine b → proof_line a ≡ proof_line b → a ≡ b
+line_texts_differ a b p q e =
+    same_Some a b (sym (line_is_read (proof_line a) a (record { form = p; text_is = refl })) ∙ line_is_read (proof_line a) b (record { form = q; text_is = e }))

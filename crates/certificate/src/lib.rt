@@ -4,6 +4,7 @@
 #![tactic(auto)]
 
 mod fault;
+pub mod laws;
 mod line;
 mod reading;
 mod sink_scribe;
@@ -18,3 +19,5 @@ pub use sink_scribe::SinkScribe;
 pub use tree_scribe::TreeScribe;
 pub use writing::write_line;
 
+#[cfg(test)]
+mod tests;

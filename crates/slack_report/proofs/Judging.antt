@@ -14,7 +14,7 @@ use Rattle.slack_report.specs.declared.fault.ReportFault.TheVariants as faults
 use Rattle.std.specs.Prelude.{IfOk, IsErrOf}
 use Rattle.slack_report.specs.Answer.{IsAnswer, IsLineFault, IsRead}
 use Rattle.slack_report.specs.Entry.{Entry}
-use Rattle.slack_report.specs.Order.{IsReport, Leads}
+use Rattle.slack_report.specs.Order.{BeginsReport, IsReport, Leads}
 use Rattle.slack_report.specs.Reading.{Read, report_in}
 use Rattle.slack_report.specs.Report.{BeginsReportText, IsFirstWrongLine, IsReportText, first_lines, line_count}
 use Rattle.slack_report.specs.Text.{entry_text, report_text}
@@ -145,3 +145,6 @@ tells_wrong bytes (Err (faults.Line told)) answer line wrong =
     let same : answer.0 ≡ t.0 = same_err answer.0 t.0 (sym answer.1 ∙ t.1) in
     answer.2 ∙ ap (λ n. n + 1) same ∙ sym t.2
 tells_wrong bytes (Err faults.NoMemory) answer line wrong = tt
+
+pub begun_reports_can_end : (es : List Entry) → BeginsReport es → BeginsReportText (report_text es)
+begun_reports_can_end es begins = begins_by (report_text es) es begins.0 begins.1 refl

@@ -6,6 +6,7 @@
 mod fault;
 mod item;
 mod items;
+pub mod laws;
 mod order;
 mod owned;
 mod place;
@@ -24,3 +25,6 @@ pub use place::{Place, Spot};
 pub use report::{Report, read_report};
 pub use words::{EndWord, FindingWord, Which};
 pub use write::{LINE_ROOM, write_item};
+
+#[cfg(test)]
+mod tests;
