@@ -116,9 +116,9 @@ proof_takes words line e =
     either_takes Split (keyed (codes "split") (one (number_in (2 ^ 32 - 1)))) (or_else (option_map Path (keyed (codes "path") (many edge_in) words)) (option_map Loop (keyed (codes "loop") (many edge_in) words))) words line (Taken words) e
     (λ n h. split_invert.takes words n h)
     (λ others. either_takes Path (keyed (codes "path") (many edge_in)) (option_map Loop (keyed (codes "loop") (many edge_in) words)) words line (Taken words) others
-        (λ edges h. (edges_invert (codes "path")).takes words edges h)
-        (λ last. let m = map_some Loop (keyed (codes "loop") (many edge_in) words) line last in
-            subst (Taken words) m.2 ((edges_invert (codes "loop")).takes words m.0 m.1)))
+    (λ edges h. (edges_invert (codes "path")).takes words edges h)
+    (λ last. let m = map_some Loop (keyed (codes "loop") (many edge_in) words) line last in
+    subst (Taken words) m.2 ((edges_invert (codes "loop")).takes words m.0 m.1)))
 
 proof_again : (line : ProofLine) → IsProofLine line → proof_in (proof_words line) ≡ Some line
 unfolding proof_in

@@ -71,11 +71,7 @@ fn split_in(words: &[&str]) -> Option<u32>
 }
 
 // The edges of a path or a loop.
-fn edges_behind(
-    alloc: Global,
-    words: &[&str],
-    key: &str,
-) -> Result<Option<Vec<EdgeName>>, NoMemory>
+fn edges_behind(alloc: Global, words: &[&str], key: &str) -> Result<Option<Vec<EdgeName>>, NoMemory>
     ensures { IfOk result (λ o. option_map (λ v. v.items) o ≡ keyed key.now (many edge_in) (texts words.now)) }
 {
     match behind_word(words, key) {

@@ -19,11 +19,7 @@ const fn edge(constraint: u32, cause: u32, side: Side) -> EdgeName {
 }
 
 // What a line is written as.
-fn expect_written<R: Abort + AllocGlobal>(
-    rt: &R,
-    line: &Line<'_>,
-    want: &str,
-) -> Result<(), Fail> {
+fn expect_written<R: Abort + AllocGlobal>(rt: &R, line: &Line<'_>, want: &str) -> Result<(), Fail> {
     let mut sink = SinkMem::new(rt.alloc(), 200)?;
     write_line(line, &mut sink)?;
     assert_eq!(rt; sink.bytes(), want.as_bytes(), "{line:?}");
@@ -107,11 +103,7 @@ fn a_proof_is_written_to_a_sink(rt: HostRuntime) -> Result<(), Fail> {
 }
 
 // Each kept line as a text.
-fn expect_kept<R: Abort + AllocGlobal>(
-    rt: &R,
-    tree: &TreeScribe,
-    want: &str,
-) -> Result<(), Fail> {
+fn expect_kept<R: Abort + AllocGlobal>(rt: &R, tree: &TreeScribe, want: &str) -> Result<(), Fail> {
     let mut sink = SinkMem::new(rt.alloc(), 200)?;
     for k in 0..tree.len() {
         write_line(&tree.line(k), &mut sink)?;

@@ -1,12 +1,9 @@
 -- Words that are numbers: each is spelled in one way.
-use Rattle.std.proofs.Common.{◌≡◌, ℕ, zero, suc, ◌+◌, ◌-◌, ◌^◌, ◌<◌, ◌≤◌, ℤ, pos, negsuc, neg_ℤ, Bool, true, false, leb, ltb, ◌&&◌, List, [], ◌∷◌, ◌++◌, Option, Some, None, option_map, refl, sym, ap, subst, ◌∙◌, arith, inl, inr, codes, w64, add-one, ◌⊎◌}
-use Rattle.std.specs.Prelude.{FitsSigned, IfSome}
+use Rattle.std.proofs.Common.{◌≡◌, ℕ, zero, suc, ◌-◌, ◌^◌, ◌≤◌, ℤ, pos, negsuc, neg_ℤ, true, false, leb, ◌&&◌, [], ◌∷◌, Option, Some, None, option_map, refl, sym, ap, subst, ◌∙◌, arith, codes}
 use Rattle.std.specs.Char.{is_ascii_digit}
 use Rattle.std.specs.List.{list_all}
 use Rattle.std.proofs.lemmas.Bool.{and_parts, leb-true, le-leb, both_ways, ne_eqb}
-use Rattle.std.proofs.lemmas.Int.{ints}
-use Rattle.std.proofs.lemmas.Option.{cond_some, same_Some}
-use Rattle.std.proofs.lemmas.List.{append-nil}
+use Rattle.std.proofs.lemmas.Option.{same_Some}
 use Rattle.itv_base.specs.Cuts.{after, stripped}
 use Rattle.itv_base.specs.Numerals.{end_text, is_numeral, number_text, signed_text, value_of}
 use Rattle.itv_base.proofs.Cuts.{stripped_some}
@@ -100,7 +97,7 @@ unfolding open_in
 open_takes word end e =
     or_cases_some (option_map (λ value. Some value) (long_in word)) (when (is_word word (codes "*")) (Some None)) end _ e
     (λ h. let m = map_some (λ (value : ℤ). Some value) (long_in word) end h in
-        subst (λ o. (word ≡ end_text o) × IsLongOrOpen o) m.2 (long_takes word m.0 m.1))
+    subst (λ o. (word ≡ end_text o) × IsLongOrOpen o) m.2 (long_takes word m.0 m.1))
     (λ h. last_some word (codes "*") None end (λ o. (word ≡ end_text o) × IsLongOrOpen o) h (λ is. (is, tt)))
 
 open_again : (end : Option ℤ) → IsLongOrOpen end → open_in (end_text end) ≡ Some end

@@ -1,6 +1,6 @@
 -- A line as a writer puts it: the first word, each other behind a space, and the line end.
 use Rattle.std.proofs.Common.{◌≡◌, ℕ, ◌+◌, ◌<◌, List, [], ◌∷◌, ◌++◌, length, get_or, drop, map, Bor, Result, refl, sym, subst, ap, ◌∙◌, append_assoc, add-one, drop-cons}
-use Rattle.std.specs.List.{flat_map, join_with_byte}
+use Rattle.std.specs.List.{flat_map}
 use Rattle.std.proofs.lemmas.List.{drop-map, append-nil}
 use Rattle.std.specs.Bool.{⊤}
 use Rattle.itv_base.specs.Outside.{CutShort, Puts, SinkTold, grown}

@@ -1,5 +1,5 @@
 -- Words that are numbers.
-use Rattle.std.specs.Prelude.{ℕ, ◌+◌, ◌-◌, ◌^◌, ℤ, pos, neg_ℤ, ◌&&◌, nat_le, codes, Option, Some, None, IfSome, option_map, FitsSigned}
+use Rattle.std.specs.Prelude.{ℕ, ◌-◌, ◌^◌, ℤ, pos, neg_ℤ, ◌&&◌, nat_le, codes, Option, Some, None, IfSome, option_map, FitsSigned}
 use Rattle.std.specs.Int.{w64}
 use Rattle.itv_base.specs.Cuts.{after, stripped}
 use Rattle.itv_base.specs.Numerals.{is_numeral, value_of}

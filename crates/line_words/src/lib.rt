@@ -12,4 +12,3 @@ pub use buffer::LineBuffer;
 pub use numbers::{long_in, number_in, open_in, short_in};
 pub use put::{put_spaced, put_words};
 pub use words::{behind_word, only_word, split_words, two_words};
-

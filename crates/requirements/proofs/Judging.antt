@@ -1,5 +1,5 @@
 -- What verdicts say by right bounds.
-use Rattle.std.proofs.Common.{◌≡◌, ℤ, pos, negsuc, neg_ℤ, ◌≤ℤ◌, ◌<ℤ◌, ◌-ℤ◌, Bool, true, false, ◌&&◌, cond, List, Option, Some, None, option_map, refl, sym, ap, subst, ◌∙◌, arith, inl, inr, ◌⊎◌, ◌↔◌}
+use Rattle.std.proofs.Common.{◌≡◌, ℤ, pos, negsuc, neg_ℤ, ◌≤ℤ◌, ◌<ℤ◌, ◌-ℤ◌, Bool, true, false, ◌&&◌, cond, List, Option, Some, None, option_map, refl, sym, ap, subst, arith, inl, inr, ◌⊎◌}
 use Rattle.std.specs.Prelude.{IfSome, IsSomeAnd, int_lt, int_le}
 use Rattle.std.proofs.lemmas.Bool.{and_parts, le-leb, ltb-false}
 use Rattle.std.proofs.lemmas.Int.{ints}
@@ -14,7 +14,7 @@ use Rattle.requirements.specs.declared.bound.Bound.{Bound}
 use Rattle.requirements.specs.declared.bound.Bound.TheVariants.{Closed, Unbounded, Within}
 use Rattle.requirements.specs.declared.verdict.Verdict.{Verdict}
 use Rattle.requirements.specs.declared.verdict.Verdict.TheVariants.{Pass, FailHigh, FailLow, Undecided}
-use Rattle.requirements.specs.Bounds.{IsAttained, IsGreatestBound, IsLeastBound, reversed}
+use Rattle.requirements.specs.Bounds.{IsAttained, IsGreatestBound, IsLeastBound}
 use Rattle.requirements.specs.Verdicts.{breaks_high, breaks_low, meets_high, meets_low, verdict_of}
 use Rattle.requirements.specs.Laws.{FailHighIsBroken, FailLowIsBroken, IsWithin, PassIsMet, ReversedGreatestIsLeast, UndecidedIsWithin}
 

@@ -1,5 +1,5 @@
 -- When a bound of the separation of a pair is right.
-use Rattle.std.specs.Prelude.{◌≡◌, ℤ, neg_ℤ, List, Option, IfSome, option_map}
+use Rattle.std.specs.Prelude.{◌≡◌, ℤ, neg_ℤ, List, IfSome, option_map}
 use Rattle.itv_base.specs.declared.names.EventId.{EventId}
 use Rattle.event_graph.specs.Times.{IsTime, separation}
 use Rattle.event_graph.specs.Network.{Net}

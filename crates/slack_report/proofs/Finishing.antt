@@ -18,7 +18,6 @@ use Rattle.slack_report.specs.declared.place.Place.{Place}
 use Rattle.slack_report.specs.declared.place.Place.TheVariants as at
 use Rattle.slack_report.specs.declared.place.Spot.{Spot}
 use Rattle.slack_report.specs.Entry.{Entry, IsBound, IsEntry, IsName, heading, budget, events, event, proof, finding, times, rows, row, bound, raise, verdict, slack, ending}
-
 use Rattle.slack_report.specs.Order.{Leads, Steps, after_bound, after_row, after_times, before_event, before_row, events_at, in_row, next}
 
 -- lines that lead from a place to the end of a report

@@ -51,7 +51,7 @@ bound_takes [] value e = absurd (cc)
 bound_takes (word ∷ []) value e =
     or_cases_some (option_map bounds.Closed (long_in word)) (when (is_word word (codes "unbounded")) (Some bounds.Unbounded)) value (BoundTaken (word ∷ []) value) e
     (λ h. let m = map_some bounds.Closed (long_in word) value h in let t = long_inverts.takes word m.0 m.1 in
-        subst (BoundTaken (word ∷ [])) m.2 (ap (λ w. w ∷ []) t.0, t.1))
+    subst (BoundTaken (word ∷ [])) m.2 (ap (λ w. w ∷ []) t.0, t.1))
     (λ h. last_some word (codes "unbounded") bounds.Unbounded value (BoundTaken (word ∷ [])) h (λ is. (ap (λ w. w ∷ []) is, tt)))
 bound_takes (word ∷ limit ∷ []) value e =
     let w = when_some (is_word word (codes "within")) (option_map (λ most. bounds.Within most None) (open_in limit)) value e in
@@ -169,8 +169,8 @@ FirstIsAbove number (word ∷ words) = is_word word (number_text number) ≡ fal
 other_number : (n m : ℕ) → n < m → is_word (number_text m) (number_text n) ≡ false
 other_number n m h =
     false_from_ne_true (is_word (number_text m) (number_text n)) (λ e.
-      let same : m ≡ n = sym (value-text m) ∙ ap value_of (word_is (number_text m) (number_text n) e) ∙ value-text n in
-      omega arith)
+    let same : m ≡ n = sym (value-text m) ∙ ap value_of (word_is (number_text m) (number_text n) e) ∙ value-text n in
+    omega arith)
 
 first_above : (number first : ℕ) (set : List Bool) → number < first → FirstIsAbove number (members_from first set)
 first_above number first [] h = tt

@@ -18,7 +18,6 @@ use Rattle.line_words.specs.Lines.{line_of}
 use Rattle.line_words.specs.Words.{Word, split_words}
 use Rattle.line_words.proofs.Cutting.{IsLine}
 use Rattle.line_words.proofs.Plain.{ArePlain, all_weaker, end_plain, is_plain, join_line, line_is_text, map_plain, number_plain, plain_append, signed_plain, split-join}
-
 use Rattle.requirements.specs.declared.bound.Bound.{Bound}
 use Rattle.requirements.specs.declared.bound.Bound.TheVariants as bounds
 use Rattle.requirements.specs.declared.verdict.Verdict.TheVariants as verdicts

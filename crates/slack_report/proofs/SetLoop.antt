@@ -49,9 +49,11 @@ module _ (count : ℕ) (words : List (Bor (List ℕ))) (total : Option (List Boo
   flags_goes number at next set grown flag h within is goes grows so_far =
       let left : count - number ≡ suc (count - (number + 1)) = omega arith in
       let p = words_passed words at next (number_text number) flag within is goes in
-      let step = one_flag (count - (number + 1)) number (texts (drop at words)) flag is in
-      (p.0, rw (grows, p.1) (sym (flag_in_front set flag (flags_in (count - (number + 1)) (number + 1) (passed flag (texts (drop at words)))))
-          ∙ sym (ap (in_front set) step) ∙ ap (λ n. in_front set (flags_in n number (texts (drop at words)))) (sym left) ∙ so_far))
+      let step = one_flag (count - (number + 1)) number (texts (drop at words)) flag is in (
+        p.0,
+        rw (grows, p.1) (sym (flag_in_front set flag (flags_in (count - (number + 1)) (number + 1) (passed flag (texts (drop at words)))))
+            ∙ sym (ap (in_front set) step) ∙ ap (λ n. in_front set (flags_in n number (texts (drop at words)))) (sym left) ∙ so_far),
+      )
 
   -- all events were looked at, and no word is left
   pub flags_done : (number at : ℕ) (set : List Bool) → count ≤ number → length words ≤ at → in_front set (flags_in (count - number) number (texts (drop at words))) ≡ total → Some set ≡ total

@@ -176,14 +176,14 @@ module _ (laws : LineLaws) where
         wrong = λ h es leads rest eq. none_wrong place line (more ∷ lines) are.0 none es leads rest eq;
       }))
       (λ step reads err.
-        let w = with_line_err step.0 (lines_in step.1 (more ∷ lines)) before err in
-        let rest = lines_err (more ∷ lines) step.1 w.0 tt are.1 w.1 in
-        let t = laws.takes place line step reads in
-        subst (Wrong place (line ∷ more ∷ lines)) w.2 (record {
-          entries = step.0 ∷ rest.entries;
-          behind = rest.behind;
-          leads = (step.1, t.1, rest.leads);
-          text = ap (λ l. ended l ++ flat_map ended (take w.0 (more ∷ lines))) t.0 ∙ ap (λ x. entry_text step.0 ++ x) rest.text;
-          is_there = (let there = rest.is_there in omega arith);
-          wrong = λ h es leads after eq. later_wrong place line (flat_map ended (take (suc w.0) (more ∷ lines))) step are.0 reads (rest.wrong (omega arith)) es leads after eq;
-        }))
+      let w = with_line_err step.0 (lines_in step.1 (more ∷ lines)) before err in
+      let rest = lines_err (more ∷ lines) step.1 w.0 tt are.1 w.1 in
+      let t = laws.takes place line step reads in
+      subst (Wrong place (line ∷ more ∷ lines)) w.2 (record {
+        entries = step.0 ∷ rest.entries;
+        behind = rest.behind;
+        leads = (step.1, t.1, rest.leads);
+        text = ap (λ l. ended l ++ flat_map ended (take w.0 (more ∷ lines))) t.0 ∙ ap (λ x. entry_text step.0 ++ x) rest.text;
+        is_there = (let there = rest.is_there in omega arith);
+        wrong = λ h es leads after eq. later_wrong place line (flat_map ended (take (suc w.0) (more ∷ lines))) step are.0 reads (rest.wrong (omega arith)) es leads after eq;
+      }))

@@ -90,7 +90,7 @@ finding_takes : (word : Word) (found : FindingWord) → finding_in word ≡ Some
 finding_takes word found e =
     pick_some word (codes "consistent") findings.Consistent found _ (λ f. word ≡ finding_word f) e (λ is. is)
     (λ other. pick_some word (codes "inconsistent") findings.Inconsistent found _ (λ f. word ≡ finding_word f) other (λ is. is)
-        (λ last. last_some word (codes "unsettled") findings.Unsettled found (λ f. word ≡ finding_word f) last (λ is. is)))
+    (λ last. last_some word (codes "unsettled") findings.Unsettled found (λ f. word ≡ finding_word f) last (λ is. is)))
 
 finding_again : (found : FindingWord) → finding_in (finding_word found) ≡ Some found
 finding_again findings.Consistent = refl
@@ -104,8 +104,8 @@ ending_takes : (word : Word) (end : EndWord) → ending_in word ≡ Some end →
 ending_takes word end e =
     pick_some word (codes "pass") endings.Pass end _ (λ f. word ≡ ending_word f) e (λ is. is)
     (λ other. pick_some word (codes "fail") endings.Fail end _ (λ f. word ≡ ending_word f) other (λ is. is)
-        (λ more. pick_some word (codes "inconsistent") endings.Inconsistent end _ (λ f. word ≡ ending_word f) more (λ is. is)
-            (λ last. last_some word (codes "undecided") endings.Undecided end (λ f. word ≡ ending_word f) last (λ is. is))))
+    (λ more. pick_some word (codes "inconsistent") endings.Inconsistent end _ (λ f. word ≡ ending_word f) more (λ is. is)
+    (λ last. last_some word (codes "undecided") endings.Undecided end (λ f. word ≡ ending_word f) last (λ is. is))))
 
 ending_again : (end : EndWord) → ending_in (ending_word end) ≡ Some end
 ending_again endings.Pass = refl

@@ -12,11 +12,18 @@ pub enum Item<'a> {
     /// The line that begins a report.
     Heading,
     /// How many cases a search may close.
-    Budget { budget: u64 },
+    Budget {
+        budget: u64,
+    },
     /// How many events there are.
-    Events { count: u32 },
+    Events {
+        count: u32,
+    },
     /// What an event is called.
-    Event { number: u32, name: EventName<'a> },
+    Event {
+        number: u32,
+        name: EventName<'a>,
+    },
     /// A line of the proof of the finding or of the bound that comes next.
     Proof(Line<'a>),
     /// Whether some times satisfy the network.
@@ -24,7 +31,9 @@ pub enum Item<'a> {
     /// The time of each event.
     Times(&'a [i64]),
     /// How many rows there are.
-    Rows { count: u32 },
+    Rows {
+        count: u32,
+    },
     /// What is asked of the separation of two events.
     Row {
         number: u32,
@@ -33,7 +42,10 @@ pub enum Item<'a> {
         to: EventName<'a>,
     },
     /// A bound of that separation.
-    Bound { which: Which, bound: Bound },
+    Bound {
+        which: Which,
+        bound: Bound,
+    },
     /// For each event whether it is of the set that can be raised by any number.
     Raise(&'a [bool]),
     /// What becomes of a requirement.

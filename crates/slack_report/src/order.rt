@@ -119,7 +119,8 @@ pub fn in_bound(spot: Spot, which: Which, value: Bound) -> Place
         },
         Bound::Within { attained: None, .. } => after_bound(spot, which),
         Bound::Within {
-            attained: Some(_), ..
+            attained: Some(_),
+            ..
         } => Place::Times {
             spot,
             which,

@@ -26,10 +26,16 @@ pub enum Place {
         more: u32,
     },
     /// Before the finding and the lines of its proof.
-    Finding { events: u32 },
+    Finding {
+        events: u32,
+    },
     /// Before the times that satisfy.
-    FoundTimes { events: u32 },
-    Rows { events: u32 },
+    FoundTimes {
+        events: u32,
+    },
+    Rows {
+        events: u32,
+    },
     /// Before the row of a number, with some more behind it.
     Row {
         events: u32,
@@ -37,18 +43,30 @@ pub enum Place {
         more: u32,
     },
     /// Before a bound of a row and the lines of its proof.
-    Bound { spot: Spot, which: Which },
+    Bound {
+        spot: Spot,
+        which: Which,
+    },
     /// Before the times of a bound, behind which a set may be raised.
     Times {
         spot: Spot,
         which: Which,
         raises: bool,
     },
-    Raise { spot: Spot, which: Which },
-    Verdict { spot: Spot },
+    Raise {
+        spot: Spot,
+        which: Which,
+    },
+    Verdict {
+        spot: Spot,
+    },
     /// Before the times that break a requirement.
-    FailTimes { spot: Spot },
-    Slack { spot: Spot },
+    FailTimes {
+        spot: Spot,
+    },
+    Slack {
+        spot: Spot,
+    },
     End,
     /// Behind the last line.
     Nothing,

@@ -12,10 +12,15 @@ ghost use Rattle.slack_report.specs.Reading.{bound_in, finding_in, name_in, row_
 ghost use Rattle.slack_report.specs.Step.Within.{IsSpot, IsWithin};
 ghost use Rattle.slack_report.specs.Text.{which_word};
 
+use crate::order::{
+    after_bound, after_finding, after_row, after_times, after_verdict, before_event, before_row,
+    in_bound, in_row,
+};
 use crate::owned::OwnedItem;
-use crate::order::{after_bound, after_finding, after_row, after_times, after_verdict, before_event, before_row, in_bound, in_row};
 use crate::place::{Place, Spot};
-use crate::read_list::{behind_number, bound_in, copy_name, flags_in, row_in, times_in, verdict_in};
+use crate::read_list::{
+    behind_number, bound_in, copy_name, flags_in, row_in, times_in, verdict_in,
+};
 use crate::read_word::{budget_in, ending_in, finding_in, name_in};
 use crate::words::Which;
 use certificate::proof_in;
@@ -91,10 +96,7 @@ fn step_bound(spot: Spot, which: Which, words: &[&str]) -> Option<(OwnedItem, Pl
     ensures within { IfSome result (λ s. IsWithin s.1) }
 {
     let value = bound_in(behind_word(words, which_key(which))?)?;
-    Some((
-        OwnedItem::Bound(which, value),
-        in_bound(spot, which, value),
-    ))
+    Some((OwnedItem::Bound(which, value), in_bound(spot, which, value)))
 }
 
 #[tactic(auto, unfolding(crate::specs::Reading::entry_at))]
@@ -134,10 +136,7 @@ fn event_name_in<'a>(number: u32, words: &[&'a str]) -> Option<EventName<'a>>
     ensures { option_map (λ n. name_view n) result
         ≡ keyed (codes "event") (keyed (number_text number) (one name_in)) (texts words.now) }
 {
-    name_in(only_word(behind_number(
-        behind_word(words, "event")?,
-        number,
-    )?)?)
+    name_in(only_word(behind_number(behind_word(words, "event")?, number)?)?)
 }
 
 #[tactic(auto, unfolding(crate::specs::Reading::entry_at))]
@@ -159,10 +158,7 @@ fn step_event(
     Ok(Some((item, before_event(events, number + 1, more))))
 }
 
-fn asked_in<'a>(
-    number: u32,
-    words: &[&'a str],
-) -> Option<(RowKind, EventName<'a>, EventName<'a>)>
+fn asked_in<'a>(number: u32, words: &[&'a str]) -> Option<(RowKind, EventName<'a>, EventName<'a>)>
     ensures { option_map (λ x. (x.0, name_view x.1, name_view x.2)) result
         ≡ keyed (codes "row") (keyed (number_text number) row_in) (texts words.now) }
 {

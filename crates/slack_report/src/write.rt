@@ -17,9 +17,7 @@ use crate::item::Item;
 use crate::words::{EndWord, FindingWord, Which};
 use certificate::write_line;
 use itoa::Buffer;
-use itv_base::{
-    EventName, PutFailed, Range, Sink, end_text, number_text, put_all, signed_text,
-};
+use itv_base::{EventName, PutFailed, Range, Sink, end_text, number_text, put_all, signed_text};
 use line_words::{LineBuffer, put_spaced, put_words};
 use requirements::{Bound, Slack, Verdict};
 use sheet::RowKind;
