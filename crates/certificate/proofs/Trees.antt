@@ -5,7 +5,6 @@ use Rattle.std.proofs.lemmas.List.{drop-append-le, length-drop, length-take, tak
 use Rattle.std.proofs.lemmas.List.Sums.{sum_by-append}
 use Rattle.std.proofs.Math.Seq.{drop-append_seam}
 use Rattle.itv_base.specs.declared.names.EdgeName.{EdgeName}
-use Rattle.event_graph.specs.Proof.{Loop, Path, ProofLine, Split}
 use Rattle.certificate.specs.declared.stored.Stored.{Stored}
 use Rattle.certificate.specs.declared.stored.StoredKind.{StoredKind}
 use Rattle.certificate.specs.declared.stored.StoredKind.TheVariants as kinds

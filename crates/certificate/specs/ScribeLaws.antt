@@ -1,5 +1,5 @@
 -- The laws of scribes.
-use Rattle.std.specs.Prelude.{◌≡◌, ◌+◌, ℕ, List, [], ◌∷◌, ◌++◌, length, refl}
+use Rattle.std.specs.Prelude.{◌≡◌, List, [], ◌∷◌, ◌++◌, refl}
 use Rattle.std.proofs.Common.{sym, ap, subst, ◌∙◌, append_assoc, append-nil}
 use Rattle.event_graph.specs.Proof.{ProofLine}
 use Rattle.itv_base.specs.Outside.{CutShort, SinkTold, grown}

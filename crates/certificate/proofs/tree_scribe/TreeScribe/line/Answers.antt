@@ -1,4 +1,4 @@
-use Rattle.std.proofs.Common.{◌≡◌, ◌<◌, length, sym, ap, ◌∙◌}
+use Rattle.std.proofs.Common.{◌≡◌, length, sym, ap, ◌∙◌}
 use Rattle.certificate.proofs.Trees.{length-stored}
 use Rattle.certificate.proofs.tree_scribe.TreeScribe.line.Goals as goal
 
