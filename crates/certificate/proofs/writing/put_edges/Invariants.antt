@@ -1,0 +1,10 @@
+use Rattle.std.proofs.Common.{drop, map}
+use Rattle.std.specs.List.{flat_map}
+use Rattle.itv_base.proofs.Written.{Left}
+use Rattle.line_words.specs.Lines.{spaced}
+use Rattle.certificate.specs.Text.{edge_word}
+use Rattle.certificate.proofs.writing.put_edges.Given as goal
+
+abbrev pub invariant-loop-edge : goal.invariant-loop-edge
+invariant-loop-edge g l =
+    Left (g.K.Sink.told l.fn.sink) (g.K.Sink.told l.sink) (flat_map spaced (map edge_word (drop l.edge-index l.edges))) (flat_map spaced (map edge_word l.edges))

@@ -1,0 +1,7 @@
+pub mod Text
+pub mod Reading
+pub mod Owned
+pub mod Answer
+pub mod Scribing
+pub mod ScribeLaws
+pub mod Step

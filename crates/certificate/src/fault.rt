@@ -1,0 +1,23 @@
+//! Why a text is no line of a proof.
+
+ghost use Rattle.std.specs.Prelude.{◌≡◌};
+ghost use Rattle.certificate.specs.declared.fault.LineFault.TheVariants.{NoMemory};
+
+use itv_base::NoMemory as OutOfMemory;
+
+/// Why a text was not read as a line of a proof.
+#[derive(Clone, Copy, Debug, PartialEq, Eq)]
+pub enum LineFault {
+    /// The text is no line's text.
+    BadLine,
+    /// Memory was wanted and not found.
+    NoMemory,
+}
+
+impl From<OutOfMemory> for LineFault {
+    ghost from_gives = { λ _ e. e ≡ NoMemory };
+
+    fn from(_: OutOfMemory) -> LineFault {
+        LineFault::NoMemory
+    }
+}

@@ -1,0 +1,23 @@
+//! Lines of proofs as texts, and who keeps or writes them while a proof is found.
+//! The contract: a line of a proof has one text, `write_line` writes it, `read_line` takes exactly these texts, and a scribe grew
+//! by just the lines that it took, or failed in the last of them.
+#![tactic(auto)]
+
+mod fault;
+pub mod laws;
+mod line;
+mod reading;
+mod sink_scribe;
+mod stored;
+mod tree_scribe;
+mod writing;
+
+pub use fault::LineFault;
+pub use line::OwnedLine;
+pub use reading::{proof_in, read_line};
+pub use sink_scribe::SinkScribe;
+pub use tree_scribe::TreeScribe;
+pub use writing::write_line;
+
+#[cfg(test)]
+mod tests;

@@ -1,0 +1,16 @@
+//! How lines of a proof are stored.
+
+/// What a stored line is, without its edges.
+#[derive(Clone, Copy, Debug, PartialEq, Eq)]
+pub enum StoredKind {
+    Split(u32),
+    Path,
+    Loop,
+}
+
+/// A stored line: its kind, and how many edges there are up to its end in all lines.
+#[derive(Clone, Copy, Debug, PartialEq, Eq)]
+pub struct Stored {
+    pub kind: StoredKind,
+    pub end: usize,
+}

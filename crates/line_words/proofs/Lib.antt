@@ -1,0 +1,6 @@
+pub mod Inverts
+pub mod NumberLaws
+pub mod Cutting
+pub mod Plain
+pub mod Printing
+pub mod Looping

@@ -1,0 +1,7 @@
+-- Words without where they lie in memory.
+use Rattle.std.specs.Prelude.{ℕ, List, map}
+use denote.Ref.{Bor}
+use Rattle.line_words.specs.Words.{Word}
+
+abbrev pub texts : List (Bor (List ℕ)) → List Word
+texts words = map (λ word. word.now) words

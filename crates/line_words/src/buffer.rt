@@ -1,0 +1,72 @@
+//! A line that is gathered before it is put.
+
+ghost use Rattle.std.specs.Prelude.{◌≡◌, [], IfOk};
+ghost use Rattle.itv_base.specs.Outside.{Puts};
+ghost use Rattle.line_words.specs.Buffer.{buffer_told};
+
+use itv_base::{NoMemory, PutFailed, Sink};
+use std::alloc::Global;
+use std::marker::Model;
+
+/// Room for the bytes of one line, which it takes as a sink does. A put fails exactly where the piece doesn't fit, and then takes
+/// nothing of it.
+#[derive(Drop)]
+pub struct LineBuffer {
+    bytes: Vec<u8>,
+    room: usize,
+    faults: u64,
+}
+
+impl Model for LineBuffer {
+    ghost use Rattle.std.specs.Prelude.{◌≤◌, length, vec_capacity};
+    ghost use Rattle.line_words.specs.Buffer.{Gathered};
+
+    ghost Value = { Gathered };
+
+    ghost view = { λ b. record { bytes = b.bytes.items; room = b.room; faults = b.faults } };
+
+    ghost invariant = { λ b. (length b.bytes.items ≤ b.room) × (b.room ≤ vec_capacity b.bytes) };
+}
+
+impl LineBuffer {
+    /// Nothing gathered, and room for a number of bytes. Takes all the memory that the buffer ever needs.
+    pub fn new(alloc: Global, room: u32) -> Result<LineBuffer, NoMemory>
+        ensures empty { IfOk result (λ b. b ≡ record { bytes = []; room = room; faults = 0 }) }
+    {
+        let room = room as usize;
+        Ok(LineBuffer {
+            bytes: Vec::with_capacity(alloc, room)?,
+            room,
+            faults: 0,
+        })
+    }
+
+    /// Gathers nothing any more.
+    pub fn clear(&mut self)
+        ensures empty { self.new ≡ record self.old { bytes = [] } }
+    {
+        self.bytes.clear();
+    }
+
+    /// Puts what was gathered, by one put.
+    pub fn put_into<K: Sink>(&self, sink: &mut K) -> Result<(), PutFailed>
+        ensures puts { Puts (K.told sink.old) (K.told sink.new) self.now.bytes result }
+    {
+        sink.put(&self.bytes)
+    }
+}
+
+impl Sink for LineBuffer {
+    ghost told = { buffer_told };
+
+    fn put(&mut self, piece: &[u8]) -> Result<(), PutFailed>
+        ensures puts { Puts (buffer_told self.old) (buffer_told self.new) piece.now result }
+    {
+        if self.room - self.bytes.len() < piece.len() {
+            self.faults = self.faults.saturating_add(1);
+            return Err(PutFailed);
+        }
+        self.bytes.extend_from_slice(piece).unwrap();
+        Ok(())
+    }
+}

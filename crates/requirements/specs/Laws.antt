@@ -1,0 +1,58 @@
+-- What verdicts say of all times that satisfy a network.
+use Rattle.std.specs.Prelude.{◌≡◌, ◌↔◌, ℤ, ◌<ℤ◌, ◌⊎◌, List, IsSomeAnd}
+use Rattle.itv_base.specs.Range.{Allows, Ends}
+use Rattle.itv_base.specs.declared.names.EventId.{EventId}
+use Rattle.event_graph.specs.Times.{separation}
+use Rattle.event_graph.specs.Network.{Net}
+use Rattle.event_graph.specs.Satisfying.{Satisfies}
+use Rattle.requirements.specs.declared.bound.Bound.{Bound}
+use Rattle.requirements.specs.declared.bound.Bound.TheVariants.{Closed, Unbounded, Within}
+use Rattle.requirements.specs.declared.verdict.Verdict.TheVariants.{Pass, FailHigh, FailLow, Undecided}
+use Rattle.requirements.specs.Bounds.{IsGreatestBound, IsLeastBound, reversed}
+use Rattle.requirements.specs.Verdicts.{verdict_of}
+
+-- a requirement is met where every satisfying separation lies in the range
+abbrev pub IsMet : Net → EventId → EventId → Ends → Type 0
+IsMet net from to range = (times : List ℤ) → Satisfies times net → Allows range (separation times from to)
+
+-- it is broken on the high side where some satisfying separation is past the high end
+abbrev pub IsBrokenHigh : Net → EventId → EventId → Ends → Type 0
+IsBrokenHigh net from to range = (times : List ℤ) × Satisfies times net × IsSomeAnd range.high (λ high. high <ℤ separation times from to)
+
+-- and on the low side where one is past the low end
+abbrev pub IsBrokenLow : Net → EventId → EventId → Ends → Type 0
+IsBrokenLow net from to range = (times : List ℤ) × Satisfies times net × IsSomeAnd range.low (λ low. separation times from to <ℤ low)
+
+-- two right bounds of a pair
+pub record AreBounds (net : Net) (from to : EventId) (least greatest : Bound) : Type 0 where
+  pub is_least : IsLeastBound net from to least
+  pub is_greatest : IsGreatestBound net from to greatest
+
+-- a requirement that passes by right bounds is met
+abbrev pub PassIsMet : Type 0
+PassIsMet = (net : Net) (from to : EventId) (range : Ends) (least greatest : Bound) → AreBounds net from to least greatest
+    → verdict_of range least greatest ≡ Pass → IsMet net from to range
+
+-- one that fails on the high side by right bounds is broken there
+abbrev pub FailHighIsBroken : Type 0
+FailHighIsBroken = (net : Net) (from to : EventId) (range : Ends) (least greatest : Bound) → AreBounds net from to least greatest
+    → verdict_of range least greatest ≡ FailHigh → IsBrokenHigh net from to range
+
+-- and on the low side likewise
+abbrev pub FailLowIsBroken : Type 0
+FailLowIsBroken = (net : Net) (from to : EventId) (range : Ends) (least greatest : Bound) → AreBounds net from to least greatest
+    → verdict_of range least greatest ≡ FailLow → IsBrokenLow net from to range
+
+-- the search left the bound open
+abbrev pub IsWithin : Bound → Type 0
+IsWithin (Closed value) = ⊥
+IsWithin Unbounded = ⊥
+IsWithin (Within limit attained) = Unit {0}
+
+-- only a bound that the search left open leaves a verdict undecided
+abbrev pub UndecidedIsWithin : Type 0
+UndecidedIsWithin = (range : Ends) (least greatest : Bound) → verdict_of range least greatest ≡ Undecided → IsWithin least ⊎ IsWithin greatest
+
+-- a bound is the greatest of a pair exactly where, negated, it is the least of the reversed pair
+abbrev pub ReversedGreatestIsLeast : Type 0
+ReversedGreatestIsLeast = (net : Net) (from to : EventId) (value : Bound) → (IsGreatestBound net to from value ↔ IsLeastBound net from to (reversed value))

@@ -1,0 +1,5 @@
+pub mod Bounds
+pub mod Verdicts
+pub mod Slacks
+pub mod Raising
+pub mod Laws

@@ -1,0 +1,66 @@
+//! Bounds of the separation of a pair of events.
+
+ghost use Rattle.std.specs.Prelude.{◌≡◌, neg_ℤ, option_map};
+ghost use Rattle.event_graph.specs.Times.{IsTime};
+
+/// The greatest or the least separation of a pair of events among the times that satisfy a network, as far as it is known. All
+/// numbers are in picoseconds.
+#[derive(Clone, Copy, Debug, PartialEq, Eq)]
+pub enum Bound {
+    /// This separation is attained, and none is beyond it.
+    Closed(i64),
+    /// Satisfying times exceed every separation.
+    Unbounded,
+    /// The search was ended before the bound was settled.
+    Within {
+        /// What the always-edges allow, or `None` where they leave the pair unbounded.
+        limit: Option<i64>,
+        /// The best separation that was attained, or `None` where there was none.
+        attained: Option<i64>,
+    },
+}
+
+/// The two bounds of a pair.
+#[derive(Clone, Copy, Debug, PartialEq, Eq)]
+pub struct BothBounds {
+    pub least: Bound,
+    pub greatest: Bound,
+}
+
+/// How far the bounds of a pair are inside the ends of a range, in picoseconds. A number below 0 tells by how much an end is
+/// missed. A slack is `None` where its end is open or its bound isn't closed.
+#[derive(Clone, Copy, Debug, PartialEq, Eq)]
+pub struct Slack {
+    pub low: Option<i64>,
+    pub high: Option<i64>,
+}
+
+impl Bound {
+    ghost use Rattle.requirements.specs.Bounds.{HasTimes, reversed};
+
+    /// The bound of the reversed pair on the other side, which has its numbers negated: what is the greatest separation of a
+    /// pair is minus the least one of the reversed pair. Numbers are below 2^61 in absolute value.
+    pub fn reversed(self) -> Bound
+        requires { HasTimes self }
+        ensures bound { result ≡ reversed self }
+        ensures times { HasTimes result }
+    {
+        match self {
+            Bound::Closed(value) => Bound::Closed(negated(value)),
+            Bound::Unbounded => Bound::Unbounded,
+            Bound::Within { limit, attained } => Bound::Within {
+                limit: limit.map(negated),
+                attained: attained.map(negated),
+            },
+        }
+    }
+}
+
+// Minus a number of picoseconds.
+fn negated(value: i64) -> i64
+    requires { IsTime value }
+    ensures value { result ≡ neg_ℤ value }
+    ensures within { IsTime result }
+{
+    -value
+}

@@ -1,0 +1,28 @@
+//! Laws of verdicts. The functions do nothing; what they ensure holds of all networks.
+
+ghost use Rattle.requirements.specs.Laws.{FailHighIsBroken, FailLowIsBroken, PassIsMet, ReversedGreatestIsLeast, UndecidedIsWithin};
+
+/// A requirement that passes by right bounds is met: every satisfying separation lies in its range.
+pub fn pass_is_met()
+    ensures { PassIsMet }
+{}
+
+/// A requirement that fails on the high side by right bounds has a satisfying separation past its high end.
+pub fn fail_high_is_broken()
+    ensures { FailHighIsBroken }
+{}
+
+/// A requirement that fails on the low side by right bounds has a satisfying separation past its low end.
+pub fn fail_low_is_broken()
+    ensures { FailLowIsBroken }
+{}
+
+/// A verdict is left undecided only where the search left one of the two bounds open.
+pub fn undecided_is_within()
+    ensures { UndecidedIsWithin }
+{}
+
+/// A bound is the greatest of a pair exactly where, with its numbers negated, it is the least of the reversed pair.
+pub fn reversed_greatest_is_least()
+    ensures { ReversedGreatestIsLeast }
+{}

@@ -1,0 +1,93 @@
+//! Times that are raised past a limit.
+
+ghost use Rattle.std.specs.Prelude.{◌≡◌, ◌<◌, ◌+◌, ◌^◌, pos, ◌+ℤ◌, ◌-ℤ◌, ◌<ℤ◌, ◌≤ℤ◌, neg_ℤ, true, false, length, All, Some, slice_get};
+ghost use Rattle.event_graph.specs.Times.{IsTime, raised, time_of};
+ghost use Rattle.requirements.specs.Raising.{RaisesPast, not_negative, rise_past};
+
+use itv_base::EventId;
+
+fn gap(from: i64, to: i64) -> i64
+    requires from { IsTime from }
+    requires to { IsTime to }
+    ensures value { result ≡ to -ℤ from }
+    ensures low { neg_ℤ (pos (2 ^ 62)) <ℤ result }
+    ensures high { result <ℤ pos (2 ^ 62) }
+{
+    to - from
+}
+
+// One more than a limit is above a separation.
+fn excess(separation: i64, limit: i64) -> i64
+    requires low { neg_ℤ (pos (2 ^ 62)) <ℤ separation }
+    requires high { separation <ℤ pos (2 ^ 62) }
+    requires limit { IsTime limit }
+    ensures value { result ≡ (limit -ℤ separation) +ℤ pos 1 }
+    ensures within { result <ℤ pos (2 ^ 62 + 2 ^ 61) }
+{
+    limit - separation + 1
+}
+
+// A number, or 0 where it is below 0.
+fn or_zero(value: i64) -> u64
+    ensures { result ≡ not_negative value }
+{
+    if value < 0 { 0 } else { value as u64 }
+}
+
+// By how much a separation between two times has to rise to exceed a limit.
+fn rise(from: i64, to: i64, limit: i64) -> u64
+    requires from { IsTime from }
+    requires to { IsTime to }
+    requires limit { IsTime limit }
+    ensures value { result ≡ rise_past (to -ℤ from) limit }
+    ensures within { result < 2 ^ 62 + 2 ^ 61 }
+{
+    or_zero(excess(gap(from, to), limit))
+}
+
+fn later(time: i64, by: u64) -> i64
+    requires time { IsTime time }
+    requires by { by < 2 ^ 62 + 2 ^ 61 }
+    ensures { result ≡ time +ℤ pos by }
+{
+    time + by as i64
+}
+
+// Raises the events of a set.
+fn raise(times: &mut [i64], set: &[bool], by: u64)
+    requires count { length times.old ≡ length set.now }
+    requires times { All IsTime times.old }
+    requires by { by < 2 ^ 62 + 2 ^ 61 }
+    ensures { times.new ≡ raised set.now by times.old }
+{
+    for (event, is_in) in set.iter().enumerate() {
+        if *is_in {
+            times[event] = later(times[event], by);
+        }
+    }
+}
+
+// The time of an event.
+fn time_of(times: &[i64], event: EventId) -> i64
+    requires event { event.0 < length times.now }
+    requires times { All IsTime times.now }
+    ensures time { result ≡ time_of times.now event }
+    ensures within { IsTime result }
+{
+    times[event.0 as usize]
+}
+
+/// Raises the times of a set of events by the least number of picoseconds, 0 or more, with which the separation of a pair
+/// exceeds a limit. There is a flag for each event. The set holds `to` and not `from`, which are events, and all numbers are
+/// below 2^61 in absolute value.
+pub fn raise_past(times: &mut [i64], ray: &[bool], from: EventId, to: EventId, limit: i64)
+    requires count { length times.old ≡ length ray.now }
+    requires holds { slice_get ray.now to.0 ≡ Some true }
+    requires lacks { slice_get ray.now from.0 ≡ Some false }
+    requires times { All IsTime times.old }
+    requires limit { IsTime limit }
+    ensures { RaisesPast times.old ray.now from to limit times.new }
+{
+    let by = rise(time_of(times, from), time_of(times, to), limit);
+    raise(times, ray, by);
+}

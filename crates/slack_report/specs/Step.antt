@@ -1,0 +1,5 @@
+-- Words of private contracts.
+pub mod Within
+pub mod Cuts
+pub mod Answers
+pub mod Printed

@@ -1,0 +1,57 @@
+//! The lines of a report.
+
+use crate::words::{EndWord, FindingWord, Which};
+use event_graph::Line;
+use itv_base::EventName;
+use requirements::{Bound, Slack, Verdict};
+use sheet::RowKind;
+
+/// A line of a report. Times, bounds and slacks are in picoseconds, and events and rows have their numbers from 0.
+#[derive(Clone, Copy, Debug)]
+pub enum Item<'a> {
+    /// The line that begins a report.
+    Heading,
+    /// How many cases a search may close.
+    Budget {
+        budget: u64,
+    },
+    /// How many events there are.
+    Events {
+        count: u32,
+    },
+    /// What an event is called.
+    Event {
+        number: u32,
+        name: EventName<'a>,
+    },
+    /// A line of the proof of the finding or of the bound that comes next.
+    Proof(Line<'a>),
+    /// Whether some times satisfy the network.
+    Finding(FindingWord),
+    /// The time of each event.
+    Times(&'a [i64]),
+    /// How many rows there are.
+    Rows {
+        count: u32,
+    },
+    /// What is asked of the separation of two events.
+    Row {
+        number: u32,
+        kind: RowKind,
+        from: EventName<'a>,
+        to: EventName<'a>,
+    },
+    /// A bound of that separation.
+    Bound {
+        which: Which,
+        bound: Bound,
+    },
+    /// For each event whether it is of the set that can be raised by any number.
+    Raise(&'a [bool]),
+    /// What becomes of a requirement.
+    Verdict(Verdict),
+    /// How far the bounds are inside its range.
+    Slack(Slack),
+    /// How the report ends.
+    End(EndWord),
+}

@@ -1,0 +1,34 @@
+//! Lines of a report as they are stored.
+
+use crate::words::{EndWord, FindingWord, Which};
+use certificate::OwnedLine;
+use itv_base::Text;
+use requirements::{Bound, Slack, Verdict};
+use sheet::RowKind;
+
+/// The name of an event.
+#[derive(Debug, Drop)]
+pub struct OwnedName {
+    pub part: Text,
+    pub mark: u8,
+    pub cycle: u32,
+}
+
+/// A line of a report that owns its parts.
+#[derive(Debug, Drop)]
+pub enum OwnedItem {
+    Heading,
+    Budget(u64),
+    Events(u32),
+    Event(u32, OwnedName),
+    Proof(OwnedLine),
+    Finding(FindingWord),
+    Times(Vec<i64>),
+    Rows(u32),
+    Row(u32, RowKind, OwnedName, OwnedName),
+    Bound(Which, Bound),
+    Raise(Vec<bool>),
+    Verdict(Verdict),
+    Slack(Slack),
+    End(EndWord),
+}
