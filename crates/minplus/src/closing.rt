@@ -11,7 +11,7 @@ ghost use Rattle.minplus.specs.Step.Stage.{Stage};
 
 use crate::lanes::row_lanes;
 use crate::fault::MatrixFault;
-use crate::row::Row;
+use crate::row::{Row, entry};
 use crate::rows::ABSENT;
 use event_graph::Network;
 
@@ -43,8 +43,7 @@ pub fn is_sound(rows: &[Row]) -> bool
     ensures no { result ≡ false → (at : ℕ) × (cells rows.now at at <ℤ pos 0) }
 {
     for at in 0..rows.len() {
-        let row = &rows[at];
-        if row.entries[at] < 0 {
+        if entry(rows, at, at) < 0 {
             return false;
         }
     }

@@ -8,7 +8,7 @@ ghost use Rattle.minplus.specs.Matrix.{AreRootBounds, IsMatrixFault};
 use crate::closing::{close, is_sound};
 use crate::edges::first_rows;
 use crate::fault::MatrixFault;
-use crate::row::Row;
+use crate::row::{Row, entry};
 use crate::rows::ABSENT;
 use event_graph::Network;
 use itv_base::{EventId, MAX_MATRIX_EVENTS};
@@ -39,9 +39,8 @@ impl Matrix {
         requires to { to.0 < length (slice_index_or self.now from.0 []) }
         ensures { result ≡ entry_of self.now from to }
     {
-        let row = &self.rows[from.0 as usize];
-        let entry = row.entries[to.0 as usize];
-        if entry < ABSENT { Some(entry) } else { None }
+        let number = entry(&self.rows, from.0 as usize, to.0 as usize);
+        if number < ABSENT { Some(number) } else { None }
     }
 }
 

@@ -1,4 +1,7 @@
-//! One row of a matrix.
+//! The rows of a matrix.
+
+ghost use Rattle.std.specs.Prelude.{◌≡◌, ◌<◌, [], length, slice_index_or};
+ghost use Rattle.minplus.specs.Matrix.{cells};
 
 use std::marker::Model;
 
@@ -14,4 +17,14 @@ impl Model for Row {
     ghost Value = { List ℤ };
 
     ghost view = { λ row. row.entries.items };
+}
+
+/// The entry of the rows from one event to another, by their numbers.
+pub fn entry(rows: &[Row], from: usize, to: usize) -> i64
+    requires from { from < length rows.now }
+    requires to { to < length (slice_index_or rows.now from []) }
+    ensures { result ≡ cells rows.now from to }
+{
+    let row = &rows[from];
+    row.entries[to]
 }
