@@ -15,7 +15,7 @@ use Rattle.event_graph.specs.Network.{Net}
 use Rattle.event_graph.specs.RootBound.{HasNoRoot, IsRootBound, MeetsAlways}
 use Rattle.event_graph.specs.Times.{separation, time_of}
 use Rattle.minplus.specs.Rows.{IsEntry, IsSmall}
-use Rattle.minplus.specs.Matrix.{number_of}
+use Rattle.minplus.specs.Matrix.{AreRootBounds, IsSquare, cells, number_of}
 use Rattle.minplus.specs.Step.Entries.{BoundsAlways, Entries, IsClosedBelow, IsClosure, IsHeld, IsThere}
 use Rattle.minplus.specs.declared.rows.TheConstants.{ABSENT}
 use Rattle.minplus.proofs.Numbers.{absent_from, lesser, lesser_below, small_there, there_from}
@@ -285,3 +285,7 @@ pub has_root : (net : Net) (entries : Entries) → IsClosure net entries → (ti
 has_root net entries closure =
     let lift : ℤ = pos (3 * 2 ^ 61) in
     (times_from entries net.events 0 lift, times_meet net entries 0 lift (omega (arith, ints)) closure)
+
+-- the rows of a closure are the root bounds of all pairs
+pub are_root_bounds : (net : Net) (rows : List (List ℤ)) → IsSquare net.events rows → IsClosure net (cells rows) → AreRootBounds net rows
+are_root_bounds net rows square closure = record { square = square; bounds = λ from to from_below to_below. root_bound net (cells rows) from to closure from_below to_below }

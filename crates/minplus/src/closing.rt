@@ -6,8 +6,8 @@ ghost use Rattle.event_graph.specs.RootBound.{HasNoRoot};
 ghost use Rattle.minplus.specs.Rows.{IsEntry};
 ghost use Rattle.minplus.specs.Matrix.{IsSquare, cells};
 ghost use Rattle.minplus.specs.Step.Rows.{RowThrough};
-ghost use Rattle.minplus.specs.Step.Entries.{IsClosure, IsThrough};
-ghost use Rattle.minplus.specs.Step.Stage.{Stage};
+ghost use Rattle.minplus.specs.Step.Entries.{HoldsEdges, IsClosure, IsThrough};
+ghost use Rattle.minplus.specs.Step.Edges.{AreBounds};
 
 use crate::lanes::row_lanes;
 use crate::fault::MatrixFault;
@@ -15,18 +15,20 @@ use crate::row::{Row, entry};
 use crate::rows::ABSENT;
 use event_graph::Network;
 
-/// Improves the rows through each event in turn. The answer is `Loop` as soon as an entry of the diagonal is
-/// negative, so that no entry leaves the sums of two paths over different events.
+/// Improves the rows of the always-edges through each event in turn. The answer is `Loop` as soon as an entry
+/// of the diagonal is negative, so that no entry leaves the sums of two paths over different events.
 pub fn close(net: &Network, rows: &mut [Row], through: &mut [i64]) -> Result<(), MatrixFault>
-    requires events { length rows.old ≡ net.now.events }
     requires few { net.now.events ≤ MAX_MATRIX_EVENTS }
-    requires square { IsSquare (length rows.old) rows.old }
+    requires bounds { AreBounds net.now rows.old }
+    requires edges { HoldsEdges net.now (cells rows.old) }
     requires room { length through.old ≡ length rows.old }
-    requires stage { Stage net.now (cells rows.old) 0 (cells rows.old) }
-    ensures square { IsSquare (length rows.old) rows.new }
+    ensures square { IsSquare net.now.events rows.new }
     ensures ok { OnOk result (IsClosure net.now (cells rows.new)) }
     ensures err { IfErr result (λ fault. (fault ≡ MatrixFault.Loop) × HasNoRoot net.now) }
 {
+    if !is_sound(rows) {
+        return Err(MatrixFault::Loop);
+    }
     for event in 0..rows.len() {
         improve_through(rows, through, event);
         if !is_sound(rows) {
@@ -36,8 +38,8 @@ pub fn close(net: &Network, rows: &mut [Row], through: &mut [i64]) -> Result<(),
     Ok(())
 }
 
-/// Whether no entry of the diagonal is negative.
-pub fn is_sound(rows: &[Row]) -> bool
+// Whether no entry of the diagonal is negative.
+fn is_sound(rows: &[Row]) -> bool
     requires { IsSquare (length rows.now) rows.now }
     ensures yes { result ≡ true → (at : ℕ) → at < length rows.now → pos 0 ≤ℤ cells rows.now at at }
     ensures no { result ≡ false → (at : ℕ) × (cells rows.now at at <ℤ pos 0) }

@@ -1,11 +1,13 @@
 //! The matrix before the first event: the always-edges alone.
 
-ghost use Rattle.std.specs.Prelude.{◌≡◌, ◌≢◌, ◌<◌, ℕ, [], pos, IfOk, length, replicate, slice_index_or, slice_set};
+ghost use Rattle.std.specs.Prelude.{◌≡◌, ◌≢◌, ◌<◌, ℕ, [], pos, IfNone, IfOk, IfSome, length, replicate, slice_index_or, slice_set};
+ghost use Rattle.event_graph.specs.Edges.{IsAlways};
+ghost use Rattle.event_graph.specs.Network.{IsNet};
 ghost use Rattle.minplus.specs.declared.rows.TheConstants.{ABSENT};
 ghost use Rattle.minplus.specs.Matrix.{IsSquare, cells};
 ghost use Rattle.minplus.specs.Step.Entries.{HoldsEdges};
 ghost use Rattle.minplus.specs.Step.Rows.{LowersEntry};
-ghost use Rattle.minplus.specs.Step.Edges.{AreBounds, AreEmptyRows, Falls, HoldsCause, HoldsEdge, Lowers};
+ghost use Rattle.minplus.specs.Step.Edges.{AreBounds, AreEmptyRows, Falls, HoldsCause, HoldsEdge, IsAlwaysEdge, Lowers};
 
 use crate::row::Row;
 use crate::rows::ABSENT;
@@ -46,7 +48,8 @@ fn empty_row(alloc: Global, events: usize, own: usize) -> Result<Row, NoMemory>
 
 // Lowers the entries to the weights of the always-edges.
 fn lower_all(net: &Network, rows: &mut [Row])
-    requires { AreBounds net.now rows.old }
+    requires net { IsNet net.now }
+    requires bounds { AreBounds net.now rows.old }
     ensures bounds { AreBounds net.now rows.new }
     ensures edges { HoldsEdges net.now (cells rows.new) }
 {
@@ -57,6 +60,7 @@ fn lower_all(net: &Network, rows: &mut [Row])
 
 // Lowers the entries to the weights of the always-edges of a constraint.
 fn lower_constraint(net: &Network, constraint: u32, rows: &mut [Row])
+    requires net { IsNet net.now }
     requires constraint { constraint < length net.now.constraints }
     requires bounds { AreBounds net.now rows.old }
     ensures bounds { AreBounds net.now rows.new }
@@ -64,18 +68,29 @@ fn lower_constraint(net: &Network, constraint: u32, rows: &mut [Row])
     ensures causes { (cause : ℕ) → HoldsCause net.now (cells rows.new) constraint cause }
 {
     for cause in 0..net.cause_count(constraint).max(1) {
-        for side in [Side::Lower, Side::Upper] {
-            lower_named(
-                net,
-                EdgeName {
-                    constraint,
-                    cause,
-                    side,
-                },
-                rows,
-            );
-        }
+        lower_cause(net, constraint, cause, rows);
     }
+}
+
+// Lowers the entries to the weights of the always-edges of a cause, on both sides.
+fn lower_cause(net: &Network, constraint: u32, cause: u32, rows: &mut [Row])
+    requires { AreBounds net.now rows.old }
+    ensures bounds { AreBounds net.now rows.new }
+    ensures falls { Falls (cells rows.old) (cells rows.new) }
+    ensures cause { HoldsCause net.now (cells rows.new) constraint cause }
+{
+    let lower = EdgeName {
+        constraint,
+        cause,
+        side: Side::Lower,
+    };
+    lower_named(net, lower, rows);
+    let upper = EdgeName {
+        constraint,
+        cause,
+        side: Side::Upper,
+    };
+    lower_named(net, upper, rows);
 }
 
 // Lowers an entry to the weight of the edge of a name, if it is an always-edge.
@@ -85,10 +100,20 @@ fn lower_named(net: &Network, name: EdgeName, rows: &mut [Row])
     ensures falls { Falls (cells rows.old) (cells rows.new) }
     ensures edge { HoldsEdge net.now (cells rows.new) name }
 {
-    if net.is_always(name)
-        && let Some(edge) = net.edge(name)
-    {
+    if let Some(edge) = always_edge(net, name) {
         lower(rows, edge);
+    }
+}
+
+// The edge of a name, if it is an always-edge.
+fn always_edge(net: &Network, name: EdgeName) -> Option<Edge>
+    ensures some { IfSome result (IsAlwaysEdge net.now name) }
+    ensures none { IfNone result (IsAlways net.now name → ⊥) }
+{
+    if net.is_always(name) {
+        net.edge(name)
+    } else {
+        None
     }
 }
 

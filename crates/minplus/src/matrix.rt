@@ -5,7 +5,7 @@ ghost use Rattle.itv_base.specs.declared.limits.TheConstants.{MAX_MATRIX_EVENTS}
 ghost use Rattle.event_graph.specs.RootBound.{MeetsAlways};
 ghost use Rattle.minplus.specs.Matrix.{AreRootBounds, IsMatrixFault};
 
-use crate::closing::{close, is_sound};
+use crate::closing::close;
 use crate::edges::first_rows;
 use crate::fault::MatrixFault;
 use crate::row::{Row, entry};
@@ -59,9 +59,6 @@ pub fn closure(alloc: Global, net: &Network) -> Result<Matrix, MatrixFault>
         return Err(MatrixFault::TooMany(events));
     }
     let mut rows = first_rows(alloc, net)?;
-    if !is_sound(&rows) {
-        return Err(MatrixFault::Loop);
-    }
     let mut through = vec![in alloc; ABSENT; events as usize]?;
     close(net, &mut rows, &mut through)?;
     Ok(Matrix { rows })

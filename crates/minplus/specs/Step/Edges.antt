@@ -1,5 +1,6 @@
 -- The always-edges of a network, put into a matrix one after another.
 use Rattle.std.specs.Prelude.{◌≡◌, ◌<◌, ◌⊎◌, ℕ, ℤ, pos, ◌≤ℤ◌, List, [], Some, length, replicate, slice_index_or, slice_set}
+use Rattle.itv_base.specs.Range.{IsEnd}
 use Rattle.itv_base.specs.declared.limits.TheConstants.{END_LIMIT}
 use Rattle.itv_base.specs.declared.names.EdgeName.{EdgeName}
 use Rattle.itv_base.specs.declared.names.Side.{Side}
@@ -11,6 +12,14 @@ use Rattle.minplus.specs.Rows.{IsEntry}
 use Rattle.minplus.specs.declared.rows.TheConstants.{ABSENT}
 use Rattle.minplus.specs.Step.Entries.{BoundsAlways, Entries, IsHeld}
 use Rattle.minplus.specs.Step.Paths.{AreSteps}
+
+-- the always-edge of a name: it is between events, and its weight is an end of a range
+pub record IsAlwaysEdge (net : Net) (name : EdgeName) (e : Edge) : Type 0 where
+  pub always : IsAlways net name
+  pub is : edge net name ≡ Some e
+  pub from : e.from.0 < net.events
+  pub to : e.to.0 < net.events
+  pub within : IsEnd (Some e.weight)
 
 -- the entry of an edge's ends became its weight, if that is less, and no other entry changed
 pub record Lowers (e : Edge) (old new : Entries) : Type 0 where
