@@ -4,4 +4,3 @@ mod LoneLemmas
 mod Putting
 mod Reporting
 mod Solving
-mod WholeLemmas

@@ -14,7 +14,7 @@ use Rattle.sheet.specs.Contents.{Contents}
 use Rattle.itv_cli.specs.declared.row.Row.{Row}
 use Rattle.itv_cli.specs.Lone.{constraint_of, event_of, row_of, lone_network, name_of_mark}
 use Rattle.itv_cli.specs.Drawing.{drawn_by, IsDrawn, IsRowOf, name_of_byte}
-use Rattle.itv_cli.specs.Whole.{IsWhole, IsWholeRow}
+use Rattle.sheet.specs.Whole.{IsWhole, IsWholeRow}
 use Rattle.std.specs.List.{list_all}
 use Rattle.itv_base.specs.Range.{Ends, Allows}
 use Rattle.itv_base.specs.declared.names.RuleKind.{RuleKind}
@@ -53,7 +53,7 @@ more_hold P None xs p h = h
 more_hold P (Some x) xs p h = (p, h)
 
 row_within : (net : Net) (row : SheetRow) → IsWholeRow net.events row → IfSome (row_of row) (IsRowOf net)
-row_within net row h = chosen (row.shift == 0) (record { kind = row.kind; from = event_of row.from; to = event_of row.to }) (IsRowOf net) h
+row_within net row h = chosen (row.shift == 0) (record { kind = row.kind; from = event_of row.from; to = event_of row.to }) (IsRowOf net) (h.from, h.to)
 
 rows_within : (net : Net) (rows : List SheetRow) → AllByRecursion (IsWholeRow net.events) rows → AllByRecursion (IsRowOf net) (filter_map row_of rows)
 rows_within net [] h = tt

@@ -5,7 +5,6 @@ pub mod Right
 pub mod Lone
 pub mod Refusal
 pub mod Design
-pub mod Whole
 pub mod Drawing
 pub mod Call
 pub mod Steps

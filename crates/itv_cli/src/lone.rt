@@ -8,7 +8,7 @@ ghost use Rattle.itv_cli.specs.Drawing.{IsRowOf};
 ghost use Rattle.itv_cli.specs.Lone.{asks, constraint_of, holds_zero, is_easy, is_easy_rule, is_linear, lone_network, row_of};
 ghost use Rattle.itv_cli.specs.Name.{name_view};
 ghost use Rattle.itv_cli.specs.Right.{name_of};
-ghost use Rattle.itv_cli.specs.Whole.{IsWhole, IsWholeRule};
+ghost use Rattle.sheet.specs.Whole.{IsWholeRule};
 
 use crate::row::Row;
 use event_graph::{Network, PushFault};
@@ -163,8 +163,7 @@ fn names_of(alloc: Global, marks: &[Mark]) -> Result<Vec<u8>, NoMemory>
 impl LoneDesign {
     /// What a sheet draws in its one cycle, for a sheet that [`is_easy`].
     pub fn new(alloc: Global, sheet: &Sheet) -> Result<LoneDesign, NoMemory>
-        requires whole { IsWhole sheet.now }
-        requires easy { IsTrue (is_easy sheet.now) }
+        requires { IsTrue (is_easy sheet.now) }
         ensures { IfOk result (λ design. design ≡ lone_network sheet.now) }
     {
         let marks = names_of(alloc, sheet.marks().as_slice())?;

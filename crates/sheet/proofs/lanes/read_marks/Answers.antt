@@ -1,8 +1,10 @@
 use Rattle.std.proofs.Common.{◌+◌, ◌≤◌, ◌∙◌, refl, sym, ap, length, length-append, arith}
 use Rattle.std.proofs.lemmas.List.Elements.{All-nil, All-push}
 use Rattle.std.proofs.lemmas.Result.{err_from_is_err_and}
+use Rattle.sheet.specs.declared.mark.TheConstants.{MAX_MARKS}
+use Rattle.sheet.specs.Fault.{is_memory}
 use Rattle.sheet.specs.Sheet.{read_marks}
-use Rattle.sheet.proofs.Faults.{HasFault-on}
+use Rattle.itv_base.proofs.Faults.{HasFault-on}
 use Rattle.sheet.proofs.LaneLists.{AreMarks-none, length-le_from_AreMarks, lanes-fault, lanes-more, lanes-end, marks-grew, spans-step, read_marks-bad, read_marks-good}
 use Rattle.sheet.proofs.lanes.read_marks.Goals as goal
 
@@ -11,12 +13,12 @@ returns-in-Some-clause-answer c = read_marks-bad c.args.lanes.now c.in-Some.lane
 
 pub loop-k-init : goal.loop-k-init
 loop-k-init c =
-    rw (c.new-marks.ensures, c.new-spans.ensures.items) (record { answer = refl; distinct = AreMarks-none; spans = refl; within = All-nil (λ s. s.first + s.count ≤ 128) })
+    rw (c.new-marks.ensures, c.new-spans.ensures.items) (record { answer = refl; distinct = AreMarks-none; spans = refl; within = All-nil (λ s. s.first + s.count ≤ MAX_MARKS) })
 
 pub returns-in_err-push_marks-clause-answer : goal.returns-in_err-push_marks-clause-answer
 returns-in_err-push_marks-clause-answer c =
     let p = err_from_is_err_and c.from_residual.result c.from_residual.ensures.1 in
-    rw (p.1, p.2) (HasFault-on _ (read_marks c.args.lanes.now) c.in_err-push_marks.field-0.0
+    rw (p.1, p.2) (HasFault-on is_memory _ (read_marks c.args.lanes.now) c.in_err-push_marks.field-0.0
     (λ d is. read_marks-good c.args.lanes.now (sym c.in_default.ensures) ∙ sym c.loop-k.invariant.answer ∙ lanes-fault c.loop-k.marks c.args.lanes.now c.loop-k.k c.get.result.now c.get.ensures d is)
     c.in_err-push_marks.ensures.answer)
 
@@ -34,7 +36,7 @@ loop-k-preserved c =
       answer = sym (lanes-more c.loop-k.marks c.args.lanes.now c.loop-k.k c.get.result.now c.get.ensures _ c.in_ok-push_marks.ensures.answer) ∙ c.loop-k.invariant.answer;
       distinct = distinct;
       spans = sym (spans-step c.loop-k.marks c.args.lanes.now c.loop-k.k c.get.result.now c.get.ensures c.push_marks.new.marks c.loop-k.spans.items grew) ∙ c.loop-k.invariant.spans;
-      within = All-push (λ s. s.first + s.count ≤ 128) _ _ c.loop-k.invariant.within (omega (arith, ap length grew, length-append c.loop-k.marks, length-le_from_AreMarks c.push_marks.new.marks distinct));
+      within = All-push (λ s. s.first + s.count ≤ MAX_MARKS) _ _ c.loop-k.invariant.within (omega (arith, ap length grew, length-append c.loop-k.marks, length-le_from_AreMarks c.push_marks.new.marks distinct));
     })
 
 pub returns-clause-answer : goal.returns-clause-answer

@@ -6,14 +6,14 @@ use Rattle.itv_cli.proofs.lone.LoneDesign.new.Goals as goal
 
 pub invariant_of-result : goal.invariant_of-result
 invariant_of-result c =
-    lone_drawn c.args.sheet.now _ _ _ c.len-events.result (c.len-events.ensures ∙ ap length c.marks-2.ensures) c.requires.whole (easy_rules c.args.sheet.now c.requires.easy)
-    (c.in_ok-network.ensures ∙ ap (λ rules. record { events = c.len-events.result; constraints = filter_map constraint_of rules }) (c.as_slice-3.ensures ∙ c.rules.ensures))
-    (c.in_ok-marks.ensures ∙ ap (map (λ mark. mark.name)) (c.as_slice.ensures ∙ c.marks.ensures))
-    (c.in_ok-rows.ensures ∙ ap (filter_map row_of) (c.as_slice-2.ensures ∙ c.rows.ensures))
+    lone_drawn c.args.sheet.now _ _ _ c.len-events.result (c.len-events.ensures ∙ ap length c.marks-2.ensures.marks) c.marks.ensures.whole (easy_rules c.args.sheet.now c.requires)
+    (c.in_ok-network.ensures ∙ ap (λ rules. record { events = c.len-events.result; constraints = filter_map constraint_of rules }) (c.as_slice-3.ensures ∙ c.rules.ensures.rules))
+    (c.in_ok-marks.ensures ∙ ap (map (λ mark. mark.name)) (c.as_slice.ensures ∙ c.marks.ensures.marks))
+    (c.in_ok-rows.ensures ∙ ap (filter_map row_of) (c.as_slice-2.ensures ∙ c.rows.ensures.rows))
 
 pub returns : goal.returns
 returns c =
-    lone_is c.args.sheet.now _ _ _ c.len-events.result (c.len-events.ensures ∙ ap length c.marks-2.ensures)
-    (c.in_ok-network.ensures ∙ ap (λ rules. record { events = c.len-events.result; constraints = filter_map constraint_of rules }) (c.as_slice-3.ensures ∙ c.rules.ensures))
-    (c.in_ok-marks.ensures ∙ ap (map (λ mark. mark.name)) (c.as_slice.ensures ∙ c.marks.ensures))
-    (c.in_ok-rows.ensures ∙ ap (filter_map row_of) (c.as_slice-2.ensures ∙ c.rows.ensures))
+    lone_is c.args.sheet.now _ _ _ c.len-events.result (c.len-events.ensures ∙ ap length c.marks-2.ensures.marks)
+    (c.in_ok-network.ensures ∙ ap (λ rules. record { events = c.len-events.result; constraints = filter_map constraint_of rules }) (c.as_slice-3.ensures ∙ c.rules.ensures.rules))
+    (c.in_ok-marks.ensures ∙ ap (map (λ mark. mark.name)) (c.as_slice.ensures ∙ c.marks.ensures.marks))
+    (c.in_ok-rows.ensures ∙ ap (filter_map row_of) (c.as_slice-2.ensures ∙ c.rows.ensures.rows))
