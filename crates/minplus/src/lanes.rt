@@ -17,7 +17,7 @@ pub fn row_lanes(dst: &mut [i64], src: &[i64], w: i64)
     requires entries { All IsEntry dst.old }
     requires others { All IsEntry src.now }
     requires weight { IsSmall w }
-    ensures { Improves w dst.old src.now dst.new }
+    ensures improves { Improves w dst.old src.now dst.new }
 {
     let vectors = dst.len() / LANES;
     for vector in 0..vectors {

@@ -37,7 +37,7 @@ impl Matrix {
     pub fn at(&self, from: EventId, to: EventId) -> Option<i64>
         requires from { from.0 < length self.now }
         requires to { to.0 < length (slice_index_or self.now from.0 []) }
-        ensures { result ≡ entry_of self.now from to }
+        ensures entry { result ≡ entry_of self.now from to }
     {
         let number = entry(&self.rows, from.0 as usize, to.0 as usize);
         if number < ABSENT { Some(number) } else { None }

@@ -23,7 +23,7 @@ impl Model for Row {
 pub fn entry(rows: &[Row], from: usize, to: usize) -> i64
     requires from { from < length rows.now }
     requires to { to < length (slice_index_or rows.now from []) }
-    ensures { result ≡ cells rows.now from to }
+    ensures entry { result ≡ cells rows.now from to }
 {
     let row = &rows[from];
     row.entries[to]

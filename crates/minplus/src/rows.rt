@@ -15,7 +15,7 @@ pub fn row_plain(dst: &mut [i64], src: &[i64], w: i64)
     requires entries { All IsEntry dst.old }
     requires others { All IsEntry src.now }
     requires weight { IsSmall w }
-    ensures { Improves w dst.old src.now dst.new }
+    ensures improves { Improves w dst.old src.now dst.new }
 {
     for place in 0..dst.len() {
         improve_one(dst, src, place, w);
@@ -28,7 +28,7 @@ pub fn improve_one(dst: &mut [i64], src: &[i64], place: usize, w: i64)
     requires place { place < length dst.old }
     requires others { All IsEntry src.now }
     requires weight { IsSmall w }
-    ensures { ImprovesPart w place (place + 1) dst.old src.now dst.new }
+    ensures improves { ImprovesPart w place (place + 1) dst.old src.now dst.new }
 {
     dst[place] = improved(dst[place], src[place], w);
 }

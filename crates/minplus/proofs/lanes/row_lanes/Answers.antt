@@ -20,7 +20,7 @@ loop-place-init c =
     rw all c.loop-vector.invariant
 
 pub loop-place-preserved : goal.loop-place-preserved
-loop-place-preserved c = further _ 0 _ _ _ _ _ _ (omega arith) (omega arith) c.loop-place.invariant c.improve_one.ensures
+loop-place-preserved c = further _ 0 _ _ _ _ _ _ (omega arith) (omega arith) c.loop-place.invariant c.improve_one.ensures.improves
 
 pub returns : goal.returns
-returns c = whole_by_bits _ _ _ _ _ c.ranges.w (omega arith) c.requires.lengths c.loop-place.invariant
+returns c = record { improves = whole_by_bits _ _ _ _ _ c.ranges.w (omega arith) c.requires.lengths c.loop-place.invariant }
