@@ -252,8 +252,11 @@ number_bound : (net : Net) (entries : Entries) (from to : EventId) → IsClosure
 number_bound net entries from to closure from_below to_below there =
     let lift : ℤ = pos (3 * 2 ^ 61) in
     record {
-      attained = (times_from entries net.events from.0 lift, times_meet net entries from.0 lift (omega (arith, ints)) closure,
-          there_separation net entries from to lift closure from_below to_below there);
+      attained = (
+        times_from entries net.events from.0 lift,
+        times_meet net entries from.0 lift (omega (arith, ints)) closure,
+        there_separation net entries from to lift closure from_below to_below there,
+      );
       most = λ times met. closure.bounds times met from.0 to.0 there;
     }
 

@@ -190,9 +190,9 @@ eight_by_bits weight place old other lanes small within lengths held other_held 
     let entries = each_of (chunk place 8 old) held in
     let others = each_of (chunk place 8 other) (chunk_held place other other_held) in
     let read : lanes ≡ zip2 (improved weight) (chunk place 8 old) (chunk place 8 other) =
-        rw (to_z-of_z w64 weight (small_fits weight small), entries_by_bits _ entries, entries_by_bits _ others) at is in
+    rw (to_z-of_z w64 weight (small_fits weight small), entries_by_bits _ entries, entries_by_bits _ others) at is in
     let stored : map (to_z w64) (map (of_z w64) lanes) ≡ zip2 (improved weight) (chunk place 8 old) (chunk place 8 other) =
-        ap (λ l. map (to_z w64) (map (of_z w64) l)) read ∙ improved_by_bits weight _ _ small entries others in
+    ap (λ l. map (to_z w64) (map (of_z w64) l)) read ∙ improved_by_bits weight _ _ small entries others in
     eight_put weight place old other _ within lengths stored
 
 -- the eight entries behind a part are as they were
@@ -200,8 +200,8 @@ pub chunk_behind : (weight : ℤ) (first place : ℕ) (old other now : List ℤ)
 chunk_behind weight first place old other now part within held =
     all_of (chunk place 8 now)
     (Each1-from_get_or IsEntry (chunk place 8 now) ABSENT
-      (λ lane below.
-        let count : length now ≡ length old = part.count in
-        let eight : length (chunk place 8 now) ≡ 8 = length-chunk place 8 now (omega arith) in
-        let in_lane : lane < 8 = omega arith in
-        rw (get_or-chunk place 8 now lane ABSENT in_lane, part.above (place + lane) (omega arith)) (held (place + lane) ABSENT (omega arith))))
+    (λ lane below.
+    let count : length now ≡ length old = part.count in
+    let eight : length (chunk place 8 now) ≡ 8 = length-chunk place 8 now (omega arith) in
+    let in_lane : lane < 8 = omega arith in
+    rw (get_or-chunk place 8 now lane ABSENT in_lane, part.above (place + lane) (omega arith)) (held (place + lane) ABSENT (omega arith))))

@@ -120,6 +120,7 @@ all_through event old now through half = record {
   where
     stays : (from to : ℕ) → length old ≤ from → cells now from to ≡ cells old from to
     stays from to past = ap (λ (row : List ℤ). entry_at row to) (half.left from past)
+
     own : (to : ℕ) (entry first : ℤ) → IsWithin entry first (entry_at through to) → IsWithin entry first (cells old event to)
     own to entry first within =
         let same : entry_at through to ≡ cells old event to = ap (λ (row : List ℤ). entry_at row to) half.own in

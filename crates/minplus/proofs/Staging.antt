@@ -52,7 +52,7 @@ pub stage_further : (net : Net) (steps old new : Entries) (event : ℕ) → even
     → ((at : ℕ) → at < net.events → pos 0 ≤ℤ new at at) → Stage net steps (event + 1) new
 stage_further net steps old new event below few stage through sound =
     let paths : ArePaths steps (event + 1) new = paths_further steps old new event
-        (record { held = stage.held; falls = stage.falls; through = through; closed = stage.closed; diagonal = stage.diagonal event below; paths = stage.paths }) in
+    (record { held = stage.held; falls = stage.falls; through = through; closed = stage.closed; diagonal = stage.diagonal event below; paths = stage.paths }) in
     record {
       small = stage.small;
       held = held_further steps old new event stage.small (omega arith) stage.held through paths;

@@ -9,8 +9,8 @@ ghost use Rattle.minplus.specs.Step.Rows.{RowThrough};
 ghost use Rattle.minplus.specs.Step.Entries.{HoldsEdges, IsClosure, IsThrough};
 ghost use Rattle.minplus.specs.Step.Edges.{AreBounds};
 
-use crate::lanes::row_lanes;
 use crate::fault::MatrixFault;
+use crate::lanes::row_lanes;
 use crate::row::{Row, entry};
 use crate::rows::ABSENT;
 use event_graph::Network;

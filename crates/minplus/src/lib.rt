@@ -13,7 +13,7 @@ mod rows;
 #[cfg(test)]
 mod tests;
 
-pub use lanes::row_lanes;
 pub use fault::MatrixFault;
+pub use lanes::row_lanes;
 pub use matrix::{Matrix, closure};
 pub use rows::{ABSENT, row_plain};

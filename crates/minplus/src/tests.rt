@@ -5,7 +5,7 @@ ghost use Rattle.minplus.specs.Rows.{IsEntry};
 
 use crate::{ABSENT, MatrixFault, closure, row_lanes, row_plain};
 use event_graph::{Cause, Network};
-use itv_base::{EventId, NoMemory, Range};
+use itv_base::{EventId, MAX_CAUSES, NoMemory, Range};
 use std::alloc::Global;
 use std::process::Abort;
 use std::test::Fail;
@@ -32,7 +32,20 @@ impl Gap {
     }
 }
 
-// A row of the numbers `first`, `first + 7`, .. with a gap.
+// The entry of a place: absent in the gap, else one of the numbers `first`, `first + 7`, ..
+fn entry(place: usize, len: usize, first: u8, gap: Gap) -> i64
+    requires place { place < len }
+    requires len { len ≤ 100 }
+    ensures { IsEntry result }
+{
+    if gap.holds(place, len) {
+        ABSENT
+    } else {
+        i64::from(first) + 7 * place as i64
+    }
+}
+
+// A row of such entries.
 fn row(alloc: Global, len: usize, first: u8, gap: Gap) -> Result<Vec<i64>, NoMemory>
     requires { len ≤ 100 }
     ensures held { IfOk result (λ row. All IsEntry row.items) }
@@ -40,8 +53,7 @@ fn row(alloc: Global, len: usize, first: u8, gap: Gap) -> Result<Vec<i64>, NoMem
 {
     let mut entries = Vec::with_capacity(alloc, len)?;
     for place in 0..len {
-        let number = i64::from(first) + 7 * place as i64;
-        entries.push(if gap.holds(place, len) { ABSENT } else { number })?;
+        entries.push(entry(place, len, first, gap))?;
     }
     Ok(entries)
 }
@@ -64,28 +76,79 @@ fn lanes_do_what_plain_rows_do(rt: HostRuntime) -> Result<(), Fail> {
     let others = row(rt.alloc(), 9, 60, Gap::First)?;
     let mut lanes = row(rt.alloc(), 9, 50, Gap::Last)?;
     row_lanes(&mut lanes, &others, -20);
-    assert_eq!(rt; lanes.as_slice(), [50, 47, 54, 61, 68, 75, 82, 89, 96].as_slice());
+    assert_eq!(rt;
+        lanes.as_slice(),
+        [50, 47, 54, 61, 68, 75, 82, 89, 96].as_slice()
+    );
     Ok(())
 }
 
 // Adds the constraint that the separation of two events lies in a range.
-fn lin(rt: &impl Abort, net: &mut Network, alloc: Global, ends: (u32, u32), low: i64, high: i64) -> Result<(), Fail> {
+fn lin(
+    rt: &impl Abort,
+    net: &mut Network,
+    alloc: Global,
+    ends: (u32, u32),
+    low: i64,
+    high: i64,
+) -> Result<(), Fail> {
     assert!(rt; ends.0 < net.events());
     assert!(rt; ends.1 < net.events());
-    net.push_linear(alloc, EventId(ends.0), EventId(ends.1), Range::new(Some(low), Some(high))?)?;
+    net.push_linear(
+        alloc,
+        EventId(ends.0),
+        EventId(ends.1),
+        Range::new(Some(low), Some(high))?,
+    )?;
     Ok(())
 }
 
-// A cause with a range.
-fn cause(event: u32, low: i64, high: i64) -> Result<Cause, Fail> {
-    Ok(Cause {
-        event: EventId(event),
-        range: Range::new(Some(low), Some(high))?,
-    })
+// Two events a and b, b from 100 to 300 after a, and a target j of both of them.
+fn network(rt: &impl Abort, alloc: Global, is_late: bool) -> Result<Network, Fail> {
+    let mut net = Network::new(alloc, 3)?;
+    lin(rt, &mut net, alloc, (0, 1), 100, 300)?;
+    let causes = [
+        Cause {
+            event: EventId(0),
+            range: Range::new(Some(500), Some(700))?,
+        },
+        Cause {
+            event: EventId(1),
+            range: Range::new(Some(200), Some(400))?,
+        },
+    ];
+    push(rt, &mut net, alloc, is_late, &causes)?;
+    Ok(net)
+}
+
+// Adds the constraint that event 2 comes at the latest or at the earliest of some causes.
+fn push(
+    rt: &impl Abort,
+    net: &mut Network,
+    alloc: Global,
+    is_late: bool,
+    causes: &[Cause],
+) -> Result<(), Fail> {
+    let events = net.events();
+    assert!(rt; 2 < events);
+    assert!(rt; causes.iter().all(|cause| cause.event.0 < events));
+    assert!(rt; 1 <= causes.len());
+    assert!(rt; causes.len() <= MAX_CAUSES);
+    if is_late {
+        net.push_late(alloc, EventId(2), causes)?;
+    } else {
+        net.push_early(alloc, EventId(2), causes)?;
+    }
+    Ok(())
 }
 
 // Compares each entry of the closure of a network with what is wanted.
-fn check(rt: &impl Abort, alloc: Global, net: &Network, wanted: &[&[Option<i64>]]) -> Result<(), Fail> {
+fn check(
+    rt: &impl Abort,
+    alloc: Global,
+    net: &Network,
+    wanted: &[&[Option<i64>]],
+) -> Result<(), Fail> {
     let matrix = closure(alloc, net)?;
     assert_eq!(rt; net.events() as usize, wanted.len());
     for (from, row) in wanted.iter().enumerate() {
@@ -98,19 +161,13 @@ fn check(rt: &impl Abort, alloc: Global, net: &Network, wanted: &[&[Option<i64>]
     Ok(())
 }
 
-// Two events a and b, and a target j of both of them: of latest causes the lower sides always hold, of earliest ones the upper
-// sides, and of a single cause both.
+// Of latest causes the lower sides always hold, and of earliest ones the upper sides.
 #[test]
 fn sides_that_always_hold(rt: HostRuntime) -> Result<(), Fail> {
-    let alloc = rt.alloc();
-    let causes = [cause(0, 500, 700)?, cause(1, 200, 400)?];
-    let mut latest = Network::new(alloc, 3)?;
-    lin(&rt, &mut latest, alloc, (0, 1), 100, 300)?;
-    assert!(rt; causes.iter().all(|c| c.event.0 < 3));
-    latest.push_late(alloc, EventId(2), &causes)?;
+    let latest = network(&rt, rt.alloc(), true)?;
     check(
         &rt,
-        alloc,
+        rt.alloc(),
         &latest,
         &[
             &[Some(0), Some(300), None],
@@ -118,12 +175,10 @@ fn sides_that_always_hold(rt: HostRuntime) -> Result<(), Fail> {
             &[Some(-500), Some(-200), Some(0)],
         ],
     )?;
-    let mut earliest = Network::new(alloc, 3)?;
-    lin(&rt, &mut earliest, alloc, (0, 1), 100, 300)?;
-    earliest.push_early(alloc, EventId(2), &causes)?;
+    let earliest = network(&rt, rt.alloc(), false)?;
     check(
         &rt,
-        alloc,
+        rt.alloc(),
         &earliest,
         &[
             &[Some(0), Some(300), Some(700)],
@@ -148,6 +203,9 @@ fn loops_and_limits(rt: HostRuntime) -> Result<(), Fail> {
     check(&rt, alloc, &Network::new(alloc, 0)?, &[])?;
     assert_eq!(rt; closure(alloc, &Network::new(alloc, 1024)?).is_ok(), true);
     let large = Network::new(alloc, 1025)?;
-    assert_eq!(rt; closure(alloc, &large).err(), Some(MatrixFault::TooMany(1025)));
+    assert_eq!(rt;
+        closure(alloc, &large).err(),
+        Some(MatrixFault::TooMany(1025))
+    );
     Ok(())
 }
