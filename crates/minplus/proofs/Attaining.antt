@@ -1,20 +1,17 @@
 -- The entries of a closure are the root bounds: times that meet the always-edges attain each number, and exceed everything where there is none.
-use Rattle.std.proofs.Common.{◌≡◌, ◌+◌, ◌*◌, ◌<◌, ◌≤◌, ◌^◌, ◌⊎◌, inl, inr, ℕ, zero, suc, ℤ, pos, negsuc, neg_ℤ, ◌+ℤ◌, ◌-ℤ◌, Bool, true, false, cond, List, map, length, Option, Some, None, ◌∙◌, sym, ap, refl, arith}
+use Rattle.std.proofs.Common.{◌≡◌, ◌+◌, ◌*◌, ◌<◌, ◌^◌, ◌⊎◌, inl, inr, ℕ, zero, suc, ℤ, pos, negsuc, neg_ℤ, ◌+ℤ◌, ◌-ℤ◌, Bool, true, false, cond, List, map, length, Some, None, ◌∙◌, refl, arith}
 use Rattle.std.specs.Prelude.{int_lt}
 use Rattle.std.specs.Int.{int_min}
 use Rattle.std.specs.List.{range_with_len}
 use Rattle.std.proofs.lemmas.Bool.{cases_lt}
-use Rattle.std.proofs.lemmas.Int.{ints, clamps}
+use Rattle.std.proofs.lemmas.Int.{ints}
 use Rattle.std.proofs.lemmas.List.FromFn.{get_or-map-range_with_len, length-map-range_with_len}
 use lib.Signed.{◌≤ℤ◌, ◌<ℤ◌}
-use Rattle.itv_base.specs.declared.names.EdgeName.{EdgeName}
 use Rattle.itv_base.specs.declared.names.EventId.{EventId}
-use Rattle.event_graph.specs.declared.edge.Edge.{Edge}
-use Rattle.event_graph.specs.Edges.{IsAlways, Meets, edge}
 use Rattle.event_graph.specs.Network.{Net}
 use Rattle.event_graph.specs.RootBound.{HasNoRoot, IsRootBound, MeetsAlways}
 use Rattle.event_graph.specs.Times.{separation, time_of}
-use Rattle.minplus.specs.Rows.{IsEntry, IsSmall}
+use Rattle.minplus.specs.Rows.{IsSmall}
 use Rattle.minplus.specs.Matrix.{AreRootBounds, IsSquare, cells, number_of}
 use Rattle.minplus.specs.Step.Entries.{BoundsAlways, Entries, IsClosedBelow, IsClosure, IsHeld, IsThere}
 use Rattle.minplus.specs.declared.rows.TheConstants.{ABSENT}

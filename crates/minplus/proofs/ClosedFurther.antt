@@ -1,13 +1,11 @@
 -- A matrix that is improved through one more event: detours over the events so far are no shorter, and each entry still bounds its separations.
-use Rattle.std.proofs.Common.{◌≡◌, ◌+◌, ◌<◌, ◌⊎◌, inl, inr, ℕ, ℤ, pos, ◌+ℤ◌, ◌-ℤ◌, List, sym, subst, arith}
+use Rattle.std.proofs.Common.{◌≡◌, ◌+◌, ◌<◌, inl, inr, ℕ, ℤ, pos, ◌+ℤ◌, sym, subst, arith}
 use Rattle.std.proofs.lemmas.Bool.{cases_eq}
 use Rattle.std.proofs.lemmas.Int.{ints}
-use lib.Signed.{◌≤ℤ◌, ◌<ℤ◌}
-use Rattle.itv_base.specs.declared.names.EventId.{EventId}
+use lib.Signed.{◌≤ℤ◌}
 use Rattle.event_graph.specs.Network.{Net}
-use Rattle.event_graph.specs.RootBound.{MeetsAlways}
-use Rattle.event_graph.specs.Times.{separation, time_of}
-use Rattle.minplus.specs.Rows.{IsEntry, IsSmall}
+use Rattle.event_graph.specs.Times.{separation}
+use Rattle.minplus.specs.Rows.{IsEntry}
 use Rattle.minplus.specs.Step.Entries.{BoundsAlways, Entries, IsClosedBelow, IsThere, IsThrough, IsWithin}
 use Rattle.minplus.proofs.Numbers.{small_there}
 

@@ -1,11 +1,10 @@
 -- What one lane of a vector becomes, and all lanes.
-use Rattle.std.proofs.Common.{◌≡◌, ◌+◌, ◌-◌, ◌<◌, ◌≤◌, ◌^◌, ◌⊎◌, inl, inr, ℕ, zero, suc, ℤ, pos, negsuc, neg_ℤ, ◌+ℤ◌, Bool, true, false, cond, eqb, List, [], ◌∷◌, length, map, replicate, All, sym, ap, ◌∙◌, refl, lit<, w64, to_z, of_z, arith, rules}
+use Rattle.std.proofs.Common.{◌≡◌, ◌+◌, ◌-◌, ◌<◌, ◌≤◌, ◌^◌, inl, inr, ℕ, zero, suc, ℤ, pos, negsuc, neg_ℤ, ◌+ℤ◌, Bool, true, false, cond, eqb, List, [], ◌∷◌, length, map, replicate, All, sym, ap, ◌∙◌, refl, lit<, w64, to_z, of_z, arith}
 use Rattle.std.proofs.lemmas.Bool.{ne_eqb}
-use Rattle.std.proofs.lemmas.Int.{ints, clamps, to_z-of_z}
+use Rattle.std.proofs.lemmas.Int.{ints, to_z-of_z}
 use Rattle.std.proofs.lemmas.Simd.{Each1-chunk, Each1-from_get_or, Each1-get_or, get_or-chunk, length-chunk}
-use Rattle.std.specs.Prelude.{int_le, int_lt}
 use Rattle.std.specs.Int.{int_min}
-use lib.Signed.{◌≤ℤ◌, ◌<ℤ◌, lt_z}
+use lib.Signed.{◌<ℤ◌, lt_z}
 use lib.Lanes.{Each1, Each2, chunk, put_chunk, zip2, sel_l, top}
 use mir.Val.{SFits}
 use mir.Syntax.{signed, eq, lt, add, mask}

@@ -1,9 +1,9 @@
 -- Entries that are there, and entries that are absent.
-use Rattle.std.proofs.Common.{◌≡◌, ◌^◌, ◌⊎◌, inl, inr, ℤ, pos, neg_ℤ, ◌+ℤ◌, refl, ◌∙◌, Bool, true, false, cond, arith}
+use Rattle.std.proofs.Common.{◌≡◌, ◌⊎◌, inl, inr, ℤ, ◌+ℤ◌, refl, ◌∙◌, Bool, true, false, cond, arith}
 use Rattle.std.proofs.lemmas.Int.{ints, clamps}
 use Rattle.std.specs.Prelude.{int_le, int_lt}
 use Rattle.std.specs.Int.{int_min}
-use lib.Signed.{◌≤ℤ◌, ◌<ℤ◌}
+use lib.Signed.{◌≤ℤ◌}
 use Rattle.minplus.specs.Rows.{IsEntry, IsSmall, improved}
 use Rattle.minplus.specs.Step.Entries.{IsThere}
 use Rattle.minplus.specs.declared.rows.TheConstants.{ABSENT}

@@ -1,16 +1,14 @@
 -- Each entry is the length of a path over different events: paths that share an event make none that is shorter.
-use Rattle.std.proofs.Common.{◌≡◌, ◌+◌, ◌*◌, ◌<◌, ◌≤◌, ◌^◌, ◌⊎◌, inl, inr, ℕ, ℤ, pos, neg_ℤ, ◌+ℤ◌, Bool, true, false, eqb, List, [], ◌∷◌, ◌++◌, length, ◌∙◌, sym, ap, subst, refl, arith}
+use Rattle.std.proofs.Common.{◌≡◌, ◌+◌, ◌*◌, ◌<◌, ◌≤◌, ◌^◌, ◌⊎◌, inl, inr, ℕ, ℤ, pos, neg_ℤ, ◌+ℤ◌, true, false, eqb, List, [], ◌∷◌, ◌++◌, length, sym, ap, subst, refl, arith}
 use Rattle.std.specs.List.{AllByRecursion, IsDistinct, list_any}
 use Rattle.std.proofs.Math.Nat.{mul-le-mul_right}
 use Rattle.std.proofs.lemmas.Bool.{cases_eq, ne_eqb}
 use Rattle.std.proofs.lemmas.Int.{ints}
 use Rattle.std.proofs.lemmas.Map.Steps.{length-le_from_distinct_below}
-use lib.Signed.{◌≤ℤ◌, ◌<ℤ◌}
-use Rattle.minplus.specs.Rows.{IsEntry, IsSmall}
-use Rattle.minplus.specs.Step.Entries.{Entries, IsClosedBelow, IsThere, IsThrough, IsWithin}
+use lib.Signed.{◌≤ℤ◌}
+use Rattle.minplus.specs.Rows.{IsSmall}
+use Rattle.minplus.specs.Step.Entries.{Entries, IsClosedBelow, IsThere, IsThrough}
 use Rattle.minplus.specs.Step.Paths.{AreBelow, ArePaths, AreSteps, HasPath, IsPath}
-use Rattle.minplus.specs.declared.rows.TheConstants.{ABSENT}
-use Rattle.minplus.proofs.Numbers.{small_there}
 use Rattle.minplus.proofs.ClosedFurther.{AreEntries, sum_there}
 
 -- two paths make one

@@ -1,12 +1,11 @@
 -- A matrix that is improved through an event, one row after another.
-use Rattle.std.proofs.Common.{◌≡◌, ◌+◌, ◌<◌, ◌≤◌, ◌⊎◌, inl, inr, ℕ, ℤ, pos, ◌+ℤ◌, true, List, [], length, get_or, All, w64, to_z, of_z, ◌∙◌, sym, ap, subst, refl, arith}
+use Rattle.std.proofs.Common.{◌≡◌, ◌+◌, ◌<◌, ◌≤◌, inl, inr, ℕ, ℤ, pos, ◌+ℤ◌, true, List, [], length, get_or, All, w64, to_z, of_z, ◌∙◌, sym, ap, subst, refl, arith}
 use Rattle.std.specs.Prelude.{int_lt, slice_index_or}
 use Rattle.std.proofs.lemmas.Bool.{cases_eq, cases_lt}
 use Rattle.std.proofs.lemmas.Int.{ints, to_z-of_z}
 use Rattle.std.proofs.lemmas.List.{get_or_default, get_or_past}
-use lib.Signed.{◌≤ℤ◌, ◌<ℤ◌}
 use mir.Val.{SFits}
-use Rattle.minplus.specs.Rows.{IsEntry, IsSmall, Improves, entry_at, improved}
+use Rattle.minplus.specs.Rows.{IsEntry, Improves, entry_at, improved}
 use Rattle.minplus.specs.Matrix.{IsSquare, cells}
 use Rattle.minplus.specs.Step.Rows.{RowThrough}
 use Rattle.minplus.specs.Step.Entries.{IsThere, IsThrough, IsWithin}

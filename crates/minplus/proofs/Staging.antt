@@ -1,20 +1,17 @@
 -- The stages of a matrix that is improved through one event after another.
-use Rattle.std.proofs.Common.{◌≡◌, ◌+◌, ◌*◌, ◌<◌, ◌≤◌, ◌^◌, ◌⊎◌, inl, inr, ℕ, ℤ, pos, ◌+ℤ◌, [], eqb, List, sym, subst, refl, lit<, arith}
+use Rattle.std.proofs.Common.{◌≡◌, ◌+◌, ◌*◌, ◌<◌, ◌≤◌, ◌^◌, inl, inr, ℕ, ℤ, pos, ◌+ℤ◌, [], eqb, List, sym, subst, refl, arith}
 use Rattle.std.specs.Prelude.{unsigned_abs}
 use Rattle.std.specs.List.{IsDistinct}
-use Rattle.std.proofs.Math.Nat.{mul-le-mul_right}
 use Rattle.std.proofs.lemmas.Int.{ints}
-use lib.Signed.{◌≤ℤ◌, ◌<ℤ◌}
+use lib.Signed.{◌≤ℤ◌}
 use Rattle.itv_base.specs.declared.limits.TheConstants.{END_LIMIT, MAX_MATRIX_EVENTS}
 use Rattle.event_graph.specs.Network.{Net}
-use Rattle.event_graph.specs.declared.edge.Edge.{Edge}
-use Rattle.minplus.specs.Rows.{IsEntry, IsSmall}
+use Rattle.minplus.specs.Rows.{IsEntry}
 use Rattle.minplus.specs.Matrix.{cells}
 use Rattle.minplus.specs.Step.Entries.{Entries, HoldsEdges, IsClosure, IsHeld, IsThere, IsThrough}
 use Rattle.minplus.specs.Step.Edges.{AreBounds}
-use Rattle.minplus.specs.Step.Paths.{ArePaths, AreSteps, HasPath}
+use Rattle.minplus.specs.Step.Paths.{ArePaths, AreSteps}
 use Rattle.minplus.specs.Step.Stage.{Stage}
-use Rattle.minplus.specs.declared.rows.TheConstants.{ABSENT}
 use Rattle.minplus.proofs.Numbers.{small_there}
 use Rattle.minplus.proofs.ClosedFurther.{AreEntries, bounds_further, closed_further}
 use Rattle.minplus.proofs.PathLengths.{path_small, paths_further}

@@ -1,30 +1,24 @@
 -- The always-edges, put into a matrix one after another.
-use Rattle.std.proofs.Common.{◌≡◌, ◌+◌, ◌<◌, ◌≤◌, ◌⊎◌, inl, inr, ℕ, ℤ, pos, neg_ℤ, ◌-ℤ◌, List, [], ◌∷◌, ◌++◌, length, get_or, set, replicate, Option, Some, max, option_map, slice_get, ◌∙◌, sym, ap, subst, refl, arith}
-use Rattle.std.specs.Prelude.{slice_index_or}
-use Rattle.std.specs.Int.{int_min}
+use Rattle.std.proofs.Common.{◌≡◌, ◌+◌, ◌<◌, ◌⊎◌, inl, inr, ℕ, ℤ, pos, neg_ℤ, List, [], ◌∷◌, ◌++◌, length, get_or, set, replicate, Some, max, option_map, slice_get, ◌∙◌, sym, ap, subst, arith}
 use Rattle.std.proofs.Math.ListN.{length-set}
 use Rattle.std.proofs.lemmas.Bool.{cases_eq, cases_lt}
 use Rattle.std.proofs.lemmas.Int.{ints}
 use Rattle.std.proofs.lemmas.Option.{option_and_then_some, same_Some, slice_get_within}
 use Rattle.std.proofs.lemmas.List.{get_or-set_other, get_or-set_same, get_or_append_left, get_or_past, get_or_push, length_push}
 use Rattle.std.proofs.lemmas.Simd.{get_or-replicate, length-replicate}
-use lib.Signed.{◌≤ℤ◌, ◌<ℤ◌}
+use lib.Signed.{◌≤ℤ◌}
 use Rattle.itv_base.specs.Range.{IsEnd}
 use Rattle.itv_base.specs.declared.limits.TheConstants.{END_LIMIT}
 use Rattle.itv_base.specs.declared.names.EdgeName.{EdgeName}
 use Rattle.itv_base.specs.declared.names.RuleKind.{RuleKind}
 use Rattle.itv_base.specs.declared.names.RuleKind.TheVariants.{Lin, Late, Early}
-use Rattle.itv_base.specs.declared.names.Side.{Side}
 use Rattle.itv_base.specs.declared.names.Side.TheVariants.{Lower, Upper}
 use Rattle.event_graph.specs.declared.edge.Edge.{Edge}
-use Rattle.event_graph.specs.Edges.{IsAlways, Meets, edge}
 use Rattle.event_graph.specs.Network.{IsCauseCount, IsConstraint, IsNet, Net, cause_count_of, named_causes}
 use Rattle.event_graph.proofs.EdgesMet.{All-found, cause_of}
-use Rattle.event_graph.specs.RootBound.{MeetsAlways}
 use Rattle.event_graph.specs.Times.{separation}
 use Rattle.minplus.specs.Rows.{IsEntry, IsSmall, entry_at}
 use Rattle.minplus.specs.Matrix.{IsSquare, cells}
-use Rattle.minplus.specs.Step.Rows.{LowersEntry}
 use Rattle.minplus.specs.Step.Entries.{BoundsAlways, Entries, HoldsEdges, IsHeld, IsThere}
 use Rattle.minplus.specs.Step.Paths.{AreSteps}
 use Rattle.minplus.specs.Step.Edges.{AreBounds, AreEmptyRows, Falls, HoldsCause, HoldsEdge, IsAlwaysEdge, Lowers}

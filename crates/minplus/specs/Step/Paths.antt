@@ -1,5 +1,5 @@
 -- Paths over different events, which keep the entries small.
-use Rattle.std.specs.Prelude.{◌≡◌, ◌<◌, ◌≤◌, ◌==◌, ℕ, ℤ, neg_ℤ, ◌+ℤ◌, ◌≤ℤ◌, List, [], ◌∷◌, nat_eq}
+use Rattle.std.specs.Prelude.{◌≡◌, ◌<◌, ℕ, ℤ, neg_ℤ, ◌+ℤ◌, ◌≤ℤ◌, List, [], ◌∷◌, nat_eq}
 use Rattle.std.specs.List.{IsDistinct}
 use Rattle.minplus.specs.Step.Entries.{Entries, IsThere}
 

@@ -1,5 +1,5 @@
 -- A matrix that was improved through the events below a number.
-use Rattle.std.specs.Prelude.{◌≡◌, ◌<◌, ℕ, ℤ, pos, ◌≤ℤ◌}
+use Rattle.std.specs.Prelude.{◌≡◌, ◌<◌, ℕ, pos, ◌≤ℤ◌}
 use Rattle.itv_base.specs.declared.limits.TheConstants.{END_LIMIT}
 use Rattle.event_graph.specs.Network.{Net}
 use Rattle.minplus.specs.Rows.{IsEntry}

@@ -1,4 +1,4 @@
-use Rattle.std.proofs.Common.{◌≡◌, ◌<◌, ℕ, length, refl, rules, arith}
+use Rattle.std.proofs.Common.{◌≡◌, ◌<◌, length, refl, rules, arith}
 use Rattle.minplus.proofs.Attaining.{no_root}
 use Rattle.minplus.proofs.ClosedFurther.{bounds_further}
 use Rattle.minplus.proofs.RowByRow.{rows_held}

@@ -1,5 +1,3 @@
-use Rattle.std.proofs.Common.{arith}
-use Rattle.std.proofs.lemmas.Int.{ints}
 use Rattle.minplus.specs.Matrix.{cells}
 use Rattle.minplus.proofs.Starting.{both_sides, falls_further}
 use Rattle.minplus.proofs.edges.lower_cause.Goals as goal

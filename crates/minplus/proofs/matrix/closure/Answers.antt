@@ -1,4 +1,4 @@
-use Rattle.std.proofs.Common.{◌≡◌, ◌∙◌, ap, length, sym}
+use Rattle.std.proofs.Common.{◌∙◌, ap, length, sym}
 use Rattle.std.proofs.lemmas.List.{with_items_is}
 use Rattle.minplus.proofs.Attaining.{are_root_bounds, has_root}
 use Rattle.minplus.proofs.matrix.closure.Goals as goal
