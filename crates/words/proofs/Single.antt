@@ -52,10 +52,10 @@ range_single least most count =
     else (if nat_lt count least then kind.TooFewValues ∷ [] else (if nat_lt most count then kind.TooManyValues ∷ [] else [])))
     tt
     (by_test (least == most) (if least == count then [] else kind.WrongNumberOfValues ∷ [])
-      (if nat_lt count least then kind.TooFewValues ∷ [] else (if nat_lt most count then kind.TooManyValues ∷ [] else []))
-      (by_test (least == count) [] (kind.WrongNumberOfValues ∷ []) tt tt)
-      (by_test (nat_lt count least) (kind.TooFewValues ∷ []) (if nat_lt most count then kind.TooManyValues ∷ [] else []) tt
-        (by_test (nat_lt most count) (kind.TooManyValues ∷ []) [] tt tt)))
+    (if nat_lt count least then kind.TooFewValues ∷ [] else (if nat_lt most count then kind.TooManyValues ∷ [] else []))
+    (by_test (least == count) [] (kind.WrongNumberOfValues ∷ []) tt tt)
+    (by_test (nat_lt count least) (kind.TooFewValues ∷ []) (if nat_lt most count then kind.TooManyValues ∷ [] else []) tt
+    (by_test (nat_lt most count) (kind.TooManyValues ∷ []) [] tt tt)))
 
 request_single : (action : ArgAction) → AtMostOne (request_kinds action)
 request_single Help = tt
@@ -168,7 +168,7 @@ turn_single s w word leaf =
     let met = word_met s.rules [] w.is_trailing w.waiting w.position word w.held in
     by_test (is_some w.stopped) [] (or_else (word_fault s [] w.is_trailing w.waiting word w.held) (step_fault s w.position met.0 met.1)) tt
     (first_or (word_fault s [] w.is_trailing w.waiting word w.held) (step_fault s w.position met.0 met.1)
-      (word_single s w.is_trailing w.waiting word w.held) (step_single s w.position met.0 met.1 leaf))
+    (word_single s w.is_trailing w.waiting word w.held) (step_single s w.position met.0 met.1 leaf))
 
 -- ---- all words
 walk_single : (s : Shape) (w : Walk) (words : List Text) → s.is_leaf ≡ true → AtMostOne (walk_fault s [] w words)
@@ -195,10 +195,10 @@ level_single s h words leaf =
     (or_else (settle_fault s.rules s.args_override_self end) (or_else (defaults_fault (settled s.rules end).rows s.rules) (check_fault s rows false)))
     (walk_single s (walk_from h) words leaf)
     (first_or (settle_fault s.rules s.args_override_self end) (or_else (defaults_fault (settled s.rules end).rows s.rules) (check_fault s rows false))
-      (settle_single s.rules s.args_override_self end)
-      (first_or (defaults_fault (settled s.rules end).rows s.rules) (check_fault s rows false)
-        (defaults_single (settled s.rules end).rows s.rules)
-        (check_single _ _ _)))
+    (settle_single s.rules s.args_override_self end)
+    (first_or (defaults_fault (settled s.rules end).rows s.rules) (check_fault s rows false)
+    (defaults_single (settled s.rules end).rows s.rules)
+    (check_single _ _ _)))
 
 nothing_entered : (top : Shape) (stop : Option (Text × List Text)) (h : Held) (words : List Text) → top.is_leaf ≡ true
     → AtMostOne (level_fault top [] h words (is_some (entered (record { top = top; subs = [] }) stop)) (entered_fault (record { top = top; subs = [] }) stop))

@@ -113,12 +113,7 @@ pub fn command<'a>(alloc: Global) -> Result<Command<'a>, AllocError>
             "Cases that each search may close [default: 100000]",
         ))?
         .arg(cert_flag(alloc))?
-        .arg(text_option(
-            alloc,
-            "report",
-            "FILE",
-            "The report to check",
-        ))?
+        .arg(text_option(alloc, "report", "FILE", "The report to check"))?
         .arg(number_option(
             alloc,
             "size",

@@ -11,12 +11,20 @@ pub enum Task<'a> {
         cert: bool,
     },
     /// To print the matrix of a design: the name of its file.
-    Matrix { design: &'a str },
+    Matrix {
+        design: &'a str,
+    },
     /// To check a report of a design: the names of both files.
-    Check { design: &'a str, report: &'a str },
+    Check {
+        design: &'a str,
+        report: &'a str,
+    },
     /// To bound the rows of the generated design of a size, and sum up: the size, and the cases that each
     /// search may close.
-    Generated { size: u32, budget: u64 },
+    Generated {
+        size: u32,
+        budget: u64,
+    },
 }
 
 /// What words are taken for.
