@@ -1,5 +1,5 @@
 -- What the words are taken for, by what `clap` answers.
-use Rattle.std.proofs.Common.{◌≡◌, ◌⊎◌, inl, inr, Result, Ok, Err, IfOk, Bool, true, List, [], ◌∷◌, map, ◌∙◌, sym, ap, subst, refl}
+use Rattle.std.proofs.Common.{◌≡◌, ◌⊎◌, inl, inr, Result, Ok, Err, IfOk, true, List, [], ◌∷◌, map, ◌∙◌, sym, ap, subst, refl}
 use Rattle.clap.specs.Faults.{fault_of, is_simple_and_free}
 use Rattle.clap.specs.Kinds.{IsAmong, Kinds}
 use Rattle.clap.specs.Matches.{found_of}

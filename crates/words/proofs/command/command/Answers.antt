@@ -1,7 +1,4 @@
-use Rattle.std.proofs.Common.{◌≡◌, codes, Result, Ok, Err, IfOk}
-use Rattle.itv_base.specs.declared.limits.TheConstants.{MAX_BUDGET, MAX_SELF_SIZE}
-use Rattle.clap.specs.Simple.{app_of, with_rule}
-use Rattle.words.specs.Command.{bare_command, budget_rule, cert_rule, command, design_rule, job_rule, report_rule, size_rule}
+use Rattle.words.specs.Command.{bare_command, budget_rule, cert_rule, design_rule, job_rule, report_rule, size_rule}
 use Rattle.words.proofs.Building.{added, added_last}
 use Rattle.words.proofs.command.command.Goals as goal
 
