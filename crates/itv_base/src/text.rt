@@ -9,6 +9,7 @@ ghost use Rattle.std.proofs.Common.{rules};
 ghost use Rattle.std.proofs.lemmas.Cmp.{nat_list_eq_equiv};
 
 use std::alloc::{AllocError, AllocFailed, Global};
+use std::convert::AsStr;
 use std::hash::{Hash, Hasher};
 use std::marker::Model;
 use thiserror::Error;
@@ -59,6 +60,14 @@ impl Text {
         ensures text { result.now ≡ self.now }
     {
         self.inner.as_str()
+    }
+}
+
+impl AsStr for Text {
+    ghost text = { λ t. t };
+
+    fn as_str(&self) -> &str {
+        self.as_text()
     }
 }
 

@@ -53,4 +53,11 @@ impl Texts {
     {
         &self.items[k as usize]
     }
+
+    /// The texts, in their order.
+    pub fn as_slice(&self) -> &[Text]
+        ensures texts { result.now ≡ self.now }
+    {
+        self.items.as_slice()
+    }
 }

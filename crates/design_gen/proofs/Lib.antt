@@ -1,0 +1,3 @@
+pub mod Slaves
+pub mod Depth
+pub mod Filling

@@ -1,0 +1,9 @@
+pub mod Numbers
+pub mod Parts
+pub mod EachLane
+pub mod ClosedFurther
+pub mod PathLengths
+pub mod Attaining
+pub mod Staging
+pub mod RowByRow
+pub mod Starting

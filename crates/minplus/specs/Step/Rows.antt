@@ -1,0 +1,26 @@
+-- What is done to single rows.
+use Rattle.std.specs.Prelude.{◌≡◌, ◌≢◌, ◌<◌, ◌≤◌, ◌⊎◌, ℕ, ℤ, ◌+ℤ◌, ◌≤ℤ◌, List, length}
+use Rattle.std.specs.Int.{int_min}
+use Rattle.minplus.specs.Rows.{entry_at, improved}
+use Rattle.minplus.specs.Step.Entries.{IsThere, IsWithin}
+
+-- the entries at places from a first on up to a last one, and no others, were improved by those of another row
+pub record ImprovesPart (weight : ℤ) (first last : ℕ) (old other new : List ℤ) : Type 0 where
+  pub count : length new ≡ length old
+  pub each : (place : ℕ) → first ≤ place → place < last → entry_at new place ≡ improved weight (entry_at old place) (entry_at other place)
+  pub below : (place : ℕ) → place < first → entry_at new place ≡ entry_at old place
+  pub above : (place : ℕ) → last ≤ place → entry_at new place ≡ entry_at old place
+
+-- a row was improved through an event, whose own row is another
+pub record RowThrough (event : ℕ) (old through new : List ℤ) : Type 0 where
+  pub count : length new ≡ length old
+  pub falls : (to : ℕ) → entry_at new to ≤ℤ entry_at old to
+  pub least : (to : ℕ) → IsWithin (entry_at new to) (entry_at old event) (entry_at through to)
+  pub made : (to : ℕ) → (entry_at new to ≡ entry_at old to)
+      ⊎ (IsThere (entry_at old event) × IsThere (entry_at through to) × (entry_at new to ≡ (entry_at old event +ℤ entry_at through to)))
+
+-- an entry of a row became the lesser of itself and a weight
+pub record LowersEntry (place : ℕ) (weight : ℤ) (old new : List ℤ) : Type 0 where
+  pub count : length new ≡ length old
+  pub lowered : entry_at new place ≡ int_min (entry_at old place) weight
+  pub others : (other : ℕ) → other ≢ place → entry_at new other ≡ entry_at old other

@@ -1,0 +1,30 @@
+//! The rows of a matrix.
+
+ghost use Rattle.std.specs.Prelude.{◌≡◌, ◌<◌, [], length, slice_index_or};
+ghost use Rattle.minplus.specs.Matrix.{cells};
+
+use std::marker::Model;
+
+/// The entries from one event to each event. Contracts see their list.
+#[derive(Debug, Drop)]
+pub struct Row {
+    pub entries: Vec<i64>,
+}
+
+impl Model for Row {
+    ghost use Rattle.std.specs.Prelude.{List, ℤ};
+
+    ghost Value = { List ℤ };
+
+    ghost view = { λ row. row.entries.items };
+}
+
+/// The entry of the rows from one event to another, by their numbers.
+pub fn entry(rows: &[Row], from: usize, to: usize) -> i64
+    requires from { from < length rows.now }
+    requires to { to < length (slice_index_or rows.now from []) }
+    ensures entry { result ≡ cells rows.now from to }
+{
+    let row = &rows[from];
+    row.entries[to]
+}

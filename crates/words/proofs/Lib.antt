@@ -1,0 +1,5 @@
+pub mod Building
+pub mod Single
+pub mod Saying
+pub mod Numbers
+pub mod Limits

@@ -1,0 +1,40 @@
+-- The command line of the program: `itv [--job JOB] [--budget N] [--cert] [--report FILE] [--size N] [DESIGN]`, told to `clap`.
+use Rattle.std.specs.Prelude.{ℕ, List, [], ◌∷◌, Some, true, codes}
+use Rattle.itv_base.specs.declared.limits.TheConstants.{MAX_BUDGET, MAX_SELF_SIZE}
+use Rattle.clap.specs.Simple.{App, new_app, new_rule, on_top, with_rule}
+use Rattle.clap.specs.Walk.{Rule}
+use Rattle.clap.specs.declared.builder.action.ArgAction.TheVariants.{Set, SetTrue}
+use Rattle.clap.specs.declared.builder.value_parser.ValueParser.TheVariants.{Unsigned}
+
+-- an option with a text
+abbrev pub text_rule : List ℕ → Rule
+text_rule name = record (new_rule name) { long = Some name; action = Some Set; value_names = 1 }
+
+-- an option with a whole number from 1 to a limit
+abbrev pub number_rule : List ℕ → ℕ → Rule
+number_rule name limit = record (text_rule name) { parser = Some (Unsigned 1 limit) }
+
+abbrev pub job_rule : Rule
+job_rule = record (text_rule (codes "job")) { defaults = codes "bounds" ∷ [] }
+
+abbrev pub budget_rule : Rule
+budget_rule = number_rule (codes "budget") MAX_BUDGET
+
+abbrev pub cert_rule : Rule
+cert_rule = record (new_rule (codes "cert")) { long = Some (codes "cert"); action = Some SetTrue }
+
+abbrev pub report_rule : Rule
+report_rule = text_rule (codes "report")
+
+abbrev pub size_rule : Rule
+size_rule = number_rule (codes "size") MAX_SELF_SIZE
+
+abbrev pub design_rule : Rule
+design_rule = record (new_rule (codes "design")) { action = Some Set; value_names = 1 }
+
+-- the words begin behind the program's name
+abbrev pub bare_command : App
+bare_command = on_top (λ top. record top { no_binary_name = true }) (new_app (codes "itv"))
+
+abbrev pub command : App
+command = with_rule (with_rule (with_rule (with_rule (with_rule (with_rule bare_command job_rule) budget_rule) cert_rule) report_rule) size_rule) design_rule

@@ -1,0 +1,110 @@
+-- What the words ask for.
+use Rattle.std.specs.Prelude.{◌≤◌, ℕ, Bool, false, List, [], ◌∷◌, Option, Some, None, option_map, option_and_then, codes, if◌then◌else◌}
+use Rattle.std.specs.Option.{option_map_or}
+use Rattle.std.specs.Str.{bytes_eq}
+use Rattle.std.specs.Str.Parse.{digits_value, without_leading_plus}
+use Rattle.itv_base.specs.declared.limits.TheConstants.{DEFAULT_BUDGET, MAX_BUDGET, MAX_SELF_SIZE}
+use Rattle.clap.specs.Faults.{fault_of}
+use Rattle.clap.specs.Kinds.{Kinds}
+use Rattle.clap.specs.Simple.{matches_of}
+use Rattle.clap.specs.ValueTests.{is_unsigned_in}
+use Rattle.clap.specs.Walk.{Row, Text, first_of}
+use Rattle.clap.specs.declared.error.kind.ErrorKind.{ErrorKind}
+use Rattle.clap.specs.declared.error.kind.ErrorKind.TheVariants.{DisplayHelp}
+use Rattle.words.specs.Command.{command}
+
+-- a job with what it needs: the design's name, the budget of each search and whether proofs are wanted; the design's name; the names of
+-- the design and of the report; the size of the generated design and the budget
+pub data Task : Type 0 where
+  bounds : Text → ℕ → Bool → Task
+  matrix : Text → Task
+  check : Text → Text → Task
+  generated : ℕ → ℕ → Task
+
+-- a task, a wish for help, or words that are neither
+pub data Answer : Type 0 where
+  task : Task → Answer
+  help : Answer
+  bad_words : Answer
+
+-- ---- what the matches of taken words say
+
+-- the whole number that a text spells, from 1 to a limit
+abbrev pub number_in : ℕ → Text → Option ℕ
+number_in limit text = if is_unsigned_in 1 limit text then Some (digits_value 10 (without_leading_plus text)) else None
+
+abbrev pub budget_of : List Row → Option ℕ
+budget_of rows = option_map_or (number_in MAX_BUDGET) (first_of (codes "budget") rows) (Some DEFAULT_BUDGET)
+
+abbrev pub size_of : List Row → Option ℕ
+size_of rows = option_and_then (number_in MAX_SELF_SIZE) (first_of (codes "size") rows)
+
+abbrev pub wants_proofs : List Row → Bool
+wants_proofs rows = option_map_or (λ text. bytes_eq text (codes "true")) (first_of (codes "cert") rows) false
+
+abbrev pub bounds_of : List Row → Option Task
+bounds_of rows = option_and_then (λ design. option_map (λ budget. bounds design budget (wants_proofs rows)) (budget_of rows)) (first_of (codes "design") rows)
+
+abbrev pub matrix_of : List Row → Option Task
+matrix_of rows = option_map matrix (first_of (codes "design") rows)
+
+abbrev pub check_of : List Row → Option Task
+check_of rows = option_and_then (λ design. option_map (check design) (first_of (codes "report") rows)) (first_of (codes "design") rows)
+
+abbrev pub generated_of : List Row → Option Task
+generated_of rows = option_and_then (λ size. option_map (generated size) (budget_of rows)) (size_of rows)
+
+-- the task of a job of this name, where all that it needs is there; what it does not need is passed over
+abbrev pub task_named : List Row → Text → Option Task
+task_named rows name =
+    if bytes_eq name (codes "bounds") then bounds_of rows
+    else (if bytes_eq name (codes "matrix") then matrix_of rows
+    else (if bytes_eq name (codes "check") then check_of rows
+    else (if bytes_eq name (codes "self") then generated_of rows
+    else None)))
+
+abbrev pub task_of : List Row → Option Task
+task_of rows = option_and_then (task_named rows) (first_of (codes "job") rows)
+
+-- ---- what the words say
+
+abbrev pub answer_for : Option Task → Answer
+answer_for (Some wanted) = task wanted
+answer_for None = bad_words
+
+abbrev pub refusal_for : ErrorKind → Answer
+refusal_for DisplayHelp = help
+refusal_for _ = bad_words
+
+-- the first thing in the words that `clap` refuses, or that asks for help, decides; where there is none, what the matches say
+abbrev pub answer_by : Kinds → List Row → Answer
+answer_by [] rows = answer_for (task_of rows)
+answer_by (kind ∷ kinds) rows = refusal_for kind
+
+-- what the words behind the program's name are taken for
+unfoldable pub taken : List Text → Answer
+taken words = answer_by (fault_of command words) (matches_of command words)
+
+-- ---- limits
+
+-- a budget that a search may have
+pub record IsBudget (budget : ℕ) : Type 0 where
+  pub low : 1 ≤ budget
+  pub high : budget ≤ MAX_BUDGET
+
+-- a size that a generated design may have
+pub record IsSize (size : ℕ) : Type 0 where
+  pub low : 1 ≤ size
+  pub high : size ≤ MAX_SELF_SIZE
+
+-- the numbers of a task are within their limits
+abbrev pub IsWithinLimits : Task → Type 0
+IsWithinLimits (bounds design budget proofs) = IsBudget budget
+IsWithinLimits (matrix design) = Unit {0}
+IsWithinLimits (check design report) = Unit {0}
+IsWithinLimits (generated size budget) = IsSize size × IsBudget budget
+
+abbrev pub KeepsLimits : Answer → Type 0
+KeepsLimits (task t) = IsWithinLimits t
+KeepsLimits help = Unit {0}
+KeepsLimits bad_words = Unit {0}

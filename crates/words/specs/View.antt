@@ -1,0 +1,17 @@
+-- What the code answers, without where its texts lie in memory.
+use Rattle.words.specs.Task as said
+use Rattle.words.specs.declared.task.Answer.{Answer}
+use Rattle.words.specs.declared.task.Answer.TheVariants as answer
+use Rattle.words.specs.declared.task.Task.{Task}
+use Rattle.words.specs.declared.task.Task.TheVariants as wanted
+
+abbrev pub task_view : Task → said.Task
+task_view (wanted.Bounds design budget cert) = said.bounds design.now budget cert
+task_view (wanted.Matrix design) = said.matrix design.now
+task_view (wanted.Check design report) = said.check design.now report.now
+task_view (wanted.Generated size budget) = said.generated size budget
+
+abbrev pub answer_view : Answer → said.Answer
+answer_view (answer.Task task) = said.task (task_view task)
+answer_view (answer.Help text) = said.help
+answer_view answer.BadWords = said.bad_words

@@ -1,0 +1,124 @@
+//! The command line, as `clap` is told of it.
+
+ghost use Rattle.std.specs.Prelude.{◌≡◌, IfOk, false, codes};
+ghost use Rattle.clap.specs.Simple.{app_of};
+ghost use Rattle.clap.specs.Walk.{rule_of};
+ghost use Rattle.words.specs.Command.{bare_command, cert_rule, command, design_rule, job_rule, number_rule, text_rule};
+
+use clap::builder::ValueParser;
+use clap::{Arg, ArgAction, Command};
+use itv_base::{MAX_BUDGET, MAX_SELF_SIZE};
+use std::alloc::{AllocError, Global};
+
+// What the program does, at the head of its help.
+const ABOUT: &str = "Verifies the interface timing of timing diagrams.";
+
+// What the help says behind the options.
+const DETAILS: &str = "\
+Jobs:
+  bounds  Bounds the separation of each row of DESIGN, with a verdict and the slack of each requirement
+  matrix  Prints the bounds of all pairs of events that the constraints without a choice give
+  check   Checks each claim of the report FILE against DESIGN
+  self    Bounds the rows of a generated design of size N, and sums up
+
+Exit statuses:
+  0  All is well: every requirement passes, the matrix is printed, the report is accepted
+  1  A requirement fails
+  2  No times satisfy the design
+  3  The budget was too small to decide
+  4  The design or the report is refused, for the reason that is printed
+  5  A file cannot be read
+  6  The output cannot be written
+  7  Memory is wanted
+  8  The words are not understood
+  9  A claim of the report does not hold
+  10 The system gave no words
+
+Example:
+  itv --cert bus.json > bus.report
+  itv --job check --report bus.report bus.json";
+
+// An option with a text.
+fn text_option<'a>(alloc: Global, name: &'a str, value: &'a str, help: &'a str) -> Arg<'a>
+    ensures rule { rule_of result ≡ text_rule name.entry.now }
+    ensures own { result.global ≡ false }
+{
+    Arg::new(alloc, name)
+        .long(name)
+        .action(ArgAction::Set)
+        .value_name(value)
+        .help(help)
+}
+
+// An option with a whole number from 1 to a limit.
+fn number_option<'a>(alloc: Global, name: &'a str, limit: u64, help: &'a str) -> Arg<'a>
+    ensures rule { rule_of result ≡ number_rule name.entry.now limit }
+    ensures own { result.global ≡ false }
+{
+    text_option(alloc, name, "N", help).value_parser(ValueParser::unsigned(1, limit))
+}
+
+fn job_option<'a>(alloc: Global) -> Arg<'a>
+    ensures rule { rule_of result ≡ job_rule }
+    ensures own { result.global ≡ false }
+{
+    text_option(
+        alloc,
+        "job",
+        "JOB",
+        "What to do: bounds, matrix, check or self",
+    )
+    .default_value("bounds")
+}
+
+fn cert_flag<'a>(alloc: Global) -> Arg<'a>
+    ensures rule { rule_of result ≡ cert_rule }
+    ensures own { result.global ≡ false }
+{
+    Arg::new(alloc, "cert")
+        .long("cert")
+        .action(ArgAction::SetTrue)
+        .help("Write proofs into the report")
+}
+
+fn design_argument<'a>(alloc: Global) -> Arg<'a>
+    ensures rule { rule_of result ≡ design_rule }
+    ensures own { result.global ≡ false }
+{
+    Arg::new(alloc, "design")
+        .action(ArgAction::Set)
+        .value_name("DESIGN")
+        .help("The file of the design: a sheet or a netlist")
+}
+
+fn bare_command<'a>(alloc: Global) -> Command<'a>
+    ensures { app_of result ≡ bare_command }
+{
+    Command::new(alloc, "itv")
+        .no_binary_name(true)
+        .about(ABOUT)
+        .after_help(DETAILS)
+}
+
+/// The command line of the program.
+pub fn command<'a>(alloc: Global) -> Result<Command<'a>, AllocError>
+    ensures command { IfOk result (λ c. app_of c ≡ command) }
+{
+    bare_command(alloc)
+        .arg(job_option(alloc))?
+        .arg(number_option(
+            alloc,
+            "budget",
+            MAX_BUDGET,
+            "Cases that each search may close [default: 100000]",
+        ))?
+        .arg(cert_flag(alloc))?
+        .arg(text_option(alloc, "report", "FILE", "The report to check"))?
+        .arg(number_option(
+            alloc,
+            "size",
+            MAX_SELF_SIZE as u64,
+            "The size of the generated design, 1 to 64",
+        ))?
+        .arg(design_argument(alloc))
+}

@@ -1,0 +1,13 @@
+//! The words of the command line, read by `clap`.
+//! The contract of the crate is one equation: `read_words` answers what the words are taken for, which is said over
+//! `clap`'s own definitions of what a command refuses and of what matches it finds. No other crate sees `clap`.
+#![tactic(auto)]
+
+mod command;
+mod read;
+mod task;
+#[cfg(test)]
+mod tests;
+
+pub use read::read_words;
+pub use task::{Answer, Task};

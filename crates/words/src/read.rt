@@ -1,0 +1,157 @@
+//! Reading the words.
+
+ghost use Rattle.std.specs.Prelude.{◌≡◌, ◌≢◌, ◌≤◌, IfOk, IfSome, option_map};
+ghost use Rattle.clap.specs.Matches.{found_of};
+ghost use Rattle.clap.specs.Values.{kind_of};
+ghost use Rattle.clap.specs.Walk.{first_of, rows_of};
+ghost use Rattle.clap.specs.declared.error.kind.ErrorKind.{ErrorKind};
+ghost use Rattle.words.specs.Task.{KeepsLimits, answer_for, bounds_of, budget_of, check_of, generated_of, matrix_of, number_in, refusal_for, size_of, taken, task_named, task_of, wants_proofs};
+ghost use Rattle.words.specs.View.{answer_view, task_view};
+
+use crate::command::command;
+use crate::task::{Answer, Task};
+use clap::error::ErrorKind;
+use clap::{ArgMatches, Error};
+use itv_base::{DEFAULT_BUDGET, MAX_BUDGET, MAX_SELF_SIZE, NoMemory, Texts};
+use std::alloc::Global;
+
+/// Reads the words behind the program's name. The text of help is made whole here, and no memory is wanted for it
+/// later. Any words may meet want of memory, since `clap` takes some for all of them.
+pub fn read_words<'a>(alloc: Global, words: &'a Texts) -> Result<Answer<'a>, NoMemory>
+    ensures taken { IfOk result (λ answer. answer_view answer ≡ taken words.entry.now) }
+    ensures limits { IfOk result (λ answer. KeepsLimits (answer_view answer)) }
+{
+    match command(alloc)?.try_get_matches_from(words.as_slice()) {
+        Ok(matches) => Ok(answer(task_of(&matches))),
+        Err(error) => refusal(alloc, &error),
+    }
+}
+
+// What words say that `clap` takes.
+fn answer<'a>(task: Option<Task<'a>>) -> Answer<'a>
+    ensures { answer_view result ≡ answer_for (option_map task_view task.entry) }
+{
+    match task {
+        Some(task) => Answer::Task(task),
+        None => Answer::BadWords,
+    }
+}
+
+// What words say that `clap` does not take.
+fn refusal<'a>(alloc: Global, error: &Error) -> Result<Answer<'a>, NoMemory>
+    ensures { IfOk result (λ answer. (kind_of error.now ≢ ErrorKind.OutOfMemory)
+        × (answer_view answer ≡ refusal_for (kind_of error.now))) }
+{
+    match error.kind() {
+        ErrorKind::OutOfMemory => Err(NoMemory),
+        ErrorKind::DisplayHelp => Ok(Answer::Help(format!(in alloc; "{error}")?)),
+        _ => Ok(Answer::BadWords),
+    }
+}
+
+fn task_of<'a>(matches: &ArgMatches<'a>) -> Option<Task<'a>>
+    ensures { option_map task_view result ≡ task_of (rows_of (found_of matches.now)) }
+{
+    task_named(matches, text_of(matches, "job")?)
+}
+
+// The task of a job of this name, where all that it needs is there.
+fn task_named<'a>(matches: &ArgMatches<'a>, name: &str) -> Option<Task<'a>>
+    ensures { option_map task_view result ≡ task_named (rows_of (found_of matches.now)) name.now }
+{
+    if name == "bounds" {
+        bounds_task(matches)
+    } else if name == "matrix" {
+        matrix_task(matches)
+    } else if name == "check" {
+        check_task(matches)
+    } else if name == "self" {
+        generated_task(matches)
+    } else {
+        None
+    }
+}
+
+fn bounds_task<'a>(matches: &ArgMatches<'a>) -> Option<Task<'a>>
+    ensures { option_map task_view result ≡ bounds_of (rows_of (found_of matches.now)) }
+{
+    let design = text_of(matches, "design")?;
+    let budget = budget_of(matches)?;
+    Some(Task::Bounds {
+        design,
+        budget,
+        cert: wants_proofs(matches),
+    })
+}
+
+fn matrix_task<'a>(matches: &ArgMatches<'a>) -> Option<Task<'a>>
+    ensures { option_map task_view result ≡ matrix_of (rows_of (found_of matches.now)) }
+{
+    let design = text_of(matches, "design")?;
+    Some(Task::Matrix { design })
+}
+
+fn check_task<'a>(matches: &ArgMatches<'a>) -> Option<Task<'a>>
+    ensures { option_map task_view result ≡ check_of (rows_of (found_of matches.now)) }
+{
+    let design = text_of(matches, "design")?;
+    let report = text_of(matches, "report")?;
+    Some(Task::Check { design, report })
+}
+
+fn generated_task<'a>(matches: &ArgMatches<'a>) -> Option<Task<'a>>
+    ensures { option_map task_view result ≡ generated_of (rows_of (found_of matches.now)) }
+{
+    let size = size_of(matches)?;
+    let budget = budget_of(matches)?;
+    Some(Task::Generated { size, budget })
+}
+
+fn budget_of(matches: &ArgMatches<'_>) -> Option<u64>
+    ensures { result ≡ budget_of (rows_of (found_of matches.now)) }
+{
+    match text_of(matches, "budget") {
+        Some(text) => number_in(text, MAX_BUDGET),
+        None => Some(DEFAULT_BUDGET),
+    }
+}
+
+fn size_of(matches: &ArgMatches<'_>) -> Option<u32>
+    ensures { result ≡ size_of (rows_of (found_of matches.now)) }
+{
+    let size = number_in(text_of(matches, "size")?, MAX_SELF_SIZE as u64)?;
+    Some(size as u32)
+}
+
+fn wants_proofs(matches: &ArgMatches<'_>) -> bool
+    ensures { result ≡ wants_proofs (rows_of (found_of matches.now)) }
+{
+    match text_of(matches, "cert") {
+        Some(text) => text == "true",
+        None => false,
+    }
+}
+
+// The whole number that a text spells, from 1 to a limit.
+fn number_in(text: &str, limit: u64) -> Option<u64>
+    ensures value { result ≡ number_in limit text.now }
+    ensures high { IfSome result (λ number. number ≤ limit) }
+{
+    match text.parse::<u64>() {
+        Ok(number) => {
+            if 1 <= number && number <= limit {
+                Some(number)
+            } else {
+                None
+            }
+        }
+        Err(_) => None,
+    }
+}
+
+// The text of an option or an argument, where it is there.
+fn text_of<'a>(matches: &ArgMatches<'a>, id: &str) -> Option<&'a str>
+    ensures { option_map (λ text. text.now) result ≡ first_of id.now (rows_of (found_of matches.now)) }
+{
+    matches.get_str(id)
+}

@@ -1,0 +1,38 @@
+//! What the words ask for.
+
+/// A job with what it needs. What else the words give is passed over.
+#[derive(Clone, Copy, Debug, PartialEq, Eq)]
+pub enum Task<'a> {
+    /// To bound the rows of a design: the name of its file, the cases that each search may close, and whether
+    /// proofs are written.
+    Bounds {
+        design: &'a str,
+        budget: u64,
+        cert: bool,
+    },
+    /// To print the matrix of a design: the name of its file.
+    Matrix {
+        design: &'a str,
+    },
+    /// To check a report of a design: the names of both files.
+    Check {
+        design: &'a str,
+        report: &'a str,
+    },
+    /// To bound the rows of the generated design of a size, and sum up: the size, and the cases that each
+    /// search may close.
+    Generated {
+        size: u32,
+        budget: u64,
+    },
+}
+
+/// What words are taken for.
+#[derive(Debug, Drop)]
+pub enum Answer<'a> {
+    Task(Task<'a>),
+    /// The text that is shown to someone who asks for help.
+    Help(String),
+    /// Words that are refused, or that lack what their job needs.
+    BadWords,
+}

@@ -1,0 +1,138 @@
+//! Lists of words, and what each is taken for, as it was worked out by hand.
+
+use crate::{Answer, Task, read_words};
+use itv_base::Texts;
+use std::alloc::{AllocError, Global};
+use std::test::Fail;
+
+// An answer on one line: the job with what it needs, or `help` or `bad words`.
+fn line(alloc: Global, answer: &Answer<'_>) -> Result<String, AllocError> {
+    match answer {
+        Answer::Task(task) => task_line(alloc, *task),
+        Answer::Help(_) => String::from_str(alloc, "help"),
+        Answer::BadWords => String::from_str(alloc, "bad words"),
+    }
+}
+
+fn task_line(alloc: Global, task: Task<'_>) -> Result<String, AllocError> {
+    match task {
+        Task::Bounds {
+            design,
+            budget,
+            cert,
+        } => format!(in alloc; "bounds {design} {budget} {cert}"),
+        Task::Matrix { design } => format!(in alloc; "matrix {design}"),
+        Task::Check { design, report } => format!(in alloc; "check {design} {report}"),
+        Task::Generated { size, budget } => format!(in alloc; "self {size} {budget}"),
+    }
+}
+
+const TABLE: &[(&[&str], &str)] = &[
+    // The job, and what each needs.
+    (&[], "bad words"),
+    (&["x.json"], "bounds x.json 100000 false"),
+    (&["--job", "bounds", "x"], "bounds x 100000 false"),
+    (&["x", "--job=bounds"], "bounds x 100000 false"),
+    (&["--job", "bounds"], "bad words"),
+    (&["--job", "matrix", "x"], "matrix x"),
+    (&["--job=matrix"], "bad words"),
+    (&["--job", "check", "--report", "r", "x"], "check x r"),
+    (&["--report=r", "x", "--job=check"], "check x r"),
+    (&["--job", "check", "x"], "bad words"),
+    (&["--job", "check", "--report", "r"], "bad words"),
+    (&["--job", "self", "--size", "3"], "self 3 100000"),
+    (&["--job=self", "--size=2", "--budget=7"], "self 2 7"),
+    (&["--job", "self"], "bad words"),
+    (&["--job", "nope", "x"], "bad words"),
+    (&["--job=", "x"], "bad words"),
+    (&["--job"], "bad words"),
+    // What a job does not need is passed over.
+    (&["--report", "r", "x"], "bounds x 100000 false"),
+    (&["--size", "3", "x"], "bounds x 100000 false"),
+    (
+        &["--job=matrix", "--cert", "--budget", "9", "x"],
+        "matrix x",
+    ),
+    (
+        &["--job=self", "--size=3", "--report=r", "x"],
+        "self 3 100000",
+    ),
+    // Numbers.
+    (&["--size", "65", "x"], "bad words"),
+    (&["--job=self", "--size", "0"], "bad words"),
+    (&["--job=self", "--size", "1"], "self 1 100000"),
+    (&["--job=self", "--size", "64"], "self 64 100000"),
+    (&["--job=self", "--size", "65"], "bad words"),
+    (&["--job=self", "--size", "+5"], "self 5 100000"),
+    (&["--budget", "0", "x"], "bad words"),
+    (&["--budget", "1", "x"], "bounds x 1 false"),
+    (&["--budget", "007", "x"], "bounds x 7 false"),
+    (
+        &["--budget", "1000000000", "x"],
+        "bounds x 1000000000 false",
+    ),
+    (&["--budget", "1000000001", "x"], "bad words"),
+    (&["--budget", "99999999999999999999999", "x"], "bad words"),
+    (&["--budget=", "x"], "bad words"),
+    (&["--budget", "-5", "x"], "bad words"),
+    (&["--budget", "1.0", "x"], "bad words"),
+    // Repeated options, flags with values, names that are none.
+    (&["--cert", "x"], "bounds x 100000 true"),
+    (&["--cert", "--cert", "x"], "bad words"),
+    (&["--cert=true", "x"], "bad words"),
+    (&["--job=bounds", "--job=bounds", "x"], "bad words"),
+    (&["--jo", "bounds", "x"], "bad words"),
+    (&["-x"], "bad words"),
+    (&["--version"], "bad words"),
+    // Designs.
+    (&["x", "y"], "bad words"),
+    (&["-"], "bounds - 100000 false"),
+    (&[""], "bounds  100000 false"),
+    (&["help"], "bounds help 100000 false"),
+    (&["--"], "bad words"),
+    (&["--", "--help"], "bounds --help 100000 false"),
+    // Help, and faults before and after it.
+    (&["--help"], "help"),
+    (&["-h"], "help"),
+    (&["x", "--help"], "help"),
+    (&["--job", "nope", "--help"], "help"),
+    (&["--help", "--bogus"], "help"),
+    (&["--bogus", "--help"], "bad words"),
+    (&["--budget", "--help"], "bad words"),
+];
+
+// Each list of words is taken for what it says by hand.
+#[test]
+fn words_are_taken(rt: HostRuntime) -> Result<(), Fail> {
+    for (words, wanted) in TABLE {
+        let mut texts = Texts::new(rt.alloc())?;
+        for word in *words {
+            texts.push(rt.alloc(), word)?;
+        }
+        let answer = read_words(rt.alloc(), &texts)?;
+        assert_eq!(rt; line(rt.alloc(), &answer)?.as_str(), *wanted, "{words:?}");
+    }
+    Ok(())
+}
+
+// The help names each job, each exit status and an example.
+#[test]
+fn help_tells_what_a_person_needs(rt: HostRuntime) -> Result<(), Fail> {
+    let mut texts = Texts::new(rt.alloc())?;
+    texts.push(rt.alloc(), "--help")?;
+    match read_words(rt.alloc(), &texts)? {
+        Answer::Help(text) => {
+            for part in [
+                "Usage: itv [OPTIONS] [DESIGN]",
+                "--budget <N>",
+                "  matrix  Prints",
+                "  10 The system",
+                "Example:",
+            ] {
+                assert!(rt; text.as_str().contains(part), "{part}");
+            }
+        }
+        _ => assert!(rt; false),
+    }
+    Ok(())
+}
