@@ -1,9 +1,0 @@
-pub mod Falling
-pub mod Passing
-pub mod Starting
-pub mod Latest
-pub mod Forward
-pub mod AlwaysLists
-pub mod Settled
-pub mod Ranges
-pub mod Linear
