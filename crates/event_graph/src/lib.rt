@@ -4,16 +4,20 @@
 #![tactic(auto)]
 
 mod cause;
+mod constraint;
 mod edge;
 pub mod laws;
+mod line;
 mod network;
 mod push_fault;
-mod rule;
+mod scribe;
 
 pub use cause::Cause;
 pub use edge::Edge;
+pub use line::Line;
 pub use network::Network;
 pub use push_fault::PushFault;
+pub use scribe::{Quiet, Scribe, ScribeFailed};
 
 #[cfg(test)]
 mod tests;
