@@ -224,7 +224,7 @@ abbrev pub StopIsTop : Option EventId → Parents → Type 0
 StopIsTop stop parent = (x : EventId) → stop ≡ Some x → parent x.0 ≡ None
 
 -- a climb that begins at the stop leads to it alone
-stays : (net : Net) (parent : Parents) (stop : Option EventId) (x : EventId) (r : ℕ) (es : List EdgeName) → StopIsTop stop parent → stop ≡ Some x → IsClimb net parent x.0 es r → (stop ≡ Some (event r) → ⊥) → ⊥
+pub stays : (net : Net) (parent : Parents) (stop : Option EventId) (x : EventId) (r : ℕ) (es : List EdgeName) → StopIsTop stop parent → stop ≡ Some x → IsClimb net parent x.0 es r → (stop ≡ Some (event r) → ⊥) → ⊥
 stays net parent stop x r es top is climb off =
     elim (cases_eq x.0 r) [
       | inl same ↦ off (is ∙ ap (λ (n : ℕ). Some (event n)) same)

@@ -4,3 +4,5 @@ pub mod Forests
 pub mod Runs
 pub mod Falls
 pub mod Parts
+pub mod Networks
+pub mod Settled

@@ -3,8 +3,7 @@ use Rattle.std.specs.Prelude.{◌≡◌, ◌+◌, ◌<◌, ◌≤◌, ℕ, ℤ, 
 use Rattle.itv_base.specs.declared.limits.TheConstants.{MAX_EVENTS}
 use Rattle.itv_base.specs.declared.names.EdgeName.{EdgeName}
 use Rattle.itv_base.specs.declared.names.EventId.{EventId}
-use Rattle.event_graph.specs.Network.{IsNet, Net}
-use Rattle.diff_bounds.specs.Splittable.{splittable_count}
+use Rattle.event_graph.specs.Network.{IsNet, Net, splittable_count}
 use Rattle.event_graph.specs.Times.{time_of}
 use Rattle.trail.specs.Stack.{Stack}
 use Rattle.diff_bounds.specs.declared.arc.Arc.{Arc}
