@@ -6,3 +6,8 @@ pub mod Falls
 pub mod Parts
 pub mod Networks
 pub mod Settled
+pub mod Queue
+pub mod OutLists
+pub mod Poising
+pub mod Climbing
+pub mod Uppers

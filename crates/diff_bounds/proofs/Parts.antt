@@ -206,3 +206,9 @@ closes_first net run a b u v stamps x runs closes =
 pub chosen_now : (net : Net) (run : Run) (a b : Stack) (u v : Waiting) (arcs : List Arc) → RunsOn (scope_of net a run) run a b u v → AreChosenArcs net a.current.edges arcs → AreChosenArcs net b.current.edges arcs
 chosen_now net run a b u v arcs runs chosen =
     let P : Stack → Type 0 = λ x. AreChosenArcs net x.current.edges arcs in subst P (sym runs.stack) chosen
+
+-- an event was taken, and edges were tried
+pub runs_step : (net : Net) (run : Run) (t₀ t t₁ : Stack) (p₀ p p' p₁ : Waiting) → RunsOn (scope_of net t₀ run) run t₀ t p₀ p → length p'.marks ≡ length p.marks → Falls (scope_of net t run) run t t₁ p' p₁ → RunsOn (scope_of net t₀ run) run t₀ t₁ p₀ p₁
+runs_step net run t₀ t t₁ p₀ p p' p₁ runs marks falls =
+    let s : Scope = scope_of net t₀ run in
+    runs_on s run t₀ t t₁ p₀ p' p₁ (runs_taken s run t₀ t p₀ p p' runs marks) (runs_of s run t t₁ p' p₁ (at_first net run t₀ t t t₁ p₀ p p' p₁ runs falls))
