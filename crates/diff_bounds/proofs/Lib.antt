@@ -11,3 +11,4 @@ pub mod OutLists
 pub mod Poising
 pub mod Climbing
 pub mod Uppers
+pub mod Starting

@@ -273,3 +273,19 @@ loop_of net out arcs from first st w new a ready ran closes =
       negative = walk.negative;
       short = walk.short;
     }
+
+pub feasible_ran : (net : Net) (out : List (List Arc)) (arcs : List Arc) (from : EventId) (first : ℕ) (st st' : Stack) (w u u' : Waiting) → IsReady net out arcs (feasible_run net from first) from zeros st w
+    → RunsOn (scope_from net st first) (feasible_run net from first) st st' u u' → HasRun (scope_from net st first) (feasible_run net from first) st.current.stamps st'.current.stamps
+feasible_ran net out arcs from first st st' w u u' ready runs =
+    ran_of (scope_from net st first) (feasible_run net from first) st st' u u' (feasible_running net out arcs from first st w ready) ready.near
+    (zeros_above (scope_from net st first) (labels_from st.current.stamps net.events) (parents_from st.current.stamps net.events) ready.poised.forest) runs
+
+pub upper_ran : (net : Net) (out : List (List Arc)) (arcs : List Arc) (from source : EventId) (st st' : Stack) (w u u' : Waiting) → IsReady net out arcs upper_run from (at_source source) st w → IsFeasible (scope_from net st 0) st.current.stamps
+    → RunsOn (scope_from net st 0) upper_run st st' u u' → HasRun (scope_from net st 0) upper_run st.current.stamps st'.current.stamps
+upper_ran net out arcs from source st st' w u u' ready feasible runs =
+    ran_of (scope_from net st 0) upper_run st st' u u' (upper_running net out arcs from source st w ready feasible) ready.near
+    (source_above (scope_from net st 0) source (labels_from st.current.stamps 0) (parents_from st.current.stamps 0) ready.poised.forest) runs
+
+pub if_none_then : {X : Type 0} (o : Option X) (P Q : Type 0) → IfNone o P → (P → Q) → IfNone o Q
+if_none_then None P Q h f = f h
+if_none_then (Some x) P Q h f = tt
