@@ -12,3 +12,6 @@ pub mod Poising
 pub mod Climbing
 pub mod Uppers
 pub mod Starting
+pub mod Standings
+pub mod Lifting
+pub mod Descending

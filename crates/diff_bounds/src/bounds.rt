@@ -152,16 +152,17 @@ impl Bounds {
             self.chosen.pop();
             return Fit::Loop;
         }
-        if self.source.is_some() {
-            settle_uppers(
-                net,
-                &self.out,
-                &self.chosen,
-                edge.from,
-                &mut self.trail,
-                &mut self.pending,
-            );
+        if self.source.is_none() {
+            return Fit::Fits;
         }
+        settle_uppers(
+            net,
+            &self.out,
+            &self.chosen,
+            edge.from,
+            &mut self.trail,
+            &mut self.pending,
+        );
         Fit::Fits
     }
 
