@@ -33,9 +33,11 @@ parent_is net actual parent from to at names (other ∷ left) name one climb off
 pub one_more : (net : Net) (actual parent : Parents) (from to at : ℕ) (names walk left : List EdgeName) (count : ℕ) (name : EdgeName) (e : Edge) → IsOneClimb net actual parent from names to → IsClimb net parent at left to → take count walk ++ left ≡ names
     → (at ≡ to → ⊥) → actual at ≡ Some name → edge net name ≡ Some e → count < length walk → (rest : List EdgeName) × IsClimb net parent e.from.0 rest to × (take (count + 1) (set walk count name) ++ rest ≡ names)
 one_more net actual parent from to at names walk left count name e one climb is off held here below =
-    let next = way_on net parent at to name e (parent_is net actual parent from to at names left name one climb off held) here off left climb in
-    (next.0, next.1,
-     ap (λ (ys : List EdgeName). ys ++ next.0) (take_more_set walk count name below) ∙ append_assoc (take count walk) (name ∷ []) next.0 ∙ ap (λ (ys : List EdgeName). take count walk ++ ys) (sym next.2) ∙ is)
+    let next = way_on net parent at to name e (parent_is net actual parent from to at names left name one climb off held) here off left climb in (
+      next.0,
+      next.1,
+      ap (λ (ys : List EdgeName). ys ++ next.0) (take_more_set walk count name below) ∙ append_assoc (take count walk) (name ∷ []) next.0 ∙ ap (λ (ys : List EdgeName). take count walk ++ ys) (sym next.2) ∙ is,
+    )
 
 -- there is room for one more
 pub room_left : (names walk left : List EdgeName) (count : ℕ) → take count walk ++ left ≡ names → length names < length walk → count ≤ length walk → count < length walk

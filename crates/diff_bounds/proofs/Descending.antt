@@ -101,18 +101,19 @@ uppers_ready net b choice e source st w stands is from marks stack ran =
     let settled = subst P from (stands_settled net b stands) in
     let within = edge_within net choice e stands.made.is_net is in
     let labels = labels_stay (whole net (chosen_of b)) (at_source source) 0 b.trail.current.stamps st.current.stamps stands.made.is_net (λ v below. ran.before (0 + v) (omega arith)) settled.uppers.1 in
-    let Q : Stack → Type 0 = λ t. IsReady net b.out (b.arcs ++ (record { name = choice; edge = e }) ∷ []) upper_run e.from (at_source source) t w in
-    (settled.uppers.0,
-     subst Q (sym stack) (record {
-       is_net = stands.made.is_net;
-       out_edges = stands.made.out;
-       chosen = chosen_more net (chosen_of b) b.arcs (record { name = choice; edge = e }) stands.chosen (arc_is net choice e stands.made.is_net is);
-       within = within.from;
-       slots = ran.count ∙ settled.feasible.slots;
-       near = ran.near;
-       marks = marks;
-       poised = choice_poised net (chosen_of b) choice e (at_source source) st.current.stamps 0 is labels;
-     }))
+    let Q : Stack → Type 0 = λ t. IsReady net b.out (b.arcs ++ (record { name = choice; edge = e }) ∷ []) upper_run e.from (at_source source) t w in (
+      settled.uppers.0,
+      subst Q (sym stack) (record {
+        is_net = stands.made.is_net;
+        out_edges = stands.made.out;
+        chosen = chosen_more net (chosen_of b) b.arcs (record { name = choice; edge = e }) stands.chosen (arc_is net choice e stands.made.is_net is);
+        within = within.from;
+        slots = ran.count ∙ settled.feasible.slots;
+        near = ran.near;
+        marks = marks;
+        poised = choice_poised net (chosen_of b) choice e (at_source source) st.current.stamps 0 is labels;
+      }),
+    )
 
 -- without a source the feasible times are all
 pub unsourced_settled : (net : Net) (b : Standing) (choice : EdgeName) (e : Edge) (new : List Stamp) → Stands net b → b.source ≡ None → HasRun (whole net (chosen_of b ++ choice ∷ [])) (feasible_run net e.from 0) b.trail.current.stamps new

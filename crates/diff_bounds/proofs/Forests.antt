@@ -80,7 +80,7 @@ climb_weight s label parent held v r [] below climb =
 climb_weight s label parent held v r (name ∷ es) below climb =
     let h = held v name below climb.0 in
     let rest : (number (label r) +ℤ path_sum s.net es) ≤ℤ number (label h.e.from.0) =
-        climb_weight s label parent held h.e.from.0 r es h.within.from (rest_of s.net parent v r name h.e es climb h.among.is) in
+    climb_weight s label parent held h.e.from.0 r es h.within.from (rest_of s.net parent v r name h.e es climb h.among.is) in
     let weight : weight_of (edge s.net name) ≡ h.e.weight = ap weight_of h.among.is in
     let near : number (label h.e.from.0) ≡ h.near = number-at (label h.e.from.0) h.near h.start in
     let far : number (label v) ≡ h.far = number-at (label v) h.far h.here in
@@ -113,7 +113,7 @@ climb_low s label parent held v r [] below climb = omega (arith, ints)
 climb_low s label parent held v r (name ∷ es) below climb =
     let h = held v name below climb.0 in
     let rest : pos 0 ≤ℤ (path_sum s.net es +ℤ pos (weight_limit * length es)) =
-        climb_low s label parent held h.e.from.0 r es h.within.from (rest_of s.net parent v r name h.e es climb h.among.is) in
+    climb_low s label parent held h.e.from.0 r es h.within.from (rest_of s.net parent v r name h.e es climb h.among.is) in
     let weight : weight_of (edge s.net name) ≡ h.e.weight = ap weight_of h.among.is in
     let low : neg_ℤ (pos weight_limit) ≤ℤ h.e.weight = h.within.low in
     omega (arith, ints)
@@ -124,7 +124,7 @@ climb_high s label parent held v r [] below climb = omega (arith, ints)
 climb_high s label parent held v r (name ∷ es) below climb =
     let h = held v name below climb.0 in
     let rest : path_sum s.net es ≤ℤ pos (weight_limit * length es) =
-        climb_high s label parent held h.e.from.0 r es h.within.from (rest_of s.net parent v r name h.e es climb h.among.is) in
+    climb_high s label parent held h.e.from.0 r es h.within.from (rest_of s.net parent v r name h.e es climb h.among.is) in
     let weight : weight_of (edge s.net name) ≡ h.e.weight = ap weight_of h.among.is in
     let high : h.e.weight ≤ℤ pos weight_limit = h.within.high in
     omega (arith, ints)
@@ -240,7 +240,7 @@ climb_potential s stop potential label parent meets held top u v (name ∷ es) b
     let h = held u name below climb.0 in
     let way = rest_of s.net parent u v name h.e es climb h.among.is in
     let rest : (potential h.e.from.0 -ℤ potential v) ≤ℤ path_sum s.net es =
-        climb_potential s stop potential label parent meets held top h.e.from.0 v es h.within.from way off in
+    climb_potential s stop potential label parent meets held top h.e.from.0 v es h.within.from way off in
     let here : potential h.e.to.0 ≤ℤ (potential h.e.from.0 +ℤ h.e.weight) = meets name h.e h.among (λ is. stays s.net parent stop h.e.from v es top is way off) in
     let end : potential h.e.to.0 ≡ potential u = ap potential h.ends in
     let weight : weight_of (edge s.net name) ≡ h.e.weight = ap weight_of h.among.is in

@@ -143,11 +143,12 @@ pushed net lists name e x y are is_always arc within is joins =
     let both = grown net (lists_of lists) e.from.0 y.items (record { name = name; edge = e }) are long arc is_always refl (subst P (sym (list_at lists e.from.0 x within is)) joins) in
     let sets : lists_of (set lists e.from.0 y) ≡ set (lists_of lists) e.from.0 y.items = map-set (λ (list : Vec Arc). list.items) lists e.from.0 y in
     let G : List (List Arc) → Type 0 = λ out. Grows net (lists_of lists) out in
-    let H : List (List Arc) → Type 0 = λ out. HasLight (edges_out out e.from.0) e in
-    (subst G (sym sets) both.0,
-     λ f named at. let same : e ≡ f = same_Some e f (sym arc.is ∙ at) in
-         let Q : Edge → Type 0 = λ x. HasLight (edges_out (lists_of (set lists e.from.0 y)) x.from.0) x in
-         subst Q same (subst H (sym sets) both.1))
+    let H : List (List Arc) → Type 0 = λ out. HasLight (edges_out out e.from.0) e in (
+      subst G (sym sets) both.0,
+      λ f named at. let same : e ≡ f = same_Some e f (sym arc.is ∙ at) in
+          let Q : Edge → Type 0 = λ x. HasLight (edges_out (lists_of (set lists e.from.0 y)) x.from.0) x in
+          subst Q same (subst H (sym sets) both.1),
+    )
 
 -- an edge that is no always-edge needs no place
 pub named_not : (net : Net) (out : List (List Arc)) (name : EdgeName) → (IsAlways net name → ⊥) → HasName net out name

@@ -42,7 +42,7 @@ pub tried_on : (net : Net) (run : Run) (from : ℕ) (arcs : List Arc) (t₀ t t'
 tried_on net run from arcs t₀ t t' p₀ p p' count a tried among below is falls done =
     let here = falls_first net run t₀ t t' p₀ p p' tried.falls falls in
     let kept : AllWithin (IsDoneFrom run from t'.current.stamps p'.marks) arcs 0 count =
-        λ k d low high starts. here.done (get_or arcs k d).edge (among k d (omega arith) starts).from (tried.done k d low high starts) in
+    λ k d low high starts. here.done (get_or arcs k d).edge (among k d (omega arith) starts).from (tried.done k d low high starts) in
     record {
       falls = tried_falls net run from arcs t₀ t t' p₀ p p' count tried falls;
       done = AllWithin-more (IsDoneFrom run from t'.current.stamps p'.marks) arcs 0 count kept

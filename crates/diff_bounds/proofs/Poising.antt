@@ -203,6 +203,7 @@ forest_stays s start base old new same forest = record {
     climb_stays v r (name ∷ es) below climb =
         let h = forest.held v name below climb.0 in
         (ap (λ (x : Stamp). x.parent) (same v below) ∙ climb.0, (h.e, h.among.is, climb_stays h.e.from.0 r es h.within.from (rest_of s.net (parents_from old base) v r name h.e es climb h.among.is)))
+
     rooted_stays : (v : ℕ) → v < s.net.events → IsRooted s.net (parents_from old base) v → IsRooted s.net (parents_from new base) v
     rooted_stays v below up = record {
       root = up.root;
@@ -250,12 +251,12 @@ loop_of net out arcs from first st w new a ready ran closes =
     let was = zeros_some s old_labels (parents_from st.current.stamps net.events) ready.poised.forest from.0 ready.within in
     let stopped : new_labels from.0 ≡ old_labels from.0 = ran.stopped from refl in
     let climb = closing_climb s from old_labels new_labels parent a.name a.edge ran.forest (stop_is_top s run st.current.stamps new ran)
-        (old_potential s from st.current.stamps net.events ready.is_net ready.poised) was stopped closes.among closes.arc.within.from closes.undercuts (sym at) in
+    (old_potential s from st.current.stamps net.events ready.is_net ready.poised) was stopped closes.among closes.arc.within.from closes.undercuts (sym at) in
     let P : EventId → Type 0 = λ x. IsClimb net parent a.edge.from.0 climb.0 x.0 in
     let T : EventId → Type 0 = λ x. parent x.0 ≡ None in
     let ends : IsClimb net parent a.edge.from.0 climb.0 a.edge.to.0 = subst P at climb.1 in
     let walk = closing_walk s old_labels new_labels parent a.name a.edge climb.0 ran.forest closes.among closes.arc.within.from closes.undercuts
-        (was.0, ap (λ (x : EventId). new_labels x.0) (sym at) ∙ stopped ∙ was.1) ends in
+    (was.0, ap (λ (x : EventId). new_labels x.0) (sym at) ∙ stopped ∙ was.1) ends in
     record {
       from = closes.arc.within.from;
       to = closes.arc.within.to;

@@ -31,8 +31,8 @@ pub low_of : (s : Scope) (run : Run) (stamps : List Stamp) (v : ℕ) (label : �
     → pos 0 ≤ℤ (label +ℤ pos (2 * (weight_limit * s.net.events)))
 low_of s run stamps v label running below at =
     let low : pos 0 ≤ℤ (number (labels_from stamps run.base v) +ℤ pos (weight_limit * s.net.events + weight_limit * s.net.events)) =
-        label_low s (labels_from running.old run.base) (labels_from stamps run.base) _ (weight_limit * s.net.events) running.ran.forest
-        (λ u within. above_number s.net.events (labels_from running.old run.base u) (λ old is. running.above u old within is)) v below in
+    label_low s (labels_from running.old run.base) (labels_from stamps run.base) _ (weight_limit * s.net.events) running.ran.forest
+    (λ u within. above_number s.net.events (labels_from running.old run.base u) (λ old is. running.above u old within is)) v below in
     let is : number (labels_from stamps run.base v) ≡ label = number-at _ label at in
     omega (arith, ints)
 
@@ -96,16 +96,16 @@ near_kept s run stamps name e f near slot label at =
     elim (cases_eq slot (run.base + e.to.0)) [
       | inl same ↦
           let is : (f.under.near +ℤ e.weight) ≡ label =
-              same_Some _ label (sym (ap (λ (x : Stamp). x.label) (ap (stamp_at (after_fall s run stamps name e f)) same ∙ stamp_same stamps (run.base + e.to.0) _ within)) ∙ at) in
+          same_Some _ label (sym (ap (λ (x : Stamp). x.label) (ap (stamp_at (after_fall s run stamps name e f)) same ∙ stamp_same stamps (run.base + e.to.0) _ within)) ∙ at) in
           let P : ℤ → Type 0 = λ z. z ≤ℤ pos (weight_limit * count_by (λ (x : Stamp). is_some x.label) (after_fall s run stamps name e f)) in
           subst P is
           (fallen_high (stamp_at stamps (run.base + e.to.0)).label f.under.near e.weight _ _ f.under.lower (λ l is. near (run.base + e.to.0) l is)
           (near (run.base + e.from.0) f.under.near f.under.start) f.within.high counts)
       | inr off ↦
           let was : label ≤ℤ pos (weight_limit * count_by (λ (x : Stamp). is_some x.label) stamps) =
-              near slot label (sym (ap (λ (x : Stamp). x.label) (stamp_other stamps (run.base + e.to.0) slot _ off)) ∙ at) in
+          near slot label (sym (ap (λ (x : Stamp). x.label) (stamp_other stamps (run.base + e.to.0) slot _ off)) ∙ at) in
           let rises : count_by (λ (x : Stamp). is_some x.label) stamps ≤ count_by (λ (x : Stamp). is_some x.label) (after_fall s run stamps name e f) =
-              count_rises (stamp_at stamps (run.base + e.to.0)).label _ _ counts in
+          count_rises (stamp_at stamps (run.base + e.to.0)).label _ _ counts in
           omega (arith, ints)
     ]
 
@@ -138,7 +138,7 @@ height_falls s run stamps name e f running most few =
     let low = f.within.low in
     let high = f.within.high in
     let here : height (Some (f.under.near +ℤ e.weight)) < height (stamp_at stamps (run.base + e.to.0)).label =
-        height_below (stamp_at stamps (run.base + e.to.0)).label (f.under.near +ℤ e.weight) f.under.lower (omega (arith, ints)) (omega (arith, ints)) in
+    height_below (stamp_at stamps (run.base + e.to.0)).label (f.under.near +ℤ e.weight) f.under.lower (omega (arith, ints)) (omega (arith, ints)) in
     let sums = sum_by-set (λ (x : Stamp). height x.label) stamps (run.base + e.to.0) (fallen_stamp name (f.under.near +ℤ e.weight)) empty_stamp (to_slot s run stamps name e f) in
     fewer _ _ _ _ sums here
   where
@@ -184,15 +184,15 @@ run_kept s run stamps name e f old potential above meets ran =
     let slot : ℕ = run.base + e.to.0 in
     let parents = fresh (labels_from old run.base) (labels_from stamps run.base) (parents_from stamps run.base) in
     let falls : FallsBy s (labels_from stamps run.base) (labels_from new run.base) parents (fresh (labels_from old run.base) (labels_from new run.base) (parents_from new run.base)) name e =
-        record {
-          among = f.among;
-          within = f.within;
-          under = f.under;
-          here = label_here s run stamps name e f;
-          others = label_there s run stamps name e f;
-          parents = fresh_changes (labels_from old run.base) (labels_from stamps run.base) (labels_from new run.base) (parents_from stamps run.base) (parents_from new run.base) e.to.0 (f.under.near +ℤ e.weight) name
-              (run_fallen s run old stamps ran) f.under.lower (label_here s run stamps name e f) (label_there s run stamps name e f) (parents_change s run stamps name e f);
-        } in
+    record {
+      among = f.among;
+      within = f.within;
+      under = f.under;
+      here = label_here s run stamps name e f;
+      others = label_there s run stamps name e f;
+      parents = fresh_changes (labels_from old run.base) (labels_from stamps run.base) (labels_from new run.base) (parents_from stamps run.base) (parents_from new run.base) e.to.0 (f.under.near +ℤ e.weight) name
+          (run_fallen s run old stamps ran) f.under.lower (label_here s run stamps name e f) (label_there s run stamps name e f) (parents_change s run stamps name e f);
+    } in
     record {
       count = simp length-set ran.count;
       forest = forest_kept s (labels_from old run.base) (labels_from stamps run.base) (labels_from new run.base) parents _ name e ran.forest falls

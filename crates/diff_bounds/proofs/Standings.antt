@@ -170,9 +170,9 @@ unsourced_meet : (net : Net) (edges : List EdgeName) (stamps : List Stamp) (lift
 unsourced_meet net edges stamps lift times is_net settled are =
     times_meet net edges (λ v. number (labels_from stamps net.events v) +ℤ lift) times is_net
     (λ name e among off.
-        let meets : number (labels_from stamps net.events e.to.0) ≤ℤ (number (labels_from stamps net.events e.from.0) +ℤ e.weight) =
-            new_potential (whole net edges) (labels_from stamps net.events) (parents_from stamps net.events) is_net settled.feasible.labels.forest settled.feasible.labels.settled name e among off in
-        omega (arith, ints))
+    let meets : number (labels_from stamps net.events e.to.0) ≤ℤ (number (labels_from stamps net.events e.from.0) +ℤ e.weight) =
+    new_potential (whole net edges) (labels_from stamps net.events) (parents_from stamps net.events) is_net settled.feasible.labels.forest settled.feasible.labels.settled name e among off in
+    omega (arith, ints))
     (record { count = are.count; each = λ v below. are.each v below ∙ lifted-none (labels_from stamps 0 v) _ (settled.uppers v below) })
 
 meet_by : (net : Net) (edges : List EdgeName) (source : Option EventId) (stamps : List Stamp) (lift : ℤ) (times : List ℤ) → IsNet net → IsSettled (whole net edges) source stamps
@@ -260,10 +260,12 @@ one_path net b source e z stands from below at =
     let bounding = stands_bounding net b source stands from in
     let path = has_path (whole net (chosen_of b)) source (upper_of b) (parents_from b.trail.current.stamps 0) e.0 z bounding.forest below at in
     let is = path_is net (chosen_of b) source (upper_of b) (labels_from b.trail.current.stamps net.events) (parents_from b.trail.current.stamps 0) bounding e.0 z below at path in
-    let short : length path.way < net.events = let s = path.short in omega (arith, length-reverse path.way) in
-    (path.way,
-     record { agrees = λ v name held. held; top = path.top; within = starts_below (whole net (chosen_of b)) (upper_of b) (parents_from b.trail.current.stamps 0) bounding.forest.held; climb = path.climb },
-     short, is)
+    let short : length path.way < net.events = let s = path.short in omega (arith, length-reverse path.way) in (
+      path.way,
+      record { agrees = λ v name held. held; top = path.top; within = starts_below (whole net (chosen_of b)) (upper_of b) (parents_from b.trail.current.stamps 0) bounding.forest.held; climb = path.climb },
+      short,
+      is,
+    )
 
 pub some_is : (o : Option ℤ) → IsSome o → (z : ℤ) × (o ≡ Some z)
 some_is None some = absurd (cc some)

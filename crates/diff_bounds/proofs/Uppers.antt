@@ -188,7 +188,7 @@ pub separation_most : (net : Net) (chosen : List EdgeName) (source : EventId) (u
 separation_most net chosen source upper feasible parent v z times b below at met =
     let path = has_path (whole net chosen) source upper parent v z b.forest below at in
     let along : separation times source (event v) ≤ℤ path_sum net (reverse path.way) =
-        walk_bounds net times (reverse path.way) source (event v) (meets_named net chosen times met (reverse path.way) path.current) path.walk in
+    walk_bounds net times (reverse path.way) source (event v) (meets_named net chosen times met (reverse path.way) path.current) path.walk in
     let most : (number (upper source.0) +ℤ path_sum net (reverse path.way)) ≤ℤ z = path.most in
     let zero : number (upper source.0) ≡ pos 0 = number-at (upper source.0) (pos 0) (source_zero (whole net chosen) source upper parent b.forest b.origin) in
     omega (arith, ints)
@@ -198,7 +198,7 @@ pub lifted_attain : (net : Net) (chosen : List EdgeName) (source : EventId) (upp
     → AreTimes net.events (lifted_by upper feasible by) times → (v : ℕ) (z : ℤ) → v < net.events → upper v ≡ Some z → separation times source (event v) ≡ z
 lifted_attain net chosen source upper feasible parent by times b are v z below at =
     let from : time_of times source ≡ pos 0 =
-        are.each source.0 b.origin ∙ lifted-some (upper source.0) (number (feasible source.0) +ℤ by) (pos 0) (source_zero (whole net chosen) source upper parent b.forest b.origin) in
+    are.each source.0 b.origin ∙ lifted-some (upper source.0) (number (feasible source.0) +ℤ by) (pos 0) (source_zero (whole net chosen) source upper parent b.forest b.origin) in
     let to : time_of times (event v) ≡ z = are.each v below ∙ lifted-some (upper v) (number (feasible v) +ℤ by) z at in
     omega (arith, ints)
 
@@ -261,8 +261,11 @@ greatest net chosen source upper feasible parent b v z below at =
     let times : List ℤ = table (lifted_by upper feasible by) 0 net.events in
     let are : AreTimes net.events (lifted_by upper feasible by) times = table_times net.events (lifted_by upper feasible by) in
     record {
-      attained = (times, lifted_meet net chosen source upper feasible parent by times b (above_all net.events upper feasible by (omega (arith, ints))) are,
-          lifted_attain net chosen source upper feasible parent by times b are v z below at);
+      attained = (
+        times,
+        lifted_meet net chosen source upper feasible parent by times b (above_all net.events upper feasible by (omega (arith, ints))) are,
+        lifted_attain net chosen source upper feasible parent by times b are v z below at,
+      );
       most = λ others met. separation_most net chosen source upper feasible parent v z others b below at met;
     }
 
@@ -282,7 +285,7 @@ path_is net chosen source upper feasible parent b v z below at path =
     let met = lifted_meet net chosen source upper feasible parent by times b (above_all net.events upper feasible by (omega (arith, ints))) are in
     let here : separation times source (event v) ≡ z = lifted_attain net chosen source upper feasible parent by times b are v z below at in
     let along : separation times source (event v) ≤ℤ path_sum net (reverse path.way) =
-        walk_bounds net times (reverse path.way) source (event v) (meets_named net chosen times met (reverse path.way) path.current) path.walk in
+    walk_bounds net times (reverse path.way) source (event v) (meets_named net chosen times met (reverse path.way) path.current) path.walk in
     let most : (number (upper source.0) +ℤ path_sum net (reverse path.way)) ≤ℤ z = path.most in
     let zero : number (upper source.0) ≡ pos 0 = number-at (upper source.0) (pos 0) (source_zero (whole net chosen) source upper parent b.forest b.origin) in
     let short = path.short in

@@ -14,7 +14,7 @@ both c =
     let is_always : IsAlways c.args.net.now c.args.name = search rules in
     let found = c.in-Some.ensures in
     let arc : IsArc c.args.net.now (record { name = c.args.name; edge = c.in-Some.edge }) =
-        record { is = sym found.edge; within = record { from = found.from; to = found.to; low = omega (arith, ints, found.weight.0); high = omega (arith, ints, found.weight.1) } } in
+    record { is = sym found.edge; within = record { from = found.from; to = found.to; low = omega (arith, ints, found.weight.0); high = omega (arith, ints, found.weight.1) } } in
     let count : length c.args.lists.now.items ≡ c.args.net.now.events = rw length-map at c.requires.count in
     let within : c.in-Some.edge.from.0 < length c.args.lists.now.items = omega (arith, found.from) in
     pushed c.args.net.now c.args.lists.now.items c.args.name c.in-Some.edge c.index_mut.result.now c.push_arc.new.list c.requires is_always arc within c.index_mut.ensures.value c.in_ok-push_arc.ensures

@@ -37,5 +37,5 @@ returns-clause-loops c =
     let closes = rw c.events.ensures.count at c.fall_from.ensures.closes in
     IfSome_then c.fall_from.result closes
     (λ a here. let P : Stack → Type 0 = λ t. HasLoop c.args.net.now t a in
-        subst P (sym c.fall_from.ensures.runs.stack)
-        (loop_of c.args.net.now c.args.out.now c.args.chosen.now c.args.from c.args.first c.args.trail.now c.args.pending.now c.fall_from.new.trail.current.stamps a c.requires.ready (ran at) here))
+    subst P (sym c.fall_from.ensures.runs.stack)
+    (loop_of c.args.net.now c.args.out.now c.args.chosen.now c.args.from c.args.first c.args.trail.now c.args.pending.now c.fall_from.new.trail.current.stamps a c.requires.ready (ran at) here))

@@ -83,7 +83,7 @@ returns-in-Some-closing-clause-walk c =
     let long = c.loop_into-self-inside.auto.walk ∙ ap length c.deref_mut.ensures.value ∙ sym c.self.inside.walk.ok.0 in
     let written = ap (take c.loop_into-self-inside.result) (with_items_is c.self.inside.walk c.loop_into-self-inside.new.walk long) ∙ c.loop_into-self-inside.ensures.names done.loops in
     let P : Standing → Type 0 = λ x. IsLoop c.args.net.now (with_choice c.args.net.now (chosen_of x) c.args.choice)
-        (take c.loop_into-self-inside.result (with_items c.self.inside.walk c.loop_into-self-inside.new.walk).items) in
+    (take c.loop_into-self-inside.result (with_items c.self.inside.walk c.loop_into-self-inside.new.walk).items) in
     λ _. subst P c.self.view_is (choice_walk c.args.net.now b c.args.choice c.in-Some.edge c.settle_feasible-closing.new.trail c.in-Some-closing.arc _ added.is added.stack done.loops written)
 
 pub returns-then-is_none-clause-stands : goal.returns-then-is_none-clause-stands
@@ -96,7 +96,7 @@ returns-then-is_none-clause-stands c =
     let added = has_added c.args.net.now b c.args.choice c.in-Some.edge c.add_edge.new.self c.settle_feasible-closing.new.trail (sym c.in-Some.ensures.edge) (with_choice_is at) done.stack done.ran in
     let from : is_none c.self.inside.source ≡ true = search rules in
     let settled = unsourced_settled c.args.net.now b c.args.choice c.in-Some.edge c.settle_feasible-closing.new.trail.current.stamps stands (none_there c.self.inside.source from) added.ran
-        (added_feasible c.args.net.now b c.args.choice c.add_edge.new.self c.settle_feasible-closing.new.trail.current.stamps (with_choice_is at) done.feasible) in
+    (added_feasible c.args.net.now b c.args.choice c.add_edge.new.self c.settle_feasible-closing.new.trail.current.stamps (with_choice_is at) done.feasible) in
     rw c.push_reserved.ensures.items
     (choice_stands c.args.net.now b c.args.choice c.in-Some.edge c.settle_feasible-closing.new.trail (length c.settle_feasible-closing.new.pending.marks) stands added.is done.marks added.stack settled)
 
@@ -106,9 +106,10 @@ returns-then-is_none-clause-no_times c =
     let down = (goal.at.returns-then-is_none-clause-no_times c).After-push_level in
     let b : Standing = standing_in c.self.inside in
     let feasible = added_feasible c.args.net.now b c.args.choice c.add_edge.new.self c.settle_feasible-closing.new.trail.current.stamps (with_choice_is at) c.in_default-closing.ensures.feasible in
-    let P : Standing → Type 0 = λ x. HasNoTimes c.args.net.now (with_choice c.args.net.now (chosen_of x) c.args.choice) → ⊥ in
-    (λ same. absurd (cc same),
-     λ none. absurd (subst P c.self.view_is (choice_times c.args.net.now b c.args.choice c.in-Some.edge c.settle_feasible-closing.new.trail.current.stamps (inside_stands down) (sym c.in-Some.ensures.edge) feasible) none))
+    let P : Standing → Type 0 = λ x. HasNoTimes c.args.net.now (with_choice c.args.net.now (chosen_of x) c.args.choice) → ⊥ in (
+      λ same. absurd (cc same),
+      λ none. absurd (subst P c.self.view_is (choice_times c.args.net.now b c.args.choice c.in-Some.edge c.settle_feasible-closing.new.trail.current.stamps (inside_stands down) (sym c.in-Some.ensures.edge) feasible) none),
+    )
 
 pub settle_uppers-requires-clause-ready : goal.settle_uppers-requires-clause-ready
 settle_uppers-requires-clause-ready c =
@@ -146,6 +147,7 @@ returns-clause-no_times c =
     let down = (goal.at.returns-clause-no_times c).After-push_level in
     let b : Standing = standing_in c.self.inside in
     let feasible = added_feasible c.args.net.now b c.args.choice c.add_edge.new.self c.settle_feasible-closing.new.trail.current.stamps (with_choice_is at) c.in_default-closing.ensures.feasible in
-    let P : Standing → Type 0 = λ x. HasNoTimes c.args.net.now (with_choice c.args.net.now (chosen_of x) c.args.choice) → ⊥ in
-    (λ same. absurd (cc same),
-     λ none. absurd (subst P c.self.view_is (choice_times c.args.net.now b c.args.choice c.in-Some.edge c.settle_feasible-closing.new.trail.current.stamps (inside_stands down) (sym c.in-Some.ensures.edge) feasible) none))
+    let P : Standing → Type 0 = λ x. HasNoTimes c.args.net.now (with_choice c.args.net.now (chosen_of x) c.args.choice) → ⊥ in (
+      λ same. absurd (cc same),
+      λ none. absurd (subst P c.self.view_is (choice_times c.args.net.now b c.args.choice c.in-Some.edge c.settle_feasible-closing.new.trail.current.stamps (inside_stands down) (sym c.in-Some.ensures.edge) feasible) none),
+    )

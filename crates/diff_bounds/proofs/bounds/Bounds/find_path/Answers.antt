@@ -35,12 +35,12 @@ returns-in-Some-clause-path c =
     let stands = inside_stands at in
     let long = c.path_into-self-inside.auto.walk ∙ ap length c.deref_mut.ensures.value ∙ sym c.self.inside.walk.ok.0 in
     let P : Standing → Type 0 = λ x. (source : EventId) (value : ℤ) → x.source ≡ Some source → upper_of x c.args.event.0 ≡ Some value
-        → IsPath c.args.net.now (chosen_of x) source c.args.event value (take c.path_into-self-inside.result (with_items c.self.inside.walk c.path_into-self-inside.new.walk).items) in
+    → IsPath c.args.net.now (chosen_of x) source c.args.event value (take c.path_into-self-inside.result (with_items c.self.inside.walk c.path_into-self-inside.new.walk).items) in
     subst P c.self.view_is
     (λ source value from is.
-        let path = one_path c.args.net.now b source c.args.event value stands from c.requires.event is in
-        let same : c.in-Some.source ≡ source = same_Some c.in-Some.source source (sym c.in-Some.is ∙ from) in
-        let climb = let Q : EventId → Type 0 = λ s. IsOneClimb c.args.net.now (parents_from c.self.inside.trail.current.stamps 0) (parents_from c.self.inside.trail.current.stamps 0) c.args.event.0 path.0 s.0 in subst Q (sym same) path.1 in
-        let written = ap (take c.path_into-self-inside.result) (with_items_is c.self.inside.walk c.path_into-self-inside.new.walk long) ∙ c.path_into-self-inside.ensures.names (parents_from c.self.inside.trail.current.stamps 0) path.0 climb in
-        let R : List EdgeName → Type 0 = λ names. IsPath c.args.net.now (chosen_of b) source c.args.event value names in
-        subst R (sym written) path.3)
+    let path = one_path c.args.net.now b source c.args.event value stands from c.requires.event is in
+    let same : c.in-Some.source ≡ source = same_Some c.in-Some.source source (sym c.in-Some.is ∙ from) in
+    let climb = let Q : EventId → Type 0 = λ s. IsOneClimb c.args.net.now (parents_from c.self.inside.trail.current.stamps 0) (parents_from c.self.inside.trail.current.stamps 0) c.args.event.0 path.0 s.0 in subst Q (sym same) path.1 in
+    let written = ap (take c.path_into-self-inside.result) (with_items_is c.self.inside.walk c.path_into-self-inside.new.walk long) ∙ c.path_into-self-inside.ensures.names (parents_from c.self.inside.trail.current.stamps 0) path.0 climb in
+    let R : List EdgeName → Type 0 = λ names. IsPath c.args.net.now (chosen_of b) source c.args.event value names in
+    subst R (sym written) path.3)

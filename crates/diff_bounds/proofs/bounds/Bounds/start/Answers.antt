@@ -11,6 +11,7 @@ returns-in-Some-clause-no_times c =
 
 pub returns-clause-no_times : goal.returns-clause-no_times
 returns-clause-no_times c =
-    let first = c.in_default.ensures.first in
-    (λ same. absurd (cc same),
-     λ none. absurd (has_times c.args.net.now [] c.settle_root-closing.new.trail.current.stamps c.requires.network.is_net first.root.feasible (root_none c.args.net.now none)))
+    let first = c.in_default.ensures.first in (
+      λ same. absurd (cc same),
+      λ none. absurd (has_times c.args.net.now [] c.settle_root-closing.new.trail.current.stamps c.requires.network.is_net first.root.feasible (root_none c.args.net.now none)),
+    )
