@@ -1,147 +1,181 @@
--- Labels that have settled are the greatest separations from their source.
-use Rattle.std.proofs.Common.{◌≡◌, ℕ, ◌<◌, ℤ, pos, ◌+ℤ◌, ◌-ℤ◌, ◌≤ℤ◌, List, [], ◌∷◌, length, get_or, map, Option, Some, None, is_none, unwrap_or, option_map, IfSome, slice_get, All, ◌∙◌, ap, subst, refl, arith}
+-- Labels that have fallen on and settled: old parents and fresh ones together, and the loop that an edge closes.
+use Rattle.std.proofs.Common.{◌≡◌, ℕ, ◌<◌, ◌≤◌, ℤ, pos, ◌+ℤ◌, ◌-ℤ◌, ◌≤ℤ◌, ◌<ℤ◌, ◌⊎◌, inl, inr, true, List, [], ◌∷◌, ◌++◌, length, reverse, All, Option, Some, None, sym, ◌∙◌, ap, subst, refl, arith}
 use Rattle.std.proofs.lemmas.Int.{ints}
-use Rattle.std.proofs.lemmas.Option.{get_or_from_slice_get, slice_get-get_or, slice_get-map, slice_get_within}
-use Rattle.std.proofs.lemmas.List.{get_or-map}
-use Rattle.std.proofs.lemmas.List.{length-map}
+use Rattle.std.proofs.lemmas.Bool.{cases_eq}
+use Rattle.std.proofs.lemmas.Option.{same_Some}
+use Rattle.std.proofs.lemmas.List.{length_push, length-reverse}
+use Rattle.std.proofs.lemmas.List.Elements.{All-push}
+use Rattle.itv_base.specs.declared.names.EdgeName.{EdgeName}
 use Rattle.itv_base.specs.declared.names.EventId.{EventId}
 use Rattle.event_graph.specs.declared.edge.Edge.{Edge}
-use Rattle.event_graph.specs.Bounds.{IsGreatest, IsRay}
-use Rattle.event_graph.specs.Edges.{Meets}
-use Rattle.event_graph.specs.Network.{IsNet, Net}
-use Rattle.event_graph.specs.RootBound.{HasNoRoot, MeetsAlways}
-use Rattle.event_graph.specs.Satisfying.{Satisfies}
-use Rattle.event_graph.specs.Times.{raised, separation, time_of}
-use Rattle.diff_bounds.specs.AlwaysEdges.{AreAlwaysEdges}
-use Rattle.diff_bounds.specs.Labels.{BoundsFrom, Follows, IsAfterAll, IsForward, label_of, times_of}
-use Rattle.diff_bounds.specs.Linear.{IsLinearAroundZero}
-use Rattle.diff_bounds.specs.Standing.{IsUpper, Stands, StandsFrom}
-use Rattle.event_graph.proofs.ByEdges.{satisfying_meets_always}
-use Rattle.event_graph.proofs.Rays.{ray_is_unbounded}
-use Rattle.diff_bounds.proofs.AlwaysLists.{linear_satisfies, meets_always, meets_list}
+use Rattle.event_graph.specs.Edges.{edge}
+use Rattle.event_graph.specs.Proof.{IsWalk, path_sum, weight_of}
+use Rattle.diff_bounds.specs.Current.{IsCurrent}
+use Rattle.diff_bounds.specs.Labels.{HaveSettled, IsAmong, IsClimb, IsForest, IsHeld, IsRooted, Labels, Parents, Scope, is_lower, number}
+use Rattle.diff_bounds.specs.Step.Falling.{IsPotential, Undercuts, fresh}
+use Rattle.diff_bounds.proofs.NamedWalks.{and_some, event, sum-append, sum-reverse, walk-append}
+use Rattle.diff_bounds.proofs.Climbs.{climb-append, climb_along, climb_short, climb_within, rest_of}
+use Rattle.diff_bounds.proofs.Forests.{StopIsTop, climb_potential, climb_walk, climb_weight, fresh_fallen, fresh_is_parent, lower_number, not_lower_itself, number-at, stays, starts_below}
 
--- no label is after the time
-abbrev pub IsAfterEach : List (Option ℤ) → ℤ → Type 0
-IsAfterEach labels last = (event : EventId) (label : ℤ) → label_of labels event ≡ Some label → label ≤ℤ last
+-- ---- old parents and fresh ones together
 
--- the time of an event is its label, or the last time
-time_at : (labels : List (Option ℤ)) (last : ℤ) (event : EventId) (label : Option ℤ) → event.0 < length labels → label_of labels event ≡ label → time_of (times_of labels last) event ≡ unwrap_or label last
-time_at labels last event label within e = get_or-map (λ l. unwrap_or l last) labels event.0 None (pos 0) within ∙ ap (λ l. unwrap_or l last) e
+-- labels that fell on from those of a forest, and have settled
+pub record FellOn (s : Scope) (start old label : Labels) (before parent : Parents) : Type 0 where
+  pub was : IsForest s start old before
+  pub fell : IsForest s old label (fresh old label parent)
+  pub each : (v : ℕ) → v < s.net.events → ((label v ≡ old v) × (parent v ≡ before v)) ⊎ (is_lower (label v) (old v) ≡ true)
+  pub settled : HaveSettled s label
 
--- an edge from an event that was not reached is met, wherever it leads
-last_met : (far : Option ℤ) (last weight : ℤ) → ((label : ℤ) → far ≡ Some label → label ≤ℤ last) → pos 0 ≤ℤ weight → (unwrap_or far last -ℤ last) ≤ℤ weight
-last_met None last weight after low = omega (arith, ints)
-last_met (Some label) last weight after low = let most : label ≤ℤ last = after label refl in omega (arith, ints)
+not_itself : (o p : Option ℤ) → is_lower p o ≡ true → p ≡ o → ⊥
+not_itself o p lower same = let P : Option ℤ → Type 0 = λ x. is_lower x o ≡ true in not_lower_itself o (subst P same lower)
 
--- an edge that the labels follow is met
-one_met : (near far : Option ℤ) (last weight : ℤ) → ((n : ℤ) → near ≡ Some n → (f : ℤ) × (far ≡ Some f) × (f ≤ℤ (n +ℤ weight))) → ((label : ℤ) → far ≡ Some label → label ≤ℤ last)
-    → pos 0 ≤ℤ weight → (unwrap_or far last -ℤ unwrap_or near last) ≤ℤ weight
-one_met None far last weight follows after low = last_met far last weight after low
-one_met (Some near) far last weight follows after low =
-    let next = follows near refl in
-    let most : next.0 ≤ℤ (near +ℤ weight) = next.2 in
-    let at : unwrap_or far last ≡ next.0 = ap (λ l. unwrap_or l last) next.1 in
-    omega (arith, ints)
+-- an event whose label stays keeps its parent
+stays_parent : (s : Scope) (start old label : Labels) (before parent : Parents) → FellOn s start old label before parent → (v : ℕ) → v < s.net.events → label v ≡ old v → parent v ≡ before v
+stays_parent s start old label before parent f v below same =
+    elim (f.each v below) [ inl both ↦ both.1 | inr lower ↦ absurd (not_itself (old v) (label v) lower same) ]
 
--- the times of labels that follow all edges meet them
-pub all_met : (edges : List Edge) (labels : List (Option ℤ)) (last : ℤ) → All (IsForward (length labels)) edges → All (Follows labels) edges → IsAfterEach labels last
-    → All (Meets (times_of labels last)) edges
-all_met edges labels last forward follow after =
-    λ k d below.
-    let e : Edge = get_or edges k d in
-    let here : IsForward (length labels) e = forward k d below in
-    let met = one_met (label_of labels e.from) (label_of labels e.to) last e.weight (follow k d below) (after e.to) here.low in
-    let from : time_of (times_of labels last) e.from ≡ unwrap_or (label_of labels e.from) last = time_at labels last e.from _ here.from refl in
-    let to : time_of (times_of labels last) e.to ≡ unwrap_or (label_of labels e.to) last = time_at labels last e.to _ here.to refl in
-    rw (from, to) met
+lower_some : (p : Option ℤ) (near : ℤ) → is_lower p (Some near) ≡ true → (z : ℤ) × (p ≡ Some z) × (z <ℤ near)
+lower_some None near lower = absurd (cc lower)
+lower_some (Some z) near lower = (z, refl, lower_number z near lower)
 
--- raising the events that were not reached moves the last time
-raised-times_of : (labels : List (Option ℤ)) (last : ℤ) (by : ℕ) → raised (map is_none labels) by (times_of labels last) ≡ times_of labels (last +ℤ pos by)
-raised-times_of [] last by = refl
-raised-times_of (None ∷ labels) last by = ap (λ ts. (last +ℤ pos by) ∷ ts) (raised-times_of labels last by)
-raised-times_of (Some label ∷ labels) last by = ap (λ ts. label ∷ ts) (raised-times_of labels last by)
+-- an event whose label stays has a parent whose label stays
+stays_up : (s : Scope) (start old label : Labels) (before parent : Parents) → FellOn s start old label before parent → (v : ℕ) (name : EdgeName) → label v ≡ old v → (h : IsHeld s old v name) → label h.e.from.0 ≡ old h.e.from.0
+stays_up s start old label before parent f v name same h =
+    elim (f.each h.e.from.0 h.within.from) [
+      | inl both ↦ both.0
+      | inr lower ↦
+          let P : Option ℤ → Type 0 = λ o. is_lower (label h.e.from.0) o ≡ true in
+          let now = lower_some (label h.e.from.0) h.near (subst P h.start lower) in
+          let less : now.0 <ℤ h.near = now.2 in
+          let follows = f.settled name h.e h.among now.0 now.1 in
+          let within : follows.far ≤ℤ (now.0 +ℤ h.e.weight) = follows.within in
+          let least : (h.near +ℤ h.e.weight) ≤ℤ h.far = h.below in
+          let is : follows.far ≡ h.far = same_Some follows.far h.far (sym follows.here ∙ ap label h.ends ∙ same ∙ h.here) in
+          absurd (omega (arith, ints))
+    ]
 
-after_raised : (labels : List (Option ℤ)) (last : ℤ) (by : ℕ) → IsAfterEach labels last → IsAfterEach labels (last +ℤ pos by)
-after_raised labels last by after = λ event label e. let most : label ≤ℤ last = after event label e in omega (arith, ints)
+-- so its climb is the old one
+stays_climb : (s : Scope) (start old label : Labels) (before parent : Parents) → FellOn s start old label before parent → (v r : ℕ) (es : List EdgeName) → v < s.net.events → IsClimb s.net before v es r → label v ≡ old v
+    → IsClimb s.net parent v es r × (label r ≡ old r)
+stays_climb s start old label before parent f v r [] below climb same =
+    (climb, let P : ℕ → Type 0 = λ x. label x ≡ old x in subst P climb same)
+stays_climb s start old label before parent f v r (name ∷ es) below climb same =
+    let h = f.was.held v name below climb.0 in
+    let rest = stays_climb s start old label before parent f h.e.from.0 r es h.within.from (rest_of s.net before v r name h.e es climb h.among.is) (stays_up s start old label before parent f v name same h) in
+    ((stays_parent s start old label before parent f v below same ∙ climb.0, (h.e, h.among.is, rest.0)), rest.1)
 
--- what labels have settled on a network
-pub record HaveSettled (net : Net) (edges : List Edge) (labels : List (Option ℤ)) (last : ℤ) : Type 0 where
-  pub is_net : IsNet net
-  pub linear : IsLinearAroundZero net
-  pub always : AreAlwaysEdges net edges
-  pub count : length labels ≡ net.events
-  pub forward : All (IsForward (length labels)) edges
-  pub follow : All (Follows labels) edges
-  pub after : IsAfterAll labels last
-
--- their times meet the always-edges, however late the last ones come
-always_by : (net : Net) (edges : List Edge) (labels : List (Option ℤ)) (last : ℤ) → HaveSettled net edges labels last → (by : ℕ) → MeetsAlways (times_of labels (last +ℤ pos by)) net
-always_by net edges labels last settled by =
-    meets_always net edges _ settled.always (length-map labels (λ l. unwrap_or l (last +ℤ pos by)) ∙ settled.count)
-    (all_met edges labels _ settled.forward settled.follow (after_raised labels last by settled.after.each))
-
-satisfies_by : (net : Net) (edges : List Edge) (labels : List (Option ℤ)) (last : ℤ) → HaveSettled net edges labels last → (by : ℕ) → Satisfies (times_of labels (last +ℤ pos by)) net
-satisfies_by net edges labels last settled by = linear_satisfies net _ settled.is_net settled.linear (always_by net edges labels last settled by)
-
-plus_zero : (last : ℤ) → last +ℤ pos 0 ≡ last
-plus_zero last = omega (arith, ints)
-
-pub satisfies_last : (net : Net) (edges : List Edge) (labels : List (Option ℤ)) (last : ℤ) → HaveSettled net edges labels last → Satisfies (times_of labels last) net
-satisfies_last net edges labels last settled = subst (λ (z : ℤ). Satisfies (times_of labels z) net) (plus_zero last) (satisfies_by net edges labels last settled 0)
-
--- a label is the separation of its event from the source
-label_attained : (edges : List Edge) (labels : List (Option ℤ)) (last : ℤ) (source event : EventId) (label : ℤ) → BoundsFrom edges source labels → source.0 < length labels → event.0 < length labels
-    → label_of labels event ≡ Some label → separation (times_of labels last) source event ≡ label
-label_attained edges labels last source event label bounds origin within e =
-    let from : time_of (times_of labels last) source ≡ pos 0 = time_at labels last source _ origin bounds.origin in
-    let to : time_of (times_of labels last) event ≡ label = time_at labels last event _ within e in
-    omega (arith, ints)
-
--- it is the greatest
-greatest : (net : Net) (edges : List Edge) (labels : List (Option ℤ)) (last : ℤ) (source event : EventId) (label : ℤ) → HaveSettled net edges labels last → BoundsFrom edges source labels
-    → source.0 < length labels → event.0 < length labels → label_of labels event ≡ Some label → IsGreatest net source event label
-greatest net edges labels last source event label settled bounds origin within e = record {
-  attained = (times_of labels last, satisfies_last net edges labels last settled, label_attained edges labels last source event label bounds origin within e);
-  most = λ times satisfies. bounds.most times (meets_list net edges times settled.always (satisfying_meets_always net times satisfies)) event label e;
-}
-
-flag_at : (labels : List (Option ℤ)) (event : EventId) (label : Option ℤ) → slice_get labels event.0 ≡ Some label → slice_get (map is_none labels) event.0 ≡ Some (is_none label)
-flag_at labels event label e = slice_get-map is_none labels event.0 ∙ ap (option_map is_none) e
-
--- the events that were not reached are a ray to each of them
-is_ray : (net : Net) (edges : List Edge) (labels : List (Option ℤ)) (last : ℤ) (source event : EventId) → HaveSettled net edges labels last → BoundsFrom edges source labels
-    → source.0 < length labels → slice_get labels event.0 ≡ Some None → IsRay net source event (times_of labels last) (map is_none labels)
-is_ray net edges labels last source event settled bounds origin e = record {
-  count = length-map labels is_none ∙ settled.count;
-  holds = flag_at labels event None e;
-  lacks = flag_at labels source (Some (pos 0)) (slice_get-get_or labels source.0 None origin ∙ ap Some bounds.origin);
-  satisfies = λ by. rw (raised-times_of labels last by) (satisfies_by net edges labels last settled by);
-}
-
-is_upper : (net : Net) (edges : List Edge) (labels : List (Option ℤ)) (last : ℤ) (source event : EventId) (upper : Option ℤ) → HaveSettled net edges labels last → BoundsFrom edges source labels
-    → source.0 < length labels → slice_get labels event.0 ≡ Some upper → IsUpper net source event upper
-is_upper net edges labels last source event None settled bounds origin e =
-    ray_is_unbounded net source event (times_of labels last) (map is_none labels) (is_ray net edges labels last source event settled bounds origin e)
-is_upper net edges labels last source event (Some value) settled bounds origin e =
-    greatest net edges labels last source event value settled bounds origin (slice_get_within labels event.0 (Some value) e) (get_or_from_slice_get labels event.0 (Some value) None e)
-
--- what stands
-pub stands : (net : Net) (edges : List Edge) (source : Option EventId) (labels : List (Option ℤ)) (last : ℤ) → HaveSettled net edges labels last
-    → IfSome source (λ s. s.0 < net.events) → ((event : EventId) → source ≡ Some event → BoundsFrom edges event labels)
-    → Stands net (record { edges = edges; source = source; uppers = labels; times = times_of labels last })
-stands net edges source labels last settled within bounds = record {
-  satisfies = satisfies_last net edges labels last settled;
-  from_source = λ event e. from event (bounds event e) (rw settled.count (let P : Option EventId → Type 0 = λ o. IfSome o (λ s. s.0 < net.events) in subst P e within));
-}
-  where
-    from : (s : EventId) → BoundsFrom edges s labels → s.0 < length labels → StandsFrom net s (record { edges = edges; source = source; uppers = labels; times = times_of labels last })
-    from s reached origin = record {
-      uppers = λ event upper e. is_upper net edges labels last s event upper settled reached origin e;
-      attained = λ event value e. label_attained edges labels last s event value reached origin (slice_get_within labels event.0 (Some value) e) (get_or_from_slice_get labels event.0 (Some value) None e);
-      origin = time_at labels last s _ origin reached.origin;
-      rays = λ event e. is_ray net edges labels last s event settled reached origin e;
+stays_rooted : (s : Scope) (start old label : Labels) (before parent : Parents) → FellOn s start old label before parent → (v : ℕ) → v < s.net.events → label v ≡ old v → IsRooted s.net parent v
+stays_rooted s start old label before parent f v below same =
+    let up = f.was.rooted v below in
+    let kept = stays_climb s start old label before parent f v up.root up.way below up.climb same in
+    let within : up.root < s.net.events = climb_within s.net before s.net.events v up.root up.way (starts_below s old before f.was.held) below up.climb in
+    record {
+      root = up.root;
+      way = up.way;
+      climb = kept.0;
+      top = stays_parent s start old label before parent f up.root within kept.1 ∙ up.top;
     }
 
--- the always-edges allow some times
-pub allows_times : (net : Net) (edges : List Edge) (labels : List (Option ℤ)) (last : ℤ) → HaveSettled net edges labels last → HasNoRoot net → ⊥
-allows_times net edges labels last settled none = none _ (always_by net edges labels last settled 0)
+join_rooted : (s : Scope) (parent : Parents) (v r : ℕ) (es : List EdgeName) → IsClimb s.net parent v es r → IsRooted s.net parent r → IsRooted s.net parent v
+join_rooted s parent v r es climb rooted = record {
+  root = rooted.root;
+  way = es ++ rooted.way;
+  climb = climb-append s.net parent v r rooted.root es rooted.way climb rooted.climb;
+  top = rooted.top;
+}
+
+all_rooted : (s : Scope) (start old label : Labels) (before parent : Parents) → FellOn s start old label before parent → (v : ℕ) → v < s.net.events → IsRooted s.net parent v
+all_rooted s start old label before parent f v below =
+    let up = f.fell.rooted v below in
+    let within : up.root < s.net.events = climb_within s.net (fresh old label parent) s.net.events v up.root up.way (starts_below s label (fresh old label parent) f.fell.held) below up.climb in
+    let climb = climb_along s.net (fresh old label parent) parent v up.root up.way (fresh_is_parent old label parent) up.climb in
+    join_rooted s parent v up.root up.way climb
+    (elim (f.each up.root within) [
+      | inl both ↦ stays_rooted s start old label before parent f up.root within both.0
+      | inr lower ↦ record { root = up.root; way = []; climb = refl; top = sym (fresh_fallen old label parent up.root lower) ∙ up.top }
+    ])
+
+-- an old parent holds still
+held_on : (s : Scope) (start old label : Labels) (before parent : Parents) → FellOn s start old label before parent → (v : ℕ) (name : EdgeName) → label v ≡ old v → IsHeld s old v name → IsHeld s label v name
+held_on s start old label before parent f v name same h = record {
+  e = h.e;
+  among = h.among;
+  within = h.within;
+  ends = h.ends;
+  near = h.near;
+  start = stays_up s start old label before parent f v name same h ∙ h.start;
+  far = h.far;
+  here = same ∙ h.here;
+  below = h.below;
+}
+
+-- the labels and all their parents are a forest from the same start
+pub forest_on : (s : Scope) (start old label : Labels) (before parent : Parents) → FellOn s start old label before parent → IsForest s start label parent
+forest_on s start old label before parent f = record {
+  rooted = all_rooted s start old label before parent f;
+  held = λ v name below at. elim (f.each v below) [
+    | inl both ↦ held_on s start old label before parent f v name both.0 (f.was.held v name below (sym both.1 ∙ at))
+    | inr lower ↦ f.fell.held v name below (fresh_fallen old label parent v lower ∙ at)
+  ];
+  roots = λ v below top. elim (f.each v below) [
+    | inl both ↦ both.0 ∙ f.was.roots v below (sym both.1 ∙ top)
+    | inr lower ↦ absurd (not_itself (old v) (label v) lower (f.fell.roots v below (fresh_fallen old label parent v lower ∙ top)))
+  ];
+}
+
+-- ---- the loop
+
+-- the edge that would lower the label at the stop hangs from the stop
+pub closing_climb : (s : Scope) (x : EventId) (old label : Labels) (parent : Parents) (name : EdgeName) (e : Edge) → IsForest s old label parent → StopIsTop (Some x) parent → IsPotential s (Some x) (λ v. number (old v))
+    → ((z : ℤ) × (old x.0 ≡ Some z)) → label x.0 ≡ old x.0 → IsAmong s name e → e.from.0 < s.net.events → Undercuts label e → e.to ≡ x → (es : List EdgeName) × IsClimb s.net parent e.from.0 es x.0 × (parent x.0 ≡ None)
+closing_climb s x old label parent name e forest top meets labelled stopped among within under ends =
+    let up = forest.rooted e.from.0 within in
+    elim (cases_eq up.root x.0) [
+      | inl same ↦ (up.way, (let P : ℕ → Type 0 = λ r. IsClimb s.net parent e.from.0 up.way r in subst P same up.climb), top x refl)
+      | inr apart ↦ absurd (never up.root up.way up.climb up.top apart)
+    ]
+  where
+    never : (r : ℕ) (way : List EdgeName) → IsClimb s.net parent e.from.0 way r → parent r ≡ None → (r ≡ x.0 → ⊥) → ⊥
+    never r way climb at_top apart =
+        let off : ◌≡◌ {A = Option EventId} (Some x) (Some (event r)) → ⊥ = λ is. apart (sym (ap (λ (y : EventId). y.0) (same_Some x (event r) is))) in
+        let root : r < s.net.events = climb_within s.net parent s.net.events e.from.0 r way (starts_below s label parent forest.held) within climb in
+        let sum : (number (old e.from.0) -ℤ number (old r)) ≤ℤ path_sum s.net way = climb_potential s (Some x) (λ v. number (old v)) label parent meets forest.held top e.from.0 r way within climb off in
+        let weight : (number (label r) +ℤ path_sum s.net way) ≤ℤ number (label e.from.0) = climb_weight s label parent forest.held e.from.0 r way within climb in
+        let same : number (label r) ≡ number (old r) = ap number (forest.roots r root at_top) in
+        let near : number (label e.from.0) ≡ under.near = number-at (label e.from.0) under.near under.start in
+        let here : number (old e.to.0) ≤ℤ (number (old e.from.0) +ℤ e.weight) = meets name e among (λ is. stays s.net parent (Some x) e.from r way top is climb off) in
+        let at : number (old e.to.0) ≡ number (old x.0) = ap (λ (y : EventId). number (old y.0)) ends in
+        let is : number (old x.0) ≡ labelled.0 = number-at (old x.0) labelled.0 labelled.1 in
+        let P : Option ℤ → Type 0 = λ o. is_lower (Some (under.near +ℤ e.weight)) o ≡ true in
+        let less : (under.near +ℤ e.weight) <ℤ labelled.0 = lower_number _ labelled.0 (subst P (ap (λ (y : EventId). label y.0) ends ∙ stopped ∙ labelled.1) under.lower) in
+        omega (arith, ints)
+
+-- the climb and the edge are a closed walk of negative sum
+pub record IsClosing (s : Scope) (name : EdgeName) (e : Edge) (es : List EdgeName) : Type 0 where
+  pub less : length es < s.net.events
+  pub walk : IsWalk s.net e.to (reverse es ++ name ∷ []) e.to
+  pub current : All (IsCurrent s.net s.chosen) (reverse es ++ name ∷ [])
+  pub negative : path_sum s.net (reverse es ++ name ∷ []) <ℤ pos 0
+  pub short : length (reverse es ++ name ∷ []) ≤ s.net.events
+
+pub closing_walk : (s : Scope) (old label : Labels) (parent : Parents) (name : EdgeName) (e : Edge) (es : List EdgeName) → IsForest s old label parent → IsAmong s name e → e.from.0 < s.net.events → Undercuts label e → ((z : ℤ) × (label e.to.0 ≡ Some z))
+    → IsClimb s.net parent e.from.0 es e.to.0 → IsClosing s name e es
+closing_walk s old label parent name e es forest among within under labelled climb =
+    let walked = climb_walk s label parent forest.held e.from.0 e.to.0 es within climb in
+    let last = and_some (edge s.net name) (λ f. (f.from ≡ event e.from.0) × (f.to ≡ e.to)) e among.is (refl, refl) in
+    let sums : path_sum s.net (reverse es ++ name ∷ []) ≡ path_sum s.net (reverse es) +ℤ path_sum s.net (name ∷ []) = sum-append s.net (reverse es) (name ∷ []) in
+    let turned : path_sum s.net (reverse es) ≡ path_sum s.net es = sum-reverse s.net es in
+    let weight : weight_of (edge s.net name) ≡ e.weight = ap weight_of among.is in
+    let heavy : (number (label e.to.0) +ℤ path_sum s.net es) ≤ℤ number (label e.from.0) = climb_weight s label parent forest.held e.from.0 e.to.0 es within climb in
+    let near : number (label e.from.0) ≡ under.near = number-at (label e.from.0) under.near under.start in
+    let far : number (label e.to.0) ≡ labelled.0 = number-at (label e.to.0) labelled.0 labelled.1 in
+    let P : Option ℤ → Type 0 = λ o. is_lower (Some (under.near +ℤ e.weight)) o ≡ true in
+    let less : (under.near +ℤ e.weight) <ℤ labelled.0 = lower_number _ labelled.0 (subst P labelled.1 under.lower) in
+    let short : length es < s.net.events = climb_short s.net parent s.net.events e.from.0 e.to.0 es (starts_below s label parent forest.held) forest.rooted within climb in
+    record {
+      less = short;
+      walk = walk-append s.net (event e.to.0) (event e.from.0) e.to (reverse es) (name ∷ []) walked.0 last;
+      current = All-push (IsCurrent s.net s.chosen) (reverse es) name walked.1 among.current;
+      negative = omega (arith, ints);
+      short = omega (arith, length_push (reverse es) name, length-reverse es);
+    }
