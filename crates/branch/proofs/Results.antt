@@ -1,0 +1,18 @@
+-- Facts of results.
+use Rattle.std.proofs.Common.{Ok, Err, IfOk, OnErr, Result, Option, Some, None, IsSomeAnd, ◌≡◌, refl}
+
+pub on_err : {T E : Type 0} (r : Result T E) (P : Type 0) → P → OnErr r P
+on_err (Ok x) P p = tt
+on_err (Err e) P p = p
+
+pub if_ok_then : {T E : Type 0} (r : Result T E) (P Q : T → Type 0) → IfOk r P → ((x : T) → P x → Q x) → IfOk r Q
+if_ok_then (Ok x) P Q p f = f x p
+if_ok_then (Err e) P Q p f = tt
+
+pub on_err_then : {T E : Type 0} (r : Result T E) (P Q : Type 0) → OnErr r P → (P → Q) → OnErr r Q
+on_err_then (Ok x) P Q p f = tt
+on_err_then (Err e) P Q p f = f p
+
+pub some_and : {X : Type 0} (o : Option X) (P : X → Type 0) → IsSomeAnd o P → (x : X) × (o ≡ Some x) × P x
+some_and None P h = absurd h
+some_and (Some x) P h = (x, refl, h)

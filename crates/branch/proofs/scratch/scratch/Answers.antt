@@ -1,0 +1,7 @@
+use Rattle.std.proofs.Common.{refl}
+use Rattle.branch.proofs.CaseCounts.{case_room}
+use Rattle.branch.proofs.ReadingOn.{none_searched}
+use Rattle.branch.proofs.scratch.scratch.Goals as goal
+
+pub returns : goal.returns
+returns c = refl
