@@ -1,3 +1,5 @@
 mod Results
 mod CaseCounts
 mod ReadingOn
+mod Endings
+mod Advancing
