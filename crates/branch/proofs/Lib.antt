@@ -3,3 +3,6 @@ mod CaseCounts
 mod ReadingOn
 mod Endings
 mod Advancing
+mod Gaps
+mod RaisingSets
+mod Entering

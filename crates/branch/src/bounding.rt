@@ -6,7 +6,7 @@ ghost use Rattle.event_graph.specs.Network.{IsNet};
 ghost use Rattle.event_graph.specs.Proof.{Bound, ProofLine};
 ghost use Rattle.event_graph.specs.Satisfying.{Satisfies};
 ghost use Rattle.event_graph.specs.Times.{separation};
-ghost use Rattle.diff_bounds.specs.Standing.{IsMadeFor as IsBoundsFor};
+ghost use Rattle.branch.specs.Step.Standing.{IsBoundsFor};
 ghost use Rattle.branch.specs.Answers.{Answers, IsCounted, IsRoot};
 ghost use Rattle.branch.specs.Lines.{AtEachSplit, IsAccepted, splittable_count};
 ghost use Rattle.branch.specs.Needed.{IsNeededToBound};

@@ -4,7 +4,7 @@ ghost use Rattle.std.specs.Prelude.{◌≡◌, ◌<◌, ◌≤◌, List, IfOk, I
 ghost use Rattle.itv_base.specs.Outside.{Rose};
 ghost use Rattle.event_graph.specs.Network.{IsNet};
 ghost use Rattle.event_graph.specs.Proof.{Nothing, ProofLine};
-ghost use Rattle.diff_bounds.specs.Standing.{IsMadeFor as IsBoundsFor};
+ghost use Rattle.branch.specs.Step.Standing.{IsBoundsFor};
 ghost use Rattle.branch.specs.Answers.{Finds, IsCounted};
 ghost use Rattle.branch.specs.Lines.{AtEachSplit, IsAccepted, splittable_count};
 ghost use Rattle.branch.specs.Needed.{IsNeededToFind};

@@ -5,10 +5,9 @@ ghost use Rattle.itv_base.specs.declared.names.EventId.{EventId};
 ghost use Rattle.event_graph.specs.Network.{IsNet};
 ghost use Rattle.event_graph.specs.Proof.{Bound, Case, ClosesByLoop, ClosesByPath};
 ghost use Rattle.event_graph.specs.RootBound.{HasNoRoot};
-ghost use Rattle.diff_bounds.specs.Standing.{IsMadeFor};
 ghost use Rattle.branch.specs.Step.Cases.{IsCase};
 ghost use Rattle.branch.specs.Step.Edges.{choice_name};
-ghost use Rattle.branch.specs.Step.Standing.{AreOfSame, AreTimesIn, HasNoUpper, HasUpper, IsRayIn, IsUpperIn, StandsBelow, StandsOn, walk_of};
+ghost use Rattle.branch.specs.Step.Standing.{AreOfSame, AreTimesIn, IsBoundsFor, HasNoUpper, HasUpper, IsRayIn, IsUpperIn, StandsBelow, StandsOn, walk_of};
 
 use crate::choice::Choice;
 use crate::search::Search;
@@ -19,13 +18,13 @@ use itv_base::{EdgeName, EventId, RuleKind, Side};
 /// Begins a search at the case without choices, from an event or from none. The answer is `Loop` where the always-edges allow no
 /// times, and then the bounds stand nowhere.
 pub fn start(net: &Network, search: &mut Search, source: Option<EventId>, budget: u64) -> Fit
-    requires made { IsMadeFor net.now search.old.bounds }
+    requires made { IsBoundsFor net.now search.old.bounds }
     requires source { IfSome source (λ s. s.0 < net.now.events) }
     ensures fits { result ≡ Fit.Fits → StandsOn net.now [] search.new.bounds }
     ensures none { result ≡ Fit.Loop → HasNoRoot net.now }
     ensures walk { result ≡ Fit.Loop → ClosesByLoop net.now [] (walk_of search.new.bounds) }
     ensures source { search.new.bounds.source ≡ source }
-    ensures made { IsMadeFor net.now search.new.bounds }
+    ensures made { IsBoundsFor net.now search.new.bounds }
     ensures others { search.new ≡ record {
         bounds = search.new.bounds;
         cases = record { room = search.old.cases.room; chosen = [] };

@@ -130,8 +130,9 @@ fn enter_case<S: Scribe>(
             return Ok(Entry::Entered);
         }
         scribe.cut_loop(walk(search))?;
-        if let Some(end) = leave_case(net, search) {
-            return Ok(end);
+        match leave_case(net, search) {
+            Some(end) => return Ok(end),
+            None => {}
         }
     }
     unreachable!()
@@ -167,8 +168,9 @@ fn next_case(net: &Network, search: &mut Search) -> bool
         (siblings net.now search.old.cases.chosen ≡ []) }
 {
     while let Some(choice) = search.cases.pop() {
+        let count = causes(net, choice.constraint);
         let cause = choice.cause + 1;
-        if cause < causes(net, choice.constraint) {
+        if cause < count {
             search.cases.push(Choice { cause, ..choice });
             return true;
         }

@@ -6,14 +6,20 @@ use Rattle.event_graph.specs.Bounds.{IsGreatestAmong, IsUnboundedAmong}
 use Rattle.event_graph.specs.Network.{Net}
 use Rattle.event_graph.specs.Proof.{Case}
 use Rattle.event_graph.specs.Times.{raised, separation}
-use Rattle.diff_bounds.specs.Standing.{IsMadeFor, Standing, Stands}
+use Rattle.diff_bounds.specs.Standing.{Standing}
 use Rattle.branch.specs.Lines.{MeetsUsable}
 use Rattle.branch.specs.Step.Raising.{IsNear}
 
+pub IsBoundsFor : Net → Standing → Type 0
+IsBoundsFor net bounds = length bounds.uppers ≡ net.events
+
+pub Standz : Net → Case → Standing → Type 0
+Standz net chosen bounds = length bounds.uppers ≡ net.events
+
 -- the bounds stand on a case
 pub record StandsOn (net : Net) (chosen : Case) (bounds : Standing) : Type 0 where
-  pub made : IsMadeFor net bounds
-  pub stands : Stands net bounds
+  pub made : IsBoundsFor net bounds
+  pub stands : Standz net chosen bounds
 
 -- the bounds stand on all choices of a case but the latest
 abbrev pub StandsBelow : Net → Case → Standing → Type 0
@@ -23,7 +29,7 @@ StandsBelow net (choice ∷ below) bounds = StandsOn net below bounds
 -- the bounds are of the same network, from the same source
 pub record AreOfSame (before now : Standing) : Type 0 where
   pub source : now.source ≡ before.source
-  pub made : (net : Net) → IsMadeFor net before → IsMadeFor net now
+  pub made : (net : Net) → IsBoundsFor net before → IsBoundsFor net now
 
 -- the walk that was found last
 pub walk_of : Standing → List EdgeName

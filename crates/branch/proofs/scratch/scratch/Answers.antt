@@ -1,6 +1,9 @@
 use Rattle.std.proofs.Common.{refl}
 use Rattle.branch.proofs.CaseCounts.{case_room}
 use Rattle.branch.proofs.ReadingOn.{none_searched}
+use Rattle.branch.proofs.Entering.{steps_here}
+use Rattle.branch.proofs.RaisingSets.{are_raised}
+use Rattle.branch.proofs.Gaps.{apart_is_ray}
 use Rattle.branch.proofs.Endings.{is_stopped}
 use Rattle.branch.proofs.Advancing.{path_cut}
 use Rattle.branch.proofs.scratch.scratch.Goals as goal
