@@ -1,9 +1,6 @@
-pub mod Falling
-pub mod Passing
-pub mod Starting
-pub mod Latest
-pub mod Forward
-pub mod AlwaysLists
-pub mod Settled
-pub mod Ranges
-pub mod Linear
+pub mod NamedWalks
+pub mod Climbs
+pub mod Forests
+pub mod Runs
+pub mod Falls
+pub mod Parts

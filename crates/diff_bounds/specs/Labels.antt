@@ -1,95 +1,108 @@
--- Labels of events: bounds on their separations from a source, found so far along edges.
-use Rattle.std.specs.Prelude.{◌≡◌, ◌+◌, ◌<◌, ◌≤◌, ◌*◌, ℕ, ℤ, pos, negsuc, ◌+ℤ◌, ◌≤ℤ◌, ◌<ℤ◌, Bool, true, false, List, length, map, Option, Some, None, is_some, sum_by, count_by, All, slice_index_or, slice_set, replicate, unwrap_or}
-use Rattle.itv_base.specs.declared.limits.TheConstants.{MAX_EVENTS}
-use Rattle.itv_base.specs.declared.names.EventId.{EventId}
+-- Labels of events, which fall along edges, and the edges over which they came.
+use Rattle.std.specs.Prelude.{◌≡◌, ◌<◌, ◌≤◌, ℕ, ℤ, pos, neg_ℤ, ◌+ℤ◌, ◌≤ℤ◌, ◌⊎◌, Bool, true, false, List, [], ◌∷◌, Option, Some, None, slice_index_or, int_lt, ◌+◌}
+use Rattle.itv_base.specs.declared.names.EdgeName.{EdgeName}
 use Rattle.event_graph.specs.declared.edge.Edge.{Edge}
-use Rattle.event_graph.specs.Edges.{Meets}
-use Rattle.event_graph.specs.Times.{separation}
+use Rattle.event_graph.specs.Edges.{edge}
+use Rattle.event_graph.specs.Network.{Net}
+use Rattle.trail.specs.declared.stamp.Stamp.{Stamp}
+use Rattle.trail.specs.Stack.{empty_stamp}
+use Rattle.diff_bounds.specs.Current.{IsCurrent}
+use Rattle.diff_bounds.specs.Limits.{weight_limit}
 
--- the label of an event, or none where it was not reached
-abbrev pub label_of : List (Option ℤ) → EventId → Option ℤ
-label_of labels event = slice_index_or labels event.0 None
+-- the label of each event, or none where it was not reached
+abbrev pub Labels : Type 0
+Labels = ℕ → Option ℤ
 
--- the greatest weight of an edge, which is the limit of an end
-abbrev pub weight_limit : ℕ
-weight_limit = 1000000000000
+-- the edge over which the label of each event came, or none where it came over none
+abbrev pub Parents : Type 0
+Parents = ℕ → Option EdgeName
 
--- no label is above the greatest weight for each event
-abbrev pub label_limit : ℕ
-label_limit = weight_limit * MAX_EVENTS
+abbrev pub stamp_at : List Stamp → ℕ → Stamp
+stamp_at stamps slot = slice_index_or stamps slot empty_stamp
 
--- an edge between events below a number, whose weight is not negative
-pub record IsForward (events : ℕ) (e : Edge) : Type 0 where
+-- the labels in the slots from a base on
+abbrev pub labels_from : List Stamp → ℕ → Labels
+labels_from stamps base event = (stamp_at stamps (base + event)).label
+
+-- the parents in the slots from a base on
+abbrev pub parents_from : List Stamp → ℕ → Parents
+parents_from stamps base event = (stamp_at stamps (base + event)).parent
+
+-- the number of a label, or 0
+abbrev pub number : Option ℤ → ℤ
+number None = pos 0
+number (Some label) = label
+
+-- a label is less than one that stands, or the first
+abbrev pub is_lower : Option ℤ → Option ℤ → Bool
+is_lower None standing = false
+is_lower (Some label) None = true
+is_lower (Some label) (Some standing) = int_lt label standing
+
+-- both events of an edge are there, and its weight is within the limit
+pub record IsWithin (events : ℕ) (e : Edge) : Type 0 where
   pub from : e.from.0 < events
   pub to : e.to.0 < events
-  pub low : pos 0 ≤ℤ e.weight
+  pub low : neg_ℤ (pos weight_limit) ≤ℤ e.weight
   pub high : e.weight ≤ℤ pos weight_limit
 
--- no label is negative, and none is above the greatest weight for each event that was reached
-pub record AreNear (labels : List (Option ℤ)) : Type 0 where
-  pub events : length labels ≤ MAX_EVENTS
-  pub low : (event : EventId) (label : ℤ) → label_of labels event ≡ Some label → pos 0 ≤ℤ label
-  pub high : (event : EventId) (label : ℤ) → label_of labels event ≡ Some label → label ≤ℤ pos (weight_limit * count_by is_some labels)
+-- a network, the edges that were chosen, and the first event whose edges count
+pub record Scope : Type 0 where
+  pub net : Net
+  pub chosen : List EdgeName
+  pub first : ℕ
 
--- an edge from an event that was reached leads to one, whose label is no more than the weight above
-abbrev pub Follows : List (Option ℤ) → Edge → Type 0
-Follows labels e =
-    (near : ℤ) → label_of labels e.from ≡ Some near → (far : ℤ) × (label_of labels e.to ≡ Some far) × (far ≤ℤ (near +ℤ e.weight))
+-- an edge of a scope, by its name
+pub record IsAmong (s : Scope) (name : EdgeName) (e : Edge) : Type 0 where
+  pub is : edge s.net name ≡ Some e
+  pub current : IsCurrent s.net s.chosen name
+  pub from : s.first ≤ e.from.0
 
--- the source is at 0, and no times that meet the edges separate an event from it by more than its label
-pub record BoundsFrom (edges : List Edge) (source : EventId) (labels : List (Option ℤ)) : Type 0 where
-  pub origin : label_of labels source ≡ Some (pos 0)
-  pub most : (times : List ℤ) → All (Meets times) edges
-      → (event : EventId) (label : ℤ) → label_of labels event ≡ Some label → separation times source event ≤ℤ label
+-- climbing from an event to the starts of these edges, each the parent of the event that was reached before, leads to another event
+abbrev pub IsClimb : Net → Parents → ℕ → List EdgeName → ℕ → Type 0
+IsClimb net parent event [] top = event ≡ top
+IsClimb net parent event (name ∷ names) top = (parent event ≡ Some name) × ((e : Edge) × (edge net name ≡ Some e) × IsClimb net parent e.from.0 names top)
 
--- labels that fell along edges: they are near, and bounds from whatever source they were before
-pub record Keeps (edges : List Edge) (old new : List (Option ℤ)) : Type 0 where
-  pub near : AreNear new
-  pub bounds : (source : EventId) → BoundsFrom edges source old → BoundsFrom edges source new
+-- climbing from an event ends, at an event without a parent
+pub record IsRooted (net : Net) (parent : Parents) (event : ℕ) : Type 0 where
+  pub root : ℕ
+  pub way : List EdgeName
+  pub climb : IsClimb net parent event way root
+  pub top : parent root ≡ None
 
--- a label is less than the one that stands, or the first
-abbrev pub Lowers : ℤ → Option ℤ → Type 0
-Lowers label None = Unit {0}
-Lowers label (Some standing) = label <ℤ standing
+-- the label of an event came over an edge: it has not fallen since, but that at the start of the edge may have
+pub record IsHeld (s : Scope) (label : Labels) (event : ℕ) (name : EdgeName) : Type 0 where
+  pub e : Edge
+  pub among : IsAmong s name e
+  pub within : IsWithin s.net.events e
+  pub ends : e.to.0 ≡ event
+  pub near : ℤ
+  pub start : label e.from.0 ≡ Some near
+  pub far : ℤ
+  pub here : label event ≡ Some far
+  pub below : (near +ℤ e.weight) ≤ℤ far
 
--- what relaxing an edge does: nothing where the labels follow it already, else the label at its end becomes that at its start and the weight
-abbrev pub Relaxes : Edge → List (Option ℤ) → List (Option ℤ) → Bool → Type 0
-Relaxes e old new false = (new ≡ old) × Follows old e
-Relaxes e old new true =
-    (near : ℤ) × (label_of old e.from ≡ Some near) × Lowers (near +ℤ e.weight) (label_of old e.to)
-    × (new ≡ slice_set old e.to.0 (Some (near +ℤ e.weight)))
+-- how labels stand that fell from those at the start over the edges of a scope: each came over its parent, and without a parent it is
+-- the one at the start; no climb by parents is endless
+pub record IsForest (s : Scope) (start label : Labels) (parent : Parents) : Type 0 where
+  pub rooted : (event : ℕ) → event < s.net.events → IsRooted s.net parent event
+  pub held : (event : ℕ) (name : EdgeName) → event < s.net.events → parent event ≡ Some name → IsHeld s label event name
+  pub roots : (event : ℕ) → event < s.net.events → parent event ≡ None → label event ≡ start event
 
--- the number, where it is not negative
-abbrev pub natural_part : ℤ → ℕ
-natural_part (pos n) = n
-natural_part (negsuc n) = 0
+-- an edge leads to an event whose label is no more than the weight above a number
+pub record IsFollowed (label : Labels) (e : Edge) (near : ℤ) : Type 0 where
+  pub far : ℤ
+  pub here : label e.to.0 ≡ Some far
+  pub within : far ≤ℤ (near +ℤ e.weight)
 
--- a label as a natural number, above all labels where there is none
-abbrev pub height : Option ℤ → ℕ
-height None = label_limit + 1
-height (Some label) = natural_part label
+-- an edge from an event with a label is followed
+abbrev pub Follows : Labels → Edge → Type 0
+Follows label e = (near : ℤ) → label e.from.0 ≡ Some near → IsFollowed label e near
 
--- how far the labels can still fall, all together
-abbrev pub total_height : List (Option ℤ) → ℕ
-total_height labels = sum_by height labels
+-- all edges of a scope are followed
+abbrev pub HaveSettled : Scope → Labels → Type 0
+HaveSettled s label = (name : EdgeName) (e : Edge) → IsAmong s name e → Follows label e
 
--- a time that is at least each label, and no later than any label may be
-pub record IsAfterAll (labels : List (Option ℤ)) (time : ℤ) : Type 0 where
-  pub low : pos 0 ≤ℤ time
-  pub high : time ≤ℤ pos label_limit
-  pub each : (event : EventId) (label : ℤ) → label_of labels event ≡ Some label → label ≤ℤ time
-
--- the times of labels: an event that was not reached comes last
-abbrev pub times_of : List (Option ℤ) → ℤ → List ℤ
-times_of labels last = map (λ label. unwrap_or label last) labels
-
--- only the source has a label, which is 0
-abbrev pub first_labels : ℕ → Option EventId → List (Option ℤ)
-first_labels events None = replicate events None
-first_labels events (Some source) = slice_set (replicate events None) source.0 (Some (pos 0))
-
--- labels that spread from a source, where there is one, until all edges were followed
-pub record HaveSpread (edges : List Edge) (source : Option EventId) (labels : List (Option ℤ)) : Type 0 where
-  pub near : AreNear labels
-  pub follow : All (Follows labels) edges
-  pub bounds : (event : EventId) → source ≡ Some event → BoundsFrom edges event labels
+-- a stamp is as it was, or has a first or a lower label
+abbrev pub HasFallen : Stamp → Stamp → Type 0
+HasFallen old new = (new ≡ old) ⊎ (is_lower new.label old.label ≡ true)

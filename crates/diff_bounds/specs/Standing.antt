@@ -1,48 +1,104 @@
--- What bounds show of a network, from a source.
-use Rattle.std.specs.Prelude.{◌≡◌, ℤ, pos, Bool, List, length, map, Option, Some, None, is_none, slice_get}
+-- What bounds are, what stands, and what their calls do.
+use Rattle.std.specs.Prelude.{◌≡◌, ◌+◌, ◌<◌, ◌≤◌, ℕ, ℤ, pos, ◌+ℤ◌, ◌≤ℤ◌, Bool, List, ◌∷◌, length, take, Option, Some, None, is_none, IsTrue, slice_get, vec_capacity}
+use Rattle.itv_base.specs.declared.limits.TheConstants.{MAX_EVENTS}
+use Rattle.itv_base.specs.declared.names.EdgeName.{EdgeName}
 use Rattle.itv_base.specs.declared.names.EventId.{EventId}
-use Rattle.event_graph.specs.declared.edge.Edge.{Edge}
-use Rattle.event_graph.specs.Bounds.{IsGreatest, IsRay, IsUnbounded}
 use Rattle.event_graph.specs.Network.{IsNet, Net}
-use Rattle.event_graph.specs.Satisfying.{Satisfies}
-use Rattle.event_graph.specs.Times.{separation, time_of}
-use Rattle.diff_bounds.specs.AlwaysEdges.{AreAlwaysEdges}
-use Rattle.diff_bounds.specs.Linear.{IsLinearAroundZero}
+use Rattle.diff_bounds.specs.Splittable.{splittable_count}
+use Rattle.event_graph.specs.Times.{time_of}
+use Rattle.trail.specs.Stack.{Stack}
+use Rattle.diff_bounds.specs.declared.arc.Arc.{Arc}
+use Rattle.diff_bounds.specs.declared.bounds.Bounds.TheInside.{Inside}
+use Rattle.diff_bounds.specs.Arcs.{AreAlwaysArcs, AreChosenArcs}
+use Rattle.diff_bounds.specs.Current.{with_choice}
+use Rattle.diff_bounds.specs.Labels.{HasFallen, labels_from, number, stamp_at}
+use Rattle.diff_bounds.specs.Settled.{AreSettled, IsRoot, bottom}
 
--- the edges that bounds keep, the source that they were started from, and for each event its greatest separation from the source,
--- where there is one, and a time
+-- the number of events, the always-edges by the event where they start, the chosen edges, the stack of graphs, how many events may
+-- wait, whether the feasible times of the first graph have settled, the source, and the walk that was found last
 pub record Standing : Type 0 where
-  pub edges : List Edge
+  pub events : ℕ
+  pub out : List (List Arc)
+  pub arcs : List Arc
+  pub trail : Stack
+  pub waiting : ℕ
+  pub settled : Bool
   pub source : Option EventId
-  pub uppers : List (Option ℤ)
-  pub times : List ℤ
+  pub walk : List EdgeName
 
--- the bounds were made for a network
-pub record IsMadeFor (net : Net) (bounds : Standing) : Type 0 where
+abbrev pub standing_in : Inside → Standing
+standing_in b = record {
+  events = b.events;
+  out = b.out;
+  arcs = b.chosen.items;
+  trail = b.trail;
+  waiting = length b.pending.marks;
+  settled = b.settled;
+  source = b.source;
+  walk = take b.count b.walk.items;
+}
+
+-- there is room for all that may come
+pub record HasRoom (b : Inside) : Type 0 where
+  pub walk : length b.walk.items ≡ b.events
+  pub count : b.count ≤ b.events
+  pub chosen : b.trail.levels ≤ vec_capacity b.chosen
+  pub events : b.events ≤ MAX_EVENTS
+
+-- the bounds were made for a network: the trail has two slots for each of its events, and a level for each constraint to split
+pub record IsMadeFor (net : Net) (b : Standing) : Type 0 where
   pub is_net : IsNet net
-  pub linear : IsLinearAroundZero net
-  pub edges : AreAlwaysEdges net bounds.edges
-  pub uppers : length bounds.uppers ≡ net.events
-  pub times : length bounds.times ≡ net.events
+  pub events : b.events ≡ net.events
+  pub out : AreAlwaysArcs net b.out
+  pub levels : b.trail.levels ≡ splittable_count net
+  pub slots : length b.trail.current.stamps ≡ net.events + net.events
+  pub waiting : b.waiting ≡ net.events
+  pub root : IsTrue b.settled → IsRoot net (bottom b.trail.current b.trail.below)
 
--- the greatest separation of an event from a source, or none where it is unbounded
-abbrev pub IsUpper : Net → EventId → EventId → Option ℤ → Type 0
-IsUpper net source event (Some value) = IsGreatest net source event value
-IsUpper net source event None = IsUnbounded net source event
+-- a graph stands: the labels of all graphs of the stack have settled
+pub record Stands (net : Net) (b : Standing) : Type 0 where
+  pub made : IsMadeFor net b
+  pub graphs : AreSettled net b.source b.trail.current b.trail.below
+  pub chosen : AreChosenArcs net b.trail.current.edges b.arcs
 
--- the events whose separation from the source is unbounded, by a flag for each event
-abbrev pub ray_of : Standing → List Bool
-ray_of bounds = map is_none bounds.uppers
+-- the edges that were chosen in the current graph, the latest one last
+abbrev pub chosen_of : Standing → List EdgeName
+chosen_of b = b.trail.current.edges
 
--- what stands from a source: the greatest separations, and times that attain all of them at once, with the source at 0, and that show
--- with the ray where there is none
-pub record StandsFrom (net : Net) (source : EventId) (bounds : Standing) : Type 0 where
-  pub uppers : (event : EventId) (upper : Option ℤ) → slice_get bounds.uppers event.0 ≡ Some upper → IsUpper net source event upper
-  pub attained : (event : EventId) (value : ℤ) → slice_get bounds.uppers event.0 ≡ Some (Some value) → separation bounds.times source event ≡ value
-  pub origin : time_of bounds.times source ≡ pos 0
-  pub rays : (event : EventId) → slice_get bounds.uppers event.0 ≡ Some None → IsRay net source event bounds.times (ray_of bounds)
+-- the label of an event from the source: its slot in the trail is its number
+abbrev pub upper_of : Standing → ℕ → Option ℤ
+upper_of b event = labels_from b.trail.current.stamps 0 event
 
--- the bounds stand on a network: their times satisfy it, and what they show from their source is right
-pub record Stands (net : Net) (bounds : Standing) : Type 0 where
-  pub satisfies : Satisfies bounds.times net
-  pub from_source : (source : EventId) → bounds.source ≡ Some source → StandsFrom net source bounds
+-- the feasible time of an event: its slot follows those of the labels from the source
+abbrev pub feasible_of : Standing → ℕ → ℤ
+feasible_of b event = number (labels_from b.trail.current.stamps b.events event)
+
+-- a label, or a time where there is none
+abbrev pub lifted : Option ℤ → ℤ → ℤ
+lifted None time = time
+lifted (Some label) time = label
+
+-- a number by which feasible times are put off: no label from the source is above the feasible time of its event and the number
+abbrev pub IsLift : Standing → ℤ → Type 0
+IsLift b lift = (event : ℕ) (label : ℤ) → event < b.events → upper_of b event ≡ Some label → label ≤ℤ (feasible_of b event +ℤ lift)
+
+-- times that bounds tell: each event with a label from the source has that time, and the others have their feasible times, all put off
+-- by one number
+pub record AreTimesOf (b : Standing) (times : List ℤ) : Type 0 where
+  pub count : length times ≡ b.events
+  pub lift : ℤ
+  pub is_lift : IsLift b lift
+  pub each : (event : EventId) → event.0 < b.events → time_of times event ≡ lifted (upper_of b event.0) (feasible_of b event.0 +ℤ lift)
+
+-- a flag for each event, which tells that it has no label from the source
+pub record IsRayOf (b : Standing) (set : List Bool) : Type 0 where
+  pub count : length set ≡ b.events
+  pub each : (event : EventId) → event.0 < b.events → slice_get set event.0 ≡ Some (is_none (upper_of b event.0))
+
+-- a descent put one graph on the stack: with the choice where it has an edge, and with each stamp as it was or lower
+pub record HasDescended (net : Net) (choice : EdgeName) (old new : Standing) : Type 0 where
+  pub levels : new.trail.levels ≡ old.trail.levels
+  pub below : new.trail.below ≡ old.trail.current ∷ old.trail.below
+  pub edges : chosen_of new ≡ with_choice net (chosen_of old) choice
+  pub fallen : (slot : ℕ) → HasFallen (stamp_at old.trail.current.stamps slot) (stamp_at new.trail.current.stamps slot)
+  pub source : new.source ≡ old.source

@@ -1,117 +1,293 @@
-//! Bounds on the separations of a network's events from a source.
+//! Bounds on the separations of events from a source, on one graph that is changed and given back.
 
-ghost use Rattle.std.specs.Prelude.{◌≡◌, ◌<◌, ◌≤◌, ◌↔◌, ℤ, pos, IfOk, IfSome, Some, None, All, length, slice_get};
+ghost use Rattle.std.specs.Prelude.{◌≡◌, ◌<◌, ◌≤◌, ◌↔◌, ⊤, ℕ, ℤ, pos, [], List, IfOk, IfSome, IsSome, Some, All, length};
+ghost use mathlib.Core.Option.{none};
+ghost use Rattle.std.specs.Borrow.{follows_so, sem};
 ghost use Rattle.itv_base.specs.declared.names.EventId.{EventId};
-ghost use Rattle.event_graph.specs.Bounds.{IsInconsistent, IsRay};
 ghost use Rattle.event_graph.specs.Network.{Net};
 ghost use Rattle.event_graph.specs.RootBound.{HasNoRoot};
-ghost use Rattle.event_graph.specs.Satisfying.{Satisfies};
-ghost use Rattle.event_graph.specs.Times.{IsTime, separation, time_of};
-ghost use Rattle.diff_bounds.specs.Linear.{IsLinearAroundZero};
-ghost use Rattle.diff_bounds.specs.Standing.{IsMadeFor, IsUpper, Stands, ray_of};
+ghost use Rattle.event_graph.specs.Times.{raised, separation, time_of};
+ghost use Rattle.trail.specs.Stack.{after_pop};
+ghost use Rattle.diff_bounds.specs.Current.{HasNoTimes, IsLoop, IsPath, IsUpper, MeetsCurrent, with_choice};
+ghost use Rattle.diff_bounds.specs.Limits.{IsNear, IsReach};
+ghost use Rattle.diff_bounds.specs.Splittable.{splittable_count};
+ghost use Rattle.diff_bounds.specs.contracts.bounds.Bounds.{the_row};
+ghost use Rattle.diff_bounds.specs.Standing.{AreTimesOf, HasDescended, IsMadeFor, IsRayOf, Stands, chosen_of, upper_of};
 
-use crate::always_edges::always_edges;
+use crate::arc::Arc;
+use crate::falling::label_in;
 use crate::fit::Fit;
-use crate::labels::{latest, spread, write_ray, write_times};
-use event_graph::{Edge, Network};
-use itv_base::{EventId, NoMemory};
+use crate::out_edges::OutEdges;
+use crate::pending::Pending;
+use crate::settling::{reach, settle_feasible, settle_root, settle_uppers};
+use crate::times::{least_lift, write_ray, write_times};
+use crate::walks::{loop_into, path_into};
+use event_graph::Network;
+use itv_base::{EdgeName, EventId, NoMemory, Side};
 use std::alloc::Global;
 use std::marker::Model;
+use trail::Trail;
 
-/// Bounds on a network: the greatest separations of its events from a source, in picoseconds, and times that attain them.
+/// Bounds on a network: the greatest separations of its events from a source, in picoseconds, and times that attain them, over the
+/// times that meet the **current edges**. These are the always-edges of the network and the edges that were chosen.
 ///
-/// They are made for one network, and stand from a [`start`](Bounds::start) that fits until the next one.
+/// They are made for one network, and a graph stands from a [`start`](Bounds::start) that fits until the next one. A
+/// [`descend`](Bounds::descend) adds an edge, and a [`retreat`](Bounds::retreat) gives the graph back as it stood before. The graphs
+/// are kept in one [`Trail`], with the labels of each event from the source in the first half of its slots, and feasible times in the
+/// second half: so a level costs what it changes. Labels fall along edges by the algorithm of Bellman and Ford with a queue, and the
+/// feasible times, as potentials, show in advance that they settle.
 #[derive(Debug, Drop)]
 pub struct Bounds {
-    edges: Vec<Edge>,
+    events: u32,
+    out: OutEdges,
+    chosen: Vec<Arc>,
+    trail: Trail,
+    pending: Pending,
+    // Whether the feasible times of the first graph have settled.
+    settled: bool,
     source: Option<EventId>,
-    labels: Vec<Option<i64>>,
-    last: i64,
+    walk: Vec<EdgeName>,
+    // How many edges the walk that was found last has.
+    count: usize,
 }
 
 impl Model for Bounds {
-    ghost use Rattle.std.specs.Prelude.{All, length};
-    ghost use Rattle.diff_bounds.specs.Labels.{AreNear, IsAfterAll, IsForward, times_of};
-    ghost use Rattle.diff_bounds.specs.Standing.{Standing};
+    ghost use Rattle.diff_bounds.specs.Standing.{HasRoom, Standing, standing_in};
 
     ghost Value = { Standing };
 
-    ghost view = { λ b. record { edges = b.edges.items; source = b.source; uppers = b.labels.items; times = times_of b.labels.items b.last } };
+    ghost view = { standing_in };
 
-    ghost invariant = { λ b. All (IsForward (length b.labels.items)) b.edges.items × AreNear b.labels.items × IsAfterAll b.labels.items b.last };
+    ghost invariant = { HasRoom };
 }
 
+const NO_EDGE: EdgeName = EdgeName {
+    constraint: 0,
+    cause: 0,
+    side: Side::Lower,
+};
+
 impl Bounds {
-    /// Bounds for a network whose constraints are all linear, with ranges that hold 0. All memory that they will ever need is
-    /// taken here, and `NoMemory` is the answer where it is not found. No graph stands yet.
+    /// Bounds for a network. All memory that they will ever need is taken here, and `NoMemory` is the answer where it is not found.
+    /// No graph stands yet.
     pub fn new(alloc: Global, net: &Network) -> Result<Bounds, NoMemory>
-        requires { IsLinearAroundZero net.now }
         ensures { IfOk result (λ bounds. IsMadeFor net.now bounds) }
     {
-        let events = net.events() as usize;
+        let events = net.events();
+        let levels = splittable_count(net);
         Ok(Bounds {
-            edges: always_edges(alloc, net)?,
+            events,
+            out: OutEdges::of_network(alloc, net)?,
+            chosen: Vec::with_capacity(alloc, levels as usize)?,
+            trail: Trail::new(alloc, events + events, levels)?,
+            pending: Pending::new(alloc, events)?,
+            settled: false,
             source: None,
-            labels: Vec::from_elem(alloc, None, events)?,
-            last: 0,
+            walk: Vec::from_elem(alloc, NO_EDGE, events as usize)?,
+            count: 0,
         })
     }
 
-    /// Lets the bounds stand on the always-edges of the network that they were made for, from one of its events or from none.
-    /// The answer is `Loop` exactly where these edges allow no times, and then no graph stands until the next start.
+    /// Lets the bounds stand on the always-edges of the network that they were made for, from one of its events or from none. The
+    /// answer is `Loop` exactly where these edges allow no times, and then no graph stands until the next start.
     pub fn start(&mut self, net: &Network, source: Option<EventId>) -> Fit
         requires network { IsMadeFor net.now self.old }
         requires source { IfSome source (λ s. s.0 < net.now.events) }
         ensures stands { result ≡ Fit.Fits → Stands net.now self.new }
+        ensures chosen { result ≡ Fit.Fits → chosen_of self.new ≡ [] }
+        ensures below { result ≡ Fit.Fits → self.new.trail.below ≡ [] }
         ensures no_times { (result ≡ Fit.Loop) ↔ HasNoRoot net.now }
-        ensures inconsistent { result ≡ Fit.Loop → IsInconsistent net.now }
+        ensures walk { result ≡ Fit.Loop → IsLoop net.now [] self.new.walk }
         ensures source { self.new.source ≡ source }
         ensures network { IsMadeFor net.now self.new }
     {
-        prove!(net.events() as usize == self.labels.len());
         self.source = source;
-        spread(&self.edges, &mut self.labels, source);
-        self.last = latest(&self.labels);
+        self.chosen.clear();
+        let closing = settle_root(
+            self.settled,
+            net,
+            &self.out,
+            &mut self.trail,
+            &mut self.pending,
+        );
+        if let Some(arc) = closing {
+            self.count = loop_into(net, &self.trail, arc, &mut self.walk);
+            return Fit::Loop;
+        }
+        self.settled = true;
+        reach(net, &self.out, source, &mut self.trail, &mut self.pending);
         Fit::Fits
     }
 
-    /// The greatest separation of an event of the network from the source in picoseconds, or `None` where it is unbounded.
-    /// A graph has to stand from a source.
-    pub fn upper(&self, event: EventId) -> Option<i64>
-        requires { event.0 < length self.now.uppers }
-        ensures value { slice_get self.now.uppers event.0 ≡ Some result }
-        ensures greatest { (net : Net) (source : EventId)
-            → Stands net self.now → self.now.source ≡ Some source → IsUpper net source event result }
-        ensures range { IfSome result IsTime }
+    /// Adds an edge of the network as a new level, in which all current edges count that did before. Where there is no edge of this
+    /// name the new level has the same edges. A graph has to stand, with fewer levels above the start than there are constraints with
+    /// two or more causes. The answer is `Loop` exactly where no times meet the new edges, and then the level is taken back, and the
+    /// graph is as it was.
+    pub fn descend(&mut self, net: &Network, choice: EdgeName) -> Fit
+        requires stands { Stands net.now self.old }
+        requires levels { length self.old.trail.below < self.old.trail.levels }
+        ensures stands { Stands net.now self.new }
+        ensures fits { result ≡ Fit.Fits → HasDescended net.now choice self.old self.new }
+        ensures no_times { (result ≡ Fit.Loop) ↔ HasNoTimes net.now (with_choice net.now (chosen_of self.old) choice) }
+        ensures same { result ≡ Fit.Loop → self.new ≡ record self.old { walk = self.new.walk } }
+        ensures walk { result ≡ Fit.Loop → IsLoop net.now (with_choice net.now (chosen_of self.old) choice) self.new.walk }
     {
-        self.labels[event.0 as usize]
+        self.trail.push_level();
+        let Some(edge) = net.edge(choice) else {
+            return Fit::Fits;
+        };
+        self.trail.add_edge(choice);
+        self.chosen.push_reserved(Arc { name: choice, edge });
+        let closing = settle_feasible(
+            net,
+            &self.out,
+            &self.chosen,
+            edge.from,
+            0,
+            &mut self.trail,
+            &mut self.pending,
+        );
+        if let Some(arc) = closing {
+            self.count = loop_into(net, &self.trail, arc, &mut self.walk);
+            self.trail.pop_level();
+            self.chosen.pop();
+            return Fit::Loop;
+        }
+        if self.source.is_some() {
+            settle_uppers(
+                net,
+                &self.out,
+                &self.chosen,
+                edge.from,
+                &mut self.trail,
+                &mut self.pending,
+            );
+        }
+        Fit::Fits
     }
 
-    /// Writes times in picoseconds, one per event, that satisfy the network. From a source they attain each
-    /// [`upper`](Bounds::upper) that is a number, all at once, and the source is at 0. A graph has to stand.
+    /// Gives back the graph as it stood before the last [`descend`](Bounds::descend) that fitted. A level above the start has to stand.
+    pub fn retreat(&mut self)
+        requires stands { (net : Net) × Stands net self.old }
+        requires level { 0 < length self.old.trail.below }
+        ensures trail { self.new.trail ≡ after_pop self.old.trail }
+        ensures source { self.new.source ≡ self.old.source }
+        ensures stands { (net : Net) → Stands net self.old → Stands net self.new }
+    {
+        self.trail.pop_level();
+        let count = self.trail.edge_count() as usize;
+        self.chosen.truncate(count);
+    }
+
+    /// The greatest separation of an event of the network from the source in picoseconds, or `None` where it is unbounded. A graph has
+    /// to stand from a source.
+    pub fn upper(&self, event: EventId) -> Option<i64>
+        requires stands { (net : Net) × Stands net self.now }
+        requires source { IsSome self.now.source }
+        requires event { event.0 < self.now.events }
+        ensures value { result ≡ upper_of self.now event.0 }
+        ensures greatest { (net : Net) (source : EventId)
+            → Stands net self.now → self.now.source ≡ Some source → IsUpper net (chosen_of self.now) source event result }
+        ensures range { IfSome result IsReach }
+    {
+        label_in(&self.trail, event.0)
+    }
+
+    /// Writes times in picoseconds, one per event, that meet the current edges. From a source they attain each
+    /// [`upper`](Bounds::upper) that is a number, all at once, and the source is at 0; all other events come as early as the feasible
+    /// times are put off by one number. A graph has to stand.
     pub fn times_into(&self, out: &mut [i64])
-        requires { length out.old ≡ length self.now.times }
-        ensures times { out.new ≡ self.now.times }
-        ensures satisfies { (net : Net) → Stands net self.now → Satisfies out.new net }
+        requires stands { (net : Net) × Stands net self.now }
+        requires count { length out.old ≡ self.now.events }
+        ensures times { AreTimesOf self.now out.new }
+        ensures meets { (net : Net) → Stands net self.now → MeetsCurrent net (chosen_of self.now) out.new }
         ensures attained { (net : Net) (source event : EventId) (value : ℤ)
-            → Stands net self.now → self.now.source ≡ Some source
-            → slice_get self.now.uppers event.0 ≡ Some (Some value) → separation out.new source event ≡ value }
+            → Stands net self.now → self.now.source ≡ Some source → event.0 < self.now.events
+            → upper_of self.now event.0 ≡ Some value → separation out.new source event ≡ value }
         ensures origin { (net : Net) (source : EventId)
             → Stands net self.now → self.now.source ≡ Some source → time_of out.new source ≡ pos 0 }
-        ensures range { All IsTime out.new }
+        ensures range { All IsNear out.new }
     {
-        write_times(&self.labels, self.last, out);
+        let lift = least_lift(&self.trail, self.events);
+        write_times(&self.trail, self.events, lift, out);
     }
 
-    /// Writes for each event whether its [`upper`](Bounds::upper) is `None`. The times of [`times_into`](Bounds::times_into)
-    /// satisfy however far all of these events are raised. A graph has to stand from a source.
+    /// Writes for each event whether its [`upper`](Bounds::upper) is `None`. The times of [`times_into`](Bounds::times_into) meet the
+    /// current edges however far all of these events are raised. A graph has to stand from a source.
     pub fn ray_into(&self, out: &mut [bool])
-        requires { length out.old ≡ length self.now.uppers }
-        ensures set { out.new ≡ ray_of self.now }
-        ensures ray { (net : Net) (source event : EventId)
-            → Stands net self.now → self.now.source ≡ Some source
-            → slice_get self.now.uppers event.0 ≡ Some None → IsRay net source event self.now.times out.new }
+        requires stands { (net : Net) × Stands net self.now }
+        requires source { IsSome self.now.source }
+        requires count { length out.old ≡ self.now.events }
+        ensures set { IsRayOf self.now out.new }
+        ensures raised { (net : Net) (times : List ℤ) (by : ℕ)
+            → Stands net self.now → AreTimesOf self.now times → MeetsCurrent net (chosen_of self.now) (raised out.new by times) }
     {
-        write_ray(&self.labels, out);
+        write_ray(&self.trail, out);
     }
+
+    /// A path of current edges from the source to an event whose [`upper`](Bounds::upper) is a number, with that sum, and with at most
+    /// as many edges as there are events. It is kept as [`walk`](Bounds::walk) until the next change. A graph has to stand from a source.
+    pub fn path(&mut self, net: &Network, event: EventId) -> &[EdgeName]
+        requires stands { Stands net.now self.old }
+        requires event { event.0 < net.now.events }
+        requires source { IsSome self.old.source }
+        requires reached { IsSome (upper_of self.old event.0) }
+        ensures* same { sem 𝓛 (follows_so the_row the_row self.entry.ghost_name none (λ _ _. ⊤) (λ b. b ≡ record self.old { walk = result.now })) }
+        ensures path { (source : EventId) (value : ℤ) → self.old.source ≡ Some source → upper_of self.old event.0 ≡ Some value
+            → IsPath net.now (chosen_of self.old) source event value result.now }
+    {
+        self.find_path(net, event);
+        self.walk()
+    }
+
+    /// Finds a path as [`path`](Bounds::path) does, and keeps it as [`walk`](Bounds::walk).
+    pub fn find_path(&mut self, net: &Network, event: EventId)
+        requires stands { Stands net.now self.old }
+        requires event { event.0 < net.now.events }
+        requires source { IsSome self.old.source }
+        requires reached { IsSome (upper_of self.old event.0) }
+        ensures same { self.new ≡ record self.old { walk = self.new.walk } }
+        ensures path { (source : EventId) (value : ℤ) → self.old.source ≡ Some source → upper_of self.old event.0 ≡ Some value
+            → IsPath net.now (chosen_of self.old) source event value self.new.walk }
+    {
+        if let Some(source) = self.source {
+            self.count = path_into(net, &self.trail, 0, event, source, &mut self.walk);
+        }
+    }
+
+    /// The walk that was found last, by a call that answered `Loop` or by [`find_path`](Bounds::find_path), and kept since.
+    pub fn walk(&self) -> &[EdgeName]
+        ensures { result.now ≡ self.now.walk }
+    {
+        &self.walk[..self.count]
+    }
+
+    /// After an answer `Loop` a closed walk of the edges that were tried, whose sum is negative, and with at most as many edges as
+    /// there are events. It is kept until the next change.
+    pub fn loop_walk(&self) -> &[EdgeName]
+        ensures { result.now ≡ self.now.walk }
+    {
+        self.walk()
+    }
+
+    /// The stack of graphs. A graph lists the chosen edges, and the label in the slot of an event's number is its
+    /// [`upper`](Bounds::upper).
+    pub fn trail(&self) -> &Trail
+        ensures { result.now ≡ self.now.trail }
+    {
+        &self.trail
+    }
+}
+
+// How many constraints have two or more causes.
+fn splittable_count(net: &Network) -> u32
+    ensures { result ≡ splittable_count net.now }
+{
+    let mut count = 0;
+    for constraint in 0..net.len() {
+        if net.cause_count(constraint) > 1 {
+            count += 1;
+        }
+    }
+    count
 }

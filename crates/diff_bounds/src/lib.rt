@@ -1,14 +1,17 @@
-//! Bounds on one graph: the greatest separations of all events from a source, over the times that satisfy a network.
-//! The contract of the crate: after `start`, `upper` is the greatest separation of an event from the source, or none where it is
-//! unbounded, and the times of `times_into` satisfy, attain all of them at once, and can be raised by the ray of `ray_into`.
+//! Bounds on one graph, to which one edge after another is added and taken back: the greatest separations of all events from a
+//! source, over the times that meet the always-edges of a network and the chosen edges. The contract of the crate: while a graph
+//! stands, `upper` is the greatest separation of an event, and `start` and `descend` answer `Loop` exactly where no times meet the edges.
 #![tactic(auto)]
 
-mod always_edges;
+mod arc;
 mod bounds;
+mod falling;
 mod fit;
-mod labels;
-#[cfg(test)]
-mod tests;
+mod out_edges;
+mod pending;
+mod settling;
+mod times;
+mod walks;
 
 pub use bounds::Bounds;
 pub use fit::Fit;

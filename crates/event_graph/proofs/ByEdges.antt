@@ -12,7 +12,7 @@ use Rattle.event_graph.specs.Network.{Constraint, Net}
 use Rattle.event_graph.specs.Satisfying.{Holds, HoldsAs}
 use Rattle.event_graph.specs.Edges.{IsAlways, Meets, choice_side, edge, holds_always, side_edge}
 use Rattle.event_graph.specs.Proof.{HasChoice}
-use Rattle.event_graph.specs.Laws.{HoldsByEdges, MeetsAlwaysOf, MeetsSomeChoice, NoRootIsInconsistent, RootBoundEncloses, SatisfyingMeetsAlways, SingleCauseIsLinear}
+use Rattle.event_graph.specs.Laws.{HoldsByEdges, MeetsAlwaysOf, MeetsSomeChoice, NoRootIsInconsistent, RootBoundEncloses, SatisfyingIsMeetingAlways, SatisfyingMeetsAlways, SingleCauseIsLinear}
 use Rattle.event_graph.proofs.EdgesMet.{All-found, Allows, allows_side, always_allows, at_some, cause_of, edge-at, found_below, meets_side, met_if_some}
 
 -- the sides of a constraint that is there
@@ -130,6 +130,29 @@ satisfying_meets_always net times h = record {
       holds_always_edges net name.constraint found.0 times found.1 (All-found (Holds times) net.constraints name.constraint found.0 found.1 h.each) name e refl always
       is_edge;
 }
+
+-- a constraint of one cause holds where its always-edges are met
+single_holds : (net : Net) (number : ℕ) (k : Constraint) (times : List ℤ) → slice_get net.constraints number ≡ Some k → length k.causes ≡ 1
+    → MeetsAlwaysOf times net number → Holds times k
+single_holds net number k times at_k single meets =
+    holds_from_edges k.kind net number k times refl at_k meets (λ _.
+    let name : EdgeName = record { constraint = number; cause = 0; side = choice_side k.kind } in (
+      0,
+      omega arith,
+      met_if_some (edge net name) (Meets times)
+          (λ e is_edge. meets name e refl (is_always net name k e at_k is_edge (single_always k.kind (length k.causes) (choice_side k.kind) single)) is_edge),
+    ))
+
+pub satisfying_is_meeting_always : SatisfyingIsMeetingAlways
+satisfying_is_meeting_always net times is_net single = (
+  satisfying_meets_always net times,
+  (λ met. record {
+    count = met.count;
+    each = λ k d within.
+        single_holds net k (get_or net.constraints k d) times (slice_get-get_or net.constraints k d within) (single k d within)
+        (λ name e _ always is_edge. met.each name e always is_edge);
+  }),
+)
 
 pub root_bound_encloses : RootBoundEncloses
 root_bound_encloses net from to value times bound h = bound.most times (satisfying_meets_always net times h)

@@ -3,6 +3,9 @@ pub mod Shifting
 pub mod Rays
 pub mod Reversing
 pub mod EdgesMet
+pub mod Ends
 pub mod ByEdges
 pub mod SoundProofs
 pub mod ProofCounts
+pub mod ReadingOn
+pub mod Rising

@@ -27,7 +27,7 @@ get_or-raised_out (is_in ∷ set) by [] k here = refl
 get_or-raised_out (is_in ∷ set) by (time ∷ times) zero here = rw (same_Some is_in false here) refl
 get_or-raised_out (is_in ∷ set) by (time ∷ times) (suc k) here = get_or-raised_out set by times k here
 
-at_most_abs : (z : ℤ) → z ≤ℤ pos (unsigned_abs z)
+pub at_most_abs : (z : ℤ) → z ≤ℤ pos (unsigned_abs z)
 at_most_abs (pos n) = omega (arith, ints)
 at_most_abs (negsuc n) = omega (arith, ints)
 

@@ -6,8 +6,9 @@ use Rattle.itv_base.specs.declared.names.Side.{Side}
 use Rattle.event_graph.specs.declared.edge.Edge.{Edge}
 use Rattle.event_graph.specs.Bounds.{IsGreatest, IsInconsistent, IsLeast, IsRay, IsUnbounded}
 use Rattle.event_graph.specs.Edges.{IsAlways, Meets, cause_choices, choice_side, edge}
-use Rattle.event_graph.specs.Network.{Constraint, IsNet, Net}
-use Rattle.event_graph.specs.Proof.{Bound, HasChoice, IsProof, IsStoppedProof, Nothing, ProofGoal, ProofLine, closing_lines}
+use Rattle.event_graph.specs.Network.{Constraint, HasNoChoices, IsNet, Net}
+use Rattle.event_graph.specs.Proof.{Bound, Case, HasChoice, IsProof, IsStoppedProof, Nothing, ProofGoal, ProofLine, Reads, closing_lines}
+use Rattle.event_graph.specs.Reading.{cases_left}
 use Rattle.event_graph.specs.RootBound.{HasNoRoot, IsRootBound, MeetsAlways}
 use Rattle.event_graph.specs.Satisfying.{Holds, Satisfies}
 use Rattle.event_graph.specs.Times.{separation, shifted}
@@ -51,6 +52,10 @@ SingleCauseIsLinear = (net : Net) (number : ℕ) (c : Constraint) (times : List 
 abbrev pub SatisfyingMeetsAlways : Type 0
 SatisfyingMeetsAlways = (net : Net) (times : List ℤ) → Satisfies times net → MeetsAlways times net
 
+-- a network without choices is its always-edges: times satisfy it exactly where they meet those
+abbrev pub SatisfyingIsMeetingAlways : Type 0
+SatisfyingIsMeetingAlways = (net : Net) (times : List ℤ) → IsNet net → HasNoChoices net → (Satisfies times net ↔ MeetsAlways times net)
+
 -- the root bound of a pair, where it is a number, is at least every satisfying separation
 abbrev pub RootBoundEncloses : Type 0
 RootBoundEncloses = (net : Net) (from to : EventId) (value : ℤ) (times : List ℤ) → IsRootBound net from to (Some value) → Satisfies times net
@@ -68,6 +73,11 @@ ProofBounds = (net : Net) (from to : EventId) (value : ℤ) (lines : List ProofL
 -- no times satisfy a network for which there is a proof of nothing
 abbrev pub ProofOfNothing : Type 0
 ProofOfNothing = (net : Net) (lines : List ProofLine) → IsProof net Nothing lines → IsInconsistent net
+
+-- the cases that accepted lines leave open do not depend on what the lines show
+abbrev pub ReadingLeavesCases : Type 0
+ReadingLeavesCases = (net : Net) (goal : ProofGoal) (cases left : List Case) (lines : List ProofLine) → Reads net goal cases lines left
+    → cases_left net cases lines ≡ left
 
 -- a proof closes at most as many cases as there are cause choices
 abbrev pub ProofIsWithinChoices : Type 0

@@ -1,6 +1,6 @@
 -- Networks of timing constraints.
-use Rattle.std.specs.Prelude.{◌≡◌, ◌<◌, ◌≤◌, ℕ, List, [], ◌∷◌, ◌++◌, length, All, Option, option_and_then, slice_get}
-use Rattle.itv_base.specs.Range.{Ends}
+use Rattle.std.specs.Prelude.{◌≡◌, ◌<◌, ◌≤◌, ℕ, List, [], ◌∷◌, ◌++◌, length, All, Option, Some, option_and_then, slice_get, count_by, nat_lt}
+use Rattle.itv_base.specs.Range.{Ends, IsEnd}
 use Rattle.itv_base.specs.declared.names.EventId.{EventId}
 use Rattle.itv_base.specs.declared.names.RuleKind.{RuleKind}
 use Rattle.itv_base.specs.declared.names.RuleKind.TheVariants.{Lin, Late, Early}
@@ -48,11 +48,20 @@ pub record IsConstraint (events : ℕ) (c : Constraint) : Type 0 where
   pub causes : All (λ (cause : Cause). cause.event.0 < events) c.causes
   pub count : IsCauseCount c.kind (length c.causes)
 
+-- the finite ends of a range are within the limit
+abbrev pub AreEnds : Ends → Type 0
+AreEnds range = IsEnd range.low × IsEnd range.high
+
+-- so are those of the ranges of all causes
+abbrev pub HasEnds : Net → Type 0
+HasEnds net = (constraint cause : ℕ) (c : Cause) → cause_at net constraint cause ≡ Some c → AreEnds c.range
+
 -- a network within the limits, all of whose constraints are between its events
 pub record IsNet (net : Net) : Type 0 where
   pub events : net.events ≤ MAX_EVENTS
   pub constraints : All (IsConstraint net.events) net.constraints
   pub count : length net.constraints ≤ MAX_CONSTRAINTS
+  pub ends : HasEnds net
 
 -- the number of causes to name of a constraint: a linear one has none
 abbrev pub named_causes : RuleKind → ℕ → ℕ
@@ -62,6 +71,14 @@ named_causes Early count = count
 
 abbrev pub cause_count_of : Constraint → ℕ
 cause_count_of c = named_causes c.kind (length c.causes)
+
+-- how many constraints have two or more causes to choose from
+abbrev pub splittable_count : Net → ℕ
+splittable_count net = count_by (λ (c : Constraint). nat_lt 1 (cause_count_of c)) net.constraints
+
+-- each constraint has a single cause, so there is nothing to choose
+abbrev pub HasNoChoices : Net → Type 0
+HasNoChoices net = All (λ (c : Constraint). length c.causes ≡ 1) net.constraints
 
 -- the network with one more constraint
 abbrev pub with_constraint : Net → Constraint → Net

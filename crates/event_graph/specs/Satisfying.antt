@@ -1,5 +1,5 @@
 -- Which times satisfy a network.
-use Rattle.std.specs.Prelude.{◌≡◌, ℕ, ℤ, ◌+ℤ◌, ◌≤ℤ◌, List, length, All, Any, IfSome, IsSomeAnd, slice_get}
+use Rattle.std.specs.Prelude.{◌≡◌, ◌≤◌, ℕ, ℤ, ◌+ℤ◌, ◌≤ℤ◌, List, length, All, Any, IfSome, IsSomeAnd, slice_get}
 use Rattle.std.specs.List.{AllWithin}
 use Rattle.itv_base.specs.declared.names.EventId.{EventId}
 use Rattle.itv_base.specs.declared.names.RuleKind.{RuleKind}
@@ -34,7 +34,8 @@ pub record Satisfies (times : List ℤ) (net : Net) : Type 0 where
 abbrev pub Breaks : List ℤ → Net → ℕ → Type 0
 Breaks times net number = IsSomeAnd (slice_get net.constraints number) (λ c. Holds times c → ⊥)
 
--- the least number of a constraint that the times break
-pub record IsFirstBroken (times : List ℤ) (net : Net) (number : ℕ) : Type 0 where
+-- the least number, from one on, of a constraint that the times break
+pub record IsFirstBroken (times : List ℤ) (net : Net) (start number : ℕ) : Type 0 where
+  pub reached : start ≤ number
   pub broken : Breaks times net number
-  pub earlier : AllWithin (Holds times) net.constraints 0 number
+  pub earlier : AllWithin (Holds times) net.constraints start number

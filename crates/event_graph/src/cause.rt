@@ -2,6 +2,7 @@
 
 ghost use Rattle.std.specs.Prelude.{◌≡◌, ◌<◌, ◌↔◌, neg_ℤ, ◌+ℤ◌, IsTrue, IfSome, length, All};
 ghost use Rattle.itv_base.specs.Range.{IsEnd};
+ghost use Rattle.event_graph.specs.Network.{AreEnds};
 ghost use Rattle.event_graph.specs.Times.{IsTime};
 
 use crate::edge::Edge;
@@ -16,6 +17,7 @@ pub struct Cause {
 
 impl Cause {
     ghost use Rattle.event_graph.specs.Satisfying.{IsAfter, IsBefore};
+    ghost use Rattle.event_graph.specs.Step.Rising.{StaysAfter, StaysBefore};
     ghost use Rattle.event_graph.specs.Edges.{side_edge};
 
     // Whether the target comes no earlier than the cause and its low end.
@@ -46,6 +48,32 @@ impl Cause {
             .is_none_or(|high| limit <= delayed(time, high))
     }
 
+    // Whether the target comes no earlier than the cause and its low end, however far a set is raised.
+    pub(crate) fn low_stays(&self, times: &[i64], set: &[bool], target: EventId) -> bool
+        requires cause { self.now.event.0 < length times.now }
+        requires target { target.0 < length times.now }
+        requires set { length set.now ≡ length times.now }
+        requires times { All IsTime times.now }
+        ensures { IsTrue result ↔ StaysAfter times.now set.now target self.now }
+    {
+        self.low_allows(times, target)
+            && (self.range.low().is_none() || !set[self.event.0 as usize] || set[target.0 as usize])
+    }
+
+    // Whether the target comes no later than the cause and its high end, however far a set is raised.
+    pub(crate) fn high_stays(&self, times: &[i64], set: &[bool], target: EventId) -> bool
+        requires cause { self.now.event.0 < length times.now }
+        requires target { target.0 < length times.now }
+        requires set { length set.now ≡ length times.now }
+        requires times { All IsTime times.now }
+        ensures { IsTrue result ↔ StaysBefore times.now set.now target self.now }
+    {
+        self.high_allows(times, target)
+            && (self.range.high().is_none()
+                || !set[target.0 as usize]
+                || set[self.event.0 as usize])
+    }
+
     // The edge of the cause on one side, or none where that end is open.
     pub(crate) fn edge(&self, target: EventId, side: Side) -> Option<Edge>
         ensures edge { result ≡ side_edge side target self.now }
@@ -63,6 +91,16 @@ impl Cause {
                 weight: negated(self.range.low()?),
             }),
         }
+    }
+}
+
+// Reads the ends of the ranges of causes, and so tells that they are within the limit.
+pub(crate) fn read_ends(causes: &[Cause])
+    ensures { All (λ (c : Cause). AreEnds c.range) causes.now }
+{
+    for cause in causes {
+        cause.range.low();
+        cause.range.high();
     }
 }
 

@@ -1,6 +1,6 @@
 //! Laws of networks and of proofs over them. Each is the contract of a function that does nothing.
 
-ghost use Rattle.event_graph.specs.Laws.{HoldsByEdges, LeastIsReversedGreatest, NoRootIsInconsistent, ProofBounds, ProofIsWithinChoices, ProofOfNothing, RayIsUnbounded, RootBoundEncloses, SatisfyingMeetsAlways, ShiftKeepsSatisfying, SingleCauseIsLinear, StoppedProofIsBelowChoices};
+ghost use Rattle.event_graph.specs.Laws.{HoldsByEdges, LeastIsReversedGreatest, NoRootIsInconsistent, ProofBounds, ProofIsWithinChoices, ProofOfNothing, RayIsUnbounded, ReadingLeavesCases, RootBoundEncloses, SatisfyingIsMeetingAlways, SatisfyingMeetsAlways, ShiftKeepsSatisfying, SingleCauseIsLinear, StoppedProofIsBelowChoices};
 
 /// Times satisfy a network exactly where they do with one number added to all of them.
 pub fn shift_keeps_satisfying()
@@ -33,6 +33,12 @@ pub fn satisfying_meets_always()
     ensures { SatisfyingMeetsAlways }
 {}
 
+/// A network whose constraints have a single cause each is its always-edges: times satisfy it exactly where
+/// they meet those.
+pub fn satisfying_is_meeting_always()
+    ensures { SatisfyingIsMeetingAlways }
+{}
+
 /// The root bound of a pair, where it is a number, is at least every satisfying separation.
 pub fn root_bound_encloses()
     ensures { RootBoundEncloses }
@@ -51,6 +57,11 @@ pub fn proof_bounds()
 /// No times satisfy a network for which there is a proof of nothing.
 pub fn proof_of_nothing()
     ensures { ProofOfNothing }
+{}
+
+/// The cases that the accepted lines of a proof leave open do not depend on what is to be shown.
+pub fn reading_leaves_cases()
+    ensures { ReadingLeavesCases }
 {}
 
 /// A proof closes at most as many cases as there are cause choices.

@@ -4,12 +4,12 @@
 #![tactic(auto)]
 
 mod cause;
+mod constraint;
 mod edge;
 pub mod laws;
 mod line;
 mod network;
 mod push_fault;
-mod rule;
 mod scribe;
 
 pub use cause::Cause;

@@ -2,15 +2,18 @@
 
 ghost use Rattle.std.specs.Prelude.{◌≡◌, ◌<◌, ◌≤◌, ◌↔◌, ℕ, IsTrue, IsSome, IsNone, IfOk, IfErr, IfSome, OnOk, OnErr, Some, [], All, length, option_map, slice_get};
 ghost use Rattle.itv_base.specs.Range.{IsEnd};
-ghost use Rattle.event_graph.specs.Times.{IsTime};
-ghost use Rattle.event_graph.specs.Network.{Constraint, IsConstraint, IsNet, IsPushFault, cause_at, cause_count_of, earliest, latest, linear, with_constraint};
-ghost use Rattle.event_graph.specs.Satisfying.{IsFirstBroken, Satisfies};
+ghost use Rattle.std.specs.List.{AllWithin};
+ghost use Rattle.event_graph.specs.Bounds.{IsRay};
+ghost use Rattle.event_graph.specs.Step.Rising.{Stays};
+ghost use Rattle.event_graph.specs.Times.{IsTime, raised};
+ghost use Rattle.event_graph.specs.Network.{Constraint, IsConstraint, IsNet, IsPushFault, cause_at, cause_count_of, earliest, latest, linear, splittable_count, with_constraint};
+ghost use Rattle.event_graph.specs.Satisfying.{Holds, IsFirstBroken, Satisfies};
 ghost use Rattle.event_graph.specs.Edges.{IsAlways, cause_choices, edge};
 
-use crate::cause::Cause;
+use crate::cause::{Cause, read_ends};
+use crate::constraint::Constraint;
 use crate::edge::Edge;
 use crate::push_fault::PushFault;
-use crate::rule::Rule;
 use itv_base::{
     EdgeName, EventId, MAX_CAUSES, MAX_CONSTRAINTS, MAX_EVENTS, NoMemory, Range, RuleKind,
 };
@@ -22,7 +25,7 @@ use std::marker::Model;
 #[derive(Debug, Drop)]
 pub struct Network {
     events: u32,
-    rules: Vec<Rule>,
+    constraints: Vec<Constraint>,
 }
 
 impl Model for Network {
@@ -30,9 +33,9 @@ impl Model for Network {
 
     ghost Value = { Net };
 
-    ghost view = { λ n. record { events = n.events; constraints = n.rules.items } };
+    ghost view = { λ n. record { events = n.events; constraints = n.constraints.items } };
 
-    ghost invariant = { λ n. IsNet (record { events = n.events; constraints = n.rules.items }) };
+    ghost invariant = { λ n. IsNet (record { events = n.events; constraints = n.constraints.items }) };
 }
 
 impl Network {
@@ -43,11 +46,11 @@ impl Network {
     {
         Ok(Network {
             events,
-            rules: Vec::new(alloc),
+            constraints: Vec::new(alloc),
         })
     }
 
-    /// The number of events.
+    /// The number of events. What a network is holds of each: it is within the limits, and so are the ends of its ranges.
     pub fn events(&self) -> u32
         ensures count { result ≡ self.now.events }
         ensures net { IsNet self.now }
@@ -59,14 +62,14 @@ impl Network {
     pub fn len(&self) -> u32
         ensures { result ≡ length self.now.constraints }
     {
-        self.rules.len() as u32
+        self.constraints.len() as u32
     }
 
     /// Whether there are no constraints.
     pub fn is_empty(&self) -> bool
         ensures { IsTrue result ↔ (self.now.constraints ≡ []) }
     {
-        self.rules.is_empty()
+        self.constraints.is_empty()
     }
 
     /// Adds the constraint that the time of `to` less that of `from`, which are events of the network,
@@ -149,12 +152,13 @@ impl Network {
         ensures fault { IfErr result (IsPushFault (length self.old.constraints)) }
         ensures unchanged { OnErr result (self.new ≡ self.old) }
     {
-        let count = self.rules.len();
+        let count = self.constraints.len();
         if count == MAX_CONSTRAINTS as usize {
             return Err(PushFault::Full(MAX_CONSTRAINTS));
         }
+        read_ends(causes);
         let causes = Vec::from_slice(alloc, causes)?;
-        self.rules.push(Rule {
+        self.constraints.push(Constraint {
             kind,
             target,
             causes,
@@ -168,7 +172,7 @@ impl Network {
         ensures { option_map (λ (c : Constraint). c.kind)
             (slice_get self.now.constraints constraint) ≡ Some result }
     {
-        self.rules[constraint as usize].kind
+        self.constraints[constraint as usize].kind
     }
 
     /// The target of a constraint that is there. That of a linear one is its to-event.
@@ -177,7 +181,7 @@ impl Network {
         ensures { option_map (λ (c : Constraint). c.target)
             (slice_get self.now.constraints constraint) ≡ Some result }
     {
-        self.rules[constraint as usize].target
+        self.constraints[constraint as usize].target
     }
 
     /// The number of causes of a latest or earliest constraint that is there, and 0 for a linear one.
@@ -189,10 +193,10 @@ impl Network {
         ensures each { (cause : ℕ) → cause < result → IsSome (cause_at self.now constraint cause) }
         ensures first { IsSome (cause_at self.now constraint 0) }
     {
-        let rule = &self.rules[constraint as usize];
-        match rule.kind {
+        let constraint = &self.constraints[constraint as usize];
+        match constraint.kind {
             RuleKind::Lin => 0,
-            RuleKind::Late | RuleKind::Early => rule.causes.len() as u32,
+            RuleKind::Late | RuleKind::Early => constraint.causes.len() as u32,
         }
     }
 
@@ -202,8 +206,8 @@ impl Network {
         requires { IsSome (cause_at self.now constraint cause) }
         ensures { cause_at self.now constraint cause ≡ Some result }
     {
-        let rule = &self.rules[constraint as usize];
-        rule.causes[cause as usize]
+        let constraint = &self.constraints[constraint as usize];
+        constraint.causes[cause as usize]
     }
 
     /// The edge of a name. There is none exactly where the constraint or the cause is not there, or the
@@ -215,9 +219,9 @@ impl Network {
         ensures from { IfSome result (λ e. e.from.0 < self.now.events) }
         ensures to { IfSome result (λ e. e.to.0 < self.now.events) }
     {
-        let rule = self.rules.get(name.constraint as usize)?;
-        let cause = rule.causes.get(name.cause as usize)?;
-        cause.edge(rule.target, name.side)
+        let constraint = self.constraints.get(name.constraint as usize)?;
+        let cause = constraint.causes.get(name.cause as usize)?;
+        cause.edge(constraint.target, name.side)
     }
 
     /// Whether there is an edge of this name, and it is an always-edge, which is met whatever cause is
@@ -226,9 +230,9 @@ impl Network {
     pub fn is_always(&self, name: EdgeName) -> bool
         ensures { IsTrue result ↔ IsAlways self.now name }
     {
-        match self.rules.get(name.constraint as usize) {
+        match self.constraints.get(name.constraint as usize) {
             None => false,
-            Some(rule) => rule.holds_always(name.side) && self.edge(name).is_some(),
+            Some(constraint) => constraint.holds_always(name.side) && self.edge(name).is_some(),
         }
     }
 
@@ -238,13 +242,23 @@ impl Network {
         ensures { IsTrue result ↔ (cause_choices self.now.constraints ≤ most) }
     {
         let mut product: u64 = 1;
-        for rule in &self.rules {
-            match product.checked_mul(rule.choices()) {
+        for constraint in &self.constraints {
+            match product.checked_mul(constraint.choices()) {
                 Some(larger) => product = larger,
                 None => return false,
             }
         }
         product <= most
+    }
+
+    /// The number of constraints with two or more causes to choose from.
+    pub fn splittable_count(&self) -> u32
+        ensures { result ≡ splittable_count self.now }
+    {
+        self.constraints
+            .iter()
+            .filter(|constraint| constraint.is_splittable())
+            .count() as u32
     }
 
     /// The least number of a constraint that the times break, or none exactly where the times satisfy the
@@ -253,13 +267,63 @@ impl Network {
         requires count { length times.now ≡ self.now.events }
         requires times { All IsTime times.now }
         ensures none { IsNone result ↔ Satisfies times.now self.now }
-        ensures first { IfSome result (IsFirstBroken times.now self.now) }
+        ensures first { IfSome result (IsFirstBroken times.now self.now 0) }
     {
-        for (number, rule) in self.rules.iter().enumerate() {
-            if !rule.holds(times) {
-                return Some(number as u32);
+        self.broken_from(times, 0)
+    }
+
+    /// The least number, from one on, of a constraint that the times break, or none exactly where they meet
+    /// all of those. So a loop that goes on behind each answer goes over the constraints once. The times are as
+    /// for [`Network::broken`].
+    pub fn broken_from(&self, times: &[i64], start: u32) -> Option<u32>
+        requires count { length times.now ≡ self.now.events }
+        requires times { All IsTime times.now }
+        ensures none { IsNone result
+            ↔ AllWithin (Holds times.now) self.now.constraints start (length self.now.constraints) }
+        ensures first { IfSome result (IsFirstBroken times.now self.now start) }
+    {
+        for number in start..self.len() {
+            if !self.constraints[number as usize].holds(times) {
+                return Some(number);
             }
         }
         None
     }
+
+    /// Whether the times satisfy the network however far the events of a set are raised, all by one number.
+    /// There are a time and a flag for each event, and the times are as for [`Network::broken`].
+    pub fn stays(&self, times: &[i64], set: &[bool]) -> bool
+        requires count { length times.now ≡ self.now.events }
+        requires set { length set.now ≡ self.now.events }
+        requires times { All IsTime times.now }
+        ensures { IsTrue result ↔ ((by : ℕ) → Satisfies (raised set.now by times.now) self.now) }
+    {
+        all_stay(&self.constraints, times, set)
+    }
+
+    /// Whether times and a set of events show that a pair of events of the network is unbounded: the set holds
+    /// `to` and not `from`, and the times satisfy the network however far its events are raised. The times and
+    /// the set are as for [`Network::stays`].
+    pub fn is_ray(&self, times: &[i64], set: &[bool], from: EventId, to: EventId) -> bool
+        requires count { length times.now ≡ self.now.events }
+        requires set { length set.now ≡ self.now.events }
+        requires times { All IsTime times.now }
+        requires from { from.0 < self.now.events }
+        requires to { to.0 < self.now.events }
+        ensures { IsTrue result ↔ IsRay self.now from to times.now set.now }
+    {
+        set[to.0 as usize] && !set[from.0 as usize] && self.stays(times, set)
+    }
+}
+
+// Whether times meet each constraint however far the events of a set are raised.
+fn all_stay(constraints: &[Constraint], times: &[i64], set: &[bool]) -> bool
+    requires constraints { All (IsConstraint (length times.now)) constraints.now }
+    requires times { All IsTime times.now }
+    requires set { length set.now ≡ length times.now }
+    ensures { IsTrue result ↔ All (Stays times.now set.now) constraints.now }
+{
+    constraints
+        .iter()
+        .all(|constraint| constraint.stays(times, set))
 }

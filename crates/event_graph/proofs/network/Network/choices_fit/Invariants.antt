@@ -3,5 +3,5 @@ use Rattle.event_graph.specs.Edges.{cause_choices}
 use Rattle.event_graph.proofs.network.Network.choices_fit.Given as goal
 
 -- the product so far and that of the rest make the whole product
-abbrev pub invariant-loop-rule : goal.invariant-loop-rule
-invariant-loop-rule l = l.product * cause_choices (drop l.rule-index l.self.constraints) ≡ cause_choices l.self.constraints
+abbrev pub invariant-loop-constraint : goal.invariant-loop-constraint
+invariant-loop-constraint l = l.product * cause_choices (drop l.constraint-index l.self.constraints) ≡ cause_choices l.self.constraints

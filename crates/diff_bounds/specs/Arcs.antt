@@ -1,0 +1,34 @@
+-- Edges with their names, by the event where they start.
+use Rattle.std.specs.Prelude.{◌≡◌, ℕ, ℤ, ◌≤ℤ◌, List, [], length, map, All, Contains, Some, slice_index_or}
+use Rattle.itv_base.specs.declared.names.EdgeName.{EdgeName}
+use Rattle.event_graph.specs.declared.edge.Edge.{Edge}
+use Rattle.event_graph.specs.Edges.{IsAlways, edge}
+use Rattle.event_graph.specs.Network.{Net}
+use Rattle.diff_bounds.specs.declared.arc.Arc.{Arc}
+use Rattle.diff_bounds.specs.Labels.{IsWithin}
+
+-- the edge is that of its name, between events of the network
+pub record IsArc (net : Net) (a : Arc) : Type 0 where
+  pub is : edge net a.name ≡ Some a.edge
+  pub within : IsWithin net.events a.edge
+
+-- the edges that start at an event
+abbrev pub edges_out : List (List Arc) → ℕ → List Arc
+edges_out out event = slice_index_or out event []
+
+-- among some edges, there is one to the same event whose weight is no greater
+abbrev pub HasLight : List Arc → Edge → Type 0
+HasLight arcs e = (a : Arc) × Contains arcs a × (a.edge.to ≡ e.to) × (a.edge.weight ≤ℤ e.weight)
+
+-- a list for each event, of always-edges that start there; of those that lead to one event it has one of least weight
+pub record AreAlwaysArcs (net : Net) (out : List (List Arc)) : Type 0 where
+  pub count : length out ≡ net.events
+  pub each : (event : ℕ) → All (IsArc net) (edges_out out event)
+  pub starts : (event : ℕ) → All (λ (a : Arc). a.edge.from.0 ≡ event) (edges_out out event)
+  pub sound : (event : ℕ) → All (λ (a : Arc). IsAlways net a.name) (edges_out out event)
+  pub complete : (name : EdgeName) (e : Edge) → IsAlways net name → edge net name ≡ Some e → HasLight (edges_out out e.from.0) e
+
+-- the edges of the chosen names, in their order
+pub record AreChosenArcs (net : Net) (chosen : List EdgeName) (arcs : List Arc) : Type 0 where
+  pub each : All (IsArc net) arcs
+  pub names : map (λ (a : Arc). a.name) arcs ≡ chosen

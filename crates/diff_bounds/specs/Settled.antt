@@ -1,0 +1,66 @@
+-- Graphs whose labels have settled: in the first half of the slots those from the source, in the second half the feasible times.
+use Rattle.std.specs.Prelude.{◌≡◌, ◌+◌, ◌*◌, ◌<◌, ◌==◌, ℕ, ℤ, pos, ◌≤ℤ◌, ◌⊎◌, cond, List, [], ◌∷◌, ◌++◌, length, count_by, Option, Some, None, is_some}
+use Rattle.itv_base.specs.declared.names.EdgeName.{EdgeName}
+use Rattle.itv_base.specs.declared.names.EventId.{EventId}
+use Rattle.event_graph.specs.Network.{Net}
+use Rattle.trail.specs.declared.stamp.Stamp.{Stamp}
+use Rattle.trail.specs.Stack.{Graph}
+use Rattle.diff_bounds.specs.Labels.{HaveSettled, IsForest, Labels, Scope, labels_from, parents_from, stamp_at}
+use Rattle.diff_bounds.specs.Limits.{weight_limit}
+
+-- the start of the feasible times: 0 at every event
+abbrev pub zeros : Labels
+zeros event = Some (pos 0)
+
+-- the start of the labels from a source: 0 there, and none elsewhere
+abbrev pub at_source : EventId → Labels
+at_source source event = cond (event == source.0) (Some (pos 0)) None
+
+-- labels that fell from a start over the edges of a scope, and have settled
+pub record HaveLabels (s : Scope) (start : Labels) (stamps : List Stamp) (base : ℕ) : Type 0 where
+  pub forest : IsForest s start (labels_from stamps base) (parents_from stamps base)
+  pub settled : HaveSettled s (labels_from stamps base)
+
+-- the second half of the slots has the feasible times, none of which is above 0
+pub record IsFeasible (s : Scope) (stamps : List Stamp) : Type 0 where
+  pub slots : length stamps ≡ s.net.events + s.net.events
+  pub labels : HaveLabels s zeros stamps s.net.events
+  pub low : (event : ℕ) (label : ℤ) → event < s.net.events → labels_from stamps s.net.events event ≡ Some label → label ≤ℤ pos 0
+
+-- the first half of the slots has the labels from a source, where there is one, and else none
+abbrev pub HaveUppers : Scope → Option EventId → List Stamp → Type 0
+HaveUppers s None stamps = (event : ℕ) → event < s.net.events → labels_from stamps 0 event ≡ None
+HaveUppers s (Some source) stamps = (source.0 < s.net.events) × HaveLabels s (at_source source) stamps 0
+
+-- no label is above the greatest weight for each label that there is
+abbrev pub AreNear : List Stamp → Type 0
+AreNear stamps = (slot : ℕ) (label : ℤ) → (stamp_at stamps slot).label ≡ Some label → label ≤ℤ pos (weight_limit * count_by (λ s. is_some s.label) stamps)
+
+-- all labels of a graph have settled
+pub record IsSettled (s : Scope) (source : Option EventId) (stamps : List Stamp) : Type 0 where
+  pub feasible : IsFeasible s stamps
+  pub near : AreNear stamps
+  pub uppers : HaveUppers s source stamps
+
+-- all edges of a graph count
+abbrev pub whole : Net → List EdgeName → Scope
+whole net chosen = record { net = net; chosen = chosen; first = 0 }
+
+-- a level added one edge, or none
+abbrev pub AddsOne : List EdgeName → List EdgeName → Type 0
+AddsOne below edges = (edges ≡ below) ⊎ ((name : EdgeName) × (edges ≡ below ++ name ∷ []))
+
+-- all graphs of a stack have settled, each with at most one edge more than the one below it, and the first one with none
+abbrev pub AreSettled : Net → Option EventId → Graph → List Graph → Type 0
+AreSettled net source g [] = IsSettled (whole net g.edges) source g.stamps × (g.edges ≡ [])
+AreSettled net source g (h ∷ graphs) = IsSettled (whole net g.edges) source g.stamps × AddsOne h.edges g.edges × AreSettled net source h graphs
+
+-- the first graph of a stack
+abbrev pub bottom : Graph → List Graph → Graph
+bottom g [] = g
+bottom g (h ∷ graphs) = bottom h graphs
+
+-- a first graph has no chosen edges, and its feasible times have settled
+pub record IsRoot (net : Net) (g : Graph) : Type 0 where
+  pub edges : g.edges ≡ []
+  pub feasible : IsFeasible (whole net []) g.stamps

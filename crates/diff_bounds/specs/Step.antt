@@ -1,0 +1,6 @@
+pub mod Listing
+pub mod Waiting
+pub mod Falling
+pub mod Poised
+pub mod Walking
+pub mod Timing

@@ -1,0 +1,40 @@
+-- The lists of edges by their from-events, while they grow.
+use Rattle.std.specs.Prelude.{◌≡◌, ◌⊎◌, ℕ, List, length, map, All, Contains, Some}
+use Rattle.std.specs.Global.{Vec}
+use Rattle.itv_base.specs.declared.names.EdgeName.{EdgeName}
+use Rattle.itv_base.specs.declared.names.Side.{Side}
+use Rattle.event_graph.specs.declared.edge.Edge.{Edge}
+use Rattle.event_graph.specs.Edges.{IsAlways, edge}
+use Rattle.event_graph.specs.Network.{Net}
+use Rattle.diff_bounds.specs.declared.arc.Arc.{Arc}
+use Rattle.diff_bounds.specs.Arcs.{HasLight, IsArc, edges_out}
+
+-- the lists in vectors
+abbrev pub lists_of : List (Vec Arc) → List (List Arc)
+lists_of lists = map (λ (list : Vec Arc). list.items) lists
+
+-- always-edges in the lists of the events where they start
+pub record AreArcsSoFar (net : Net) (out : List (List Arc)) : Type 0 where
+  pub count : length out ≡ net.events
+  pub each : (event : ℕ) → All (IsArc net) (edges_out out event)
+  pub starts : (event : ℕ) → All (λ (a : Arc). a.edge.from.0 ≡ event) (edges_out out event)
+  pub sound : (event : ℕ) → All (λ (a : Arc). IsAlways net a.name) (edges_out out event)
+
+-- an edge has joined a list: nothing else came, and for each edge that had a light one in the list there still is one
+pub record Joins (arc : Arc) (old new : List Arc) : Type 0 where
+  pub among : All (λ (a : Arc). Contains old a ⊎ (a ≡ arc)) new
+  pub kept : (e : Edge) → HasLight old e → HasLight new e
+  pub light : HasLight new arc.edge
+
+-- lists that have grown by always-edges
+pub record Grows (net : Net) (old new : List (List Arc)) : Type 0 where
+  pub arcs : AreArcsSoFar net new
+  pub kept : (event : ℕ) (e : Edge) → HasLight (edges_out old event) e → HasLight (edges_out new event) e
+
+-- the edge of a name has a light one in its list, if it is an always-edge
+abbrev pub HasName : Net → List (List Arc) → EdgeName → Type 0
+HasName net out name = (e : Edge) → IsAlways net name → edge net name ≡ Some e → HasLight (edges_out out e.from.0) e
+
+-- so have the edges of a cause of a constraint on both sides
+abbrev pub HasCause : Net → List (List Arc) → ℕ → ℕ → Type 0
+HasCause net out constraint cause = (side : Side) → HasName net out (record { constraint = constraint; cause = cause; side = side })

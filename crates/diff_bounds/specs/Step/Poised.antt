@@ -1,0 +1,74 @@
+-- What is known before labels fall over edges that start at one event, and after it.
+use Rattle.std.specs.Prelude.{◌≡◌, ◌+◌, ◌<◌, ◌≤◌, ℕ, ℤ, pos, ◌≤ℤ◌, ◌⊎◌, List, [], length, Some, None}
+use Rattle.itv_base.specs.declared.names.EdgeName.{EdgeName}
+use Rattle.itv_base.specs.declared.names.EventId.{EventId}
+use Rattle.event_graph.specs.declared.edge.Edge.{Edge}
+use Rattle.event_graph.specs.Network.{IsNet, Net}
+use Rattle.trail.specs.declared.stamp.Stamp.{Stamp}
+use Rattle.trail.specs.Stack.{Stack, empty_stamp}
+use Rattle.diff_bounds.specs.declared.arc.Arc.{Arc}
+use Rattle.diff_bounds.specs.declared.falling.Run.{Run}
+use Rattle.diff_bounds.specs.Arcs.{AreAlwaysArcs, AreChosenArcs}
+use Rattle.diff_bounds.specs.Labels.{Follows, IsAmong, IsForest, Labels, Scope, labels_from, parents_from, stamp_at}
+use Rattle.diff_bounds.specs.Settled.{AreNear, IsRoot}
+use Rattle.diff_bounds.specs.Step.Falling.{scope_of}
+use Rattle.diff_bounds.specs.Step.Waiting.{Waiting}
+
+abbrev pub scope_by : Net → List EdgeName → ℕ → Scope
+scope_by net chosen first = record { net = net; chosen = chosen; first = first }
+
+abbrev pub scope_from : Net → Stack → ℕ → Scope
+scope_from net stack first = scope_by net stack.current.edges first
+
+-- the run over feasible times, with the event where the new edges start as its stop
+abbrev pub feasible_run : Net → EventId → ℕ → Run
+feasible_run net from first = record { base = net.events; first = first; stop = Some from }
+
+-- the run over labels from a source, over all edges
+abbrev pub upper_run : Run
+upper_run = record { base = 0; first = 0; stop = None }
+
+-- the label 0, without a parent
+abbrev pub zero_stamp : Stamp
+zero_stamp = record { label = Some (pos 0); parent = None }
+
+-- all edges of a scope are followed, but for those that start at an event
+abbrev pub AreOthersFollowed : Scope → EventId → Labels → Type 0
+AreOthersFollowed s from label = (name : EdgeName) (e : Edge) → IsAmong s name e → (e.from.0 ≡ from.0) ⊎ Follows label e
+
+-- labels that fell from a start over edges of a scope follow all of these edges but those that start at one event
+pub record IsPoised (s : Scope) (from : EventId) (start : Labels) (stamps : List Stamp) (base : ℕ) : Type 0 where
+  pub forest : IsForest s start (labels_from stamps base) (parents_from stamps base)
+  pub others : AreOthersFollowed s from (labels_from stamps base)
+
+-- the graph, its edges and the queue are there, and the labels of a run are poised
+pub record IsReady (net : Net) (out : List (List Arc)) (arcs : List Arc) (run : Run) (from : EventId) (start : Labels) (stack : Stack) (waiting : Waiting) : Type 0 where
+  pub is_net : IsNet net
+  pub out_edges : AreAlwaysArcs net out
+  pub chosen : AreChosenArcs net stack.current.edges arcs
+  pub within : from.0 < net.events
+  pub slots : length stack.current.stamps ≡ net.events + net.events
+  pub near : AreNear stack.current.stamps
+  pub marks : length waiting.marks ≡ net.events
+  pub poised : IsPoised (scope_of net stack run) from start stack.current.stamps run.base
+
+-- no feasible time is above 0
+abbrev pub AreLow : ℕ → List Stamp → Type 0
+AreLow events stamps = (event : ℕ) (label : ℤ) → event < events → labels_from stamps events event ≡ Some label → label ≤ℤ pos 0
+
+-- the first half of the slots is empty, and the second half has 0 at each event
+pub record HasBegun (events : ℕ) (stamps : List Stamp) : Type 0 where
+  pub slots : length stamps ≡ events + events
+  pub uppers : (slot : ℕ) → slot < events → stamp_at stamps slot ≡ empty_stamp
+  pub feasible : (event : ℕ) → event < events → stamp_at stamps (events + event) ≡ zero_stamp
+
+-- the first half of the slots is empty now, and all other slots are as they were
+pub record HasCleared (events : ℕ) (old new : List Stamp) : Type 0 where
+  pub count : length new ≡ length old
+  pub uppers : (slot : ℕ) → slot < events → stamp_at new slot ≡ empty_stamp
+  pub others : (slot : ℕ) → events ≤ slot → stamp_at new slot ≡ stamp_at old slot
+
+-- a stack of a first graph alone
+pub record IsFirst (net : Net) (stack : Stack) : Type 0 where
+  pub below : stack.below ≡ []
+  pub root : IsRoot net stack.current

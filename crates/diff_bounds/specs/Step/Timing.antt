@@ -1,0 +1,19 @@
+-- What is known of labels before times are told.
+use Rattle.std.specs.Prelude.{◌≡◌, ◌<◌, ℕ, ℤ, pos, ◌+ℤ◌, ◌≤ℤ◌, List, Some, IfSome}
+use Rattle.trail.specs.declared.stamp.Stamp.{Stamp}
+use Rattle.diff_bounds.specs.Labels.{labels_from, number}
+use Rattle.diff_bounds.specs.Limits.{IsReach}
+
+-- what is known of the labels of an event
+pub record IsInReach (events : ℕ) (stamps : List Stamp) (event : ℕ) : Type 0 where
+  pub upper : IfSome (labels_from stamps 0 event) IsReach
+  pub feasible : IsReach (number (labels_from stamps events event))
+  pub low : number (labels_from stamps events event) ≤ℤ pos 0
+
+abbrev pub AreInReach : ℕ → List Stamp → Type 0
+AreInReach events stamps = (event : ℕ) → event < events → IsInReach events stamps event
+
+-- no label from the source is above the feasible time of its event, put off by a number
+abbrev pub LiftsAll : ℕ → List Stamp → ℤ → Type 0
+LiftsAll events stamps lift =
+    (event : ℕ) (label : ℤ) → event < events → labels_from stamps 0 event ≡ Some label → label ≤ℤ (number (labels_from stamps events event) +ℤ lift)

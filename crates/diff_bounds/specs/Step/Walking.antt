@@ -1,0 +1,31 @@
+-- The climbs that are written down as walks.
+use Rattle.std.specs.Prelude.{◌≡◌, ◌<◌, ◌≤◌, ℕ, pos, ◌<ℤ◌, List, [], ◌∷◌, ◌++◌, length, reverse, All, Some, None}
+use Rattle.itv_base.specs.declared.names.EdgeName.{EdgeName}
+use Rattle.event_graph.specs.declared.edge.Edge.{Edge}
+use Rattle.event_graph.specs.Edges.{edge}
+use Rattle.event_graph.specs.Network.{Net}
+use Rattle.event_graph.specs.Proof.{IsWalk, path_sum}
+use Rattle.trail.specs.Stack.{Stack}
+use Rattle.diff_bounds.specs.declared.arc.Arc.{Arc}
+use Rattle.diff_bounds.specs.Current.{IsCurrent}
+use Rattle.diff_bounds.specs.Labels.{IsClimb, Parents, parents_from}
+
+-- the one climb by some parents, which are among the actual ones, from an event to another that has none
+pub record IsOneClimb (net : Net) (actual parent : Parents) (from : ℕ) (names : List EdgeName) (to : ℕ) : Type 0 where
+  pub agrees : (event : ℕ) (name : EdgeName) → parent event ≡ Some name → actual event ≡ Some name
+  pub top : parent to ≡ None
+  pub within : (event : ℕ) (name : EdgeName) (e : Edge) → event < net.events → parent event ≡ Some name → edge net name ≡ Some e → e.from.0 < net.events
+  pub climb : IsClimb net parent from names to
+
+-- an edge closes a walk of negative sum: the climb from its start to its end, read from the top, and the edge
+pub record HasLoop (net : Net) (stack : Stack) (a : Arc) : Type 0 where
+  pub from : a.edge.from.0 < net.events
+  pub to : a.edge.to.0 < net.events
+  pub parent : Parents
+  pub way : List EdgeName
+  pub one : IsOneClimb net (parents_from stack.current.stamps net.events) parent a.edge.from.0 way a.edge.to.0
+  pub less : length way < net.events
+  pub walk : IsWalk net a.edge.to (reverse way ++ a.name ∷ []) a.edge.to
+  pub current : All (IsCurrent net stack.current.edges) (reverse way ++ a.name ∷ [])
+  pub negative : path_sum net (reverse way ++ a.name ∷ []) <ℤ pos 0
+  pub short : length (reverse way ++ a.name ∷ []) ≤ net.events
