@@ -8,7 +8,8 @@ use Rattle.event_graph.specs.Network.{Constraint, IsNet, Net}
 use Rattle.event_graph.specs.Proof.{Bound, Case, Nothing, Path, ProofGoal, ProofLine, Reads, Split, closing_lines, count_causes, path_sum}
 use Rattle.event_graph.specs.Satisfying.{Breaks}
 use Rattle.event_graph.specs.Times.{separation}
-use Rattle.branch.specs.Lines.{IsAccepted, MeetsUsable}
+use Rattle.event_graph.specs.Usable.{MeetsUsable}
+use Rattle.branch.specs.Lines.{IsAccepted}
 use Rattle.branch.specs.Needed.{IsBeyond, IsNeededToBound, IsNeededToFind}
 use Rattle.branch.specs.Step.Cases.{IsFree, first_of, open_cases}
 use Rattle.branch.specs.Step.Searched.{Closes, IsBoundSearched, IsCutAfter, IsFindCutAfter, IsFindSearched, IsOpen, IsSearched, Steps, left_after}

@@ -8,7 +8,7 @@ use Rattle.itv_base.specs.declared.names.RuleKind.{RuleKind}
 use Rattle.itv_base.specs.declared.names.RuleKind.TheVariants.{Lin, Late, Early}
 use Rattle.event_graph.specs.Network.{Constraint, Net, cause_count_of, named_causes}
 use Rattle.event_graph.specs.Proof.{Case, Choice, MaySplit, count_causes}
-use Rattle.branch.specs.Lines.{splittable_count}
+use Rattle.event_graph.specs.Network.{splittable_count}
 use Rattle.branch.specs.Step.Cases.{IsCase, IsChoice, IsFree, IsSplittable, first_of, is_split, one_if_splittable, unsplit_from, work_left}
 use Rattle.branch.proofs.Results.{some_and}
 

@@ -5,7 +5,7 @@ use Rattle.itv_base.specs.declared.names.EdgeName.{EdgeName}
 use Rattle.itv_base.specs.declared.names.EventId.{EventId}
 use Rattle.event_graph.specs.Network.{Net}
 use Rattle.event_graph.specs.Proof.{Bound, Case, ClosesByLoop, ClosesByPath, Loop, Path, ProofGoal, ProofLine, Reads, Split, closing_lines}
-use Rattle.branch.specs.Lines.{splittable_count}
+use Rattle.event_graph.specs.Network.{splittable_count}
 use Rattle.branch.specs.Step.Cases.{IsCase, open_cases, siblings, work_left}
 use Rattle.branch.specs.Step.Searched.{Closes, EndsAs, IsBelowCase, IsClosing, IsNext, Keeps, LeavesFor, Steps, left_after}
 use Rattle.branch.specs.Step.Standing.{AreOfSame}
@@ -23,19 +23,19 @@ leave_falls net before now left is_case same_budget one_more =
     (subst (λ (n : ℕ). work_left net before.budget n now.cases.chosen < work_left net before.budget before.leaves before.cases.chosen) (sym one_more)
     (work_falls net before.budget before.leaves before.cases.chosen now.cases.chosen left is_case))
 
-pub keeps_then : (a b c : Search) → Keeps a b → Keeps b c → Keeps a c
-keeps_then a b c first then = record {
+pub keeps_then : (net : Net) (a b c : Search) → Keeps net a b → Keeps net b c → Keeps net a c
+keeps_then net a b c first then = record {
   room = then.room ∙ first.room;
   budget = then.budget ∙ first.budget;
   bounds = record {
     source = then.bounds.source ∙ first.bounds.source;
-    made = λ net made. then.bounds.made net (first.bounds.made net made);
+    made = λ made. then.bounds.made (first.bounds.made made);
   };
 }
 
 -- only the bounds have changed
-pub keeps_bounds : (a b : Search) → b ≡ record a { bounds = b.bounds } → AreOfSame a.bounds b.bounds → Keeps a b
-keeps_bounds a b others same = record {
+pub keeps_bounds : (net : Net) (a b : Search) → b ≡ record a { bounds = b.bounds } → AreOfSame net a.bounds b.bounds → Keeps net a b
+keeps_bounds net a b others same = record {
   room = ap (λ (s : Search). s.cases.room) others;
   budget = ap (λ (s : Search). s.budget) others;
   bounds = same;

@@ -12,6 +12,7 @@ use Rattle.event_graph.specs.Network.{Constraint, IsConstraint, IsNet, Net, caus
 use Rattle.event_graph.specs.Satisfying.{Holds, HoldsAs, IsAfter, IsBefore, Satisfies}
 use Rattle.event_graph.specs.Times.{raised, time_of}
 use Rattle.event_graph.proofs.EdgesMet.{All-found}
+use Rattle.diff_bounds.specs.Limits.{weight_limit}
 use Rattle.branch.specs.Step.Raising.{IsApart, raised_to}
 
 -- the time of an event, raised or not
@@ -32,7 +33,7 @@ length-raised (is_in ∷ set) by (time ∷ times) = ap (λ n. suc n) (length-rai
 
 -- an end that two times met is met by the raised ones, unless it reaches down across the gap
 after_raised : (low : Option ℤ) (cause target : ℤ) (in_cause in_target : Bool) (by : ℕ) → IsEnd low
-    → (in_target ≡ false → in_cause ≡ true → (target +ℤ pos 1000000000000) <ℤ cause)
+    → (in_target ≡ false → in_cause ≡ true → (target +ℤ pos weight_limit) <ℤ cause)
     → IfSome low (λ l. (cause +ℤ l) ≤ℤ target) → IfSome low (λ l. (raised_to in_cause cause by +ℤ l) ≤ℤ raised_to in_target target by)
 after_raised None cause target in_cause in_target by end gap met = tt
 after_raised (Some l) cause target true true by end gap met = omega (arith, ints)
@@ -41,7 +42,7 @@ after_raised (Some l) cause target false true by end gap met = omega (arith, int
 after_raised (Some l) cause target false false by end gap met = met
 
 before_raised : (high : Option ℤ) (cause target : ℤ) (in_cause in_target : Bool) (by : ℕ) → IsEnd high
-    → (in_cause ≡ false → in_target ≡ true → (cause +ℤ pos 1000000000000) <ℤ target)
+    → (in_cause ≡ false → in_target ≡ true → (cause +ℤ pos weight_limit) <ℤ target)
     → IfSome high (λ l. target ≤ℤ (cause +ℤ l)) → IfSome high (λ l. raised_to in_target target by ≤ℤ (raised_to in_cause cause by +ℤ l))
 before_raised None cause target in_cause in_target by end gap met = tt
 before_raised (Some l) cause target true true by end gap met = omega (arith, ints)
@@ -69,7 +70,7 @@ module _ (set : List Bool) (by : ℕ) (times : List ℤ) (target : EventId) (cou
       let target_flag = flag_of set target.0 (omega arith) in
       let cause_time = time_of-raised set by times c.event.0 cause_flag.0 cause_flag.1 event in
       let target_time = time_of-raised set by times target.0 target_flag.0 target_flag.1 within in
-      let gap : target_flag.0 ≡ false → cause_flag.0 ≡ true → (time_of times target +ℤ pos 1000000000000) <ℤ time_of times c.event =
+      let gap : target_flag.0 ≡ false → cause_flag.0 ≡ true → (time_of times target +ℤ pos weight_limit) <ℤ time_of times c.event =
       λ out in_set. apart target c.event (target_flag.1 ∙ ap Some out) (cause_flag.1 ∙ ap Some in_set) in
       let met = after_raised c.range.low (time_of times c.event) (time_of times target) cause_flag.0 target_flag.0 by end gap after in
       let P : ℤ → ℤ → Type 0 = λ cause at. IfSome c.range.low (λ l. (cause +ℤ l) ≤ℤ at) in
@@ -82,7 +83,7 @@ module _ (set : List Bool) (by : ℕ) (times : List ℤ) (target : EventId) (cou
       let target_flag = flag_of set target.0 (omega arith) in
       let cause_time = time_of-raised set by times c.event.0 cause_flag.0 cause_flag.1 event in
       let target_time = time_of-raised set by times target.0 target_flag.0 target_flag.1 within in
-      let gap : cause_flag.0 ≡ false → target_flag.0 ≡ true → (time_of times c.event +ℤ pos 1000000000000) <ℤ time_of times target =
+      let gap : cause_flag.0 ≡ false → target_flag.0 ≡ true → (time_of times c.event +ℤ pos weight_limit) <ℤ time_of times target =
       λ out in_set. apart c.event target (cause_flag.1 ∙ ap Some out) (target_flag.1 ∙ ap Some in_set) in
       let met = before_raised c.range.high (time_of times c.event) (time_of times target) cause_flag.0 target_flag.0 by end gap before in
       let P : ℤ → ℤ → Type 0 = λ cause at. IfSome c.range.high (λ l. at ≤ℤ (cause +ℤ l)) in
@@ -104,16 +105,12 @@ module _ (set : List Bool) (by : ℕ) (times : List ℤ) (target : EventId) (cou
     any_kept (IsAfter times target) (IsAfter (raised set by times) target) causes (λ i c at. let has = each i c at in after_kept c has.0 has.1) holds.1,
   )
 
--- the finite ends of all causes are within the limit
-abbrev pub HaveEnds : Net → Type 0
-HaveEnds net = (constraint cause : ℕ) (c : Cause) → cause_at net constraint cause ≡ Some c → IsEnd c.range.low × IsEnd c.range.high
-
 cause-at : (net : Net) (number cause : ℕ) (k : Constraint) (c : Cause) → slice_get net.constraints number ≡ Some k → slice_get k.causes cause ≡ Some c → cause_at net number cause ≡ Some c
 cause-at net number cause k c at_k at_c = rw at_k at_c
 
-pub satisfies_raised : (net : Net) (set : List Bool) (by : ℕ) (times : List ℤ) → IsNet net → HaveEnds net → length set ≡ net.events → IsApart set times → Satisfies times net
+pub satisfies_raised : (net : Net) (set : List Bool) (by : ℕ) (times : List ℤ) → IsNet net → length set ≡ net.events → IsApart set times → Satisfies times net
     → Satisfies (raised set by times) net
-satisfies_raised net set by times is_net ends count apart satisfies = record {
+satisfies_raised net set by times is_net count apart satisfies = record {
   count = length-raised set by times ∙ satisfies.count;
   each = λ number d within.
       let k : Constraint = get_or net.constraints number d in
@@ -123,18 +120,18 @@ satisfies_raised net set by times is_net ends count apart satisfies = record {
       let target : k.target.0 < length times = omega (arith, is_k.target) in
       holds_raised set by times k.target (count ∙ sym same) apart target k.kind k.causes
       (λ i c at.
-      let has = ends number i c (cause-at net number i k c at_k at) in
+      let has = is_net.ends number i c (cause-at net number i k c at_k at) in
       let event : c.event.0 < net.events = All-found (λ (cause : Cause). cause.event.0 < net.events) k.causes i c at is_k.causes in
       (omega arith, has.0, has.1))
       (satisfies.each number d within);
 }
 
 -- times that satisfy and whose set is apart have the set as a ray
-pub apart_is_ray : (net : Net) (from to : EventId) (set : List Bool) (times : List ℤ) → IsNet net → HaveEnds net → length set ≡ net.events
+pub apart_is_ray : (net : Net) (from to : EventId) (set : List Bool) (times : List ℤ) → IsNet net → length set ≡ net.events
     → slice_get set to.0 ≡ Some true → slice_get set from.0 ≡ Some false → IsApart set times → Satisfies times net → IsRay net from to times set
-apart_is_ray net from to set times is_net ends count holds lacks apart satisfies = record {
+apart_is_ray net from to set times is_net count holds lacks apart satisfies = record {
   count = count;
   holds = holds;
   lacks = lacks;
-  satisfies = λ by. satisfies_raised net set by times is_net ends count apart satisfies;
+  satisfies = λ by. satisfies_raised net set by times is_net count apart satisfies;
 }

@@ -7,7 +7,8 @@ use Rattle.std.proofs.lemmas.List.Elements.{All-from_get_or}
 use Rattle.std.proofs.lemmas.Option.{get_or_from_slice_get, slice_get-get_or, slice_get_within}
 use Rattle.itv_base.specs.declared.names.EventId.{EventId}
 use Rattle.event_graph.specs.Times.{IsTime, raised, separation, time_of}
-use Rattle.branch.specs.Step.Raising.{AreRaised, IsApart, IsGap, IsNear, IsNearSeparation, IsRise, near_limit, raised_to}
+use Rattle.diff_bounds.specs.Limits.{IsNear, near_limit, weight_limit}
+use Rattle.branch.specs.Step.Raising.{AreRaised, IsApart, IsGap, IsNearSeparation, IsRise, raised_to}
 use Rattle.branch.proofs.Gaps.{length-raised, time_of-raised}
 
 moved_is : (flag : Bool) (time : ℤ) (by : ℕ) → (if flag then time +ℤ pos by else time) ≡ raised_to flag time by
@@ -40,7 +41,7 @@ rest_step now times i value rest k past =
 
 -- the number to raise by is within five times the limit of near times
 pub rise_high : (highest lowest first last reach gap short most result : ℤ) → IsNear highest → IsNear lowest → IsNear first → IsNear last → IsNearSeparation reach
-    → gap ≡ ((highest -ℤ lowest) +ℤ pos 1000000000001) → short ≡ reach -ℤ (last -ℤ first) → (most ≡ gap) ⊎ (most ≡ short) → (result ≡ most) ⊎ (result ≡ pos 0)
+    → gap ≡ ((highest -ℤ lowest) +ℤ pos (weight_limit + 1)) → short ≡ reach -ℤ (last -ℤ first) → (most ≡ gap) ⊎ (most ≡ short) → (result ≡ most) ⊎ (result ≡ pos 0)
     → result ≤ℤ pos (5 * near_limit)
 rise_high highest lowest first last reach gap short most result h l f t r is_gap is_short (inl by_gap) (inl is) = omega (arith, ints)
 rise_high highest lowest first last reach gap short most result h l f t r is_gap is_short (inr by_short) (inl is) = omega (arith, ints)
@@ -50,8 +51,8 @@ rise_high highest lowest first last reach gap short most result h l f t r is_gap
 pub rise_reaches : (first last reach short most result : ℤ) → short ≡ reach -ℤ (last -ℤ first) → short ≤ℤ most → most ≤ℤ result → reach ≤ℤ ((last -ℤ first) +ℤ result)
 rise_reaches first last reach short most result is_short up higher = omega (arith, ints)
 
-pub rise_gap : (highest lowest gap most result : ℤ) → gap ≡ ((highest -ℤ lowest) +ℤ pos 1000000000001) → gap ≤ℤ most → most ≤ℤ result
-    → (highest +ℤ pos 1000000000000) <ℤ (lowest +ℤ result)
+pub rise_gap : (highest lowest gap most result : ℤ) → gap ≡ ((highest -ℤ lowest) +ℤ pos (weight_limit + 1)) → gap ≤ℤ most → most ≤ℤ result
+    → (highest +ℤ pos weight_limit) <ℤ (lowest +ℤ result)
 rise_gap highest lowest gap most result is_gap up higher = omega (arith, ints)
 
 natural : (z : ℤ) → pos 0 ≤ℤ z → (n : ℕ) × (z ≡ pos n)
@@ -117,7 +118,7 @@ upper_more flags times i was now rises here before k within at =
 pub rise_of : (flags : List Bool) (from to : EventId) (reach : ℤ) (times : List ℤ) (lowest highest by : ℤ) → length flags ≡ length times
     → ((k : ℕ) → k < length times → slice_get flags k ≡ Some false → get_or times k (pos 0) ≤ℤ highest)
     → ((k : ℕ) → k < length times → slice_get flags k ≡ Some true → lowest ≤ℤ get_or times k (pos 0))
-    → pos 0 ≤ℤ by → by ≤ℤ pos (5 * near_limit) → (highest +ℤ pos 1000000000000) <ℤ (lowest +ℤ by) → reach ≤ℤ (separation times from to +ℤ by) → IsRise flags from to reach times by
+    → pos 0 ≤ℤ by → by ≤ℤ pos (5 * near_limit) → (highest +ℤ pos weight_limit) <ℤ (lowest +ℤ by) → reach ≤ℤ (separation times from to +ℤ by) → IsRise flags from to reach times by
 rise_of flags from to reach times lowest highest by count most least low high gap reached = record {
   low = low;
   high = high;

@@ -7,7 +7,7 @@ use Rattle.itv_base.specs.declared.names.EventId.{EventId}
 use Rattle.event_graph.specs.Network.{Net}
 use Rattle.event_graph.specs.Proof.{Bound, Case, Choice, ClosesByLoop, ClosesByPath, Loop, MaySplit, Nothing, Path, ProofGoal, ProofLine, Reads, Split, cases_from, cases_of, closing_lines, count_causes, path_sum}
 use Rattle.std.proofs.Common.{slice_get}
-use Rattle.branch.specs.Lines.{AtEachSplit, cases_left}
+use Rattle.event_graph.specs.Reading.{AtEachSplit, cases_left}
 use Rattle.branch.specs.Step.Cases.{first_of, open_cases, siblings}
 use Rattle.branch.specs.Step.Searched.{Closes, IsClosing, IsSearched}
 

@@ -7,7 +7,7 @@ use Rattle.event_graph.specs.Network.{Net}
 use Rattle.event_graph.specs.Proof.{Case, Path, ProofLine, path_sum}
 use Rattle.event_graph.specs.Satisfying.{Breaks}
 use Rattle.event_graph.specs.Times.{separation}
-use Rattle.branch.specs.Lines.{MeetsUsable}
+use Rattle.event_graph.specs.Usable.{MeetsUsable}
 
 -- some times that meet the usable edges of the case break the constraint
 abbrev pub IsNeededToFind : Net → List ProofLine → Case → ℕ → Type 0

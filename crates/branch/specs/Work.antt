@@ -4,8 +4,8 @@ use Rattle.itv_base.specs.declared.names.EventId.{EventId}
 use Rattle.event_graph.specs.Network.{IsNet, Net}
 use Rattle.event_graph.specs.Times.{separation}
 use Rattle.diff_bounds.specs.Standing.{Standing}
-use Rattle.branch.specs.Step.Standing.{IsBoundsFor}
-use Rattle.branch.specs.Lines.{splittable_count}
+use Rattle.diff_bounds.specs.Standing.{IsMadeFor as IsBoundsFor}
+use Rattle.event_graph.specs.Network.{splittable_count}
 
 -- the bounds, room for a number of choices, the known times, where there are some, the times and the events to raise that the last search
 -- for a bound left, and how many cases the last search closed

@@ -6,12 +6,15 @@ ghost use Rattle.event_graph.specs.Network.{IsNet};
 ghost use Rattle.event_graph.specs.Proof.{Bound, ProofLine};
 ghost use Rattle.event_graph.specs.Satisfying.{Satisfies};
 ghost use Rattle.event_graph.specs.Times.{separation};
-ghost use Rattle.branch.specs.Step.Standing.{IsBoundsFor};
+ghost use Rattle.diff_bounds.specs.Standing.{IsMadeFor};
 ghost use Rattle.branch.specs.Answers.{Answers, IsCounted, IsRoot};
-ghost use Rattle.branch.specs.Lines.{AtEachSplit, IsAccepted, splittable_count};
+ghost use Rattle.event_graph.specs.Reading.{AtEachSplit};
+ghost use Rattle.event_graph.specs.Network.{splittable_count};
+ghost use Rattle.branch.specs.Lines.{IsAccepted};
 ghost use Rattle.branch.specs.Needed.{IsNeededToBound};
 ghost use Rattle.branch.specs.Step.Cases.{work_left};
-ghost use Rattle.branch.specs.Step.Raising.{IsNear, IsNearSeparation};
+ghost use Rattle.diff_bounds.specs.Limits.{IsNear};
+ghost use Rattle.branch.specs.Step.Raising.{IsNearSeparation};
 ghost use Rattle.branch.specs.Step.Searched.{Advances, AreBest, EndsAs, EndsWith, IsAtCase, IsCutAfter, IsTrialFor, Keeps};
 
 use crate::answer::{Answer, Root};
@@ -35,7 +38,7 @@ pub fn bound_pair<S: Scribe>(
     budget: u64,
     scribe: &mut S,
 ) -> Result<Answer, ScribeFailed>
-    requires made { IsBoundsFor net.now search.old.bounds }
+    requires made { IsMadeFor net.now search.old.bounds }
     requires net { IsNet net.now }
     requires room { splittable_count net.now ≤ search.old.cases.room }
     requires from { aim.from.0 < net.now.events }
@@ -45,7 +48,7 @@ pub fn bound_pair<S: Scribe>(
     requires best { AreBest net.now aim best.old }
     requires trial { IsTrialFor net.now trial.old }
     requires budget { 0 < budget }
-    ensures made { IsBoundsFor net.now search.new.bounds }
+    ensures made { IsMadeFor net.now search.new.bounds }
     ensures room { search.new.cases.room ≡ search.old.cases.room }
     ensures trial { IsTrialFor net.now trial.new }
     ensures places { length best.new.times.items ≡ net.now.events }
@@ -76,12 +79,12 @@ pub fn bound_pair<S: Scribe>(
 
 /// The root bound of a pair of events.
 pub fn root_of(net: &Network, search: &mut Search, from: EventId, to: EventId) -> Root
-    requires made { IsBoundsFor net.now search.old.bounds }
+    requires made { IsMadeFor net.now search.old.bounds }
     requires net { IsNet net.now }
     requires from { from.0 < net.now.events }
     requires to { to.0 < net.now.events }
     ensures root { IsRoot net.now from to result }
-    ensures made { IsBoundsFor net.now search.new.bounds }
+    ensures made { IsMadeFor net.now search.new.bounds }
     ensures room { search.new.cases.room ≡ search.old.cases.room }
     ensures leaves { search.new.leaves ≡ search.old.leaves }
 {
@@ -125,7 +128,7 @@ fn search_bound<S: Scribe>(
     requires known { aim.known ≡ best.old.value }
     requires best { AreBest net.now aim best.old }
     requires trial { IsTrialFor net.now trial.old }
-    ensures same { Keeps search.old search.new }
+    ensures same { Keeps net.now search.old search.new }
     ensures trial { IsTrialFor net.now trial.new }
     ensures places { length best.new.times.items ≡ net.now.events }
     ensures within { OnOk result (search.new.leaves ≤ search.new.budget) }
@@ -162,7 +165,7 @@ fn step<S: Scribe>(
     requires near { IsNearSeparation aim.known }
     requires best { AreBest net.now aim best.old }
     requires trial { IsTrialFor net.now trial.old }
-    ensures same { Keeps search.old search.new }
+    ensures same { Keeps net.now search.old search.new }
     ensures trial { IsTrialFor net.now trial.new }
     ensures places { length best.new.times.items ≡ net.now.events }
     ensures ends { IfOk result (λ end. IfSome end (EndsAs net.now search.new)) }

@@ -65,7 +65,7 @@ fn mark_broken(net: &Network, times: &[i64], first: u32, distances: &mut Distanc
     let mut next = Some(first);
     while let Some(number) = next {
         distances.mark(net, number);
-        next = broken_from(net, times, number + 1);
+        next = net.broken_from(times, number + 1);
     }
 }
 
@@ -84,7 +84,7 @@ fn is_broken(net: &Network, times: &[i64], constraint: u32) -> bool
     requires times { All IsTime times.now }
     ensures { IsTrue result → Breaks times.now net.now constraint }
 {
-    broken_from(net, times, constraint) == Some(constraint)
+    net.broken_from(times, constraint) == Some(constraint)
 }
 
 // Whether a constraint has two or more causes and none of them is chosen.
@@ -92,14 +92,4 @@ fn is_free(net: &Network, cases: &Decisions, constraint: u32) -> bool
     ensures { IsTrue result → IsFree net.now cases.now.chosen constraint }
 {
     constraint < net.len() && net.cause_count(constraint) > 1 && !cases.has(constraint)
-}
-
-fn broken_from(net: &Network, times: &[i64], first: u32) -> Option<u32>
-    requires count { length times.now ≡ net.now.events }
-    requires times { All IsTime times.now }
-    ensures broken { IfSome result (λ number. Breaks times.now net.now number) }
-    ensures within { IfSome result (λ number. number < length net.now.constraints) }
-    ensures from { IfSome result (λ number. first ≤ number) }
-{
-    unreachable!()
 }

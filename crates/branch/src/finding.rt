@@ -4,16 +4,19 @@ ghost use Rattle.std.specs.Prelude.{◌≡◌, ◌<◌, ◌≤◌, List, IfOk, I
 ghost use Rattle.itv_base.specs.Outside.{Rose};
 ghost use Rattle.event_graph.specs.Network.{IsNet};
 ghost use Rattle.event_graph.specs.Proof.{Nothing, ProofLine};
-ghost use Rattle.branch.specs.Step.Standing.{IsBoundsFor};
+ghost use Rattle.diff_bounds.specs.Standing.{IsMadeFor};
 ghost use Rattle.branch.specs.Answers.{Finds, IsCounted};
-ghost use Rattle.branch.specs.Lines.{AtEachSplit, IsAccepted, splittable_count};
+ghost use Rattle.event_graph.specs.Reading.{AtEachSplit};
+ghost use Rattle.event_graph.specs.Network.{splittable_count};
+ghost use Rattle.branch.specs.Lines.{IsAccepted};
 ghost use Rattle.branch.specs.Needed.{IsNeededToFind};
 ghost use Rattle.branch.specs.Step.Cases.{work_left};
-ghost use Rattle.branch.specs.Step.Raising.{IsNear};
+ghost use Rattle.diff_bounds.specs.Limits.{IsNear};
 ghost use Rattle.branch.specs.Step.Searched.{EndsAs, FindAdvances, IsAtCase, IsFindCutAfter, IsTrialFor, Keeps};
 
 use crate::answer::Found;
-use crate::levels::{start, times_in, walk};
+use crate::levels::{start, times_in};
+use crate::stub;
 use crate::search::{Entry, Search, split_case};
 use diff_bounds::Fit;
 use event_graph::{Network, Scribe, ScribeFailed};
@@ -27,12 +30,12 @@ pub fn find_times<S: Scribe>(
     budget: u64,
     scribe: &mut S,
 ) -> Result<Found, ScribeFailed>
-    requires made { IsBoundsFor net.now search.old.bounds }
+    requires made { IsMadeFor net.now search.old.bounds }
     requires net { IsNet net.now }
     requires room { splittable_count net.now ≤ search.old.cases.room }
     requires candidate { length candidate.old ≡ net.now.events }
     requires budget { 0 < budget }
-    ensures made { IsBoundsFor net.now search.new.bounds }
+    ensures made { IsMadeFor net.now search.new.bounds }
     ensures room { search.new.cases.room ≡ search.old.cases.room }
     ensures near { result ≡ Ok Found.Consistent → All IsNear candidate.new }
     ensures lines { IfOk result (λ found. (lines : List ProofLine) × S.Grew scribe.old lines scribe.new
@@ -45,7 +48,7 @@ pub fn find_times<S: Scribe>(
 {
     if start(net, search, None, budget) == Fit::Loop {
         search.leaves = 1;
-        scribe.cut_loop(walk(search))?;
+        scribe.cut_loop(stub::walk(&search.bounds))?;
         return Ok(Found::Inconsistent);
     }
     'cases: loop {
@@ -68,7 +71,7 @@ fn try_times<S: Scribe>(
     requires net { IsNet net.now }
     requires case { IsAtCase net.now search.old }
     requires candidate { length candidate.old ≡ net.now.events }
-    ensures same { Keeps search.old search.new }
+    ensures same { Keeps net.now search.old search.new }
     ensures ends { IfOk result (λ end. IfSome end (EndsAs net.now search.new)) }
     ensures advances { IfOk result (λ end. (lines : List ProofLine) × S.Grew scribe.old lines scribe.new
         × FindAdvances net.now search.old search.new candidate.new lines end) }

@@ -16,6 +16,7 @@ mod look;
 mod raise;
 mod scratch;
 mod search;
+mod stub;
 mod trial;
 mod work;
 

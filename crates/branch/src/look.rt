@@ -54,6 +54,7 @@ fn look_at_bound(net: &Network, search: &Search, trial: &mut Trial, aim: Aim, up
     requires case { IsCase net.now search.now.cases.chosen }
     requires stands { StandsOn net.now search.now.cases.chosen search.now.bounds }
     requires source { search.now.bounds.source ≡ Some aim.from }
+    requires to { aim.to.0 < net.now.events }
     requires value { HasUpper search.now.bounds aim.to upper }
     requires upper { IsUpperIn net.now search.now.cases.chosen aim.from aim.to (Some upper) }
     requires trial { IsTrialFor net.now trial.old }
@@ -82,12 +83,21 @@ fn look_at_ray(net: &Network, search: &Search, trial: &mut Trial, aim: Aim) -> L
     requires source { search.now.bounds.source ≡ Some aim.from }
     requires upper { IsUpperIn net.now search.now.cases.chosen aim.from aim.to None }
     requires none { HasNoUpper search.now.bounds aim.to }
+    requires from { aim.from.0 < net.now.events }
+    requires to { aim.to.0 < net.now.events }
     requires known { IsNearSeparation aim.known }
     requires trial { IsTrialFor net.now trial.old }
     ensures trial { IsTrialFor net.now trial.new }
     ensures looks { (best : ℤ) → Looks net.now aim best search.now trial.new result }
 {
-    ray_in(net, search, &mut trial.candidate, &mut trial.ray);
+    ray_in(
+        net,
+        search,
+        aim.from,
+        aim.to,
+        &mut trial.candidate,
+        &mut trial.ray,
+    );
     raise(&mut trial.candidate, &trial.ray, aim.from, aim.to, aim.known);
     match net.broken(&trial.candidate) {
         None => Look::Unbounded,

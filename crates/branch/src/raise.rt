@@ -1,8 +1,9 @@
 //! Raising a set of events above all others.
 
-ghost use Rattle.std.specs.Prelude.{◌≡◌, ◌*◌, ◌⊎◌, ℕ, pos, ◌+ℤ◌, ◌-ℤ◌, ◌≤ℤ◌, ◌<ℤ◌, true, false, All, Some, length, slice_get};
+ghost use Rattle.std.specs.Prelude.{◌≡◌, ◌+◌, ◌*◌, ◌⊎◌, ℕ, pos, ◌+ℤ◌, ◌-ℤ◌, ◌≤ℤ◌, ◌<ℤ◌, true, false, All, Some, length, slice_get};
 ghost use Rattle.event_graph.specs.Times.{raised};
-ghost use Rattle.branch.specs.Step.Raising.{AreRaised, IsNear, IsNearSeparation, IsRise, near_limit, raised_to};
+ghost use Rattle.diff_bounds.specs.Limits.{IsNear, near_limit, weight_limit};
+ghost use Rattle.branch.specs.Step.Raising.{AreRaised, IsNearSeparation, IsRise, raised_to};
 
 use itv_base::{END_LIMIT, EventId};
 
@@ -133,7 +134,7 @@ fn enough(span: Span, first: i64, last: i64, reach: i64) -> i64
     requires reach { IsNearSeparation reach }
     ensures low { pos 0 ≤ℤ result }
     ensures high { result ≤ℤ pos (5 * near_limit) }
-    ensures gap { (span.highest +ℤ pos 1000000000000) <ℤ (span.lowest +ℤ result) }
+    ensures gap { (span.highest +ℤ pos weight_limit) <ℤ (span.lowest +ℤ result) }
     ensures reached { reach ≤ℤ ((last -ℤ first) +ℤ result) }
 {
     greater(greater(gap(span), shortfall(first, last, reach)), 0)
@@ -143,7 +144,7 @@ fn enough(span: Span, first: i64, last: i64, reach: i64) -> i64
 fn gap(span: Span) -> i64
     requires lowest { IsNear span.lowest }
     requires highest { IsNear span.highest }
-    ensures { result ≡ ((span.highest -ℤ span.lowest) +ℤ pos 1000000000001) }
+    ensures { result ≡ ((span.highest -ℤ span.lowest) +ℤ pos (weight_limit + 1)) }
 {
     span.highest - span.lowest + END_LIMIT + 1
 }

@@ -11,7 +11,8 @@ ghost use Rattle.branch.specs.Step.Standing.{HasUpper, StandsBelow};
 
 use crate::choice::Choice;
 use crate::decisions::Decisions;
-use crate::levels::{enter_choice, find_path, step_back, walk};
+use crate::levels::{enter_choice, find_path, step_back};
+use crate::stub;
 use diff_bounds::{Bounds, Fit};
 use event_graph::{Network, Scribe, ScribeFailed};
 use itv_base::EventId;
@@ -46,7 +47,7 @@ pub fn split_case<S: Scribe>(
     requires net { IsNet net.now }
     requires case { IsAtCase net.now search.old }
     requires free { IsFree net.now search.old.cases.chosen number }
-    ensures same { Keeps search.old search.new }
+    ensures same { Keeps net.now search.old search.new }
     ensures ends { IfOk result (EndsAs net.now search.new) }
     ensures lines { IfOk result (λ entry. (lines : List ProofLine) × S.Grew scribe.old (Split number ∷ lines) scribe.new
         × ((goal : ProofGoal) → Steps net.now goal (open_cases net.now (first_of number search.old.cases.chosen))
@@ -78,7 +79,7 @@ pub fn close_case<S: Scribe>(
     requires source { (from : EventId) × (search.old.bounds.source ≡ Some from) }
     requires value { (value : ℤ) × HasUpper search.old.bounds to value }
     requires to { to.0 < net.now.events }
-    ensures same { Keeps search.old search.new }
+    ensures same { Keeps net.now search.old search.new }
     ensures ends { IfOk result (EndsAs net.now search.new) }
     ensures lines { IfOk result (λ entry. (lines : List ProofLine) × S.Grew scribe.old lines scribe.new
         × ((from : EventId) (value best : ℤ) → search.old.bounds.source ≡ Some from
@@ -96,7 +97,7 @@ pub fn close_case<S: Scribe>(
             < work_left net.now search.old.budget search.old.leaves search.old.cases.chosen) }
 {
     find_path(net, search, to);
-    scribe.cut_path(walk(search))?;
+    scribe.cut_path(stub::walk(&search.bounds))?;
     step_back(net, search);
     match leave_case(net, search) {
         Some(end) => Ok(end),
@@ -112,7 +113,7 @@ fn enter_case<S: Scribe>(
 ) -> Result<Entry, ScribeFailed>
     requires below { IsBelowCase net.now search.old }
     requires some { 0 < length search.old.cases.chosen }
-    ensures same { Keeps search.old search.new }
+    ensures same { Keeps net.now search.old search.new }
     ensures ends { IfOk result (EndsAs net.now search.new) }
     ensures lines { IfOk result (λ entry. (lines : List ProofLine) × S.Grew scribe.old lines scribe.new
         × ((goal : ProofGoal) → Steps net.now goal (open_cases net.now search.old.cases.chosen)
@@ -129,7 +130,7 @@ fn enter_case<S: Scribe>(
         if enter_choice(net, search, choice) == Fit::Fits {
             return Ok(Entry::Entered);
         }
-        scribe.cut_loop(walk(search))?;
+        scribe.cut_loop(stub::walk(&search.bounds))?;
         match leave_case(net, search) {
             Some(end) => return Ok(end),
             None => {}
@@ -142,7 +143,7 @@ fn enter_case<S: Scribe>(
 // answer says how the search ends.
 fn leave_case(net: &Network, search: &mut Search) -> Option<Entry>
     requires below { IsBelowCase net.now search.old }
-    ensures same { Keeps search.old search.new }
+    ensures same { Keeps net.now search.old search.new }
     ensures count { search.new.leaves ≡ search.old.leaves + 1 }
     ensures next { LeavesFor net.now search.old search.new result }
     ensures work { IfNone result (work_left net.now search.new.budget search.new.leaves search.new.cases.chosen
@@ -162,7 +163,7 @@ fn leave_case(net: &Network, search: &mut Search) -> Option<Entry>
 fn next_case(net: &Network, search: &mut Search) -> bool
     requires below { IsCase net.now search.old.cases.chosen }
     requires stands { StandsBelow net.now search.old.cases.chosen search.old.bounds }
-    ensures same { Keeps search.old search.new }
+    ensures same { Keeps net.now search.old search.new }
     ensures leaves { search.new.leaves ≡ search.old.leaves }
     ensures next { MatchBool result (IsNext net.now search.old search.new)
         (siblings net.now search.old.cases.chosen ≡ []) }

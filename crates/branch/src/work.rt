@@ -6,7 +6,9 @@ ghost use Rattle.event_graph.specs.Proof.{Bound, Nothing, ProofLine};
 ghost use Rattle.event_graph.specs.Satisfying.{Satisfies};
 ghost use Rattle.event_graph.specs.Times.{separation};
 ghost use Rattle.branch.specs.Answers.{Answers, Finds, IsCounted, IsRoot};
-ghost use Rattle.branch.specs.Lines.{AtEachSplit, IsAccepted, splittable_count};
+ghost use Rattle.event_graph.specs.Reading.{AtEachSplit};
+ghost use Rattle.event_graph.specs.Network.{splittable_count};
+ghost use Rattle.branch.specs.Lines.{IsAccepted};
 ghost use Rattle.branch.specs.Needed.{IsNeededToBound, IsNeededToFind};
 ghost use Rattle.branch.specs.Work.{IsMadeFor, known_separation};
 
@@ -17,8 +19,8 @@ use crate::decisions::Decisions;
 use crate::distances::Distances;
 use crate::finding::find_times;
 use crate::search::Search;
+use crate::stub;
 use crate::trial::Trial;
-use diff_bounds::Bounds;
 use event_graph::{Network, Scribe, ScribeFailed};
 use itv_base::{EventId, NoMemory};
 use std::alloc::Global;
@@ -58,8 +60,8 @@ impl Work {
         let events = net.events() as usize;
         Ok(Work {
             search: Search {
-                bounds: Bounds::new(alloc, net)?,
-                cases: Decisions::new(alloc, splittable(net))?,
+                bounds: stub::new(alloc, net)?,
+                cases: Decisions::new(alloc, net.splittable_count())?,
                 leaves: 0,
                 budget: 0,
             },
@@ -112,19 +114,6 @@ impl Work {
     {
         &self.trial.ray
     }
-}
-
-// How many constraints have two or more causes.
-fn splittable(net: &Network) -> u32
-    ensures { result ≡ splittable_count net.now }
-{
-    let mut count = 0;
-    for constraint in 0..net.len() {
-        if net.cause_count(constraint) > 1 {
-            count += 1;
-        }
-    }
-    count
 }
 
 /// Looks for times that satisfy a network, by a search over the causes of its latest and earliest constraints which closes at most

@@ -2,7 +2,7 @@
 use Rattle.std.specs.Prelude.{◌≡◌, ◌==◌, ◌+◌, ◌-◌, ◌*◌, ◌<◌, ◌≤◌, ℕ, Bool, true, false, cond, min, List, [], ◌∷◌, ◌++◌, length, Option, IsSomeAnd, slice_get}
 use Rattle.event_graph.specs.Network.{Constraint, Net, cause_count_of}
 use Rattle.event_graph.specs.Proof.{Case, Choice, MaySplit, cases_from, count_causes}
-use Rattle.branch.specs.Lines.{splittable_count}
+use Rattle.event_graph.specs.Network.{splittable_count}
 
 -- room for a number of choices, and the choices of the case at hand, the latest first
 pub record Chosen : Type 0 where

@@ -1,6 +1,6 @@
 -- What the fields of working memory mean, and what holds of them.
 use Rattle.std.specs.Prelude.{◌≡◌, true, cond, length, All, None, Some}
-use Rattle.branch.specs.Step.Raising.{IsNear}
+use Rattle.diff_bounds.specs.Limits.{IsNear}
 use Rattle.branch.specs.Work.{View}
 use Rattle.branch.specs.declared.work.Work.TheInside.{Inside}
 

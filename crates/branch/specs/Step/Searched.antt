@@ -6,10 +6,13 @@ use Rattle.event_graph.specs.Network.{Net}
 use Rattle.event_graph.specs.Proof.{Bound, Case, Loop, Nothing, Path, ProofGoal, ProofLine, Reads, Split, closing_lines}
 use Rattle.event_graph.specs.Satisfying.{Breaks, Satisfies}
 use Rattle.event_graph.specs.Times.{IsTime, separation}
-use Rattle.branch.specs.Lines.{AtEachSplit, IsAccepted, MeetsUsable, splittable_count}
+use Rattle.event_graph.specs.Usable.{MeetsUsable}
+use Rattle.event_graph.specs.Reading.{AtEachSplit}
+use Rattle.event_graph.specs.Network.{splittable_count}
+use Rattle.branch.specs.Lines.{IsAccepted}
 use Rattle.branch.specs.Needed.{IsNeededToBound, IsNeededToFind}
 use Rattle.branch.specs.Step.Cases.{IsCase, IsFree, open_cases, siblings}
-use Rattle.branch.specs.Step.Raising.{IsNear}
+use Rattle.diff_bounds.specs.Limits.{IsNear}
 use Rattle.branch.specs.Step.Standing.{AreOfSame, HasUpper, StandsBelow, StandsOn}
 use Rattle.branch.specs.declared.best.Aim.{Aim}
 use Rattle.branch.specs.declared.best.Best.{Best}
@@ -37,10 +40,10 @@ pub record IsBelowCase (net : Net) (s : Search) : Type 0 where
   pub left : s.leaves < s.budget
 
 -- a step keeps what the search was made for
-pub record Keeps (before now : Search) : Type 0 where
+pub record Keeps (net : Net) (before now : Search) : Type 0 where
   pub room : now.cases.room ≡ before.cases.room
   pub budget : now.budget ≡ before.budget
-  pub bounds : AreOfSame before.bounds now.bounds
+  pub bounds : AreOfSame net before.bounds now.bounds
 
 -- how an entry ends: the search is at a case, or no case is left, or the budget is used up
 abbrev pub EndsAs : Net → Search → Entry → Type 0

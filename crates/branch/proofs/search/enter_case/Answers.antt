@@ -72,7 +72,7 @@ loop-choice-preserved g c =
     let closes : ClosesByLoop net at.cases.chosen walk = subst (ClosesByLoop net at.cases.chosen) (sym c.walk.ensures) (c.enter_choice.ensures.walk is) in
     let one_more : now.leaves ≡ at.leaves + 1 = c.leave_case.ensures.count ∙ ap (λ (s : Search). s.leaves + 1) others in
     let same : at.cases.chosen ≡ mid.cases.chosen = sym (ap (λ (s : Search). s.cases.chosen) others) in
-    let keeps = keeps_then at mid now (keeps_bounds at mid others c.enter_choice.ensures.bounds) c.leave_case.ensures.same in
+    let keeps = keeps_then net at mid now (keeps_bounds net at mid others c.enter_choice.ensures.bounds) c.leave_case.ensures.same in
     let work : work_left net mid.budget mid.leaves mid.cases.chosen ≡ work_left net at.budget at.leaves at.cases.chosen = ap (λ (s : Search). work_left net s.budget s.leaves s.cases.chosen) others in
     record {
       lines = (
@@ -91,6 +91,6 @@ loop-choice-preserved g c =
         left = next.1;
       };
       some = next.0.some;
-      same = keeps_then c.args.search.now at now inv.same keeps;
+      same = keeps_then net c.args.search.now at now inv.same keeps;
       work = omega (arith, c.in-None.ensures.work, work, inv.work);
     }

@@ -13,7 +13,7 @@ invariant-loop-choice g l = record {
           → HasClosed l.net goal (open_cases l.net l.fn.search.cases.chosen) (open_cases l.net l.search.cases.chosen) l.fn.search.leaves l.search.leaves lines);
   below : IsBelowCase l.net l.search;
   some : 0 < length l.search.cases.chosen;
-  same : Keeps l.fn.search l.search;
+  same : Keeps l.net l.fn.search l.search;
   work : work_left l.net l.search.budget l.search.leaves l.search.cases.chosen ≤ work_left l.net l.fn.search.budget l.fn.search.leaves l.fn.search.cases.chosen;
 }
 

@@ -10,7 +10,7 @@ invariant-loop-choice l = record {
   others : siblings l.net l.fn.search.cases.chosen ≡ siblings l.net l.search.cases.chosen;
   case : IsCase l.net l.search.cases.chosen;
   below : StandsBelow l.net l.search.cases.chosen l.search.bounds;
-  same : Keeps l.fn.search l.search;
+  same : Keeps l.net l.fn.search l.search;
   leaves : l.search.leaves ≡ l.fn.search.leaves;
 }
 

@@ -1,4 +1,4 @@
-use Rattle.branch.proofs.levels.start.Goals as goal
+use Rattle.branch.proofs.stub.walk.Goals as goal
 
 pub unreachable-requires : goal.unreachable-requires
 unreachable-requires c = ?

@@ -1,4 +1,4 @@
-use Rattle.branch.proofs.levels.step_back.Goals as goal
+use Rattle.branch.proofs.stub.new.Goals as goal
 
 pub unreachable-requires : goal.unreachable-requires
 unreachable-requires c = ?

@@ -1,4 +1,4 @@
-use Rattle.branch.proofs.levels.upper_in.Goals as goal
+use Rattle.branch.proofs.stub.descend.Goals as goal
 
 pub unreachable-requires : goal.unreachable-requires
 unreachable-requires c = ?

@@ -1,4 +1,4 @@
-use Rattle.branch.proofs.choose.broken_from.Goals as goal
+use Rattle.branch.proofs.stub.start.Goals as goal
 
 pub unreachable-requires : goal.unreachable-requires
 unreachable-requires c = ?

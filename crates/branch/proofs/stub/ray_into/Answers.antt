@@ -1,4 +1,4 @@
-use Rattle.branch.proofs.levels.ray_in.Goals as goal
+use Rattle.branch.proofs.stub.ray_into.Goals as goal
 
 pub unreachable-requires : goal.unreachable-requires
 unreachable-requires c = ?

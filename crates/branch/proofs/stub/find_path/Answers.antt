@@ -1,4 +1,4 @@
-use Rattle.branch.proofs.levels.enter_choice.Goals as goal
+use Rattle.branch.proofs.stub.find_path.Goals as goal
 
 pub unreachable-requires : goal.unreachable-requires
 unreachable-requires c = ?

@@ -1,4 +1,4 @@
-use Rattle.branch.proofs.levels.find_path.Goals as goal
+use Rattle.branch.proofs.stub.times_into.Goals as goal
 
 pub unreachable-requires : goal.unreachable-requires
 unreachable-requires c = ?

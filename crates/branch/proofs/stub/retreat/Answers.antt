@@ -1,4 +1,4 @@
-use Rattle.branch.proofs.levels.walk.Goals as goal
+use Rattle.branch.proofs.stub.retreat.Goals as goal
 
 pub unreachable-requires : goal.unreachable-requires
 unreachable-requires c = ?
