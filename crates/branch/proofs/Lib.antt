@@ -6,3 +6,4 @@ mod Advancing
 mod Gaps
 mod RaisingSets
 mod Entering
+mod Signs

@@ -1,6 +1,7 @@
 //! The choice of the constraint on which a case is split.
 
 ghost use Rattle.std.specs.Prelude.{◌≡◌, ◌<◌, ◌≤◌, ◌⊎◌, IsTrue, IfSome, All, length};
+ghost use Rattle.event_graph.specs.Network.{IsNet};
 ghost use Rattle.event_graph.specs.Satisfying.{Breaks};
 ghost use Rattle.event_graph.specs.Times.{IsTime};
 ghost use Rattle.branch.specs.Step.Cases.{IsFree};
@@ -20,6 +21,7 @@ pub fn nearest_broken(
     to: EventId,
     distances: &mut Distances,
 ) -> u32
+    requires net { IsNet net.now }
     requires first { Breaks times.now net.now first }
     requires count { length times.now ≡ net.now.events }
     requires times { All IsTime times.now }
@@ -58,6 +60,7 @@ pub fn nearest_open(
 
 // Marks the constraints that the times break, of which the first is given.
 fn mark_broken(net: &Network, times: &[i64], first: u32, distances: &mut Distances)
+    requires net { IsNet net.now }
     requires first { first < length net.now.constraints }
     requires count { length times.now ≡ net.now.events }
     requires times { All IsTime times.now }
