@@ -7,3 +7,5 @@ mod Gaps
 mod RaisingSets
 mod Entering
 mod Signs
+mod UsableEdges
+mod CaseLevels
