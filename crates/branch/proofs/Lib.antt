@@ -9,3 +9,5 @@ mod Entering
 mod Signs
 mod UsableEdges
 mod CaseLevels
+mod BrokenSplits
+mod Looking

@@ -1,6 +1,7 @@
 use Rattle.std.proofs.Common.{refl}
 use Rattle.branch.proofs.CaseCounts.{case_room}
 use Rattle.branch.proofs.ReadingOn.{none_searched}
+use Rattle.branch.proofs.Looking.{ray_at}
 use Rattle.branch.proofs.CaseLevels.{loop_closes}
 use Rattle.branch.proofs.Signs.{passed_rise}
 use Rattle.branch.proofs.Entering.{steps_here}
