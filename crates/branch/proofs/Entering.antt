@@ -7,13 +7,13 @@ use Rattle.event_graph.specs.Network.{Net}
 use Rattle.event_graph.specs.Proof.{Bound, Case, ClosesByLoop, ClosesByPath, Loop, Path, ProofGoal, ProofLine, Reads, Split, closing_lines}
 use Rattle.event_graph.specs.Network.{splittable_count}
 use Rattle.branch.specs.Step.Cases.{IsCase, open_cases, siblings, work_left}
-use Rattle.branch.specs.Step.Searched.{Closes, EndsAs, IsBelowCase, IsClosing, IsNext, Keeps, LeavesFor, Steps, left_after}
-use Rattle.branch.specs.Step.Standing.{AreOfSame}
+use Rattle.branch.specs.Step.Searched.{Closes, EndsAs, IsAtCase, IsBelowCase, IsClosing, IsNext, IsSearched, Keeps, LeavesFor, Steps, left_after}
+use Rattle.branch.specs.Step.Standing.{AreOfSame, StandsOn}
 use Rattle.branch.specs.declared.search.Entry.{Entry}
 use Rattle.branch.specs.declared.search.Entry.TheVariants.{Entered, AllClosed, Stopped}
 use Rattle.branch.specs.declared.search.Search.{Search}
 use Rattle.branch.proofs.CaseCounts.{work_falls}
-use Rattle.branch.proofs.ReadingOn.{closing_lines-append, reads-append}
+use Rattle.branch.proofs.ReadingOn.{closing_lines-append, none_searched, reads-append}
 
 -- a closed case leaves less work
 pub leave_falls : (net : Net) (before now : Search) → before.leaves < before.budget → IsCase net now.cases.chosen → now.budget ≡ before.budget → now.leaves ≡ before.leaves + 1
@@ -113,3 +113,19 @@ loop_reads net goal chosen walk closes = (closes, refl)
 pub path_reads : (net : Net) (goal : ProofGoal) (chosen : Case) (walk : List EdgeName) → ClosesByPath net goal chosen walk
     → Reads net goal (open_cases net chosen) (Path walk ∷ []) (siblings net chosen)
 path_reads net goal chosen walk closes = (closes, refl)
+
+-- a search that was started is at the case without choices
+pub at_root : (net : Net) (s : Search) → s.cases.chosen ≡ [] → StandsOn net [] s.bounds → splittable_count net ≤ s.cases.room → s.leaves < s.budget → IsAtCase net s
+at_root net s none stands room left = record {
+  case = subst (IsCase net) (sym none) tt;
+  stands = subst (λ (chosen : Case). StandsOn net chosen s.bounds) (sym none) stands;
+  room = room;
+  left = left;
+}
+
+-- and nothing is read yet
+pub root_read : (net : Net) (goal : ProofGoal) (IsNeeded : List ProofLine → Case → ℕ → Type 0) (s : Search) → s.cases.chosen ≡ [] → s.leaves ≡ 0
+    → IsSearched net goal IsNeeded [] (open_cases net s.cases.chosen) s.leaves
+root_read net goal IsNeeded s none zero =
+    subst (λ (chosen : Case). IsSearched net goal IsNeeded [] (open_cases net chosen) s.leaves) (sym none)
+    (subst (λ (n : ℕ). IsSearched net goal IsNeeded [] ([] ∷ []) n) (sym zero) (none_searched net goal IsNeeded))

@@ -1,13 +1,15 @@
 -- What the times of a case show of it.
 use Rattle.std.proofs.Common.{◌≡◌, ◌⊎◌, ◌≤ℤ◌, ◌<ℤ◌, ℕ, ℤ, Bool, true, false, List, length, All, Option, Some, None, slice_get, sym, ap, ◌∙◌, subst, inl, inr, arith}
 use Rattle.std.proofs.lemmas.Int.{ints}
+use Rattle.std.proofs.lemmas.List.Elements.{All-weaker}
 use Rattle.itv_base.specs.declared.names.EventId.{EventId}
 use Rattle.event_graph.specs.Bounds.{IsGreatestAmong, IsRay}
 use Rattle.event_graph.specs.Network.{IsNet, Net}
 use Rattle.event_graph.specs.Proof.{Case}
 use Rattle.event_graph.specs.Satisfying.{Breaks, Satisfies}
-use Rattle.event_graph.specs.Times.{raised, separation}
+use Rattle.event_graph.specs.Times.{IsTime, raised, separation}
 use Rattle.event_graph.specs.Usable.{MeetsUsable}
+use Rattle.diff_bounds.specs.Limits.{IsNear}
 use Rattle.branch.specs.Step.Cases.{IsCase, IsFree}
 use Rattle.branch.specs.Step.Raising.{AreRaised}
 use Rattle.branch.specs.Step.Searched.{IsOpen}
@@ -51,3 +53,6 @@ pub ray_at : (net : Net) (chosen : Case) (from to : EventId) (reach : ℤ) (old 
     → AreRaised ray from to reach old new → Satisfies new net → IsRay net from to new ray
 ray_at net chosen from to reach old new ray is_net is_ray are_raised satisfies =
     apart_is_ray net from to ray new is_net is_ray.count is_ray.holds is_ray.lacks are_raised.apart satisfies
+
+pub near_times : (times : List ℤ) → All IsNear times → All IsTime times
+near_times times near = All-weaker IsNear IsTime (λ t n. (omega (arith, ints), omega (arith, ints))) times near

@@ -140,7 +140,7 @@ only_line : (front after : List ProofLine) (line other : ProofLine) → line ∷
 only_line [] after line other same = (refl, cc)
 only_line (f ∷ front) after line other same = absurd (no_line front after other (cc))
 
-nothing_after : (lines : List ProofLine) → lines ++ [] ≡ lines
+pub nothing_after : (lines : List ProofLine) → lines ++ [] ≡ lines
 nothing_after [] = refl
 nothing_after (line ∷ lines) = ap (λ ls. line ∷ ls) (nothing_after lines)
 

@@ -130,9 +130,9 @@ pub closes_by_path : (net : Net) (chosen : Case) (from to : EventId) (sum value 
 closes_by_path net chosen from to sum value names is_case path within =
     (path.walk, all_usable net chosen names is_case path.current, subst (λ (s : ℤ). s ≤ℤ value) (sym path.total) within, path.count)
 
--- at the root they are the always-edges
-pub meets_always : (net : Net) (times : List ℤ) → MeetsUsable net [] times → MeetsAlways times net
-meets_always net times meets = record { count = meets.count; each = λ name e always there. meets.each name e (inl always) there }
+-- the always-edges are usable in each case, and at the root no others are
+pub meets_always : (net : Net) (chosen : Case) (times : List ℤ) → MeetsUsable net chosen times → MeetsAlways times net
+meets_always net chosen times meets = record { count = meets.count; each = λ name e always there. meets.each name e (inl always) there }
 
 always_usable : (net : Net) (name : EdgeName) → IsUsable net [] name → IsAlways net name
 always_usable net name (inl always) = always
@@ -144,8 +144,8 @@ always_meets net times meets = record { count = meets.count; each = λ name e us
 -- so the greatest separations there are the root bounds
 pub root_upper : (net : Net) (from to : EventId) (upper : Option ℤ) → IsUpperIn net [] from to upper → IsRootBound net from to upper
 root_upper net from to (Some value) greatest = record {
-  attained = (greatest.attained.0, meets_always net greatest.attained.0 greatest.attained.1, greatest.attained.2);
+  attained = (greatest.attained.0, meets_always net [] greatest.attained.0 greatest.attained.1, greatest.attained.2);
   most = λ times meets. greatest.most times (always_meets net times meets);
 }
 root_upper net from to None unbounded =
-    λ value. let past = unbounded value in (past.0, meets_always net past.0 past.1, past.2)
+    λ value. let past = unbounded value in (past.0, meets_always net [] past.0 past.1, past.2)

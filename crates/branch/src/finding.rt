@@ -1,9 +1,10 @@
 //! The search for times that satisfy a network.
 
-ghost use Rattle.std.specs.Prelude.{◌≡◌, ◌<◌, ◌≤◌, List, IfOk, IfSome, OnOk, OnErr, Ok, Some, All, length};
+ghost use Rattle.std.specs.Prelude.{◌≡◌, ◌<◌, ◌≤◌, ℤ, List, IfOk, IfSome, OnOk, OnErr, Ok, Some, All, length};
 ghost use Rattle.itv_base.specs.Outside.{Rose};
 ghost use Rattle.event_graph.specs.Network.{IsNet};
 ghost use Rattle.event_graph.specs.Proof.{Nothing, ProofLine};
+ghost use Rattle.event_graph.specs.RootBound.{MeetsAlways};
 ghost use Rattle.diff_bounds.specs.Standing.{IsMadeFor};
 ghost use Rattle.branch.specs.Answers.{Finds, IsCounted};
 ghost use Rattle.event_graph.specs.Reading.{AtEachSplit};
@@ -72,6 +73,7 @@ fn try_times<S: Scribe>(
     requires case { IsAtCase net.now search.old }
     requires candidate { length candidate.old ≡ net.now.events }
     ensures same { Keeps net.now search.old search.new }
+    ensures always { (times : List ℤ) × MeetsAlways times net.now }
     ensures ends { IfOk result (λ end. IfSome end (EndsAs net.now search.new)) }
     ensures advances { IfOk result (λ end. (lines : List ProofLine) × S.Grew scribe.old lines scribe.new
         × FindAdvances net.now search.old search.new candidate.new lines end) }

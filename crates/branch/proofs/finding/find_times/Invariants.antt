@@ -1,6 +1,5 @@
-use Rattle.std.proofs.Common.{◌≡◌, ℤ, List}
+use Rattle.std.proofs.Common.{◌≡◌, List}
 use Rattle.event_graph.specs.Proof.{ProofLine}
-use Rattle.event_graph.specs.RootBound.{MeetsAlways}
 use Rattle.branch.specs.Step.Cases.{open_cases, work_left}
 use Rattle.branch.specs.Step.Searched.{IsAtCase, IsFindSearched}
 use Rattle.branch.proofs.finding.find_times.Given as goal
@@ -12,7 +11,6 @@ invariant-cases g l = record {
   at : IsAtCase l.net l.search;
   room : l.search.cases.room ≡ l.fn.search.cases.room;
   budget : l.search.budget ≡ l.budget;
-  always : (times : List ℤ) × MeetsAlways times l.net;
 }
 
 abbrev pub decreases-cases : goal.decreases-cases
