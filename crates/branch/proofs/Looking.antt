@@ -1,5 +1,5 @@
 -- What the times of a case show of it.
-use Rattle.std.proofs.Common.{◌≡◌, ◌⊎◌, ◌≤ℤ◌, ◌<ℤ◌, ℕ, ℤ, Bool, true, false, List, length, All, Option, Some, None, slice_get, sym, ap, ◌∙◌, subst, inl, inr, arith}
+use Rattle.std.proofs.Common.{◌≡◌, ◌⊎◌, ◌<◌, ◌≤ℤ◌, ◌<ℤ◌, ℕ, ℤ, pos, Bool, true, false, List, length, All, Option, Some, None, slice_get, sym, ap, ◌∙◌, subst, inl, inr, arith}
 use Rattle.std.proofs.lemmas.Int.{ints}
 use Rattle.std.proofs.lemmas.List.Elements.{All-weaker}
 use Rattle.itv_base.specs.declared.names.EventId.{EventId}
@@ -11,7 +11,7 @@ use Rattle.event_graph.specs.Times.{IsTime, raised, separation}
 use Rattle.event_graph.specs.Usable.{MeetsUsable}
 use Rattle.diff_bounds.specs.Limits.{IsNear}
 use Rattle.branch.specs.Step.Cases.{IsCase, IsFree}
-use Rattle.branch.specs.Step.Raising.{AreRaised}
+use Rattle.branch.specs.Step.Raising.{AreRaised, IsNearSeparation}
 use Rattle.branch.specs.Step.Searched.{IsOpen}
 use Rattle.branch.specs.Step.Standing.{IsRayIn, IsUpperIn}
 use Rattle.branch.proofs.BrokenSplits.{broken_is_free}
@@ -56,3 +56,10 @@ ray_at net chosen from to reach old new ray is_net is_ray are_raised satisfies =
 
 pub near_times : (times : List ℤ) → All IsNear times → All IsTime times
 near_times times near = All-weaker IsNear IsTime (λ t n. (omega (arith, ints), omega (arith, ints))) times near
+
+-- the separation of near times is near
+pub near_separation : (times : List ℤ) (from to : EventId) → All IsNear times → from.0 < length times → to.0 < length times → IsNearSeparation (separation times from to)
+near_separation times from to near from_within to_within =
+    let first = near from.0 (pos 0) from_within in
+    let last = near to.0 (pos 0) to_within in
+    (omega (arith, ints, first.0, first.1, last.0, last.1), omega (arith, ints, first.0, first.1, last.0, last.1))

@@ -13,6 +13,7 @@ use Rattle.branch.specs.Lines.{IsAccepted}
 use Rattle.branch.specs.Needed.{IsNeededToBound, IsNeededToFind}
 use Rattle.branch.specs.Step.Cases.{IsCase, IsFree, open_cases, siblings}
 use Rattle.diff_bounds.specs.Limits.{IsNear}
+use Rattle.branch.specs.Step.Raising.{IsNearSeparation}
 use Rattle.branch.specs.Step.Standing.{AreOfSame, HasUpper, StandsBelow, StandsOn}
 use Rattle.branch.specs.declared.best.Aim.{Aim}
 use Rattle.branch.specs.declared.best.Best.{Best}
@@ -126,6 +127,7 @@ pub record AreBest (net : Net) (aim : Aim) (best : Best) : Type 0 where
   pub satisfies : Satisfies best.times.items net
   pub attained : separation best.times.items aim.from aim.to ≡ best.value
   pub least : aim.known ≤ℤ best.value
+  pub near : IsNearSeparation best.value
 
 -- satisfying times that can be raised without end, no less than the known ones
 pub record AreRays (net : Net) (aim : Aim) (times : List ℤ) (ray : List Bool) : Type 0 where
