@@ -129,3 +129,6 @@ pub root_read : (net : Net) (goal : ProofGoal) (IsNeeded : List ProofLine → Ca
 root_read net goal IsNeeded s none zero =
     subst (λ (chosen : Case). IsSearched net goal IsNeeded [] (open_cases net chosen) s.leaves) (sym none)
     (subst (λ (n : ℕ). IsSearched net goal IsNeeded [] ([] ∷ []) n) (sym zero) (none_searched net goal IsNeeded))
+
+pub keeps_same : (net : Net) (a : Search) → Keeps net a a
+keeps_same net a = record { room = refl; budget = refl; bounds = record { source = refl; made = λ made. made } }
