@@ -1,7 +1,7 @@
 -- Climbs from events by their parents.
-use Rattle.std.proofs.Common.{◌≡◌, ◌≢◌, ℕ, suc, zero, ◌+◌, ◌<◌, ◌≤◌, ◌⊎◌, inl, inr, Bool, true, false, eqb, List, [], ◌∷◌, ◌++◌, length, Option, Some, None, sym, ◌∙◌, ap, subst, refl, arith}
+use Rattle.std.proofs.Common.{◌≡◌, ◌≢◌, ℕ, suc, ◌+◌, ◌<◌, ◌≤◌, inl, inr, true, false, eqb, List, [], ◌∷◌, ◌++◌, length, Some, None, sym, ◌∙◌, ap, subst, refl, arith}
 use Rattle.std.specs.List.{IsDistinct, AllByRecursion, list_any}
-use Rattle.std.proofs.lemmas.Bool.{cases_Bool, cases_eq, eqb-true, ne_eqb, or_cases}
+use Rattle.std.proofs.lemmas.Bool.{cases_eq, eqb-true, ne_eqb, or_cases}
 use Rattle.std.proofs.lemmas.Option.{none-some, same_Some}
 use Rattle.std.proofs.lemmas.Map.Keys.{IsDistinct-cons, IsDistinct-from_apart}
 use Rattle.std.proofs.lemmas.Map.Steps.{length-le_from_distinct_below}
@@ -61,13 +61,16 @@ no_less a b same less = omega arith
 apart : (net : Net) (parent : Parents) (v s : ℕ) (fs : List EdgeName) (x r : ℕ) (es : List EdgeName) → IsClimb net parent v fs s → parent s ≡ None → (p : IsClimb net parent x es r) → parent r ≡ None → length es < length fs
     → AllByRecursion (λ y. eqb v y ≡ false) (visited net parent x r es p)
 unfolding visited
-apart net parent v s fs x r [] way top climb at_top shorter =
-    (ne_eqb v x (λ same. let P : ℕ → Type 0 = λ y. IsClimb net parent y fs s in
-        no_less 0 (length fs) (one_way net parent x r s [] fs climb at_top (subst P same way) top) shorter), tt)
-apart net parent v s fs x r (name ∷ es) way top climb at_top shorter =
-    (ne_eqb v x (λ same. let P : ℕ → Type 0 = λ y. IsClimb net parent y fs s in
-        no_less (suc (length es)) (length fs) (one_way net parent x r s (name ∷ es) fs climb at_top (subst P same way) top) shorter),
-     apart net parent v s fs climb.1.0.from.0 r es way top climb.1.2 at_top (omega arith))
+apart net parent v s fs x r [] way top climb at_top shorter = (
+  ne_eqb v x (λ same. let P : ℕ → Type 0 = λ y. IsClimb net parent y fs s in
+      no_less 0 (length fs) (one_way net parent x r s [] fs climb at_top (subst P same way) top) shorter),
+  tt,
+)
+apart net parent v s fs x r (name ∷ es) way top climb at_top shorter = (
+  ne_eqb v x (λ same. let P : ℕ → Type 0 = λ y. IsClimb net parent y fs s in
+      no_less (suc (length es)) (length fs) (one_way net parent x r s (name ∷ es) fs climb at_top (subst P same way) top) shorter),
+  apart net parent v s fs climb.1.0.from.0 r es way top climb.1.2 at_top (omega arith),
+)
 
 distinct : (net : Net) (parent : Parents) (x r : ℕ) (es : List EdgeName) (p : IsClimb net parent x es r) → parent r ≡ None → IsDistinct eqb (visited net parent x r es p)
 unfolding visited
@@ -95,7 +98,7 @@ visited_below net parent n x r (name ∷ es) below within climb q any =
 pub top_climb_short : (net : Net) (parent : Parents) (n : ℕ) (x r : ℕ) (es : List EdgeName) → StartBelow net parent n → x < n → IsClimb net parent x es r → parent r ≡ None → length es < n
 top_climb_short net parent n x r es below within climb top =
     let most : length (visited net parent x r es climb) ≤ n =
-        length-le_from_distinct_below (visited net parent x r es climb) n (distinct net parent x r es climb top) (visited_below net parent n x r es below within climb) in
+    length-le_from_distinct_below (visited net parent x r es climb) n (distinct net parent x r es climb top) (visited_below net parent n x r es below within climb) in
     omega (arith, length-visited net parent x r es climb)
 
 pub climb_within : (net : Net) (parent : Parents) (n : ℕ) (x r : ℕ) (es : List EdgeName) → StartBelow net parent n → x < n → IsClimb net parent x es r → r < n
@@ -136,9 +139,14 @@ pub record ChangesAt (old new : Parents) (v : ℕ) (name : EdgeName) : Type 0 wh
 -- a climb that does not meet v is as before
 climb_kept : (net : Net) (old new : Parents) (v : ℕ) (name : EdgeName) → ChangesAt old new v name → (x r : ℕ) (es : List EdgeName) → ((fs : List EdgeName) → IsClimb net old x fs v → ⊥) → IsClimb net old x es r → IsClimb net new x es r
 climb_kept net old new v name changes x r [] off climb = climb
-climb_kept net old new v name changes x r (first ∷ es) off climb =
-    (changes.others x (λ same. off [] same) ∙ climb.0, (climb.1.0, climb.1.1,
-     climb_kept net old new v name changes climb.1.0.from.0 r es (λ fs on. off (first ∷ fs) (climb.0, (climb.1.0, climb.1.1, on))) climb.1.2))
+climb_kept net old new v name changes x r (first ∷ es) off climb = (
+  changes.others x (λ same. off [] same) ∙ climb.0,
+  (
+    climb.1.0,
+    climb.1.1,
+    climb_kept net old new v name changes climb.1.0.from.0 r es (λ fs on. off (first ∷ fs) (climb.0, (climb.1.0, climb.1.1, on))) climb.1.2,
+  ),
+)
 
 -- the top of a climb that does not meet v is as before
 top_kept : (net : Net) (old new : Parents) (v : ℕ) (name : EdgeName) → ChangesAt old new v name → (x r : ℕ) (es : List EdgeName) → ((fs : List EdgeName) → IsClimb net old x fs v → ⊥) → IsClimb net old x es r → old r ≡ None → new r ≡ None

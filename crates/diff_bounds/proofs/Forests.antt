@@ -1,7 +1,7 @@
 -- What the parents of labels say of them, one fall of a label, and parents of labels that have fallen.
-use Rattle.std.proofs.Common.{◌≡◌, ◌≢◌, ℕ, suc, ◌+◌, ◌*◌, ◌<◌, ◌≤◌, ℤ, pos, neg_ℤ, ◌+ℤ◌, ◌-ℤ◌, ◌≤ℤ◌, ◌<ℤ◌, cond, ◌⊎◌, inl, inr, Bool, true, false, List, [], ◌∷◌, ◌++◌, length, reverse, All, Option, Some, None, sym, ◌∙◌, ap, subst, refl, arith}
+use Rattle.std.proofs.Common.{◌≡◌, ◌≢◌, ℕ, ◌+◌, ◌*◌, ◌<◌, ℤ, pos, neg_ℤ, ◌+ℤ◌, ◌-ℤ◌, ◌≤ℤ◌, ◌<ℤ◌, cond, ◌⊎◌, inl, inr, true, false, List, [], ◌∷◌, length, reverse, All, Option, Some, None, sym, ◌∙◌, ap, subst, refl, arith}
 use Rattle.std.proofs.lemmas.Int.{ints}
-use Rattle.std.proofs.lemmas.Bool.{both_ways, cases_Bool, cases_eq, cond-false, cond-true, false_from_ne_true}
+use Rattle.std.proofs.lemmas.Bool.{cases_Bool, cases_eq, cond-false, cond-true, false_from_ne_true}
 use Rattle.std.proofs.lemmas.Grind.{reverse_onto}
 use Rattle.std.proofs.lemmas.Option.{none-some, same_Some}
 use Rattle.std.proofs.lemmas.List.Elements.{All-nil, All-push}
@@ -12,7 +12,7 @@ use Rattle.event_graph.specs.Edges.{edge}
 use Rattle.event_graph.specs.Network.{Net}
 use Rattle.event_graph.specs.Proof.{IsWalk, path_sum, weight_of}
 use Rattle.diff_bounds.specs.Current.{IsCurrent}
-use Rattle.diff_bounds.specs.Labels.{Follows, IsAmong, IsClimb, IsForest, IsHeld, IsRooted, IsWithin, Labels, Parents, Scope, is_lower, number}
+use Rattle.diff_bounds.specs.Labels.{Follows, IsAmong, IsClimb, IsForest, IsHeld, IsWithin, Labels, Parents, Scope, is_lower, number}
 use Rattle.diff_bounds.specs.Limits.{weight_limit}
 use Rattle.diff_bounds.specs.Step.Falling.{IsPotential, Undercuts, fresh}
 use Rattle.diff_bounds.proofs.NamedWalks.{and_some, event, walk-append}
@@ -80,7 +80,7 @@ climb_weight s label parent held v r [] below climb =
 climb_weight s label parent held v r (name ∷ es) below climb =
     let h = held v name below climb.0 in
     let rest : (number (label r) +ℤ path_sum s.net es) ≤ℤ number (label h.e.from.0) =
-        climb_weight s label parent held h.e.from.0 r es h.within.from (rest_of s.net parent v r name h.e es climb h.among.is) in
+    climb_weight s label parent held h.e.from.0 r es h.within.from (rest_of s.net parent v r name h.e es climb h.among.is) in
     let weight : weight_of (edge s.net name) ≡ h.e.weight = ap weight_of h.among.is in
     let near : number (label h.e.from.0) ≡ h.near = number-at (label h.e.from.0) h.near h.start in
     let far : number (label v) ≡ h.far = number-at (label v) h.far h.here in
@@ -113,7 +113,7 @@ climb_low s label parent held v r [] below climb = omega (arith, ints)
 climb_low s label parent held v r (name ∷ es) below climb =
     let h = held v name below climb.0 in
     let rest : pos 0 ≤ℤ (path_sum s.net es +ℤ pos (weight_limit * length es)) =
-        climb_low s label parent held h.e.from.0 r es h.within.from (rest_of s.net parent v r name h.e es climb h.among.is) in
+    climb_low s label parent held h.e.from.0 r es h.within.from (rest_of s.net parent v r name h.e es climb h.among.is) in
     let weight : weight_of (edge s.net name) ≡ h.e.weight = ap weight_of h.among.is in
     let low : neg_ℤ (pos weight_limit) ≤ℤ h.e.weight = h.within.low in
     omega (arith, ints)
@@ -124,7 +124,7 @@ climb_high s label parent held v r [] below climb = omega (arith, ints)
 climb_high s label parent held v r (name ∷ es) below climb =
     let h = held v name below climb.0 in
     let rest : path_sum s.net es ≤ℤ pos (weight_limit * length es) =
-        climb_high s label parent held h.e.from.0 r es h.within.from (rest_of s.net parent v r name h.e es climb h.among.is) in
+    climb_high s label parent held h.e.from.0 r es h.within.from (rest_of s.net parent v r name h.e es climb h.among.is) in
     let weight : weight_of (edge s.net name) ≡ h.e.weight = ap weight_of h.among.is in
     let high : h.e.weight ≤ℤ pos weight_limit = h.within.high in
     omega (arith, ints)
@@ -224,7 +224,7 @@ abbrev pub StopIsTop : Option EventId → Parents → Type 0
 StopIsTop stop parent = (x : EventId) → stop ≡ Some x → parent x.0 ≡ None
 
 -- a climb that begins at the stop leads to it alone
-stays : (net : Net) (parent : Parents) (stop : Option EventId) (x : EventId) (r : ℕ) (es : List EdgeName) → StopIsTop stop parent → stop ≡ Some x → IsClimb net parent x.0 es r → (stop ≡ Some (event r) → ⊥) → ⊥
+pub stays : (net : Net) (parent : Parents) (stop : Option EventId) (x : EventId) (r : ℕ) (es : List EdgeName) → StopIsTop stop parent → stop ≡ Some x → IsClimb net parent x.0 es r → (stop ≡ Some (event r) → ⊥) → ⊥
 stays net parent stop x r es top is climb off =
     elim (cases_eq x.0 r) [
       | inl same ↦ off (is ∙ ap (λ (n : ℕ). Some (event n)) same)
@@ -240,7 +240,7 @@ climb_potential s stop potential label parent meets held top u v (name ∷ es) b
     let h = held u name below climb.0 in
     let way = rest_of s.net parent u v name h.e es climb h.among.is in
     let rest : (potential h.e.from.0 -ℤ potential v) ≤ℤ path_sum s.net es =
-        climb_potential s stop potential label parent meets held top h.e.from.0 v es h.within.from way off in
+    climb_potential s stop potential label parent meets held top h.e.from.0 v es h.within.from way off in
     let here : potential h.e.to.0 ≤ℤ (potential h.e.from.0 +ℤ h.e.weight) = meets name h.e h.among (λ is. stays s.net parent stop h.e.from v es top is way off) in
     let end : potential h.e.to.0 ≡ potential u = ap potential h.ends in
     let weight : weight_of (edge s.net name) ≡ h.e.weight = ap weight_of h.among.is in

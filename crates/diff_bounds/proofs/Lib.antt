@@ -4,3 +4,14 @@ pub mod Forests
 pub mod Runs
 pub mod Falls
 pub mod Parts
+pub mod Networks
+pub mod Settled
+pub mod Queue
+pub mod OutLists
+pub mod Poising
+pub mod Climbing
+pub mod Uppers
+pub mod Starting
+pub mod Standings
+pub mod Lifting
+pub mod Descending

@@ -1,5 +1,5 @@
 -- The edges that are tried in a fall, and its whole loop.
-use Rattle.std.proofs.Common.{◌≡◌, ◌≢◌, ℕ, ◌+◌, ◌<◌, ◌≤◌, ℤ, pos, ◌+ℤ◌, ◌≤ℤ◌, ◌⊎◌, inl, inr, Bool, true, false, List, length, map, Option, Some, All, Contains, get_or, set, sym, ◌∙◌, ap, subst, refl, arith}
+use Rattle.std.proofs.Common.{◌≡◌, ◌≢◌, ℕ, ◌+◌, ◌<◌, ◌≤◌, pos, ◌+ℤ◌, ◌≤ℤ◌, ◌⊎◌, inl, inr, Bool, false, List, length, map, All, Contains, get_or, set, sym, ◌∙◌, ap, subst, refl, arith}
 use Rattle.std.specs.List.{AllWithin}
 use Rattle.std.proofs.lemmas.Int.{ints}
 use Rattle.std.proofs.lemmas.Bool.{both_ways, cases_eq}
@@ -9,7 +9,7 @@ use Rattle.std.proofs.lemmas.List.Elements.{All-contains, AllWithin-more, Contai
 use Rattle.itv_base.specs.declared.names.EdgeName.{EdgeName}
 use Rattle.itv_base.specs.declared.names.EventId.{EventId}
 use Rattle.event_graph.specs.declared.edge.Edge.{Edge}
-use Rattle.event_graph.specs.Edges.{IsAlways, edge}
+use Rattle.event_graph.specs.Edges.{edge}
 use Rattle.event_graph.specs.Network.{Net}
 use Rattle.trail.specs.declared.stamp.Stamp.{Stamp}
 use Rattle.trail.specs.Stack.{Stack}
@@ -18,7 +18,7 @@ use Rattle.diff_bounds.specs.declared.falling.Run.{Run}
 use Rattle.diff_bounds.specs.Arcs.{AreAlwaysArcs, AreChosenArcs, HasLight, IsArc, edges_out}
 use Rattle.diff_bounds.specs.Current.{IsCurrent}
 use Rattle.diff_bounds.specs.Labels.{Follows, HaveSettled, IsAmong, Labels, Scope, labels_from}
-use Rattle.diff_bounds.specs.Step.Falling.{AllDone, Closes, Falls, IsAmongFrom, IsDone, IsDoneFrom, IsPlaced, IsRunning, KeepsRuns, RunsOn, scope_of, with_stamps}
+use Rattle.diff_bounds.specs.Step.Falling.{AllDone, Closes, Falls, IsAmongFrom, IsDone, IsDoneFrom, IsPlaced, IsRunning, RunsOn, scope_of}
 use Rattle.diff_bounds.specs.Step.Waiting.{Waiting, is_waiting}
 use Rattle.diff_bounds.proofs.Falls.{falls_on, placed_on, running_on, scope_same, stack_on}
 
@@ -42,7 +42,7 @@ pub tried_on : (net : Net) (run : Run) (from : ℕ) (arcs : List Arc) (t₀ t t'
 tried_on net run from arcs t₀ t t' p₀ p p' count a tried among below is falls done =
     let here = falls_first net run t₀ t t' p₀ p p' tried.falls falls in
     let kept : AllWithin (IsDoneFrom run from t'.current.stamps p'.marks) arcs 0 count =
-        λ k d low high starts. here.done (get_or arcs k d).edge (among k d (omega arith) starts).from (tried.done k d low high starts) in
+    λ k d low high starts. here.done (get_or arcs k d).edge (among k d (omega arith) starts).from (tried.done k d low high starts) in
     record {
       falls = tried_falls net run from arcs t₀ t t' p₀ p p' count tried falls;
       done = AllWithin-more (IsDoneFrom run from t'.current.stamps p'.marks) arcs 0 count kept
@@ -206,3 +206,9 @@ closes_first net run a b u v stamps x runs closes =
 pub chosen_now : (net : Net) (run : Run) (a b : Stack) (u v : Waiting) (arcs : List Arc) → RunsOn (scope_of net a run) run a b u v → AreChosenArcs net a.current.edges arcs → AreChosenArcs net b.current.edges arcs
 chosen_now net run a b u v arcs runs chosen =
     let P : Stack → Type 0 = λ x. AreChosenArcs net x.current.edges arcs in subst P (sym runs.stack) chosen
+
+-- an event was taken, and edges were tried
+pub runs_step : (net : Net) (run : Run) (t₀ t t₁ : Stack) (p₀ p p' p₁ : Waiting) → RunsOn (scope_of net t₀ run) run t₀ t p₀ p → length p'.marks ≡ length p.marks → Falls (scope_of net t run) run t t₁ p' p₁ → RunsOn (scope_of net t₀ run) run t₀ t₁ p₀ p₁
+runs_step net run t₀ t t₁ p₀ p p' p₁ runs marks falls =
+    let s : Scope = scope_of net t₀ run in
+    runs_on s run t₀ t t₁ p₀ p' p₁ (runs_taken s run t₀ t p₀ p p' runs marks) (runs_of s run t t₁ p' p₁ (at_first net run t₀ t t t₁ p₀ p p' p₁ runs falls))

@@ -1,5 +1,5 @@
 -- What one fall of a label keeps of a run, and how far labels can fall.
-use Rattle.std.proofs.Common.{◌≡◌, ◌≢◌, ℕ, ◌+◌, ◌*◌, ◌<◌, ◌≤◌, ℤ, pos, negsuc, neg_ℤ, ◌+ℤ◌, ◌≤ℤ◌, ◌<ℤ◌, cond, ◌⊎◌, inl, inr, true, List, [], length, get_or, set, Option, Some, None, is_some, count_by, sym, ◌∙◌, ap, subst, refl, arith}
+use Rattle.std.proofs.Common.{◌≡◌, ◌≢◌, ℕ, ◌+◌, ◌*◌, ◌<◌, ◌≤◌, ℤ, pos, negsuc, ◌+ℤ◌, ◌≤ℤ◌, ◌<ℤ◌, cond, ◌⊎◌, inl, inr, true, List, [], length, set, Option, Some, None, is_some, count_by, sym, ◌∙◌, ap, subst, refl, arith}
 use Rattle.std.proofs.Math.ListN.{length-set}
 use Rattle.std.proofs.lemmas.Int.{ints}
 use Rattle.std.proofs.lemmas.Bool.{cases_eq}
@@ -9,15 +9,14 @@ use Rattle.std.proofs.lemmas.List.Sums.{count_by-le-length, sum_by-set}
 use Rattle.std.proofs.lemmas.Grind.{get_or-set_at}
 use Rattle.itv_base.specs.declared.limits.TheConstants.{MAX_EVENTS}
 use Rattle.itv_base.specs.declared.names.EdgeName.{EdgeName}
-use Rattle.itv_base.specs.declared.names.EventId.{EventId}
 use Rattle.event_graph.specs.declared.edge.Edge.{Edge}
 use Rattle.trail.specs.declared.stamp.Stamp.{Stamp}
 use Rattle.trail.specs.Stack.{empty_stamp}
 use Rattle.diff_bounds.specs.declared.falling.Run.{Run}
-use Rattle.diff_bounds.specs.Labels.{HasFallen, IsAmong, IsClimb, IsWithin, Labels, Scope, is_lower, labels_from, number, parents_from, stamp_at}
+use Rattle.diff_bounds.specs.Labels.{HasFallen, IsAmong, IsWithin, Scope, is_lower, labels_from, number, parents_from, stamp_at}
 use Rattle.diff_bounds.specs.Limits.{IsNear, weight_limit}
 use Rattle.diff_bounds.specs.Settled.{AreNear}
-use Rattle.diff_bounds.specs.Step.Falling.{AreAbove, HasRun, IsRunning, KeepsRuns, Undercuts, fallen_stamp, fresh, height, natural_part, total_height}
+use Rattle.diff_bounds.specs.Step.Falling.{HasRun, IsRunning, KeepsRuns, Undercuts, fallen_stamp, fresh, height, natural_part, total_height}
 use Rattle.diff_bounds.proofs.Climbs.{ChangesAt}
 use Rattle.diff_bounds.proofs.Forests.{AllFallen, FallsBy, StopIsTop, forest_kept, fresh_changes, fresh_none, fresh_same, label_low, lower_number, lower_trans, no_climb, number-at}
 
@@ -31,8 +30,8 @@ pub low_of : (s : Scope) (run : Run) (stamps : List Stamp) (v : ℕ) (label : �
     → pos 0 ≤ℤ (label +ℤ pos (2 * (weight_limit * s.net.events)))
 low_of s run stamps v label running below at =
     let low : pos 0 ≤ℤ (number (labels_from stamps run.base v) +ℤ pos (weight_limit * s.net.events + weight_limit * s.net.events)) =
-        label_low s (labels_from running.old run.base) (labels_from stamps run.base) _ (weight_limit * s.net.events) running.ran.forest
-        (λ u within. above_number s.net.events (labels_from running.old run.base u) (λ old is. running.above u old within is)) v below in
+    label_low s (labels_from running.old run.base) (labels_from stamps run.base) _ (weight_limit * s.net.events) running.ran.forest
+    (λ u within. above_number s.net.events (labels_from running.old run.base u) (λ old is. running.above u old within is)) v below in
     let is : number (labels_from stamps run.base v) ≡ label = number-at _ label at in
     omega (arith, ints)
 
@@ -96,16 +95,16 @@ near_kept s run stamps name e f near slot label at =
     elim (cases_eq slot (run.base + e.to.0)) [
       | inl same ↦
           let is : (f.under.near +ℤ e.weight) ≡ label =
-              same_Some _ label (sym (ap (λ (x : Stamp). x.label) (ap (stamp_at (after_fall s run stamps name e f)) same ∙ stamp_same stamps (run.base + e.to.0) _ within)) ∙ at) in
+          same_Some _ label (sym (ap (λ (x : Stamp). x.label) (ap (stamp_at (after_fall s run stamps name e f)) same ∙ stamp_same stamps (run.base + e.to.0) _ within)) ∙ at) in
           let P : ℤ → Type 0 = λ z. z ≤ℤ pos (weight_limit * count_by (λ (x : Stamp). is_some x.label) (after_fall s run stamps name e f)) in
           subst P is
           (fallen_high (stamp_at stamps (run.base + e.to.0)).label f.under.near e.weight _ _ f.under.lower (λ l is. near (run.base + e.to.0) l is)
           (near (run.base + e.from.0) f.under.near f.under.start) f.within.high counts)
       | inr off ↦
           let was : label ≤ℤ pos (weight_limit * count_by (λ (x : Stamp). is_some x.label) stamps) =
-              near slot label (sym (ap (λ (x : Stamp). x.label) (stamp_other stamps (run.base + e.to.0) slot _ off)) ∙ at) in
+          near slot label (sym (ap (λ (x : Stamp). x.label) (stamp_other stamps (run.base + e.to.0) slot _ off)) ∙ at) in
           let rises : count_by (λ (x : Stamp). is_some x.label) stamps ≤ count_by (λ (x : Stamp). is_some x.label) (after_fall s run stamps name e f) =
-              count_rises (stamp_at stamps (run.base + e.to.0)).label _ _ counts in
+          count_rises (stamp_at stamps (run.base + e.to.0)).label _ _ counts in
           omega (arith, ints)
     ]
 
@@ -138,7 +137,7 @@ height_falls s run stamps name e f running most few =
     let low = f.within.low in
     let high = f.within.high in
     let here : height (Some (f.under.near +ℤ e.weight)) < height (stamp_at stamps (run.base + e.to.0)).label =
-        height_below (stamp_at stamps (run.base + e.to.0)).label (f.under.near +ℤ e.weight) f.under.lower (omega (arith, ints)) (omega (arith, ints)) in
+    height_below (stamp_at stamps (run.base + e.to.0)).label (f.under.near +ℤ e.weight) f.under.lower (omega (arith, ints)) (omega (arith, ints)) in
     let sums = sum_by-set (λ (x : Stamp). height x.label) stamps (run.base + e.to.0) (fallen_stamp name (f.under.near +ℤ e.weight)) empty_stamp (to_slot s run stamps name e f) in
     fewer _ _ _ _ sums here
   where
@@ -184,15 +183,15 @@ run_kept s run stamps name e f old potential above meets ran =
     let slot : ℕ = run.base + e.to.0 in
     let parents = fresh (labels_from old run.base) (labels_from stamps run.base) (parents_from stamps run.base) in
     let falls : FallsBy s (labels_from stamps run.base) (labels_from new run.base) parents (fresh (labels_from old run.base) (labels_from new run.base) (parents_from new run.base)) name e =
-        record {
-          among = f.among;
-          within = f.within;
-          under = f.under;
-          here = label_here s run stamps name e f;
-          others = label_there s run stamps name e f;
-          parents = fresh_changes (labels_from old run.base) (labels_from stamps run.base) (labels_from new run.base) (parents_from stamps run.base) (parents_from new run.base) e.to.0 (f.under.near +ℤ e.weight) name
-              (run_fallen s run old stamps ran) f.under.lower (label_here s run stamps name e f) (label_there s run stamps name e f) (parents_change s run stamps name e f);
-        } in
+    record {
+      among = f.among;
+      within = f.within;
+      under = f.under;
+      here = label_here s run stamps name e f;
+      others = label_there s run stamps name e f;
+      parents = fresh_changes (labels_from old run.base) (labels_from stamps run.base) (labels_from new run.base) (parents_from stamps run.base) (parents_from new run.base) e.to.0 (f.under.near +ℤ e.weight) name
+          (run_fallen s run old stamps ran) f.under.lower (label_here s run stamps name e f) (label_there s run stamps name e f) (parents_change s run stamps name e f);
+    } in
     record {
       count = simp length-set ran.count;
       forest = forest_kept s (labels_from old run.base) (labels_from stamps run.base) (labels_from new run.base) parents _ name e ran.forest falls

@@ -10,7 +10,6 @@ ghost use Rattle.event_graph.specs.Times.{raised, separation, time_of};
 ghost use Rattle.trail.specs.Stack.{after_pop};
 ghost use Rattle.diff_bounds.specs.Current.{HasNoTimes, IsLoop, IsPath, IsUpper, MeetsCurrent, with_choice};
 ghost use Rattle.diff_bounds.specs.Limits.{IsNear, IsReach};
-ghost use Rattle.diff_bounds.specs.Splittable.{splittable_count};
 ghost use Rattle.diff_bounds.specs.contracts.bounds.Bounds.{the_row};
 ghost use Rattle.diff_bounds.specs.Standing.{AreTimesOf, HasDescended, IsMadeFor, IsRayOf, Stands, chosen_of, upper_of};
 
@@ -74,7 +73,7 @@ impl Bounds {
         ensures { IfOk result (λ bounds. IsMadeFor net.now bounds) }
     {
         let events = net.events();
-        let levels = splittable_count(net);
+        let levels = net.splittable_count();
         Ok(Bounds {
             events,
             out: OutEdges::of_network(alloc, net)?,
@@ -153,16 +152,17 @@ impl Bounds {
             self.chosen.pop();
             return Fit::Loop;
         }
-        if self.source.is_some() {
-            settle_uppers(
-                net,
-                &self.out,
-                &self.chosen,
-                edge.from,
-                &mut self.trail,
-                &mut self.pending,
-            );
+        if self.source.is_none() {
+            return Fit::Fits;
         }
+        settle_uppers(
+            net,
+            &self.out,
+            &self.chosen,
+            edge.from,
+            &mut self.trail,
+            &mut self.pending,
+        );
         Fit::Fits
     }
 
@@ -277,17 +277,4 @@ impl Bounds {
     {
         &self.trail
     }
-}
-
-// How many constraints have two or more causes.
-fn splittable_count(net: &Network) -> u32
-    ensures { result ≡ splittable_count net.now }
-{
-    let mut count = 0;
-    for constraint in 0..net.len() {
-        if net.cause_count(constraint) > 1 {
-            count += 1;
-        }
-    }
-    count
 }

@@ -1,9 +1,9 @@
 //! The always-edges of a network, by the event where they start.
 
-ghost use Rattle.std.specs.Prelude.{◌≡◌, ◌<◌, ℕ, [], IfOk, OnOk, length, replicate};
+ghost use Rattle.std.specs.Prelude.{◌≡◌, ◌<◌, ℕ, [], IfOk, IfSome, OnOk, length, replicate};
 ghost use Rattle.event_graph.specs.Network.{IsNet};
 ghost use Rattle.diff_bounds.specs.Arcs.{AreAlwaysArcs, edges_out};
-ghost use Rattle.diff_bounds.specs.Step.Listing.{AreArcsSoFar, Grows, HasCause, HasName, Joins, lists_of};
+ghost use Rattle.diff_bounds.specs.Step.Listing.{AreArcsSoFar, Grows, HasCause, HasName, IsPlaceOf, Joins, lists_of};
 
 use crate::arc::Arc;
 use event_graph::Network;
@@ -114,10 +114,22 @@ fn push_edge(net: &Network, name: EdgeName, lists: &mut Vec<Vec<Arc>>) -> Result
 fn push_arc(arc: Arc, list: &mut Vec<Arc>) -> Result<(), NoMemory>
     ensures { OnOk result (Joins arc list.old.items list.new.items) }
 {
-    match list.iter().position(|other| other.edge.to == arc.edge.to) {
+    match place_of(list, arc.edge.to) {
         None => list.push(arc)?,
         Some(place) if arc.edge.weight < list[place].edge.weight => list[place] = arc,
         Some(_) => {}
     }
     Ok(())
+}
+
+// The place of an edge that leads to an event, counted from 0, if there is one.
+fn place_of(list: &[Arc], to: EventId) -> Option<usize>
+    ensures { IfSome result (IsPlaceOf list.now to) }
+{
+    for (place, arc) in list.iter().enumerate() {
+        if arc.edge.to == to {
+            return Some(place);
+        }
+    }
+    None
 }

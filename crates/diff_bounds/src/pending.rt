@@ -62,7 +62,7 @@ impl Pending {
     pub fn pop(&mut self) -> Option<EventId>
         ensures marks { length self.new.marks ≡ length self.old.marks }
         ensures event { MatchOption result
-            ((event : ℕ) → is_waiting self.new.marks event ≡ false)
+            ((self.new ≡ self.old) × ((event : ℕ) → is_waiting self.old.marks event ≡ false))
             (λ event. (event.0 < length self.old.marks) × (self.new.marks ≡ slice_set self.old.marks event.0 false)
             × (self.new.count < self.old.count)) }
     {

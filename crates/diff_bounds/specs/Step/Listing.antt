@@ -1,6 +1,8 @@
 -- The lists of edges by their from-events, while they grow.
-use Rattle.std.specs.Prelude.{◌≡◌, ◌⊎◌, ℕ, List, length, map, All, Contains, Some}
+use Rattle.std.specs.Prelude.{◌≡◌, ◌<◌, ◌⊎◌, ℕ, List, length, map, All, Contains, Some}
 use Rattle.std.specs.Global.{Vec}
+use Rattle.std.specs.List.{HoldsAt}
+use Rattle.itv_base.specs.declared.names.EventId.{EventId}
 use Rattle.itv_base.specs.declared.names.EdgeName.{EdgeName}
 use Rattle.itv_base.specs.declared.names.Side.{Side}
 use Rattle.event_graph.specs.declared.edge.Edge.{Edge}
@@ -19,6 +21,10 @@ pub record AreArcsSoFar (net : Net) (out : List (List Arc)) : Type 0 where
   pub each : (event : ℕ) → All (IsArc net) (edges_out out event)
   pub starts : (event : ℕ) → All (λ (a : Arc). a.edge.from.0 ≡ event) (edges_out out event)
   pub sound : (event : ℕ) → All (λ (a : Arc). IsAlways net a.name) (edges_out out event)
+
+-- at a place of a list there is an edge to an event
+abbrev pub IsPlaceOf : List Arc → EventId → ℕ → Type 0
+IsPlaceOf list to place = (place < length list) × HoldsAt (λ (a : Arc). a.edge.to ≡ to) list place
 
 -- an edge has joined a list: nothing else came, and for each edge that had a light one in the list there still is one
 pub record Joins (arc : Arc) (old new : List Arc) : Type 0 where
