@@ -11,3 +11,4 @@ mod UsableEdges
 mod CaseLevels
 mod BrokenSplits
 mod Looking
+mod KnownTimes

@@ -17,7 +17,6 @@ ghost use Rattle.branch.specs.Step.Searched.{EndsAs, FindAdvances, IsAtCase, IsF
 
 use crate::answer::Found;
 use crate::levels::{start, times_in};
-use crate::stub;
 use crate::search::{Entry, Search, split_case};
 use diff_bounds::Fit;
 use event_graph::{Network, Scribe, ScribeFailed};
@@ -49,7 +48,7 @@ pub fn find_times<S: Scribe>(
 {
     if start(net, search, None, budget) == Fit::Loop {
         search.leaves = 1;
-        scribe.cut_loop(stub::walk(&search.bounds))?;
+        scribe.cut_loop(search.bounds.walk())?;
         return Ok(Found::Inconsistent);
     }
     'cases: loop {

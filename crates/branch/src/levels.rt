@@ -12,7 +12,6 @@ ghost use Rattle.branch.specs.Step.Standing.{AreOfSame, AreTimesIn, HasNoUpper, 
 
 use crate::choice::Choice;
 use crate::search::Search;
-use crate::stub;
 use diff_bounds::{Bounds, Fit};
 use event_graph::Network;
 use itv_base::{EdgeName, EventId, RuleKind, Side};
@@ -36,7 +35,7 @@ pub fn start(net: &Network, search: &mut Search, source: Option<EventId>, budget
     search.cases.clear();
     search.leaves = 0;
     search.budget = budget;
-    stub::start(&mut search.bounds, net, source)
+    search.bounds.start(net, source)
 }
 
 /// Adds the edge of the latest choice to the bounds. Where that allows no times they stay on the other choices.
@@ -50,7 +49,7 @@ pub fn enter_choice(net: &Network, search: &mut Search, choice: Choice) -> Fit
     ensures bounds { AreOfSame net.now search.old.bounds search.new.bounds }
     ensures others { search.new ≡ record search.old { bounds = search.new.bounds } }
 {
-    stub::descend(&mut search.bounds, net, name_of(net, choice))
+    search.bounds.descend(net, name_of(net, choice))
 }
 
 /// Takes the latest choice of the case at hand out of the bounds, if there is one.
@@ -61,7 +60,7 @@ pub fn step_back(net: &Network, search: &mut Search)
     ensures others { search.new ≡ record search.old { bounds = search.new.bounds } }
 {
     if !search.cases.is_empty() {
-        stub::retreat(&mut search.bounds);
+        search.bounds.retreat();
     }
 }
 
@@ -75,7 +74,7 @@ pub fn upper_in(net: &Network, search: &Search, to: EventId) -> Option<i64>
     ensures upper { (from : EventId) → search.now.bounds.source ≡ Some from
         → IsUpperIn net.now search.now.cases.chosen from to result }
 {
-    stub::upper(&search.bounds, to)
+    search.bounds.upper(to)
 }
 
 /// Writes times that meet the edges of the case at hand, and attain each greatest separation that is a number.
@@ -85,7 +84,7 @@ pub fn times_in(net: &Network, search: &Search, out: &mut [i64])
     requires count { length out.old ≡ net.now.events }
     ensures { AreTimesIn net.now search.now.cases.chosen search.now.bounds out.new }
 {
-    stub::times_into(&search.bounds, out)
+    search.bounds.times_into(out)
 }
 
 /// Writes such times, and the events whose separation from the source is unbounded: those can be raised from the times.
@@ -108,9 +107,9 @@ pub fn ray_in(
     ensures { IsRayIn net.now search.now.cases.chosen from to out.new ray.new }
 {
     // The source is never raised: its separation from itself is 0.
-    prove!(stub::upper(&search.bounds, from).is_some());
-    stub::times_into(&search.bounds, out);
-    stub::ray_into(&search.bounds, ray);
+    prove!(search.bounds.upper(from).is_some());
+    search.bounds.times_into(out);
+    search.bounds.ray_into(ray);
 }
 
 /// Finds a path from the source to an event, over the edges of the case at hand, whose sum is the greatest separation.
@@ -127,7 +126,7 @@ pub fn find_path(net: &Network, search: &mut Search, to: EventId)
     ensures bounds { AreOfSame net.now search.old.bounds search.new.bounds }
     ensures others { search.new ≡ record search.old { bounds = search.new.bounds } }
 {
-    stub::find_path(&mut search.bounds, net, to)
+    search.bounds.find_path(net, to)
 }
 
 // The edge of a choice, on the choice side of its constraint.

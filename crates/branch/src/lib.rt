@@ -14,9 +14,7 @@ mod finding;
 mod levels;
 mod look;
 mod raise;
-mod scratch;
 mod search;
-mod stub;
 mod trial;
 mod work;
 

@@ -12,7 +12,6 @@ ghost use Rattle.branch.specs.Step.Standing.{HasUpper, StandsBelow};
 use crate::choice::Choice;
 use crate::decisions::Decisions;
 use crate::levels::{enter_choice, find_path, step_back};
-use crate::stub;
 use diff_bounds::{Bounds, Fit};
 use event_graph::{Network, Scribe, ScribeFailed};
 use itv_base::EventId;
@@ -97,7 +96,7 @@ pub fn close_case<S: Scribe>(
             < work_left net.now search.old.budget search.old.leaves search.old.cases.chosen) }
 {
     find_path(net, search, to);
-    scribe.cut_path(stub::walk(&search.bounds))?;
+    scribe.cut_path(search.bounds.walk())?;
     step_back(net, search);
     match leave_case(net, search) {
         Some(end) => Ok(end),
@@ -130,7 +129,7 @@ fn enter_case<S: Scribe>(
         if enter_choice(net, search, choice) == Fit::Fits {
             return Ok(Entry::Entered);
         }
-        scribe.cut_loop(stub::walk(&search.bounds))?;
+        scribe.cut_loop(search.bounds.walk())?;
         match leave_case(net, search) {
             Some(end) => return Ok(end),
             None => {}

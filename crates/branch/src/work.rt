@@ -19,8 +19,8 @@ use crate::decisions::Decisions;
 use crate::distances::Distances;
 use crate::finding::find_times;
 use crate::search::Search;
-use crate::stub;
 use crate::trial::Trial;
+use diff_bounds::Bounds;
 use event_graph::{Network, Scribe, ScribeFailed};
 use itv_base::{EventId, NoMemory};
 use std::alloc::Global;
@@ -60,7 +60,7 @@ impl Work {
         let events = net.events() as usize;
         Ok(Work {
             search: Search {
-                bounds: stub::new(alloc, net)?,
+                bounds: Bounds::new(alloc, net)?,
                 cases: Decisions::new(alloc, net.splittable_count())?,
                 leaves: 0,
                 budget: 0,
