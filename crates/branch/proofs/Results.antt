@@ -1,5 +1,5 @@
 -- Facts of results.
-use Rattle.std.proofs.Common.{Ok, Err, IfOk, OnErr, Result, Option, Some, None, IsSomeAnd, ◌≡◌, true, false, is_none, is_some, refl}
+use Rattle.std.proofs.Common.{Ok, Err, IfOk, OnErr, OnOk, Result, Option, Some, None, IsSomeAnd, ◌≡◌, true, false, is_none, is_some, refl}
 
 pub on_err : {T E : Type 0} (r : Result T E) (P : Type 0) → P → OnErr r P
 on_err (Ok x) P p = tt
@@ -24,3 +24,7 @@ is_none-some (Some x) some = refl
 pub unreached : {X : Type 0} (o : Option X) → o ≡ None → is_none o ≡ true
 unreached None none = refl
 unreached (Some x) none = absurd (cc)
+
+pub on_ok_then : {T E : Type 0} (r : Result T E) (P Q : Type 0) → OnOk r P → (P → Q) → OnOk r Q
+on_ok_then (Ok x) P Q p f = f p
+on_ok_then (Err e) P Q p f = tt
