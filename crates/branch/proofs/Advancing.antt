@@ -1,0 +1,111 @@
+-- One step of a search after what it has come to.
+use Rattle.std.proofs.Common.{◌≡◌, ◌+◌, ◌<◌, ◌≤◌, ◌≤ℤ◌, ◌<ℤ◌, ℕ, ℤ, List, [], ◌∷◌, ◌++◌, Contains, Option, Some, slice_get, refl, sym, subst, arith}
+use Rattle.std.proofs.lemmas.Int.{ints}
+use Rattle.itv_base.specs.declared.names.EdgeName.{EdgeName}
+use Rattle.itv_base.specs.declared.names.EventId.{EventId}
+use Rattle.event_graph.specs.Bounds.{IsGreatestAmong}
+use Rattle.event_graph.specs.Network.{Constraint, IsNet, Net}
+use Rattle.event_graph.specs.Proof.{Bound, Case, Nothing, Path, ProofGoal, ProofLine, Reads, Split, closing_lines, count_causes, path_sum}
+use Rattle.event_graph.specs.Satisfying.{Breaks}
+use Rattle.event_graph.specs.Times.{separation}
+use Rattle.event_graph.specs.Usable.{MeetsUsable}
+use Rattle.branch.specs.Lines.{IsAccepted}
+use Rattle.branch.specs.Needed.{IsBeyond, IsNeededToBound, IsNeededToFind}
+use Rattle.branch.specs.Step.Cases.{IsFree, first_of, open_cases}
+use Rattle.branch.specs.Step.Searched.{Closes, IsBoundSearched, IsCutAfter, IsFindCutAfter, IsFindSearched, IsOpen, IsSearched, Steps, left_after}
+use Rattle.branch.specs.declared.best.Aim.{Aim}
+use Rattle.branch.specs.declared.search.Entry.{Entry}
+use Rattle.branch.specs.declared.search.Search.{Search}
+use Rattle.branch.proofs.CaseCounts.{splittable_causes}
+use Rattle.branch.proofs.ReadingOn.{paths_within, reads-append, searched_closes, searched_higher, searched_splits}
+
+-- what is open above the best is needed, since no path before is above it
+pub needed_open : (net : Net) (aim : Aim) (best : ℤ) (earlier : List ProofLine) (cases : List Case) (closed : ℕ) (chosen : Case) (number : ℕ) → aim.known ≤ℤ best
+    → IsBoundSearched net aim best earlier cases closed → IsOpen net aim.from aim.to best chosen number → IsNeededToBound net aim.from aim.to aim.known earlier chosen number
+needed_open net aim best earlier cases closed chosen number least searched open' =
+    let (times, meets, past) = open'.beyond in
+    record {
+      beyond = (times, meets, record {
+        known_times = omega (arith, ints);
+        paths = λ names contains.
+            let within : path_sum net names ≤ℤ best = paths_within net aim.from aim.to best earlier ([] ∷ []) cases names searched.reads contains in
+            omega (arith, ints);
+      });
+      broken = open'.broken;
+    }
+
+one_more : (earlier lines : List ProofLine) (line : ProofLine) → (earlier ++ line ∷ []) ++ lines ≡ earlier ++ line ∷ lines
+one_more [] lines line = refl
+one_more (l ∷ earlier) lines line = let rest = one_more earlier lines line in cc
+
+-- the search goes on after lines that close cases
+goes : (net : Net) (goal : ProofGoal) (IsNeeded : List ProofLine → Case → ℕ → Type 0) (earlier lines : List ProofLine) (cases : List Case) (before : ℕ) (now : Search) (entry : Entry)
+    → IsSearched net goal IsNeeded earlier cases before → Steps net goal cases before now entry lines
+    → IsSearched net goal IsNeeded (earlier ++ lines) (left_after net now.cases.chosen entry) now.leaves
+goes net goal IsNeeded earlier lines cases before now entry searched steps =
+    subst (IsSearched net goal IsNeeded (earlier ++ lines) (left_after net now.cases.chosen entry)) (sym steps.count)
+    (searched_closes net goal IsNeeded earlier lines cases (left_after net now.cases.chosen entry) before searched steps.closes)
+
+-- and after a split
+goes_split : (net : Net) (goal : ProofGoal) (IsNeeded : List ProofLine → Case → ℕ → Type 0) (earlier lines : List ProofLine) (chosen : Case) (number before : ℕ) (now : Search) (entry : Entry)
+    → IsFree net chosen number → IsNeeded earlier chosen number → IsSearched net goal IsNeeded earlier (open_cases net chosen) before
+    → Steps net goal (open_cases net (first_of number chosen)) before now entry lines
+    → IsSearched net goal IsNeeded (earlier ++ Split number ∷ lines) (left_after net now.cases.chosen entry) now.leaves
+goes_split net goal IsNeeded earlier lines chosen number before now entry free need searched steps =
+    subst (λ ls. IsSearched net goal IsNeeded ls (left_after net now.cases.chosen entry) now.leaves) (one_more earlier lines (Split number))
+    (goes net goal IsNeeded (earlier ++ Split number ∷ []) lines (open_cases net (first_of number chosen)) before now entry
+    (searched_splits net goal IsNeeded earlier chosen number before searched free.may need (splittable_causes (slice_get net.constraints number) free.causes)) steps)
+
+-- the lines are accepted up to a failure after a split
+cut_split : (net : Net) (goal : ProofGoal) (IsNeeded : List ProofLine → Case → ℕ → Type 0) (earlier lines : List ProofLine) (chosen : Case) (number before : ℕ) (left : List Case)
+    → IsFree net chosen number → IsNeeded earlier chosen number → IsSearched net goal IsNeeded earlier (open_cases net chosen) before
+    → Reads net goal (open_cases net (first_of number chosen)) lines left → IsAccepted net goal (earlier ++ Split number ∷ lines)
+cut_split net goal IsNeeded earlier lines chosen number before left free need searched reads =
+    let split = searched_splits net goal IsNeeded earlier chosen number before searched free.may need (splittable_causes (slice_get net.constraints number) free.causes) in
+    subst (IsAccepted net goal) (one_more earlier lines (Split number))
+    (left, reads-append net goal (earlier ++ Split number ∷ []) lines ([] ∷ []) (open_cases net (first_of number chosen)) left split.reads reads)
+
+-- the search for a bound goes on after a split
+pub split_goes : (net : Net) (aim : Aim) (best : ℤ) (before : ℕ) (earlier lines : List ProofLine) (chosen : Case) (now : Search) (entry : Entry) (number : ℕ)
+    → aim.known ≤ℤ best → IsOpen net aim.from aim.to best chosen number
+    → Steps net (Bound aim.from aim.to best) (open_cases net (first_of number chosen)) before now entry lines
+    → IsBoundSearched net aim best earlier (open_cases net chosen) before → IsBoundSearched net aim best (earlier ++ Split number ∷ lines) (left_after net now.cases.chosen entry) now.leaves
+split_goes net aim best before earlier lines chosen now entry number least open' steps searched =
+    goes_split net (Bound aim.from aim.to best) (IsNeededToBound net aim.from aim.to aim.known) earlier lines chosen number before now entry open'.free
+    (needed_open net aim best earlier (open_cases net chosen) before chosen number least searched open') searched steps
+
+-- and after a path
+pub path_goes : (net : Net) (aim : Aim) (was best : ℤ) (before : ℕ) (earlier lines : List ProofLine) (chosen : Case) (now : Search) (entry : Entry)
+    → was ≤ℤ best → Steps net (Bound aim.from aim.to best) (open_cases net chosen) before now entry lines
+    → IsBoundSearched net aim was earlier (open_cases net chosen) before → IsBoundSearched net aim best (earlier ++ lines) (left_after net now.cases.chosen entry) now.leaves
+path_goes net aim was best before earlier lines chosen now entry up steps searched =
+    goes net (Bound aim.from aim.to best) (IsNeededToBound net aim.from aim.to aim.known) earlier lines (open_cases net chosen) before now entry
+    (searched_higher net aim.from aim.to was best (IsNeededToBound net aim.from aim.to aim.known) earlier (open_cases net chosen) before up searched) steps
+
+-- the lines are accepted up to a failure after a split
+pub split_cut : (net : Net) (aim : Aim) (best : ℤ) (before : ℕ) (lines : List ProofLine) (chosen : Case) (number : ℕ) (left : List Case)
+    → aim.known ≤ℤ best → IsOpen net aim.from aim.to best chosen number → Reads net (Bound aim.from aim.to best) (open_cases net (first_of number chosen)) lines left
+    → IsCutAfter net aim best chosen before (Split number ∷ lines)
+split_cut net aim best before lines chosen number left least open' reads =
+    λ earlier searched.
+        (best, cut_split net (Bound aim.from aim.to best) (IsNeededToBound net aim.from aim.to aim.known) earlier lines chosen number before left open'.free
+        (needed_open net aim best earlier (open_cases net chosen) before chosen number least searched open') searched reads)
+
+pub path_cut : (net : Net) (aim : Aim) (was best : ℤ) (before : ℕ) (lines : List ProofLine) (chosen : Case) (left : List Case)
+    → was ≤ℤ best → Reads net (Bound aim.from aim.to best) (open_cases net chosen) lines left → IsCutAfter net aim was chosen before lines
+path_cut net aim was best before lines chosen left up reads =
+    λ earlier searched.
+        let higher = searched_higher net aim.from aim.to was best (IsNeededToBound net aim.from aim.to aim.known) earlier (open_cases net chosen) before up searched in
+        (best, (left, reads-append net (Bound aim.from aim.to best) earlier lines ([] ∷ []) (open_cases net chosen) left higher.reads reads))
+
+-- the search for satisfying times goes on after a split on what they break
+pub find_goes : (net : Net) (before : ℕ) (earlier lines : List ProofLine) (chosen : Case) (now : Search) (entry : Entry) (number : ℕ) (times : List ℤ) → IsFree net chosen number
+    → MeetsUsable net chosen times → Breaks times net number → Steps net Nothing (open_cases net (first_of number chosen)) before now entry lines
+    → IsFindSearched net earlier (open_cases net chosen) before → IsFindSearched net (earlier ++ Split number ∷ lines) (left_after net now.cases.chosen entry) now.leaves
+find_goes net before earlier lines chosen now entry number times free meets breaks steps searched =
+    goes_split net Nothing (IsNeededToFind net) earlier lines chosen number before now entry free (times, meets, breaks) searched steps
+
+pub find_cut : (net : Net) (before : ℕ) (lines : List ProofLine) (chosen : Case) (number : ℕ) (times : List ℤ) (left : List Case) → IsFree net chosen number
+    → MeetsUsable net chosen times → Breaks times net number → Reads net Nothing (open_cases net (first_of number chosen)) lines left → IsFindCutAfter net chosen before (Split number ∷ lines)
+find_cut net before lines chosen number times left free meets breaks reads =
+    λ earlier searched. cut_split net Nothing (IsNeededToFind net) earlier lines chosen number before left free (times, meets, breaks) searched reads

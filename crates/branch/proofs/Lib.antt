@@ -1,0 +1,14 @@
+mod Results
+mod CaseCounts
+mod ReadingOn
+mod Endings
+mod Advancing
+mod Gaps
+mod RaisingSets
+mod Entering
+mod Signs
+mod UsableEdges
+mod CaseLevels
+mod BrokenSplits
+mod Looking
+mod KnownTimes

@@ -1,0 +1,80 @@
+use Rattle.std.proofs.Common.{◌≡◌, ◌+◌, ◌≤◌, ◌∙◌, ℕ, ℤ, Option, List, [], Some, ap, sym, subst, to_z, of_z, w64, arith, rules}
+use Rattle.diff_bounds.specs.declared.fit.Fit.TheVariants.{Loop as Looped}
+use Rattle.event_graph.specs.Proof.{Bound, Case}
+use Rattle.event_graph.specs.RootBound.{IsRootBound}
+use Rattle.branch.specs.Answers.{IsClosedAt, IsEnclosedBy}
+use Rattle.branch.specs.Needed.{IsNeededToBound}
+use Rattle.branch.specs.Step.Standing.{IsUpperIn}
+use Rattle.branch.specs.declared.best.Best.{Best}
+use Rattle.branch.specs.declared.search.Search.{Search}
+use Rattle.branch.proofs.Endings.{closed_at, enclosed_by, proof_count, root_loop, stopped_count}
+use Rattle.branch.proofs.Signs.{passed_separation}
+use Rattle.branch.proofs.UsableEdges.{root_upper}
+use Rattle.branch.proofs.bounding.bound_pair.Goals as goal
+
+pub unreachable-requires : goal.unreachable-requires
+unreachable-requires g c =
+    let is : c.start.result ≡ Looped = search rules in
+    root_loop c.args.net.now c.start.new.search.bounds.walk c.args.best.now.times.items (c.start.ensures.walk is) c.requires.best.satisfies
+
+pub returns-in-Shown-clause-lines : goal.returns-in-Shown-clause-lines
+returns-in-Shown-clause-lines g c =
+    let net = c.args.net.now in
+    let aim = c.args.aim in
+    let now : Search = c.search_bound.new.search in
+    let best : Best = c.search_bound.new.best in
+    let shown = rw c.in-Shown.is at c.in_ok-search_bound.ensures.ends in
+    let closed = closed_at net aim best shown.0 now.leaves shown.2.0 shown.2.1 in
+    let passed : to_z w64 (of_z w64 best.value) ≡ best.value = passed_separation best.value shown.2.0.near in
+    (shown.0, shown.1, subst (λ (v : ℤ). IsClosedAt net aim.from aim.to v shown.0 now.leaves best.times.items) (sym passed) closed, shown.2.1.needed)
+
+pub returns-in-Shown-clause-count : goal.returns-in-Shown-clause-count
+returns-in-Shown-clause-count g c =
+    let net = c.args.net.now in
+    let aim = c.args.aim in
+    let now : Search = c.search_bound.new.search in
+    let shown = rw c.in-Shown.is at c.in_ok-search_bound.ensures.ends in
+    let budget : c.start.new.search.budget ≡ c.args.budget = ap (λ (s : Search). s.budget) c.start.ensures.others in
+    let within : now.leaves ≤ c.args.budget = omega (arith, c.in_ok-search_bound.ensures.within, c.search_bound.ensures.same.budget, budget) in
+    proof_count net (Bound aim.from aim.to c.search_bound.new.best.value) (IsNeededToBound net aim.from aim.to aim.known) c.args.budget shown.0 now.leaves c.requires.net within shown.2.1
+
+pub returns-in-Raised-clause-count : goal.returns-in-Raised-clause-count
+returns-in-Raised-clause-count g c =
+    let net = c.args.net.now in
+    let aim = c.args.aim in
+    let now : Search = c.search_bound.new.search in
+    let raised = rw c.in-Raised.is at c.in_ok-search_bound.ensures.ends in
+    let (value, chosen, closed, searched, one_more) = raised.2.1 in
+    let budget : c.start.new.search.budget ≡ c.args.budget = ap (λ (s : Search). s.budget) c.start.ensures.others in
+    let within : now.leaves ≤ c.args.budget = omega (arith, c.in_ok-search_bound.ensures.within, c.search_bound.ensures.same.budget, budget) in
+    stopped_count net (Bound aim.from aim.to value) (IsNeededToBound net aim.from aim.to aim.known) c.args.budget raised.0 now.leaves closed chosen c.requires.net within (omega (arith, one_more)) searched
+
+pub returns-in-Ended-clause-lines : goal.returns-in-Ended-clause-lines
+returns-in-Ended-clause-lines g c =
+    let net = c.args.net.now in
+    let aim = c.args.aim in
+    let now : Search = c.search_bound.new.search in
+    let best : Best = c.search_bound.new.best in
+    let upper : Option ℤ = c.upper_in-upper.result in
+    let ended = rw c.in-Ended.is at c.in_ok-search_bound.ensures.ends in
+    let (chosen, searched) = ended.2.2 in
+    let none : c.start.new.search.cases.chosen ≡ [] = ap (λ (s : Search). s.cases.chosen) c.start.ensures.others in
+    let root : IsRootBound net aim.from aim.to upper =
+    root_upper net aim.from aim.to upper (subst (λ (case : Case). IsUpperIn net case aim.from aim.to upper) none (c.upper_in-upper.ensures.upper aim.from c.start.ensures.source)) in
+    let budget : c.start.new.search.budget ≡ c.args.budget = ap (λ (s : Search). s.budget) c.start.ensures.others in
+    let used : now.leaves ≡ c.args.budget = ended.2.1 ∙ c.search_bound.ensures.same.budget ∙ budget in
+    let enclosed = enclosed_by net aim upper best c.args.budget ended.0 now.leaves chosen c.requires.net root ended.2.0 used searched in
+    let passed : to_z w64 (of_z w64 best.value) ≡ best.value = passed_separation best.value ended.2.0.near in
+    (ended.0, ended.1, subst (λ (v : ℤ). IsEnclosedBy net aim.from aim.to upper v c.args.budget ended.0 now.leaves best.times.items) (sym passed) enclosed, searched.needed)
+
+pub returns-in-Ended-clause-count : goal.returns-in-Ended-clause-count
+returns-in-Ended-clause-count g c =
+    let net = c.args.net.now in
+    let aim = c.args.aim in
+    let now : Search = c.search_bound.new.search in
+    let ended = rw c.in-Ended.is at c.in_ok-search_bound.ensures.ends in
+    let (chosen, searched) = ended.2.2 in
+    let budget : c.start.new.search.budget ≡ c.args.budget = ap (λ (s : Search). s.budget) c.start.ensures.others in
+    let within : now.leaves ≤ c.args.budget = omega (arith, c.in_ok-search_bound.ensures.within, c.search_bound.ensures.same.budget, budget) in
+    stopped_count net (Bound aim.from aim.to c.search_bound.new.best.value) (IsNeededToBound net aim.from aim.to aim.known) c.args.budget ended.0 now.leaves now.leaves chosen c.requires.net within
+    (omega arith) searched

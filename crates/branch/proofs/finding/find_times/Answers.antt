@@ -1,0 +1,126 @@
+use Rattle.std.proofs.Common.{◌≡◌, ◌+◌, ◌≤◌, ◌∙◌, ℕ, ℤ, List, [], ◌∷◌, ◌++◌, Some, sym, ap, subst, arith, rules}
+use Rattle.itv_base.specs.declared.names.EdgeName.{EdgeName}
+use Rattle.diff_bounds.specs.declared.fit.Fit.TheVariants.{Fits, Loop as Looped}
+use Rattle.event_graph.specs.Proof.{Case, ClosesByLoop, Loop, Nothing, ProofLine}
+use Rattle.event_graph.specs.Reading.{AtEachSplit}
+use Rattle.branch.specs.Answers.{IsFoundConsistent}
+use Rattle.branch.specs.Needed.{IsNeededToFind}
+use Rattle.branch.specs.Step.Cases.{open_cases}
+use Rattle.branch.specs.Step.Searched.{IsFindSearched}
+use Rattle.branch.specs.declared.search.Search.{Search}
+use Rattle.branch.proofs.Endings.{found_consistent, found_inconsistent, found_unsettled, proof_count, root_searched, stopped_count}
+use Rattle.branch.proofs.Entering.{at_root, root_read}
+use Rattle.branch.proofs.ReadingOn.{nothing_after}
+use Rattle.branch.proofs.finding.find_times.Goals as goal
+
+pub returns-then-eq-clause-lines : goal.returns-then-eq-clause-lines
+returns-then-eq-clause-lines g c =
+    let net = c.args.net.now in
+    let walk : List EdgeName = c.walk.result.now in
+    let is : c.start.result ≡ Looped = search rules in
+    let closes : ClosesByLoop net [] walk = subst (ClosesByLoop net []) (sym c.walk.ensures) (c.start.ensures.walk is) in
+    let searched = root_searched net walk closes in
+    (Loop walk ∷ [], c.in_ok-cut_loop.ensures.grew, found_inconsistent net (Loop walk ∷ []) 1 searched, searched.needed)
+
+pub returns-then-eq-clause-count : goal.returns-then-eq-clause-count
+returns-then-eq-clause-count g c =
+    let net = c.args.net.now in
+    let walk : List EdgeName = c.walk.result.now in
+    let is : c.start.result ≡ Looped = search rules in
+    let closes : ClosesByLoop net [] walk = subst (ClosesByLoop net []) (sym c.walk.ensures) (c.start.ensures.walk is) in
+    proof_count net Nothing (IsNeededToFind net) c.args.budget (Loop walk ∷ []) 1 c.requires.net (omega (arith, c.requires.budget)) (root_searched net walk closes)
+
+pub cases-init : goal.cases-init
+cases-init g c =
+    let net = c.args.net.now in
+    let s : Search = c.start.new.search in
+    let others = c.start.ensures.others in
+    let is : c.start.result ≡ Fits = search rules in
+    let none : s.cases.chosen ≡ [] = ap (λ (t : Search). t.cases.chosen) others in
+    let zero : s.leaves ≡ 0 = ap (λ (t : Search). t.leaves) others in
+    let room : s.cases.room ≡ c.args.search.now.cases.room = ap (λ (t : Search). t.cases.room) others in
+    let budget : s.budget ≡ c.args.budget = ap (λ (t : Search). t.budget) others in
+    record {
+      lines = ([], g.met.S.Scribe.grew_none _, root_read net Nothing (IsNeededToFind net) s none zero);
+      at = at_root net s none (c.start.ensures.fits is) (omega (arith, room, c.requires.room)) (omega (arith, zero, budget, c.requires.budget));
+      room = room;
+      budget = budget;
+    }
+
+pub returns-in-None-clause-lines : goal.returns-in-None-clause-lines
+returns-in-None-clause-lines g c =
+    let net = c.args.net.now in
+    let inv = c.cases.invariant in
+    let at : Search = c.cases.search in
+    let now : Search = c.try_times.new.search in
+    let times : List ℤ = c.try_times.new.candidate in
+    let more = rw c.in-None.is at c.in_ok-try_times.ensures.advances in
+    let found = found_consistent net inv.lines.0 now.leaves at.leaves times at.cases.chosen more.2.0 inv.lines.2 more.2.3 in
+    let same : inv.lines.0 ++ more.0 ≡ inv.lines.0 = ap (λ (ls : List ProofLine). inv.lines.0 ++ ls) more.2.2 ∙ nothing_after inv.lines.0 in (
+      inv.lines.0 ++ more.0,
+      g.met.S.Scribe.grew_more _ _ _ _ _ inv.lines.1 more.1,
+      subst (λ (ls : List ProofLine). IsFoundConsistent net ls now.leaves (Some times)) (sym same) found,
+      subst (AtEachSplit net (IsNeededToFind net)) (sym same) inv.lines.2.needed,
+    )
+
+pub returns-in-None-clause-count : goal.returns-in-None-clause-count
+returns-in-None-clause-count g c =
+    let net = c.args.net.now in
+    let inv = c.cases.invariant in
+    let at : Search = c.cases.search in
+    let now : Search = c.try_times.new.search in
+    let more = rw c.in-None.is at c.in_ok-try_times.ensures.advances in
+    let one_more : now.leaves ≡ at.leaves + 1 = more.2.3 in
+    stopped_count net Nothing (IsNeededToFind net) c.args.budget inv.lines.0 now.leaves at.leaves at.cases.chosen c.requires.net (omega (arith, one_more, inv.at.left, inv.budget)) (omega (arith, one_more)) inv.lines.2
+
+pub returns-in-Some-AllClosed-clause-lines : goal.returns-in-Some-AllClosed-clause-lines
+returns-in-Some-AllClosed-clause-lines g c =
+    let net = c.args.net.now in
+    let inv = c.cases.invariant in
+    let now : Search = c.try_times.new.search in
+    let more = rw (c.in-Some-AllClosed.is ∙ ap Some c.in-Some-AllClosed.field-0-is) at c.in_ok-try_times.ensures.advances in
+    let searched : IsFindSearched net (inv.lines.0 ++ more.0) [] now.leaves = more.2 inv.lines.0 inv.lines.2 in (
+      inv.lines.0 ++ more.0,
+      g.met.S.Scribe.grew_more _ _ _ _ _ inv.lines.1 more.1,
+      found_inconsistent net (inv.lines.0 ++ more.0) now.leaves searched,
+      searched.needed,
+    )
+
+pub returns-in-Some-AllClosed-clause-count : goal.returns-in-Some-AllClosed-clause-count
+returns-in-Some-AllClosed-clause-count g c =
+    let net = c.args.net.now in
+    let inv = c.cases.invariant in
+    let now : Search = c.try_times.new.search in
+    let more = rw (c.in-Some-AllClosed.is ∙ ap Some c.in-Some-AllClosed.field-0-is) at c.in_ok-try_times.ensures.advances in
+    let within = rw (c.in-Some-AllClosed.is ∙ ap Some c.in-Some-AllClosed.field-0-is) at c.in_ok-try_times.ensures.ends in
+    let same = c.try_times.ensures.same in
+    let searched : IsFindSearched net (inv.lines.0 ++ more.0) [] now.leaves = more.2 inv.lines.0 inv.lines.2 in
+    proof_count net Nothing (IsNeededToFind net) c.args.budget (inv.lines.0 ++ more.0) now.leaves c.requires.net (omega (arith, within, same.budget, inv.budget)) searched
+
+pub returns-in-Some-Stopped-clause-lines : goal.returns-in-Some-Stopped-clause-lines
+returns-in-Some-Stopped-clause-lines g c =
+    let net = c.args.net.now in
+    let inv = c.cases.invariant in
+    let now : Search = c.try_times.new.search in
+    let more = rw (c.in-Some-Stopped.is ∙ ap Some c.in-Some-Stopped.field-0-is) at c.in_ok-try_times.ensures.advances in
+    let used = rw (c.in-Some-Stopped.is ∙ ap Some c.in-Some-Stopped.field-0-is) at c.in_ok-try_times.ensures.ends in
+    let same = c.try_times.ensures.same in
+    let all_used : now.leaves ≡ c.args.budget = used ∙ same.budget ∙ inv.budget in
+    let searched : IsFindSearched net (inv.lines.0 ++ more.0) (open_cases net now.cases.chosen) now.leaves = more.2 inv.lines.0 inv.lines.2 in (
+      inv.lines.0 ++ more.0,
+      g.met.S.Scribe.grew_more _ _ _ _ _ inv.lines.1 more.1,
+      found_unsettled net c.args.budget (inv.lines.0 ++ more.0) now.leaves now.cases.chosen c.requires.net c.try_times.ensures.always all_used searched,
+      searched.needed,
+    )
+
+pub returns-in-Some-Stopped-clause-count : goal.returns-in-Some-Stopped-clause-count
+returns-in-Some-Stopped-clause-count g c =
+    let net = c.args.net.now in
+    let inv = c.cases.invariant in
+    let now : Search = c.try_times.new.search in
+    let more = rw (c.in-Some-Stopped.is ∙ ap Some c.in-Some-Stopped.field-0-is) at c.in_ok-try_times.ensures.advances in
+    let used = rw (c.in-Some-Stopped.is ∙ ap Some c.in-Some-Stopped.field-0-is) at c.in_ok-try_times.ensures.ends in
+    let same = c.try_times.ensures.same in
+    let all_used : now.leaves ≡ c.args.budget = used ∙ same.budget ∙ inv.budget in
+    let searched : IsFindSearched net (inv.lines.0 ++ more.0) (open_cases net now.cases.chosen) now.leaves = more.2 inv.lines.0 inv.lines.2 in
+    stopped_count net Nothing (IsNeededToFind net) c.args.budget (inv.lines.0 ++ more.0) now.leaves now.leaves now.cases.chosen c.requires.net (omega (arith, all_used)) (omega arith) searched

@@ -1,0 +1,18 @@
+use Rattle.std.proofs.Common.{◌≡◌, length}
+use Rattle.branch.specs.Step.Cases.{IsCase, siblings}
+use Rattle.branch.specs.Step.Searched.{Keeps}
+use Rattle.branch.specs.Step.Standing.{StandsBelow}
+use Rattle.branch.proofs.search.next_case.Given as goal
+
+-- the other cases are those of what is left of the choices
+abbrev pub invariant-loop-choice : goal.invariant-loop-choice
+invariant-loop-choice l = record {
+  others : siblings l.net l.fn.search.cases.chosen ≡ siblings l.net l.search.cases.chosen;
+  case : IsCase l.net l.search.cases.chosen;
+  below : StandsBelow l.net l.search.cases.chosen l.search.bounds;
+  same : Keeps l.net l.fn.search l.search;
+  leaves : l.search.leaves ≡ l.fn.search.leaves;
+}
+
+abbrev pub decreases-loop-choice : goal.decreases-loop-choice
+decreases-loop-choice l = length l.search.cases.chosen

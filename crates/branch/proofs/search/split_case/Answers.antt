@@ -1,0 +1,44 @@
+use Rattle.std.proofs.Common.{◌≡◌, ◌<◌, ◌≤◌, ℕ, List, [], ◌∷◌, ap, subst, sym, arith, rules}
+use Rattle.event_graph.specs.Proof.{Case, ProofGoal, ProofLine, Reads, Split}
+use Rattle.branch.specs.Step.Cases.{Chosen, first_of, open_cases, work_left}
+use Rattle.branch.specs.Step.Searched.{Steps}
+use Rattle.branch.proofs.CaseCounts.{free_room, split_falls}
+use Rattle.branch.proofs.Results.{if_ok_then, on_err_then}
+use Rattle.branch.proofs.search.split_case.Goals as goal
+
+pub push-requires : goal.push-requires
+push-requires g c =
+    let room = free_room c.args.net.now c.args.search.now.cases.chosen c.args.number c.requires.case.case c.requires.free in
+    omega (arith, room, c.requires.case.room)
+
+pub returns-clause-lines : goal.returns-clause-lines
+returns-clause-lines g c =
+    let net = c.args.net.now in
+    let same : c.push.new.self.chosen ≡ first_of c.args.number c.args.search.now.cases.chosen = ap (λ (d : Chosen). d.chosen) c.push.ensures in
+    if_ok_then c.enter_case.result _ _ c.enter_case.ensures.lines
+    (λ entry more. (
+      more.0,
+      g.met.S.Scribe.grew_more _ _ _ _ _ c.in_ok-split.ensures.grew more.1,
+      λ goal. subst (λ (chosen : Case). Steps net goal (open_cases net chosen) c.args.search.now.leaves c.enter_case.new.search entry more.0) same (more.2 goal),
+    ))
+
+pub returns-clause-cut : goal.returns-clause-cut
+returns-clause-cut g c =
+    let net = c.args.net.now in
+    let same : c.push.new.self.chosen ≡ first_of c.args.number c.args.search.now.cases.chosen = ap (λ (d : Chosen). d.chosen) c.push.ensures in
+    on_err_then c.enter_case.result _ _ c.enter_case.ensures.cut
+    (λ more. (
+      more.0,
+      g.met.S.Scribe.cut_after _ _ _ _ _ c.in_ok-split.ensures.grew more.1,
+      λ goal. subst (λ (chosen : Case). (left : List Case) × Reads net goal (open_cases net chosen) more.0 left) same (more.2 goal),
+    ))
+
+pub returns-clause-work : goal.returns-clause-work
+returns-clause-work g c =
+    let net = c.args.net.now in
+    let search = c.args.search.now in
+    let same : c.push.new.self.chosen ≡ first_of c.args.number search.cases.chosen = ap (λ (d : Chosen). d.chosen) c.push.ensures in
+    let falls = split_falls net search.budget search.leaves search.cases.chosen c.args.number c.requires.free in
+    let work : work_left net search.budget search.leaves c.push.new.self.chosen ≡ work_left net search.budget search.leaves (first_of c.args.number search.cases.chosen) =
+    ap (work_left net search.budget search.leaves) same in
+    if_ok_then c.enter_case.result _ _ c.enter_case.ensures.work (λ entry most is. let within = most is in omega (arith, within, work, falls))

@@ -1,0 +1,45 @@
+use Rattle.std.proofs.Common.{◌≡◌, ◌≤ℤ◌, ◌∙◌, ℤ, List, IsSomeAnd, to_z, of_z, w64, sym, ap, subst}
+use Rattle.event_graph.specs.Proof.{ProofLine}
+use Rattle.event_graph.specs.Reading.{AtEachSplit}
+use Rattle.event_graph.specs.Satisfying.{Satisfies}
+use Rattle.event_graph.specs.Times.{separation}
+use Rattle.branch.specs.Needed.{IsNeededToBound}
+use Rattle.branch.specs.Work.{View, known_separation}
+use Rattle.branch.proofs.KnownTimes.{known_separation_is}
+use Rattle.branch.proofs.Results.{if_ok_then, on_ok_then}
+use Rattle.branch.proofs.Signs.{passed_separation}
+use Rattle.branch.proofs.work.greatest.Given.{Over}
+use Rattle.branch.proofs.work.greatest.Goals as goal
+use Rattle.branch.proofs.work.greatest.Goals.{After-separation_of-known}
+
+-- the separation that the search starts from is that of the known times
+known_is : (g : Over) (c : After-separation_of-known g) → known_separation c.args.work.now c.args.from c.args.to ≡ to_z w64 (of_z w64 c.separation_of-known.result)
+known_is g c =
+    let from = c.args.from in
+    let to = c.args.to in
+    let inside = c.work.inside in
+    let Satisfying : List ℤ → Type 0 = λ times. Satisfies times c.args.net.now in
+    let known = subst (λ (w : View). IsSomeAnd w.known Satisfying) (sym c.work.view_is) c.requires.known in
+    let read : c.separation_of-known.result ≡ separation inside.known.items from to =
+    c.separation_of-known.ensures.value ∙ ap (λ (xs : List ℤ). separation xs from to) c.deref.ensures.value in
+    let passed : to_z w64 (of_z w64 c.separation_of-known.result) ≡ c.separation_of-known.result =
+    passed_separation c.separation_of-known.result c.separation_of-known.ensures.near in
+    subst (λ (w : View). known_separation w from to ≡ to_z w64 (of_z w64 c.separation_of-known.result)) c.work.view_is
+    (known_separation_is inside.has_known inside.known.items Satisfying from to known ∙ sym read ∙ sym passed)
+
+pub returns-clause-lines : goal.returns-clause-lines
+returns-clause-lines g c =
+    let at = (goal.at.returns-clause-lines g c).After-separation_of-known in
+    let net = c.args.net.now in
+    let from = c.args.from in
+    let to = c.args.to in
+    if_ok_then c.bound_pair.result _ _ c.bound_pair.ensures.lines
+    (λ answer more.
+        let needed : AtEachSplit net (IsNeededToBound net from to (to_z w64 (of_z w64 c.separation_of-known.result))) more.0 = more.3 in
+        (more.0, more.1, more.2, subst (λ (v : ℤ). AtEachSplit net (IsNeededToBound net from to v) more.0) (sym (known_is g at)) needed))
+
+pub returns-clause-least : goal.returns-clause-least
+returns-clause-least g c =
+    let at = (goal.at.returns-clause-least g c).After-separation_of-known in
+    let reached : ℤ = separation c.bound_pair.new.best.times.items c.args.from c.args.to in
+    on_ok_then c.bound_pair.result _ _ c.bound_pair.ensures.least (λ least. subst (λ (v : ℤ). v ≤ℤ reached) (sym (known_is g at)) least)

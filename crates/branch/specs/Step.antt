@@ -1,0 +1,6 @@
+pub mod Cases
+pub mod Edges
+pub mod Raising
+pub mod Standing
+pub mod Searched
+pub mod Inside

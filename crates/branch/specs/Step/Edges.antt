@@ -1,0 +1,23 @@
+-- The edges of the choices of a case.
+use Rattle.std.specs.Prelude.{◌≡◌, ◌<◌, ℕ, ℤ, List, map, Option, Some, None, option_map, slice_get}
+use Rattle.itv_base.specs.declared.names.EdgeName.{EdgeName}
+use Rattle.itv_base.specs.declared.names.Side.{Side}
+use Rattle.itv_base.specs.declared.names.Side.TheVariants.{Upper}
+use Rattle.event_graph.specs.declared.edge.Edge.{Edge}
+use Rattle.event_graph.specs.Edges.{Meets, choice_side, edge}
+use Rattle.event_graph.specs.Network.{Constraint, Net, cause_count_of}
+use Rattle.event_graph.specs.Proof.{Case, Choice}
+
+-- the choice side of a constraint that is there
+abbrev pub side_of : Option Constraint → Side
+side_of None = Upper
+side_of (Some c) = choice_side c.kind
+
+-- the edge of a choice, on the choice side of its constraint
+abbrev pub choice_name : Net → Choice → EdgeName
+choice_name net choice =
+    record { constraint = choice.constraint; cause = choice.cause; side = side_of (slice_get net.constraints choice.constraint) }
+
+-- the edges of the choices of a case
+abbrev pub case_names : Net → Case → List EdgeName
+case_names net chosen = map (choice_name net) chosen

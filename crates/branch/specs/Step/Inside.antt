@@ -1,0 +1,22 @@
+-- What the fields of working memory mean, and what holds of them.
+use Rattle.std.specs.Prelude.{◌≡◌, true, cond, length, All, None, Some}
+use Rattle.diff_bounds.specs.Limits.{IsNear}
+use Rattle.branch.specs.Work.{View}
+use Rattle.branch.specs.declared.work.Work.TheInside.{Inside}
+
+abbrev pub view_in : Inside → View
+view_in w = record {
+  bounds = w.search.bounds;
+  room = w.search.cases.room;
+  known = cond w.has_known (Some w.known.items) None;
+  times = w.best.times.items;
+  ray = w.trial.ray.items;
+  leaves = w.search.leaves;
+}
+
+-- there is a place for each event in all lists, and known times are near
+pub record IsSound (w : Inside) : Type 0 where
+  pub known : length w.known.items ≡ length w.best.times.items
+  pub candidate : length w.trial.candidate.items ≡ length w.best.times.items
+  pub ray : length w.trial.ray.items ≡ length w.best.times.items
+  pub near : w.has_known ≡ true → All IsNear w.known.items

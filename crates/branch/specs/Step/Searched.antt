@@ -1,0 +1,177 @@
+-- What a search has come to between two of its steps.
+use Rattle.std.specs.Prelude.{◌≡◌, ◌+◌, ◌<◌, ◌≤◌, ◌≤ℤ◌, ◌<ℤ◌, ℕ, ℤ, Bool, List, [], ◌∷◌, ◌++◌, length, All, Option, Some, None}
+use Rattle.itv_base.specs.declared.names.EventId.{EventId}
+use Rattle.event_graph.specs.Bounds.{IsGreatestAmong, IsRay}
+use Rattle.event_graph.specs.Network.{Net}
+use Rattle.event_graph.specs.Proof.{Bound, Case, Loop, Nothing, Path, ProofGoal, ProofLine, Reads, Split, closing_lines}
+use Rattle.event_graph.specs.Satisfying.{Breaks, Satisfies}
+use Rattle.event_graph.specs.Times.{IsTime, separation}
+use Rattle.event_graph.specs.Usable.{MeetsUsable}
+use Rattle.event_graph.specs.Reading.{AtEachSplit}
+use Rattle.event_graph.specs.Network.{splittable_count}
+use Rattle.branch.specs.Lines.{IsAccepted}
+use Rattle.branch.specs.Needed.{IsNeededToBound, IsNeededToFind}
+use Rattle.branch.specs.Step.Cases.{IsCase, IsFree, open_cases, siblings}
+use Rattle.diff_bounds.specs.Limits.{IsNear}
+use Rattle.branch.specs.Step.Raising.{IsNearSeparation}
+use Rattle.branch.specs.Step.Standing.{AreOfSame, HasUpper, StandsBelow, StandsOn}
+use Rattle.branch.specs.declared.best.Aim.{Aim}
+use Rattle.branch.specs.declared.best.Best.{Best}
+use Rattle.branch.specs.declared.bounding.Ending.{Ending}
+use Rattle.branch.specs.declared.bounding.Ending.TheVariants.{Shown, Ended, Raised}
+use Rattle.branch.specs.declared.look.Look.{Look}
+use Rattle.branch.specs.declared.look.Look.TheVariants.{Beaten, Attained, Splits, Unbounded}
+use Rattle.branch.specs.declared.search.Entry.{Entry}
+use Rattle.branch.specs.declared.search.Entry.TheVariants.{Entered, AllClosed, Stopped}
+use Rattle.branch.specs.declared.search.Search.{Search}
+use Rattle.branch.specs.declared.trial.Trial.{Trial}
+
+-- a search is at a case: the bounds stand on it, there is room for every split, and the budget is not used up
+pub record IsAtCase (net : Net) (s : Search) : Type 0 where
+  pub case : IsCase net s.cases.chosen
+  pub stands : StandsOn net s.cases.chosen s.bounds
+  pub room : splittable_count net ≤ s.cases.room
+  pub left : s.leaves < s.budget
+
+-- a search comes to a case: the bounds stand on all its choices but the latest
+pub record IsBelowCase (net : Net) (s : Search) : Type 0 where
+  pub case : IsCase net s.cases.chosen
+  pub below : StandsBelow net s.cases.chosen s.bounds
+  pub room : splittable_count net ≤ s.cases.room
+  pub left : s.leaves < s.budget
+
+-- a step keeps what the search was made for
+pub record Keeps (net : Net) (before now : Search) : Type 0 where
+  pub room : now.cases.room ≡ before.cases.room
+  pub budget : now.budget ≡ before.budget
+  pub bounds : AreOfSame net before.bounds now.bounds
+
+-- how an entry ends: the search is at a case, or no case is left, or the budget is used up
+abbrev pub EndsAs : Net → Search → Entry → Type 0
+EndsAs net s Entered = IsAtCase net s
+EndsAs net s AllClosed = s.leaves ≤ s.budget
+EndsAs net s Stopped = s.leaves ≡ s.budget
+
+-- the cases that are open after an entry
+abbrev pub left_after : Net → Case → Entry → List Case
+left_after net now Entered = open_cases net now
+left_after net now AllClosed = []
+left_after net now Stopped = open_cases net now
+
+-- the next case after one whose siblings are these
+pub record IsNext (net : Net) (before now : Search) : Type 0 where
+  pub same : siblings net before.cases.chosen ≡ open_cases net now.cases.chosen
+  pub some : 0 < length now.cases.chosen
+  pub case : IsCase net now.cases.chosen
+  pub below : StandsBelow net now.cases.chosen now.bounds
+
+-- how a closed case is left: for a next one, or for good
+abbrev pub LeavesFor : Net → Search → Search → Option Entry → Type 0
+LeavesFor net before now None = IsNext net before now × (now.leaves < now.budget)
+LeavesFor net before now (Some Entered) = ⊥
+LeavesFor net before now (Some AllClosed) = siblings net before.cases.chosen ≡ []
+LeavesFor net before now (Some Stopped) = (siblings net before.cases.chosen ≡ open_cases net now.cases.chosen) × (now.leaves ≡ now.budget)
+
+-- the line closes a case
+abbrev pub IsClosing : ProofLine → Type 0
+IsClosing (Split number) = ⊥
+IsClosing (Path names) = Unit {0}
+IsClosing (Loop names) = Unit {0}
+
+-- lines that close cases, one each, and lead from some open cases to others
+pub record Closes (net : Net) (goal : ProofGoal) (cases left : List Case) (lines : List ProofLine) : Type 0 where
+  pub reads : Reads net goal cases lines left
+  pub closing : All IsClosing lines
+
+-- what lines close of some cases, up to an entry
+pub record Steps (net : Net) (goal : ProofGoal) (cases : List Case) (before : ℕ) (now : Search) (entry : Entry) (lines : List ProofLine) : Type 0 where
+  pub closes : Closes net goal cases (left_after net now.cases.chosen entry) lines
+  pub count : now.leaves ≡ before + closing_lines lines
+
+-- the lines so far leave just these cases open and closed a number of others, and each split was needed
+pub record IsSearched (net : Net) (goal : ProofGoal) (IsNeeded : List ProofLine → Case → ℕ → Type 0) (lines : List ProofLine) (cases : List Case) (closed : ℕ) : Type 0 where
+  pub reads : Reads net goal ([] ∷ []) lines cases
+  pub needed : AtEachSplit net IsNeeded lines
+  pub count : closing_lines lines ≡ closed
+
+-- a constraint is split in a case, above a separation that was attained
+pub record IsOpen (net : Net) (from to : EventId) (best : ℤ) (chosen : Case) (number : ℕ) : Type 0 where
+  pub free : IsFree net chosen number
+  pub beyond : (times : List ℤ) × MeetsUsable net chosen times × (best <ℤ separation times from to)
+  pub broken : (greatest : ℤ) → IsGreatestAmong (λ times. MeetsUsable net chosen times) from to greatest
+      → (times : List ℤ) × MeetsUsable net chosen times × (separation times from to ≡ greatest) × Breaks times net number
+
+-- there is a place for each event
+pub record IsTrialFor (net : Net) (trial : Trial) : Type 0 where
+  pub candidate : length trial.candidate.items ≡ net.events
+  pub ray : length trial.ray.items ≡ net.events
+
+-- what a look at a case comes to, by the best separation so far and that of the known times
+abbrev pub Looks : Net → Aim → ℤ → Search → Trial → Look → Type 0
+Looks net aim best s trial Beaten = (value : ℤ) × HasUpper s.bounds aim.to value × (value ≤ℤ best)
+Looks net aim best s trial (Attained value) =
+    HasUpper s.bounds aim.to value × (best <ℤ value) × Satisfies trial.candidate.items net × (separation trial.candidate.items aim.from aim.to ≡ value)
+    × All IsNear trial.candidate.items
+Looks net aim best s trial (Splits number) = IsOpen net aim.from aim.to best s.cases.chosen number
+Looks net aim best s trial Unbounded =
+    Satisfies trial.candidate.items net × IsRay net aim.from aim.to trial.candidate.items trial.ray.items
+    × (aim.known ≤ℤ separation trial.candidate.items aim.from aim.to)
+
+-- a search for a bound of a pair has come to a value
+abbrev pub IsBoundSearched : Net → Aim → ℤ → List ProofLine → List Case → ℕ → Type 0
+IsBoundSearched net aim best lines cases closed =
+    IsSearched net (Bound aim.from aim.to best) (IsNeededToBound net aim.from aim.to aim.known) lines cases closed
+
+-- the best times so far
+pub record AreBest (net : Net) (aim : Aim) (best : Best) : Type 0 where
+  pub satisfies : Satisfies best.times.items net
+  pub attained : separation best.times.items aim.from aim.to ≡ best.value
+  pub least : aim.known ≤ℤ best.value
+  pub near : IsNearSeparation best.value
+
+-- satisfying times that can be raised without end, no less than the known ones
+pub record AreRays (net : Net) (aim : Aim) (times : List ℤ) (ray : List Bool) : Type 0 where
+  pub satisfies : Satisfies times net
+  pub raises : IsRay net aim.from aim.to times ray
+  pub least : aim.known ≤ℤ separation times aim.from aim.to
+
+-- what a step of the search for a bound comes to: the next case stands or the search ends, or the pair is unbounded
+abbrev pub Advances : Net → Aim → Search → Search → Best → Best → List Bool → List ProofLine → Option Entry → Type 0
+Advances net aim before now best_before best ray lines (Some entry) =
+    AreBest net aim best
+    × ((earlier : List ProofLine) → IsBoundSearched net aim best_before.value earlier (open_cases net before.cases.chosen) before.leaves
+        → IsBoundSearched net aim best.value (earlier ++ lines) (left_after net now.cases.chosen entry) now.leaves)
+Advances net aim before now best_before best ray lines None =
+    AreRays net aim best.times.items ray × (lines ≡ []) × (now.leaves ≡ before.leaves + 1)
+
+-- the lines after those of a search are accepted for some value
+abbrev pub IsCutAfter : Net → Aim → ℤ → Case → ℕ → List ProofLine → Type 0
+IsCutAfter net aim best before leaves lines =
+    (earlier : List ProofLine) → IsBoundSearched net aim best earlier (open_cases net before) leaves
+    → (value : ℤ) × IsAccepted net (Bound aim.from aim.to value) (earlier ++ lines)
+
+-- how the search for a bound ends
+abbrev pub EndsWith : Net → Aim → Search → Best → List Bool → List ProofLine → Ending → Type 0
+EndsWith net aim s best ray lines Shown = AreBest net aim best × IsBoundSearched net aim best.value lines [] s.leaves
+EndsWith net aim s best ray lines Ended =
+    AreBest net aim best × (s.leaves ≡ s.budget) × ((chosen : Case) × IsBoundSearched net aim best.value lines (open_cases net chosen) s.leaves)
+EndsWith net aim s best ray lines Raised =
+    AreRays net aim best.times.items ray
+    × ((value : ℤ) × (chosen : Case) × (closed : ℕ) × IsBoundSearched net aim value lines (open_cases net chosen) closed × (s.leaves ≡ closed + 1))
+
+-- a search for satisfying times has come to these lines
+abbrev pub IsFindSearched : Net → List ProofLine → List Case → ℕ → Type 0
+IsFindSearched net lines cases closed = IsSearched net Nothing (IsNeededToFind net) lines cases closed
+
+-- what a step of the search for satisfying times comes to: the next case stands or the search ends, or the times satisfy
+abbrev pub FindAdvances : Net → Search → Search → List ℤ → List ProofLine → Option Entry → Type 0
+FindAdvances net before now times lines (Some entry) =
+    (earlier : List ProofLine) → IsFindSearched net earlier (open_cases net before.cases.chosen) before.leaves
+    → IsFindSearched net (earlier ++ lines) (left_after net now.cases.chosen entry) now.leaves
+FindAdvances net before now times lines None =
+    Satisfies times net × All IsNear times × (lines ≡ []) × (now.leaves ≡ before.leaves + 1)
+
+-- the lines after those of a search for satisfying times are accepted
+abbrev pub IsFindCutAfter : Net → Case → ℕ → List ProofLine → Type 0
+IsFindCutAfter net before leaves lines =
+    (earlier : List ProofLine) → IsFindSearched net earlier (open_cases net before) leaves → IsAccepted net Nothing (earlier ++ lines)

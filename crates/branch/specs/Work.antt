@@ -1,0 +1,29 @@
+-- The working memory of the searches, as its callers see it.
+use Rattle.std.specs.Prelude.{◌≡◌, ◌≤◌, ℕ, ℤ, Bool, List, [], length, Option, unwrap_or}
+use Rattle.itv_base.specs.declared.names.EventId.{EventId}
+use Rattle.event_graph.specs.Network.{IsNet, Net}
+use Rattle.event_graph.specs.Times.{separation}
+use Rattle.diff_bounds.specs.Standing.{Standing}
+use Rattle.diff_bounds.specs.Standing.{IsMadeFor as IsBoundsFor}
+use Rattle.event_graph.specs.Network.{splittable_count}
+
+-- the bounds, room for a number of choices, the known times, where there are some, the times and the events to raise that the last search
+-- for a bound left, and how many cases the last search closed
+pub record View : Type 0 where
+  pub bounds : Standing
+  pub room : ℕ
+  pub known : Option (List ℤ)
+  pub times : List ℤ
+  pub ray : List Bool
+  pub leaves : ℕ
+
+-- the memory was made for a network
+pub record IsMadeFor (net : Net) (work : View) : Type 0 where
+  pub is_net : IsNet net
+  pub bounds : IsBoundsFor net work.bounds
+  pub room : splittable_count net ≤ work.room
+  pub places : length work.times ≡ net.events
+
+-- the separation of a pair in the known times
+abbrev pub known_separation : View → EventId → EventId → ℤ
+known_separation work from to = separation (unwrap_or work.known []) from to

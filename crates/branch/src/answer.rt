@@ -1,0 +1,32 @@
+//! What the searches answer.
+
+/// Whether times satisfy a network.
+#[derive(Clone, Copy, Debug, PartialEq, Eq)]
+pub enum Found {
+    /// Some times do.
+    Consistent,
+    /// None do.
+    Inconsistent,
+    /// The budget ended the search before it was known.
+    Unsettled,
+}
+
+/// The greatest separation of a pair of events, in picoseconds.
+#[derive(Clone, Copy, Debug, PartialEq, Eq)]
+pub enum Answer {
+    /// It is this number.
+    Closed(i64),
+    /// There is none: every number is exceeded.
+    Unbounded,
+    /// The budget ended the search: it is at least `attained`, and at most `upper` where that is not open.
+    Enclosed { upper: Option<i64>, attained: i64 },
+}
+
+/// The greatest separation of a pair over the times that meet the always-edges alone, in picoseconds.
+#[derive(Clone, Copy, Debug, PartialEq, Eq)]
+pub enum Root {
+    /// No times meet the always-edges.
+    NoTimes,
+    /// It is this number, or `None` where it is unbounded.
+    Bound(Option<i64>),
+}

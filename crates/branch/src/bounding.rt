@@ -1,0 +1,215 @@
+//! The search for the greatest separation of a pair of events.
+
+ghost use Rattle.std.specs.Prelude.{◌≡◌, ◌<◌, ◌≤◌, ◌≤ℤ◌, ◌-ℤ◌, ℤ, List, [], IfOk, IfSome, OnOk, OnErr, Some, All, length};
+ghost use Rattle.itv_base.specs.Outside.{Rose};
+ghost use Rattle.event_graph.specs.Network.{IsNet};
+ghost use Rattle.event_graph.specs.Proof.{Bound, ProofLine};
+ghost use Rattle.event_graph.specs.Satisfying.{Satisfies};
+ghost use Rattle.event_graph.specs.Times.{separation};
+ghost use Rattle.diff_bounds.specs.Standing.{IsMadeFor};
+ghost use Rattle.branch.specs.Answers.{Answers, IsCounted, IsRoot};
+ghost use Rattle.event_graph.specs.Reading.{AtEachSplit};
+ghost use Rattle.event_graph.specs.Network.{splittable_count};
+ghost use Rattle.branch.specs.Lines.{IsAccepted};
+ghost use Rattle.branch.specs.Needed.{IsNeededToBound};
+ghost use Rattle.branch.specs.Step.Cases.{work_left};
+ghost use Rattle.diff_bounds.specs.Limits.{IsNear};
+ghost use Rattle.branch.specs.Step.Raising.{IsNearSeparation};
+ghost use Rattle.branch.specs.Step.Searched.{Advances, AreBest, EndsAs, EndsWith, IsAtCase, IsCutAfter, IsTrialFor, Keeps};
+
+use crate::answer::{Answer, Root};
+use crate::best::{Aim, Best};
+use crate::levels::{start, upper_in};
+use crate::look::{Look, look_at_case};
+use crate::search::{Entry, Search, close_case, split_case};
+use crate::trial::Trial;
+use diff_bounds::Fit;
+use event_graph::{Network, Scribe, ScribeFailed};
+use itv_base::EventId;
+
+/// Finds the greatest separation of the pair of an aim, by a search that starts from known times and closes at most `budget`
+/// cases. The scribe writes down the lines of a proof, or of one that was stopped.
+pub fn bound_pair<S: Scribe>(
+    net: &Network,
+    search: &mut Search,
+    trial: &mut Trial,
+    best: &mut Best,
+    aim: Aim,
+    budget: u64,
+    scribe: &mut S,
+) -> Result<Answer, ScribeFailed>
+    requires made { IsMadeFor net.now search.old.bounds }
+    requires net { IsNet net.now }
+    requires room { splittable_count net.now ≤ search.old.cases.room }
+    requires from { aim.from.0 < net.now.events }
+    requires to { aim.to.0 < net.now.events }
+    requires near { IsNearSeparation aim.known }
+    requires known { aim.known ≡ best.old.value }
+    requires best { AreBest net.now aim best.old }
+    requires trial { IsTrialFor net.now trial.old }
+    requires budget { 0 < budget }
+    ensures made { IsMadeFor net.now search.new.bounds }
+    ensures room { search.new.cases.room ≡ search.old.cases.room }
+    ensures trial { IsTrialFor net.now trial.new }
+    ensures places { length best.new.times.items ≡ net.now.events }
+    ensures lines { IfOk result (λ answer. (lines : List ProofLine) × S.Grew scribe.old lines scribe.new
+        × Answers net.now aim.from aim.to budget lines search.new.leaves best.new.times.items trial.new.ray.items answer
+        × AtEachSplit net.now (IsNeededToBound net.now aim.from aim.to aim.known) lines) }
+    ensures count { OnOk result (IsCounted net.now budget search.new.leaves) }
+    ensures times { OnOk result (Satisfies best.new.times.items net.now) }
+    ensures least { OnOk result (aim.known ≤ℤ separation best.new.times.items aim.from aim.to) }
+    ensures cut { OnErr result ((lines : List ProofLine) × S.WasCut scribe.old lines scribe.new
+        × ((value : ℤ) × IsAccepted net.now (Bound aim.from aim.to value) lines)) }
+    ensures rose { OnErr result (Rose (S.faults scribe.old) (S.faults scribe.new)) }
+{
+    if start(net, search, Some(aim.from), budget) == Fit::Loop {
+        // The known times meet the always-edges.
+        unreachable!()
+    }
+    let upper = upper_in(net, search, aim.to);
+    match search_bound(net, search, trial, best, aim, scribe)? {
+        Ending::Shown => Ok(Answer::Closed(best.value)),
+        Ending::Raised => Ok(Answer::Unbounded),
+        Ending::Ended => Ok(Answer::Enclosed {
+            upper,
+            attained: best.value,
+        }),
+    }
+}
+
+/// The root bound of a pair of events.
+pub fn root_of(net: &Network, search: &mut Search, from: EventId, to: EventId) -> Root
+    requires made { IsMadeFor net.now search.old.bounds }
+    requires net { IsNet net.now }
+    requires from { from.0 < net.now.events }
+    requires to { to.0 < net.now.events }
+    ensures root { IsRoot net.now from to result }
+    ensures made { IsMadeFor net.now search.new.bounds }
+    ensures room { search.new.cases.room ≡ search.old.cases.room }
+    ensures leaves { search.new.leaves ≡ search.old.leaves }
+{
+    let leaves = search.leaves;
+    let fit = start(net, search, Some(from), 0);
+    search.leaves = leaves;
+    match fit {
+        Fit::Loop => Root::NoTimes,
+        Fit::Fits => Root::Bound(upper_in(net, search, to)),
+    }
+}
+
+/// How the search for a bound ends.
+#[derive(Clone, Copy, Debug, PartialEq, Eq)]
+pub enum Ending {
+    /// The best separation is the greatest.
+    Shown,
+    /// The budget is used up.
+    Ended,
+    /// The times can be raised without end.
+    Raised,
+}
+
+// Searches the cases of a network for a greater separation than that of the known times.
+fn search_bound<S: Scribe>(
+    net: &Network,
+    search: &mut Search,
+    trial: &mut Trial,
+    best: &mut Best,
+    aim: Aim,
+    scribe: &mut S,
+) -> Result<Ending, ScribeFailed>
+    requires net { IsNet net.now }
+    requires case { IsAtCase net.now search.old }
+    requires root { search.old.cases.chosen ≡ [] }
+    requires leaves { search.old.leaves ≡ 0 }
+    requires source { search.old.bounds.source ≡ Some aim.from }
+    requires from { aim.from.0 < net.now.events }
+    requires to { aim.to.0 < net.now.events }
+    requires near { IsNearSeparation aim.known }
+    requires known { aim.known ≡ best.old.value }
+    requires best { AreBest net.now aim best.old }
+    requires trial { IsTrialFor net.now trial.old }
+    ensures same { Keeps net.now search.old search.new }
+    ensures trial { IsTrialFor net.now trial.new }
+    ensures places { length best.new.times.items ≡ net.now.events }
+    ensures within { OnOk result (search.new.leaves ≤ search.new.budget) }
+    ensures ends { IfOk result (λ ending. (lines : List ProofLine) × S.Grew scribe.old lines scribe.new
+        × EndsWith net.now aim search.new best.new trial.new.ray.items lines ending) }
+    ensures cut { OnErr result ((lines : List ProofLine) × S.WasCut scribe.old lines scribe.new
+        × ((value : ℤ) × IsAccepted net.now (Bound aim.from aim.to value) lines)) }
+    ensures rose { OnErr result (Rose (S.faults scribe.old) (S.faults scribe.new)) }
+{
+    'cases: loop {
+        match step(net, search, trial, best, aim, scribe)? {
+            None => return Ok(Ending::Raised),
+            Some(Entry::AllClosed) => return Ok(Ending::Shown),
+            Some(Entry::Stopped) => return Ok(Ending::Ended),
+            Some(Entry::Entered) => {}
+        }
+    }
+}
+
+// Looks at the case at hand, and does what the look says. Without an answer the pair is unbounded.
+fn step<S: Scribe>(
+    net: &Network,
+    search: &mut Search,
+    trial: &mut Trial,
+    best: &mut Best,
+    aim: Aim,
+    scribe: &mut S,
+) -> Result<Option<Entry>, ScribeFailed>
+    requires net { IsNet net.now }
+    requires case { IsAtCase net.now search.old }
+    requires source { search.old.bounds.source ≡ Some aim.from }
+    requires from { aim.from.0 < net.now.events }
+    requires to { aim.to.0 < net.now.events }
+    requires near { IsNearSeparation aim.known }
+    requires best { AreBest net.now aim best.old }
+    requires trial { IsTrialFor net.now trial.old }
+    ensures same { Keeps net.now search.old search.new }
+    ensures trial { IsTrialFor net.now trial.new }
+    ensures places { length best.new.times.items ≡ net.now.events }
+    ensures ends { IfOk result (λ end. IfSome end (EndsAs net.now search.new)) }
+    ensures advances { IfOk result (λ end. (lines : List ProofLine) × S.Grew scribe.old lines scribe.new
+        × Advances net.now aim search.old search.new best.old best.new trial.new.ray.items lines end) }
+    ensures cut { OnErr result ((lines : List ProofLine) × S.WasCut scribe.old lines scribe.new
+        × IsCutAfter net.now aim best.old.value search.old.cases.chosen search.old.leaves lines) }
+    ensures rose { OnErr result (Rose (S.faults scribe.old) (S.faults scribe.new)) }
+    ensures work { IfOk result (λ end. end ≡ Some Entry.Entered
+        → work_left net.now search.new.budget search.new.leaves search.new.cases.chosen
+            < work_left net.now search.old.budget search.old.leaves search.old.cases.chosen) }
+{
+    match look_at_case(net, search, trial, aim, best.value) {
+        Look::Splits(number) => Ok(Some(split_case(net, search, number, scribe)?)),
+        Look::Beaten => Ok(Some(close_case(net, search, aim.to, scribe)?)),
+        Look::Attained(value) => {
+            best.take(value, &trial.candidate);
+            Ok(Some(close_case(net, search, aim.to, scribe)?))
+        }
+        Look::Unbounded => {
+            best.take(aim.known, &trial.candidate);
+            search.leaves += 1;
+            Ok(None)
+        }
+    }
+}
+
+/// The separation of two events.
+pub fn separation_of(times: &[i64], from: EventId, to: EventId) -> i64
+    requires from { from.0 < length times.now }
+    requires to { to.0 < length times.now }
+    requires near { All IsNear times.now }
+    ensures value { result ≡ separation times.now from to }
+    ensures near { IsNearSeparation result }
+{
+    difference(times[from.0 as usize], times[to.0 as usize])
+}
+
+// How much later one time is than another.
+fn difference(from: i64, to: i64) -> i64
+    requires from { IsNear from }
+    requires to { IsNear to }
+    ensures value { result ≡ to -ℤ from }
+    ensures near { IsNearSeparation result }
+{
+    to - from
+}

@@ -1,0 +1,94 @@
+//! The search for times that satisfy a network.
+
+ghost use Rattle.std.specs.Prelude.{◌≡◌, ◌<◌, ◌≤◌, ℤ, List, IfOk, IfSome, OnOk, OnErr, Ok, Some, All, length};
+ghost use Rattle.itv_base.specs.Outside.{Rose};
+ghost use Rattle.event_graph.specs.Network.{IsNet};
+ghost use Rattle.event_graph.specs.Proof.{Nothing, ProofLine};
+ghost use Rattle.event_graph.specs.RootBound.{MeetsAlways};
+ghost use Rattle.diff_bounds.specs.Standing.{IsMadeFor};
+ghost use Rattle.branch.specs.Answers.{Finds, IsCounted};
+ghost use Rattle.event_graph.specs.Reading.{AtEachSplit};
+ghost use Rattle.event_graph.specs.Network.{splittable_count};
+ghost use Rattle.branch.specs.Lines.{IsAccepted};
+ghost use Rattle.branch.specs.Needed.{IsNeededToFind};
+ghost use Rattle.branch.specs.Step.Cases.{work_left};
+ghost use Rattle.diff_bounds.specs.Limits.{IsNear};
+ghost use Rattle.branch.specs.Step.Searched.{EndsAs, FindAdvances, IsAtCase, IsFindCutAfter, IsTrialFor, Keeps};
+
+use crate::answer::Found;
+use crate::levels::{start, times_in};
+use crate::search::{Entry, Search, split_case};
+use diff_bounds::Fit;
+use event_graph::{Network, Scribe, ScribeFailed};
+
+/// Looks for times that satisfy a network, by a search that closes at most `budget` cases. The scribe writes down the lines of a
+/// proof that there are none, or of one that was stopped. Where there are such times they are the candidate.
+pub fn find_times<S: Scribe>(
+    net: &Network,
+    search: &mut Search,
+    candidate: &mut [i64],
+    budget: u64,
+    scribe: &mut S,
+) -> Result<Found, ScribeFailed>
+    requires made { IsMadeFor net.now search.old.bounds }
+    requires net { IsNet net.now }
+    requires room { splittable_count net.now ≤ search.old.cases.room }
+    requires candidate { length candidate.old ≡ net.now.events }
+    requires budget { 0 < budget }
+    ensures made { IsMadeFor net.now search.new.bounds }
+    ensures room { search.new.cases.room ≡ search.old.cases.room }
+    ensures near { result ≡ Ok Found.Consistent → All IsNear candidate.new }
+    ensures lines { IfOk result (λ found. (lines : List ProofLine) × S.Grew scribe.old lines scribe.new
+        × Finds net.now budget lines search.new.leaves (Some candidate.new) found
+        × AtEachSplit net.now (IsNeededToFind net.now) lines) }
+    ensures count { OnOk result (IsCounted net.now budget search.new.leaves) }
+    ensures cut { OnErr result ((lines : List ProofLine) × S.WasCut scribe.old lines scribe.new
+        × IsAccepted net.now Nothing lines) }
+    ensures rose { OnErr result (Rose (S.faults scribe.old) (S.faults scribe.new)) }
+{
+    if start(net, search, None, budget) == Fit::Loop {
+        search.leaves = 1;
+        scribe.cut_loop(search.bounds.walk())?;
+        return Ok(Found::Inconsistent);
+    }
+    'cases: loop {
+        match try_times(net, search, candidate, scribe)? {
+            None => return Ok(Found::Consistent),
+            Some(Entry::AllClosed) => return Ok(Found::Inconsistent),
+            Some(Entry::Stopped) => return Ok(Found::Unsettled),
+            Some(Entry::Entered) => {}
+        }
+    }
+}
+
+// Tries the times of the case at hand, and splits it on the first constraint that they break. Without an answer they satisfy.
+fn try_times<S: Scribe>(
+    net: &Network,
+    search: &mut Search,
+    candidate: &mut [i64],
+    scribe: &mut S,
+) -> Result<Option<Entry>, ScribeFailed>
+    requires net { IsNet net.now }
+    requires case { IsAtCase net.now search.old }
+    requires candidate { length candidate.old ≡ net.now.events }
+    ensures same { Keeps net.now search.old search.new }
+    ensures always { (times : List ℤ) × MeetsAlways times net.now }
+    ensures ends { IfOk result (λ end. IfSome end (EndsAs net.now search.new)) }
+    ensures advances { IfOk result (λ end. (lines : List ProofLine) × S.Grew scribe.old lines scribe.new
+        × FindAdvances net.now search.old search.new candidate.new lines end) }
+    ensures cut { OnErr result ((lines : List ProofLine) × S.WasCut scribe.old lines scribe.new
+        × IsFindCutAfter net.now search.old.cases.chosen search.old.leaves lines) }
+    ensures rose { OnErr result (Rose (S.faults scribe.old) (S.faults scribe.new)) }
+    ensures work { IfOk result (λ end. end ≡ Some Entry.Entered
+        → work_left net.now search.new.budget search.new.leaves search.new.cases.chosen
+            < work_left net.now search.old.budget search.old.leaves search.old.cases.chosen) }
+{
+    times_in(net, search, candidate);
+    match net.broken(candidate) {
+        None => {
+            search.leaves += 1;
+            Ok(None)
+        }
+        Some(number) => Ok(Some(split_case(net, search, number, scribe)?)),
+    }
+}

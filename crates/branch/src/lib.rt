@@ -1,0 +1,23 @@
+//! The search over cases: whether a network of latest and earliest constraints has times that satisfy it, and the greatest
+//! separation of a pair of events. The contract of the crate: an answer is right, and the lines that its search writes down
+//! are a proof of it, or of as much as the budget allowed.
+#![tactic(auto)]
+
+mod answer;
+mod best;
+mod bounding;
+mod choice;
+mod choose;
+mod decisions;
+mod distances;
+mod finding;
+mod levels;
+mod look;
+mod raise;
+mod search;
+mod trial;
+mod work;
+
+pub use answer::{Answer, Found, Root};
+pub use event_graph::{Quiet, Scribe, ScribeFailed};
+pub use work::{Work, find, greatest, root_bound};

@@ -1,0 +1,160 @@
+//! Raising a set of events above all others.
+
+ghost use Rattle.std.specs.Prelude.{◌≡◌, ◌+◌, ◌*◌, ◌⊎◌, ℕ, pos, ◌+ℤ◌, ◌-ℤ◌, ◌≤ℤ◌, ◌<ℤ◌, true, false, All, Some, length, slice_get};
+ghost use Rattle.event_graph.specs.Times.{raised};
+ghost use Rattle.diff_bounds.specs.Limits.{IsNear, near_limit, weight_limit};
+ghost use Rattle.branch.specs.Step.Raising.{AreRaised, IsNearSeparation, IsRise, raised_to};
+
+use itv_base::{END_LIMIT, EventId};
+
+/// Raises the events of a set by one number, so that each of them is above every other event by more than the limit of ends, and
+/// the separation of a pair is at least one that is to be reached. No finite end reaches across such a gap.
+pub fn raise(times: &mut [i64], set: &[bool], from: EventId, to: EventId, reach: i64)
+    requires near { All IsNear times.old }
+    requires count { length set.now ≡ length times.old }
+    requires lacks { slice_get set.now from.0 ≡ Some false }
+    requires holds { slice_get set.now to.0 ≡ Some true }
+    requires reach { IsNearSeparation reach }
+    ensures { AreRaised set.now from to reach times.old times.new }
+{
+    let by = rise(times, set, from, to, reach);
+    raise_by(times, set, by);
+}
+
+// Raises the events of a set by a number.
+fn raise_by(times: &mut [i64], set: &[bool], by: i64)
+    requires near { All IsNear times.old }
+    requires count { length set.now ≡ length times.old }
+    requires low { pos 0 ≤ℤ by }
+    requires high { by ≤ℤ pos (5 * near_limit) }
+    ensures { (n : ℕ) → by ≡ pos n → times.new ≡ raised set.now n times.old }
+{
+    for event in 0..times.len() {
+        times[event] = moved(times[event], set[event], by);
+    }
+}
+
+// The time of an event that is raised by a number if it is in the set.
+fn moved(time: i64, is_in: bool, by: i64) -> i64
+    requires time { IsNear time }
+    requires low { pos 0 ≤ℤ by }
+    requires high { by ≤ℤ pos (5 * near_limit) }
+    ensures { (n : ℕ) → by ≡ pos n → result ≡ raised_to is_in time n }
+{
+    if is_in { later(time, by) } else { time }
+}
+
+// A time that comes a number later.
+fn later(time: i64, by: i64) -> i64
+    requires time { IsNear time }
+    requires low { pos 0 ≤ℤ by }
+    requires high { by ≤ℤ pos (5 * near_limit) }
+    ensures { result ≡ time +ℤ by }
+{
+    time + by
+}
+
+// The least time of a set and the greatest of all others.
+#[derive(Clone, Copy)]
+struct Span {
+    lowest: i64,
+    highest: i64,
+}
+
+// By how much the events of the set have to be raised.
+fn rise(times: &[i64], set: &[bool], from: EventId, to: EventId, reach: i64) -> i64
+    requires near { All IsNear times.now }
+    requires count { length set.now ≡ length times.now }
+    requires lacks { slice_get set.now from.0 ≡ Some false }
+    requires holds { slice_get set.now to.0 ≡ Some true }
+    requires reach { IsNearSeparation reach }
+    ensures { IsRise set.now from to reach times.now result }
+{
+    let first = times[from.0 as usize];
+    let last = times[to.0 as usize];
+    let mut span = Span {
+        lowest: last,
+        highest: first,
+    };
+    for event in 0..times.len() {
+        span = widened(span, times[event], set[event]);
+    }
+    enough(span, first, last, reach)
+}
+
+// The span of one more time.
+fn widened(span: Span, time: i64, is_in: bool) -> Span
+    requires lowest { IsNear span.lowest }
+    requires highest { IsNear span.highest }
+    requires time { IsNear time }
+    ensures lowest { IsNear result.lowest }
+    ensures highest { IsNear result.highest }
+    ensures falls { result.lowest ≤ℤ span.lowest }
+    ensures rises { span.highest ≤ℤ result.highest }
+    ensures set { is_in ≡ true → result.lowest ≤ℤ time }
+    ensures others { is_in ≡ false → time ≤ℤ result.highest }
+{
+    if is_in {
+        Span {
+            lowest: lesser(span.lowest, time),
+            ..span
+        }
+    } else {
+        Span {
+            highest: greater(span.highest, time),
+            ..span
+        }
+    }
+}
+
+// The lesser of two numbers.
+fn lesser(a: i64, b: i64) -> i64
+    ensures first { result ≤ℤ a }
+    ensures second { result ≤ℤ b }
+    ensures either { (result ≡ a) ⊎ (result ≡ b) }
+{
+    if a < b { a } else { b }
+}
+
+// The greater of two numbers.
+fn greater(a: i64, b: i64) -> i64
+    ensures first { a ≤ℤ result }
+    ensures second { b ≤ℤ result }
+    ensures either { (result ≡ a) ⊎ (result ≡ b) }
+{
+    if a < b { b } else { a }
+}
+
+// The number that closes the gap and reaches the separation.
+fn enough(span: Span, first: i64, last: i64, reach: i64) -> i64
+    requires lowest { IsNear span.lowest }
+    requires highest { IsNear span.highest }
+    requires first { IsNear first }
+    requires last { IsNear last }
+    requires reach { IsNearSeparation reach }
+    ensures low { pos 0 ≤ℤ result }
+    ensures high { result ≤ℤ pos (5 * near_limit) }
+    ensures gap { (span.highest +ℤ pos weight_limit) <ℤ (span.lowest +ℤ result) }
+    ensures reached { reach ≤ℤ ((last -ℤ first) +ℤ result) }
+{
+    greater(greater(gap(span), shortfall(first, last, reach)), 0)
+}
+
+// How much it takes to lift the lowest above the highest by more than the limit of ends.
+fn gap(span: Span) -> i64
+    requires lowest { IsNear span.lowest }
+    requires highest { IsNear span.highest }
+    ensures { result ≡ ((span.highest -ℤ span.lowest) +ℤ pos (weight_limit + 1)) }
+{
+    span.highest - span.lowest + END_LIMIT + 1
+}
+
+// How much a separation lacks of one that is to be reached.
+fn shortfall(first: i64, last: i64, reach: i64) -> i64
+    requires first { IsNear first }
+    requires last { IsNear last }
+    requires reach { IsNearSeparation reach }
+    ensures { result ≡ reach -ℤ (last -ℤ first) }
+{
+    reach - (last - first)
+}

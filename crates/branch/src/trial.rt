@@ -1,0 +1,11 @@
+//! Times that are tried on a network, and what choosing a split needs.
+
+use crate::distances::Distances;
+
+/// Candidate times of a case, in picoseconds, a flag for each event that can be raised from them, and distances of constraints.
+#[derive(Debug, Drop)]
+pub struct Trial {
+    pub candidate: Vec<i64>,
+    pub ray: Vec<bool>,
+    pub distances: Distances,
+}

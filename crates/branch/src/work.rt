@@ -1,0 +1,211 @@
+//! The working memory of the searches.
+
+ghost use Rattle.std.specs.Prelude.{◌≡◌, ◌<◌, ◌≤ℤ◌, ◌↔◌, ℤ, List, IsTrue, IsSome, IsSomeAnd, IfOk, OnOk, OnErr, Ok, Some, None};
+ghost use Rattle.itv_base.specs.Outside.{Rose};
+ghost use Rattle.event_graph.specs.Proof.{Bound, Nothing, ProofLine};
+ghost use Rattle.event_graph.specs.Satisfying.{Satisfies};
+ghost use Rattle.event_graph.specs.Times.{separation};
+ghost use Rattle.branch.specs.Answers.{Answers, Finds, IsCounted, IsRoot};
+ghost use Rattle.event_graph.specs.Reading.{AtEachSplit};
+ghost use Rattle.event_graph.specs.Network.{splittable_count};
+ghost use Rattle.branch.specs.Lines.{IsAccepted};
+ghost use Rattle.branch.specs.Needed.{IsNeededToBound, IsNeededToFind};
+ghost use Rattle.branch.specs.Work.{IsMadeFor, known_separation};
+
+use crate::answer::{Answer, Found, Root};
+use crate::best::{Aim, Best};
+use crate::bounding::{bound_pair, root_of, separation_of};
+use crate::decisions::Decisions;
+use crate::distances::Distances;
+use crate::finding::find_times;
+use crate::search::Search;
+use crate::trial::Trial;
+use diff_bounds::Bounds;
+use event_graph::{Network, Scribe, ScribeFailed};
+use itv_base::{EventId, NoMemory};
+use std::alloc::Global;
+use std::marker::Model;
+
+/// The working memory of the searches on one network. It keeps the times that the last [`find`] found, which are the known times,
+/// and what the last search answered.
+#[derive(Debug, Drop)]
+pub struct Work {
+    search: Search,
+    trial: Trial,
+    best: Best,
+    known: Vec<i64>,
+    has_known: bool,
+}
+
+impl Model for Work {
+    ghost use Rattle.branch.specs.Work.{View};
+
+    ghost Value = { View };
+
+    ghost use Rattle.branch.specs.Step.Inside.{IsSound, view_in};
+
+    ghost view = { view_in };
+
+    ghost invariant = { IsSound };
+}
+
+impl Work {
+    /// Working memory for a network. Takes all the memory that the searches ever need, or answers `NoMemory`. There are no known
+    /// times yet.
+    pub fn new(alloc: Global, net: &Network) -> Result<Work, NoMemory>
+        ensures made { IfOk result (IsMadeFor net.now) }
+        ensures known { IfOk result (λ work. work.known ≡ None) }
+        ensures leaves { IfOk result (λ work. work.leaves ≡ 0) }
+    {
+        let events = net.events() as usize;
+        Ok(Work {
+            search: Search {
+                bounds: Bounds::new(alloc, net)?,
+                cases: Decisions::new(alloc, net.splittable_count())?,
+                leaves: 0,
+                budget: 0,
+            },
+            trial: Trial {
+                candidate: Vec::from_elem(alloc, 0, events)?,
+                ray: Vec::from_elem(alloc, false, events)?,
+                distances: Distances::new(alloc, net)?,
+            },
+            best: Best {
+                value: 0,
+                times: Vec::from_elem(alloc, 0, events)?,
+            },
+            known: Vec::from_elem(alloc, 0, events)?,
+            has_known: false,
+        })
+    }
+
+    /// How many cases the last search closed.
+    pub fn leaves(&self) -> u64
+        ensures { result ≡ self.now.leaves }
+    {
+        self.search.leaves
+    }
+
+    /// Whether there are known times.
+    pub fn has_known(&self) -> bool
+        ensures { IsTrue result ↔ IsSome self.now.known }
+    {
+        self.has_known
+    }
+
+    /// The known times in picoseconds, one per event.
+    pub fn known(&self) -> &[i64]
+        requires { IsSome self.now.known }
+        ensures { self.now.known ≡ Some result.now }
+    {
+        &self.known
+    }
+
+    /// The times in picoseconds, one per event, that the last search for a bound found.
+    pub fn times(&self) -> &[i64]
+        ensures { result.now ≡ self.now.times }
+    {
+        &self.best.times
+    }
+
+    /// For each event whether it is raised, where the last search for a bound answered [`Answer::Unbounded`].
+    pub fn ray(&self) -> &[bool]
+        ensures { result.now ≡ self.now.ray }
+    {
+        &self.trial.ray
+    }
+}
+
+/// Looks for times that satisfy a network, by a search over the causes of its latest and earliest constraints which closes at most
+/// `budget` cases: a case is split on a constraint that the times of its bounds break, and closed where its edges close a loop with
+/// a negative sum. Where there are such times they are known afterwards, and in every other case none are. The scribe writes down
+/// the lines of a proof that there are none, as far as the search came.
+///
+/// The networks and their search are after McMillan and Dill, Algorithms for interface timing verification (1992).
+pub fn find<S: Scribe>(
+    work: &mut Work,
+    net: &Network,
+    budget: u64,
+    scribe: &mut S,
+) -> Result<Found, ScribeFailed>
+    requires made { IsMadeFor net.now work.old }
+    requires budget { 0 < budget }
+    ensures made { IsMadeFor net.now work.new }
+    ensures known { IsSome work.new.known ↔ (result ≡ Ok Found.Consistent) }
+    ensures lines { IfOk result (λ found. (lines : List ProofLine) × S.Grew scribe.old lines scribe.new
+        × Finds net.now budget lines work.new.leaves work.new.known found
+        × AtEachSplit net.now (IsNeededToFind net.now) lines) }
+    ensures count { OnOk result (IsCounted net.now budget work.new.leaves) }
+    ensures cut { OnErr result ((lines : List ProofLine) × S.WasCut scribe.old lines scribe.new
+        × IsAccepted net.now Nothing lines) }
+    ensures rose { OnErr result (Rose (S.faults scribe.old) (S.faults scribe.new)) }
+{
+    work.has_known = false;
+    let found = find_times(
+        net,
+        &mut work.search,
+        &mut work.trial.candidate,
+        budget,
+        scribe,
+    )?;
+    if found == Found::Consistent {
+        work.known.copy_from_slice(&work.trial.candidate);
+        work.has_known = true;
+    }
+    Ok(found)
+}
+
+/// Finds the greatest separation of a pair of events, by a search that starts from known times and closes at most `budget` cases: a
+/// case is closed where its bounds allow no more than the best separation so far, or attain theirs by satisfying times. The scribe
+/// writes down the lines of a proof of the answer, as far as the search came. The known times stay.
+pub fn greatest<S: Scribe>(
+    work: &mut Work,
+    net: &Network,
+    from: EventId,
+    to: EventId,
+    budget: u64,
+    scribe: &mut S,
+) -> Result<Answer, ScribeFailed>
+    requires made { IsMadeFor net.now work.old }
+    requires known { IsSomeAnd work.old.known (λ times. Satisfies times net.now) }
+    requires from { from.0 < net.now.events }
+    requires to { to.0 < net.now.events }
+    requires budget { 0 < budget }
+    ensures made { IsMadeFor net.now work.new }
+    ensures known { work.new.known ≡ work.old.known }
+    ensures lines { IfOk result (λ answer. (lines : List ProofLine) × S.Grew scribe.old lines scribe.new
+        × Answers net.now from to budget lines work.new.leaves work.new.times work.new.ray answer
+        × AtEachSplit net.now (IsNeededToBound net.now from to (known_separation work.old from to)) lines) }
+    ensures count { OnOk result (IsCounted net.now budget work.new.leaves) }
+    ensures times { OnOk result (Satisfies work.new.times net.now) }
+    ensures least { OnOk result (known_separation work.old from to ≤ℤ separation work.new.times from to) }
+    ensures cut { OnErr result ((lines : List ProofLine) × S.WasCut scribe.old lines scribe.new
+        × ((value : ℤ) × IsAccepted net.now (Bound from to value) lines)) }
+    ensures rose { OnErr result (Rose (S.faults scribe.old) (S.faults scribe.new)) }
+{
+    let known = separation_of(&work.known, from, to);
+    work.best.take(known, &work.known);
+    let aim = Aim { from, to, known };
+    bound_pair(
+        net,
+        &mut work.search,
+        &mut work.trial,
+        &mut work.best,
+        aim,
+        budget,
+        scribe,
+    )
+}
+
+/// The root bound of a pair of events: its greatest separation over the times that meet the always-edges alone. It leaves the known
+/// times, the count of closed cases, the times and the ray as they are.
+pub fn root_bound(work: &mut Work, net: &Network, from: EventId, to: EventId) -> Root
+    requires made { IsMadeFor net.now work.old }
+    requires from { from.0 < net.now.events }
+    requires to { to.0 < net.now.events }
+    ensures root { IsRoot net.now from to result }
+    ensures made { IsMadeFor net.now work.new }
+    ensures others { work.new ≡ record work.old { bounds = work.new.bounds } }
+{
+    root_of(net, &mut work.search, from, to)
+}
