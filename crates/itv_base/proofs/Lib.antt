@@ -1,2 +1,9 @@
+pub mod Faults
 mod FilesByName
 pub mod Written
+pub mod Numbers
+pub mod Numerals
+pub mod Printed
+pub mod Cuts
+pub mod Runs
+mod Streams

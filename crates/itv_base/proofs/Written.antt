@@ -1,61 +1,96 @@
--- Several puts in a row: what is done of a text, and what is left of it.
-use Rattle.std.proofs.Common.{◌≡◌, ℕ, ◌+◌, ◌≤◌, List, [], ◌++◌, length, take, Option, Some, None, Ok, Err, refl, sym, ◌∙◌, ap, append_assoc, append-nil, arith, length-append, drop, map, get_or, ◌<◌, Bor, add-one, drop-cons}
+-- Several puts in a row: what was put of a text, and what is left of it.
+use Rattle.std.proofs.Common.{◌≡◌, ℕ, ◌+◌, ◌<◌, ◌≤◌, List, [], ◌++◌, length, take, drop, map, get_or, Option, Some, None, option_map, Result, Ok, Err, Bor, refl, sym, ◌∙◌, ap, append_assoc, append-nil, arith, length-append, add-one, drop-cons}
 use Rattle.std.specs.List.{concat}
-use Rattle.std.proofs.lemmas.List.{drop-map}
 use Rattle.std.specs.Bool.{⊤}
 use Rattle.std.proofs.Math.Seq.{take-append-add}
-use Rattle.std.proofs.lemmas.List.{take-append-le}
-use Rattle.itv_base.specs.Outside.{grown, Puts}
+use Rattle.std.proofs.lemmas.List.{drop-map, take-append-le}
+use Rattle.itv_base.specs.Outside.{SinkTold, grown, CutShort, Puts}
 
-pub grown-nil : (o : Option (List ℕ)) → o ≡ grown o []
-grown-nil None = refl
-grown-nil (Some bytes) = simp append-nil
+known-nil : (o : Option (List ℕ)) → o ≡ option_map (λ known. known ++ []) o
+known-nil None = refl
+known-nil (Some known) = simp append-nil
 
-pub grown-append : (o : Option (List ℕ)) (a b : List ℕ) → grown (grown o a) b ≡ grown o (a ++ b)
-grown-append None a b = refl
-grown-append (Some bytes) a b = ap Some (append_assoc bytes a b)
+known-append : (o : Option (List ℕ)) (a b : List ℕ) → option_map (λ known. known ++ b) (option_map (λ known. known ++ a) o) ≡ option_map (λ known. known ++ (a ++ b)) o
+known-append None a b = refl
+known-append (Some known) a b = ap Some (append_assoc known a b)
+
+pub grown-nil : (told : SinkTold) → told ≡ grown told []
+grown-nil told = ap (λ o. record told { written = o }) (known-nil told.written)
+
+pub grown-append : (told : SinkTold) (a b : List ℕ) → grown (grown told a) b ≡ grown told (a ++ b)
+grown-append told a b = ap (λ o. record told { written = o }) (known-append told.written a b)
+
+-- ---- one put after another
+
+-- a front of a text was put, which is a front of a longer one
+pub cut_more : (old new : SinkTold) (xs ys : List ℕ) → CutShort old new xs → CutShort old new (xs ++ ys)
+cut_more old new xs ys c =
+    let n : ℕ = c.front.0 in
+    let within : n ≤ length xs = c.front.1 in
+    record {
+      front = (n, omega (arith, length-append xs ys), c.front.2 ∙ ap (λ f. (grown old f).written) (sym (take-append-le n xs ys within)));
+      count = c.count;
+      rose = c.rose;
+    }
+
+-- a text was put, and then a front of another
+pub cut_then : (old mid new : SinkTold) (xs ys : List ℕ) → mid ≡ grown old xs → CutShort mid new ys → CutShort old new (xs ++ ys)
+cut_then old mid new xs ys e c =
+    let n : ℕ = c.front.0 in
+    let within : n ≤ length ys = c.front.1 in
+    let front : xs ++ take n ys ≡ take (length xs + n) (xs ++ ys) = sym (take-append-add xs ys n) in
+    let written : new.written ≡ (grown old (take (length xs + n) (xs ++ ys))).written =
+    c.front.2 ∙ ap (λ m. (grown m (take n ys)).written) e ∙ known-append old.written xs (take n ys) ∙ ap (λ f. (grown old f).written) front in
+    record {
+      front = (length xs + n, omega (arith, length-append xs ys), written);
+      count = rw e at c.count;
+      rose = rw e at c.rose;
+    }
+
+-- a text was put, and then another, or a front of it
+pub puts_then : {E : Type 0} (old mid new : SinkTold) (xs ys : List ℕ) (r : Result ⊤ E) → mid ≡ grown old xs → Puts mid new ys r → Puts old new (xs ++ ys) r
+puts_then old mid new xs ys (Ok x) e p = p ∙ ap (λ m. grown m ys) e ∙ grown-append old xs ys
+puts_then old mid new xs ys (Err fault) e p = cut_then old mid new xs ys e p
+
+-- the same text, written otherwise
+pub puts_same : {E : Type 0} (old new : SinkTold) (xs ys : List ℕ) (r : Result ⊤ E) → xs ≡ ys → Puts old new xs r → Puts old new ys r
+puts_same old new xs ys (Ok x) e p = p ∙ ap (grown old) e
+puts_same old new xs ys (Err fault) e p = rw (← e) p
+
+-- ---- loops
 
 -- Of the whole text some is put, without a fault, and the rest is left.
-pub record Left {K : Type 0} (written : K → Option (List ℕ)) (faults : K → ℕ) (old now : K) (left whole : List ℕ) : Type 0 where
+pub record Left (old now : SinkTold) (left whole : List ℕ) : Type 0 where
   pub done : List ℕ
   pub parts : done ++ left ≡ whole
-  pub grew : written now ≡ grown (written old) done
-  pub still : faults now ≡ faults old
+  pub grew : now ≡ grown old done
 
 -- all of it is left at first
-pub left_all : {K : Type 0} (written : K → Option (List ℕ)) (faults : K → ℕ) (old : K) (whole : List ℕ) → Left written faults old old whole whole
-left_all written faults old whole = record { done = []; parts = refl; grew = grown-nil (written old); still = refl }
+pub left_all : (old : SinkTold) (whole : List ℕ) → Left old old whole whole
+left_all old whole = record { done = []; parts = refl; grew = grown-nil old }
 
 -- a piece more is put
-pub left_after : {K : Type 0} (E : Type 0) (written : K → Option (List ℕ)) (faults : K → ℕ) (old now next : K) (piece rest left whole : List ℕ) (x : ⊤)
-    → Left written faults old now left whole → left ≡ piece ++ rest → Puts {E = E} written faults now next piece (Ok x) → Left written faults old next rest whole
-left_after E written faults old now next piece rest left whole x l e p = record {
+pub left_after : (old now next : SinkTold) (piece rest left whole : List ℕ) → Left old now left whole → left ≡ piece ++ rest → next ≡ grown now piece → Left old next rest whole
+left_after old now next piece rest left whole l e p = record {
   done = l.done ++ piece;
   parts = append_assoc l.done piece rest ∙ ap (λ r. l.done ++ r) (sym e) ∙ l.parts;
-  grew = p.0 ∙ ap (λ o. grown o piece) l.grew ∙ grown-append (written old) l.done piece;
-  still = p.1 ∙ l.still;
+  grew = p ∙ ap (λ m. grown m piece) l.grew ∙ grown-append old l.done piece;
 }
 
 -- nothing is left in the end
-pub left_none : {K : Type 0} (E : Type 0) (written : K → Option (List ℕ)) (faults : K → ℕ) (old now : K) (left whole : List ℕ) (x : ⊤)
-    → Left written faults old now left whole → left ≡ [] → Puts {E = E} written faults old now whole (Ok x)
-left_none E written faults old now left whole x l e =
-    (l.grew ∙ ap (λ d. grown (written old) d) (sym (append-nil l.done) ∙ ap (λ r. l.done ++ r) (sym e) ∙ l.parts), l.still)
+pub left_none : (old now : SinkTold) (left whole : List ℕ) → Left old now left whole → left ≡ [] → now ≡ grown old whole
+left_none old now left whole l e =
+    l.grew ∙ ap (grown old) (sym (append-nil l.done) ∙ ap (λ r. l.done ++ r) (sym e) ∙ l.parts)
 
 -- a piece more fails
-pub left_cut : {K D E : Type 0} (written : K → Option (List ℕ)) (faults : K → ℕ) (old now next : K) (piece rest left whole : List ℕ) (d : D) (e : E)
-    → Left written faults old now left whole → left ≡ piece ++ rest → Puts written faults now next piece (Err d) → Puts written faults old next whole (Err e)
-left_cut written faults old now next piece rest left whole d e l parts p =
-    let n : ℕ = p.0.0 in
-    let whole_is : l.done ++ (piece ++ rest) ≡ whole = ap (λ r. l.done ++ r) (sym parts) ∙ l.parts in
-    let within : n ≤ length piece = p.0.1 in
-    let fits : length l.done + n ≤ length whole = rw (← whole_is) (omega (arith, length-append l.done (piece ++ rest), length-append piece rest)) in
-    let front : l.done ++ take n piece ≡ take (length l.done + n) whole =
-    rw (← whole_is) (sym (take-append-add l.done (piece ++ rest) n ∙ ap (λ r. l.done ++ r) (take-append-le n piece rest within))) in (
-      (length l.done + n, fits, p.0.2 ∙ ap (λ o. grown o (take n piece)) l.grew ∙ grown-append (written old) l.done (take n piece) ∙ ap (λ f. grown (written old) f) front),
-      rw l.still at p.1,
-      rw l.still at p.2,
-    )
+pub left_cut : (old now next : SinkTold) (piece rest left whole : List ℕ) → Left old now left whole → left ≡ piece ++ rest → CutShort now next piece → CutShort old next whole
+left_cut old now next piece rest left whole l e c =
+    let all : l.done ++ (piece ++ rest) ≡ whole = ap (λ r. l.done ++ r) (sym e) ∙ l.parts in
+    rw (← all) (cut_then old now next l.done (piece ++ rest) l.grew (cut_more now next piece rest c))
+
+-- the last piece, whether it is put or fails
+pub left_last : {E : Type 0} (old now next : SinkTold) (piece whole : List ℕ) (r : Result ⊤ E) → Left old now piece whole → Puts now next piece r → Puts old next whole r
+left_last old now next piece whole r l p = puts_same old next (l.done ++ piece) whole r l.parts (puts_then old now next l.done piece r l.grew p)
 
 -- the bytes of the pieces from one on
 pub pieces_at : (pieces : List (Bor (List ℕ))) (i : ℕ) (d : Bor (List ℕ)) → i < length pieces

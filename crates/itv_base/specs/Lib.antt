@@ -1,3 +1,9 @@
 pub mod Range
+pub mod Names
 pub mod Outside
+pub mod Reading
+pub mod Characters
+pub mod Cuts
+pub mod Numerals
 pub mod Memory
+pub mod Step

@@ -6,7 +6,7 @@ use Rattle.std.specs.Cmp.Lexicographic.{slice_cmp}
 use Rattle.std.specs.Ordering.{nat_cmp}
 use Rattle.std.specs.FinMap as map
 use Rattle.std.specs.Global.{Vec}
-use Rattle.itv_base.specs.Outside.{Files, file_of, raised}
+use Rattle.itv_base.specs.Outside.{Files, ShelfTold, SinkTold, file_of, raised}
 use Rattle.itv_base.specs.declared.shelf.FetchFault.{FetchFault}
 use Rattle.itv_base.specs.declared.shelf.FetchFault.TheVariants.{Failed, NoMemory}
 
@@ -22,10 +22,15 @@ pub record MemShelf : Type 0 where
   pub faults : ℕ
   pub last : List ℕ
 
+-- the parts of such a shelf, as its model is coded
 abbrev pub mem_shelf_code : Coded MemShelf
 mem_shelf_code =
     code_by (Files × (List ℕ × (ℕ × (ℕ × List ℕ)))) (coded× (map.code {R = slice_cmp nat_cmp} (coded_list coded_ℕ) (coded_list coded_ℕ)) (coded× (coded_list coded_ℕ) (coded× coded_ℕ (coded× coded_ℕ (coded_list coded_ℕ)))))
     (λ s. (s.files, (s.failing, (s.calls, (s.faults, s.last))))) (λ p. record { files = p.0; failing = p.1.0; calls = p.1.1.0; faults = p.1.1.1.0; last = p.1.1.1.1 }) (λ _. refl)
+
+-- What such a shelf tells. It is faithful where no call is to fail.
+abbrev pub shelf_told : MemShelf → ShelfTold
+shelf_told s = record { files = Some s.files; faults = s.faults; last = s.last; is_faithful = length s.failing == 0 }
 
 -- the next fetch fails if it asks for this name: the call is listed, or there is no such file
 abbrev pub is_refused : MemShelf → List ℕ → Bool
@@ -46,6 +51,10 @@ pub record MemSink : Type 0 where
   pub failing : Option ℕ
   pub calls : ℕ
   pub faults : ℕ
+
+-- what such a sink tells
+abbrev pub sink_told : MemSink → SinkTold
+sink_told s = record { written = Some s.bytes; faults = s.faults }
 
 -- the call with this number is the one that is to fail
 abbrev pub is_named : Option ℕ → ℕ → Bool

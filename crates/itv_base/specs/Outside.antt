@@ -1,5 +1,5 @@
 -- What the calls of a shelf and of a sink do, and what a failure of theirs says.
-use Rattle.std.specs.Prelude.{◌≡◌, ℕ, ⊤, ◌+◌, ◌-◌, ◌^◌, ◌≤◌, min, List, ◌++◌, length, take, Option, option_map, Result, Ok, Err}
+use Rattle.std.specs.Prelude.{◌≡◌, ℕ, ⊤, ◌+◌, ◌-◌, ◌^◌, ◌<◌, ◌≤◌, ◌⊎◌, min, Bool, true, List, ◌++◌, length, take, Option, Some, IfSome, IsNone, option_map, Result, Ok, Err}
 use Rattle.std.specs.Ordering.{nat_cmp}
 use Rattle.std.specs.Cmp.Lexicographic.{slice_cmp}
 use Rattle.std.specs.FinMap as map
@@ -19,34 +19,71 @@ file_of files name = map.get files name
 abbrev pub last_count : ℕ
 last_count = 2 ^ 64 - 1
 
--- a count of faults rose in a call: it grew, or it stands at its last value after it
-abbrev pub Rose : ℕ → ℕ → Type 0
-Rose before now = min (before + 1) last_count ≤ now
-
 -- a count of faults after one more
 abbrev pub raised : ℕ → ℕ
 raised count = min (count + 1) last_count
 
--- The count of faults and the name that failed last, before and after a fetch: a failure alone changes them.
-abbrev pub FetchCounts : ℕ → ℕ → List ℕ → List ℕ → List ℕ → Result (Vec ℕ) FetchFault → Type 0
-FetchCounts before now was last name (Ok bytes) = (now ≡ before) × (last ≡ was)
-FetchCounts before now was last name (Err Failed) = (before ≤ now) × Rose before now × (last ≡ name)
-FetchCounts before now was last name (Err NoMemory) = (now ≡ before) × (last ≡ was)
+-- a count of faults rose in a call: it grew, or it stands at its last value after it
+abbrev pub Rose : ℕ → ℕ → Type 0
+Rose before now = (before < now) ⊎ (now ≡ last_count)
 
--- how often the fetches of a shelf have failed, and the name that was asked in the latest one
+-- What a shelf tells: its files, if it does; how often its fetches have failed; the name that was asked in the latest one that did; and
+-- whether its fetches fail only for names that it has no file of.
+pub record ShelfTold : Type 0 where
+  pub files : Option Files
+  pub faults : ℕ
+  pub last : List ℕ
+  pub is_faithful : Bool
+
+-- what a sink tells: what was written, if it does, and how often its puts have failed
+pub record SinkTold : Type 0 where
+  pub written : Option (List ℕ)
+  pub faults : ℕ
+
+-- ---- fetches
+
+-- where the files are told, the file of a name is there, and these are its first bytes, or all where there are fewer
+abbrev pub HasFront : Option Files → List ℕ → ℕ → List ℕ → Type 0
+HasFront told name most bytes = IfSome told (λ files. option_map (take most) (file_of files name) ≡ Some bytes)
+
+-- where the files are told, there is none of a name
+abbrev pub IsMissing : Option Files → List ℕ → Type 0
+IsMissing told name = IfSome told (λ files. IsNone (file_of files name))
+
+-- a fetch of a name failed: the count rose, the name is the last that failed, and what else is told stands
+pub record FailedFor (name : List ℕ) (old new : ShelfTold) : Type 0 where
+  pub files : new.files ≡ old.files
+  pub faithful : new.is_faithful ≡ old.is_faithful
+  pub count : old.faults ≤ new.faults
+  pub rose : Rose old.faults new.faults
+  pub last : new.last ≡ name
+  pub missing : old.is_faithful ≡ true → IsMissing old.files name
+
+-- What a fetch answers, and what it leaves: at most so many bytes, which are the first of the file where files are told. A failure
+-- alone changes what the shelf tells.
+abbrev pub Fetches : ShelfTold → ShelfTold → List ℕ → ℕ → Result (Vec ℕ) FetchFault → Type 0
+Fetches old new name most (Ok bytes) = (new ≡ old) × (length bytes.items ≤ most) × HasFront old.files name most bytes.items
+Fetches old new name most (Err Failed) = FailedFor name old new
+Fetches old new name most (Err NoMemory) = new ≡ old
+
+-- how often the fetches of a shelf that tells no files have failed, and the name that was asked in the latest one
 pub record Failures : Type 0 where
   pub faults : ℕ
   pub last : List ℕ
 
--- what a sink tells of its bytes, with a piece at their end
-abbrev pub grown : Option (List ℕ) → List ℕ → Option (List ℕ)
-grown written piece = option_map (λ bytes. bytes ++ piece) written
+-- ---- puts
 
--- a sink took a front of the piece
-abbrev pub GrewByFront : Option (List ℕ) → Option (List ℕ) → List ℕ → Type 0
-GrewByFront before now piece = (n : ℕ) × (n ≤ length piece) × (now ≡ grown before (take n piece))
+-- what a sink tells with some bytes more
+abbrev pub grown : SinkTold → List ℕ → SinkTold
+grown told bytes = record told { written = option_map (λ known. known ++ bytes) told.written }
+
+-- a put failed: a front of the bytes was written, and the count rose
+pub record CutShort (old new : SinkTold) (bytes : List ℕ) : Type 0 where
+  pub front : (n : ℕ) × (n ≤ length bytes) × (new.written ≡ (grown old (take n bytes)).written)
+  pub count : old.faults ≤ new.faults
+  pub rose : Rose old.faults new.faults
 
 -- What one put or several did to a sink: they appended all of the bytes, or failed and appended a front of them.
-abbrev pub Puts : {K E : Type 0} → (K → Option (List ℕ)) → (K → ℕ) → K → K → List ℕ → Result ⊤ E → Type 0
-Puts written faults old new bytes (Ok x) = (written new ≡ grown (written old) bytes) × (faults new ≡ faults old)
-Puts written faults old new bytes (Err e) = GrewByFront (written old) (written new) bytes × (faults old ≤ faults new) × Rose (faults old) (faults new)
+abbrev pub Puts : {E : Type 0} → SinkTold → SinkTold → List ℕ → Result ⊤ E → Type 0
+Puts old new bytes (Ok x) = new ≡ grown old bytes
+Puts old new bytes (Err e) = CutShort old new bytes

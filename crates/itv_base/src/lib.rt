@@ -1,12 +1,15 @@
-//! What every crate of the verifier stands on: ranges of delays, the names of events and edges, texts, and the outside.
+//! What every crate of the verifier stands on: limits, ranges of delays, names, texts and the numbers in them, and the outside.
 //! The contract of the outside: a fetch gives the first bytes of the told file, and a put appends its piece. Each fails only
 //! where its count of faults rose in the call, and a fetch that failed leaves its name as the last one.
 #![tactic(auto)]
 
+mod characters;
+mod decimal;
 mod limits;
 mod listing;
 mod names;
 mod range;
+mod scan;
 mod shelf;
 mod shelf_dir;
 mod shelf_mem;
@@ -16,14 +19,17 @@ mod sink_out;
 mod text;
 mod texts;
 
+pub use characters::{is_mark, is_name, is_name_byte};
+pub use decimal::{end_text, is_numeral, number_text, signed_text, value_up_to};
 pub use limits::{
     DEFAULT_BUDGET, END_LIMIT, FILE_LIMIT, MAX_BUDGET, MAX_CAUSES, MAX_CELLS, MAX_CONSTRAINTS,
-    MAX_CYCLES, MAX_EVENTS, MAX_MATRIX_EVENTS, MAX_PARTS, MAX_ROWS, MAX_SEARCH_CELLS,
-    MAX_SELF_SIZE, MAX_SHEET_NAMES, REPORT_LIMIT,
+    MAX_CYCLES, MAX_EVENTS, MAX_MATRIX_EVENTS, MAX_NAME_LEN, MAX_PARTS, MAX_ROWS, MAX_SEARCH_CELLS,
+    MAX_SELF_SIZE, MAX_SHEET_NAMES, MAX_SHIFT, REPORT_LIMIT,
 };
 pub use listing::Listing;
 pub use names::{EdgeName, EventId, EventName, RuleKind, Side};
 pub use range::{Range, RangeFault};
+pub use scan::{split_digits, split_name, strip};
 pub use shelf::{FetchFault, Shelf};
 pub use shelf_dir::ShelfDir;
 pub use shelf_mem::ShelfMem;

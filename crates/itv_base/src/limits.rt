@@ -1,4 +1,5 @@
-//! The limits of the program. Each number is allowed, and the next one is refused.
+//! The limits of the program. Each number is allowed, and the next one is refused. Definitions and contracts cite them by name,
+//! and at the end of this file each is held to its number, so that a limit is changed in two places or not at all.
 
 /// Bytes of a design file or a sheet file.
 pub const FILE_LIMIT: u32 = 4_194_304;
@@ -14,6 +15,12 @@ pub const MAX_SHEET_NAMES: u64 = 64;
 
 /// Cycles of a netlist.
 pub const MAX_CYCLES: u32 = 256;
+
+/// Characters of the name of a part, and of a tag.
+pub const MAX_NAME_LEN: usize = 16;
+
+/// Cycles by which the from-event of a label may be earlier than its to-event.
+pub const MAX_SHIFT: u32 = 64;
 
 /// Causes of one latest or earliest constraint.
 pub const MAX_CAUSES: usize = 64;
@@ -47,3 +54,39 @@ pub const DEFAULT_BUDGET: u64 = 100_000;
 
 /// The size of the generated design.
 pub const MAX_SELF_SIZE: u32 = 64;
+
+const _: () = prove!(FILE_LIMIT == 4 * 1_024 * 1_024);
+
+const _: () = prove!(REPORT_LIMIT == 64 * 1_024 * 1_024);
+
+const _: () = prove!(MAX_PARTS == 256);
+
+const _: () = prove!(MAX_SHEET_NAMES == 64);
+
+const _: () = prove!(MAX_CYCLES == 256);
+
+const _: () = prove!(MAX_NAME_LEN == 16);
+
+const _: () = prove!(MAX_SHIFT == 64);
+
+const _: () = prove!(MAX_CAUSES == 64);
+
+const _: () = prove!(END_LIMIT == 1_000_000 * 1_000_000);
+
+const _: () = prove!(MAX_EVENTS == 4 * 1_024);
+
+const _: () = prove!(MAX_CONSTRAINTS == 64 * 1_024);
+
+const _: () = prove!(MAX_ROWS == 4 * 1_024);
+
+const _: () = prove!(MAX_CELLS == 1_000 * 1_000);
+
+const _: () = prove!(MAX_SEARCH_CELLS == 2 * 1_024 * 1_024);
+
+const _: () = prove!(MAX_MATRIX_EVENTS == 1_024);
+
+const _: () = prove!(MAX_BUDGET == 1_000 * 1_000 * 1_000);
+
+const _: () = prove!(DEFAULT_BUDGET == 100 * 1_000);
+
+const _: () = prove!(MAX_SELF_SIZE == 64);

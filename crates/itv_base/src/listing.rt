@@ -1,6 +1,6 @@
 //! Lists that are handed out to be read.
 
-ghost use Rattle.std.specs.Prelude.{◌≡◌, ◌<◌, ◌∷◌, ◌++◌, [], Some, length, slice_get, OnOk, OnErr};
+ghost use Rattle.std.specs.Prelude.{◌≡◌, ◌==◌, ◌<◌, ◌∷◌, ◌++◌, [], Some, length, slice_get, OnOk, OnErr};
 
 use crate::text::NoMemory;
 use std::alloc::Global;
@@ -23,7 +23,7 @@ impl<T> Model for Listing<T> {
 impl<T> Listing<T> {
     /// The empty list. It takes no memory yet.
     pub fn new(alloc: Global) -> Listing<T>
-        ensures { result ≡ [] }
+        ensures empty { result ≡ [] }
     {
         Listing {
             items: Vec::new(alloc),
@@ -32,22 +32,29 @@ impl<T> Listing<T> {
 
     /// How many things there are.
     pub fn len(&self) -> u64
-        ensures { result ≡ length self.now }
+        ensures count { result ≡ length self.now }
     {
         self.items.len() as u64
+    }
+
+    /// Whether there is nothing.
+    pub fn is_empty(&self) -> bool
+        ensures test { result ≡ (length self.now == 0) }
+    {
+        self.items.is_empty()
     }
 
     /// The thing at a place, counted from 0.
     pub fn get(&self, k: u64) -> &T
         requires { k < length self.now }
-        ensures { slice_get self.now k ≡ Some result.now }
+        ensures item { slice_get self.now k ≡ Some result.now }
     {
         &self.items[k as usize]
     }
 
     /// All things in order.
     pub fn as_slice(&self) -> &[T]
-        ensures { result.now ≡ self.now }
+        ensures items { result.now ≡ self.now }
     {
         self.items.as_slice()
     }

@@ -88,7 +88,7 @@ impl Range {
 
     /// Whether a number of picoseconds lies in the range.
     pub fn has(&self, value: i64) -> bool
-        ensures { IsTrue result ↔ Allows self.now value }
+        ensures allows { IsTrue result ↔ Allows self.now value }
     {
         self.low.is_none_or(|low| low <= value) && self.high.is_none_or(|high| value <= high)
     }

@@ -1,7 +1,7 @@
 //! Files by name, as the program is given them.
 
-ghost use Rattle.std.specs.Prelude.{◌≡◌, ℕ, List, Option, Some, IfOk, IfSome, take, option_map};
-ghost use Rattle.itv_base.specs.Outside.{Files, file_of, FetchCounts};
+ghost use Rattle.std.specs.Prelude.{◌≡◌};
+ghost use Rattle.itv_base.specs.Outside.{ShelfTold, Fetches};
 ghost use Rattle.itv_base.specs.declared.shelf.FetchFault.TheVariants.{NoMemory};
 
 use crate::text::NoMemory as OutOfMemory;
@@ -44,21 +44,12 @@ impl From<OutOfMemory> for FetchFault {
 
 /// Gives the bytes of files by their names.
 pub trait Shelf {
-    /// The files, where the shelf tells them.
-    ghost files: { Self → Option Files };
+    /// What the shelf tells: its files, if it does; how often a fetch has failed, a count that never falls and stays at the last
+    /// value of 64 bits; the name that was asked in the latest fetch that failed; and whether fetches fail only for absent files.
+    ghost told: { Self → ShelfTold };
 
-    /// How often a fetch has failed. It never falls, and stays at the last value of 64 bits.
-    ghost faults: { Self → ℕ };
-
-    /// The name that was asked in the latest fetch that failed.
-    ghost last: { Self → List ℕ };
-
-    /// The first `cap` bytes of a file, or all of them where it is shorter. It fails only where the count of faults rose,
-    /// and then the name is the last one that failed.
+    /// The first `cap` bytes of a file, or all of them where it is shorter. It fails only where the count of faults rose, and
+    /// then the name is the last one that failed. Want of memory changes nothing that is told.
     fn fetch(&mut self, alloc: Global, name: &str, cap: u32) -> Result<Vec<u8>, FetchFault>
-        ensures found { IfOk result (λ bytes. IfSome (files self.old)
-            (λ all. option_map (take cap) (file_of all name.now) ≡ Some bytes.items)) }
-        ensures files { files self.new ≡ files self.old }
-        ensures counts { FetchCounts (faults self.old) (faults self.new)
-            (last self.old) (last self.new) name.now result };
+        ensures fetches { Fetches (told self.old) (told self.new) name.now cap result };
 }

@@ -1,6 +1,8 @@
 //! The real files.
 
-ghost use Rattle.std.specs.Prelude.{◌≡◌, [], None, IfOk};
+ghost use Rattle.std.specs.Prelude.{◌≡◌, ◌<◌, ◌≤◌, [], None, IfOk, IfSome, OnOk, false, length, take};
+ghost use Rattle.std.specs.Io.KnownBytes.{IsAtEnd};
+ghost use Rattle.itv_base.specs.Step.{ReadsOn};
 
 use crate::shelf::{FetchFault, Shelf};
 use crate::text::{NoMemory, Text};
@@ -30,7 +32,7 @@ impl<R: Files + Drop> Model for ShelfDir<R> {
 impl<R: Files + Drop> ShelfDir<R> {
     /// The files that a runtime reaches. No fetch has failed yet.
     pub fn new(alloc: Global, runtime: R) -> Result<ShelfDir<R>, NoMemory>
-        ensures { IfOk result (λ s. s ≡ record { faults = 0; last = [] }) }
+        ensures fresh { IfOk result (λ s. s ≡ record { faults = 0; last = [] }) }
     {
         Ok(ShelfDir {
             runtime,
@@ -44,9 +46,15 @@ impl<R: Files + Drop> ShelfDir<R> {
 const BLOCK: usize = 4_096;
 
 // Puts one read at the end, and tells whether there may be more.
-fn read_block<F: Read>(file: &mut F, bytes: &mut Vec<u8>, cap: usize) -> io::Result<bool> {
+fn read_block<F: Read>(file: &mut F, bytes: &mut Vec<u8>, cap: usize) -> io::Result<bool>
+    requires { length bytes.old.items < cap }
+    ensures few { OnOk result (length bytes.new.items ≤ cap) }
+    ensures next { OnOk result
+        (ReadsOn (F.remaining file.old) (F.remaining file.new) bytes.old.items bytes.new.items) }
+    ensures end { IfOk result (λ is_more. is_more ≡ false → IsAtEnd (F.remaining file.new)) }
+{
     let mut block = [0u8; BLOCK];
-    let wanted = BLOCK.min(cap.saturating_sub(bytes.len()));
+    let wanted = BLOCK.min(cap - bytes.len());
     match file.read(&mut block[..wanted]) {
         Ok(0) => Ok(false),
         Ok(count) => {
@@ -58,29 +66,34 @@ fn read_block<F: Read>(file: &mut F, bytes: &mut Vec<u8>, cap: usize) -> io::Res
     }
 }
 
-// The first `cap` bytes of a file.
-fn read_front<F: Read>(alloc: Global, file: &mut F, cap: usize) -> io::Result<Vec<u8>> {
+// The first `cap` bytes that a reader has left, or all where there are fewer.
+fn read_front<F: Read>(alloc: Global, file: &mut F, cap: usize) -> io::Result<Vec<u8>>
+    ensures few { IfOk result (λ bytes. length bytes.items ≤ cap) }
+    ensures front { IfOk result (λ bytes.
+        IfSome (F.remaining file.old) (λ left. bytes.items ≡ take cap left)) }
+{
     let mut bytes = Vec::new(alloc);
     for _ in 0..u64::MAX {
-        if cap <= bytes.len() || !read_block(file, &mut bytes, cap)? {
-            break;
+        if cap <= bytes.len() {
+            return Ok(bytes);
+        }
+        if !read_block(file, &mut bytes, cap)? {
+            return Ok(bytes);
         }
     }
-    Ok(bytes)
+    Err(io::Error::from(ErrorKind::Other))
 }
 
 // Opens a file and reads its front.
-fn read_file<R: Files>(alloc: Global, runtime: &R, name: &str, cap: usize) -> io::Result<Vec<u8>> {
+fn read_file<R: Files>(alloc: Global, runtime: &R, name: &str, cap: usize) -> io::Result<Vec<u8>>
+    ensures few { IfOk result (λ bytes. length bytes.items ≤ cap) }
+{
     let mut file = File::open(runtime, name)?;
     read_front(alloc, &mut file, cap)
 }
 
 impl<R: Files + Drop> Shelf for ShelfDir<R> {
-    ghost files = { λ _. None };
-
-    ghost faults = { λ s. s.faults };
-
-    ghost last = { λ s. s.last };
+    ghost told = { λ s. record { files = None; faults = s.faults; last = s.last; is_faithful = false } };
 
     fn fetch(&mut self, alloc: Global, name: &str, cap: u32) -> Result<Vec<u8>, FetchFault> {
         match read_file(alloc, &self.runtime, name, cap as usize) {

@@ -1,9 +1,9 @@
 //! A shelf in memory, for tests and for generated designs.
 
-ghost use Rattle.std.specs.Prelude.{◌≡◌, ◌∷◌, ◌++◌, [], ℕ, List, Option, Some, IfOk, IfSome, OnOk, OnErr, take, option_map};
+ghost use Rattle.std.specs.Prelude.{◌≡◌, ◌≤◌, ◌∷◌, ◌++◌, [], IfOk, OnOk, OnErr, length, take, option_map};
 ghost use Rattle.std.specs.FinMap as map;
-ghost use Rattle.itv_base.specs.Outside.{Files, file_of, FetchCounts};
-ghost use Rattle.itv_base.specs.Memory.{MemFetches};
+ghost use Rattle.itv_base.specs.Outside.{Fetches, file_of};
+ghost use Rattle.itv_base.specs.Memory.{MemFetches, shelf_told};
 
 use crate::shelf::{FetchFault, Shelf};
 use crate::text::{NoMemory, Text};
@@ -51,7 +51,7 @@ impl Model for ShelfMem {
 impl ShelfMem {
     /// No file, and no call that is to fail.
     pub fn new(alloc: Global) -> Result<ShelfMem, NoMemory>
-        ensures { IfOk result (λ s. s ≡ record { files = map.empty; failing = []; calls = 0; faults = 0; last = [] }) }
+        ensures fresh { IfOk result (λ s. s ≡ record { files = map.empty; failing = []; calls = 0; faults = 0; last = [] }) }
     {
         Ok(ShelfMem {
             files: Vec::new(alloc),
@@ -98,26 +98,27 @@ fn newest<'f>(files: &'f [Entry], name: &str) -> Option<&'f [u8]>
     None
 }
 
+// The first `cap` bytes, or all where there are fewer.
+fn front_of(alloc: Global, bytes: &[u8], cap: usize) -> Result<Vec<u8>, NoMemory>
+    ensures few { IfOk result (λ front. length front.items ≤ cap) }
+    ensures front { IfOk result (λ front. front.items ≡ take cap bytes.now) }
+{
+    let len = bytes.len().min(cap);
+    let front = Vec::from_slice(alloc, &bytes[..len])?;
+    Ok(front)
+}
+
 impl Shelf for ShelfMem {
-    ghost files = { λ s. Some s.files };
-
-    ghost faults = { λ s. s.faults };
-
-    ghost last = { λ s. s.last };
+    ghost told = { shelf_told };
 
     fn fetch(&mut self, alloc: Global, name: &str, cap: u32) -> Result<Vec<u8>, FetchFault>
-        ensures found { IfOk result (λ bytes.
-            option_map (take cap) (file_of self.old.files name.now) ≡ Some bytes.items) }
-        ensures files { Some self.new.files ≡ Some self.old.files }
-        ensures counts { FetchCounts self.old.faults self.new.faults
-            self.old.last self.new.last name.now result }
+        ensures fetches { Fetches (shelf_told self.old) (shelf_told self.new) name.now cap result }
         ensures exact { MemFetches self.old self.new name.now cap result }
     {
         let is_listed = self.failing.contains(&self.calls);
         match newest(&self.files, name) {
             Some(bytes) if !is_listed => {
-                let len = bytes.len().min(cap as usize);
-                let front = Vec::from_slice(alloc, &bytes[..len])?;
+                let front = front_of(alloc, bytes, cap as usize)?;
                 self.calls = self.calls.saturating_add(1);
                 Ok(front)
             }

@@ -1,8 +1,8 @@
 //! Where the program writes.
 
-ghost use Rattle.std.specs.Prelude.{◌≡◌, ℕ, List, Option, map};
+ghost use Rattle.std.specs.Prelude.{map};
 ghost use Rattle.std.specs.List.{concat};
-ghost use Rattle.itv_base.specs.Outside.{Puts};
+ghost use Rattle.itv_base.specs.Outside.{SinkTold, Puts};
 
 use thiserror::Error;
 
@@ -13,20 +13,18 @@ pub struct PutFailed;
 
 /// Takes bytes, piece by piece.
 pub trait Sink {
-    /// What was written, where the sink tells it.
-    ghost written: { Self → Option (List ℕ) };
-
-    /// How often a put has failed. It never falls, and stays at the last value of 64 bits.
-    ghost faults: { Self → ℕ };
+    /// What the sink tells: what was written, if it does, and how often a put has failed, a count that never falls and stays at
+    /// the last value of 64 bits.
+    ghost told: { Self → SinkTold };
 
     /// Appends the piece. Where the put failed a front of the piece was appended, and the count of faults rose.
     fn put(&mut self, piece: &[u8]) -> Result<(), PutFailed>
-        ensures { Puts written faults self.old self.new piece.now result };
+        ensures puts { Puts (told self.old) (told self.new) piece.now result };
 }
 
 /// Puts the pieces one after another, up to the first put that fails.
 pub fn put_all<K: Sink>(sink: &mut K, pieces: &[&[u8]]) -> Result<(), PutFailed>
-    ensures { Puts K.written K.faults sink.old sink.new (concat (map (λ p. p.now) pieces.now)) result }
+    ensures puts { Puts (K.told sink.old) (K.told sink.new) (concat (map (λ p. p.now) pieces.now)) result }
 {
     for piece in pieces {
         sink.put(piece)?;

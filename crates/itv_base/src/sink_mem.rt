@@ -1,8 +1,8 @@
 //! A sink in memory, for tests.
 
-ghost use Rattle.std.specs.Prelude.{◌≡◌, [], ℕ, List, Option, Some, None, IfOk, is_ok};
+ghost use Rattle.std.specs.Prelude.{◌≡◌, [], Some, None, IfOk, is_ok};
 ghost use Rattle.itv_base.specs.Outside.{Puts};
-ghost use Rattle.itv_base.specs.Memory.{after_put, takes};
+ghost use Rattle.itv_base.specs.Memory.{sink_told, after_put, takes};
 
 use crate::sink::{PutFailed, Sink};
 use crate::text::NoMemory;
@@ -34,7 +34,7 @@ impl Model for SinkMem {
 impl SinkMem {
     /// Nothing written, and room for a number of bytes. Takes all the memory that the sink ever needs.
     pub fn new(alloc: Global, room: u32) -> Result<SinkMem, NoMemory>
-        ensures { IfOk result (λ s. s ≡ record { bytes = []; room = room; failing = None; calls = 0; faults = 0 }) }
+        ensures fresh { IfOk result (λ s. s ≡ record { bytes = []; room = room; failing = None; calls = 0; faults = 0 }) }
     {
         let room = room as usize;
         Ok(SinkMem {
@@ -48,26 +48,24 @@ impl SinkMem {
 
     /// Names the one call that is to fail, by its number from 0.
     pub fn fail_call(&mut self, call: u32)
-        ensures { self.new ≡ record self.old { failing = Some call } }
+        ensures named { self.new ≡ record self.old { failing = Some call } }
     {
         self.failing = Some(call);
     }
 
     /// What was written.
     pub fn bytes(&self) -> &[u8]
-        ensures { result.now ≡ self.now.bytes }
+        ensures written { result.now ≡ self.now.bytes }
     {
         &self.bytes
     }
 }
 
 impl Sink for SinkMem {
-    ghost written = { λ s. Some s.bytes };
-
-    ghost faults = { λ s. s.faults };
+    ghost told = { sink_told };
 
     fn put(&mut self, piece: &[u8]) -> Result<(), PutFailed>
-        ensures puts { Puts (λ s. Some s.bytes) (λ s. s.faults) self.old self.new piece.now result }
+        ensures puts { Puts (sink_told self.old) (sink_told self.new) piece.now result }
         ensures exact { self.new ≡ after_put self.old piece.now }
         ensures answer { is_ok result ≡ takes self.old piece.now }
     {

@@ -1,6 +1,9 @@
 //! Standard output.
 
-ghost use Rattle.std.specs.Prelude.{◌≡◌, None};
+ghost use Rattle.std.specs.Prelude.{◌≡◌, ◌≤◌, None, OnOk, OnErr};
+ghost use Rattle.std.specs.Io.KnownBytes.{Appends};
+ghost use Rattle.itv_base.specs.Outside.{Rose};
+ghost use Rattle.itv_base.specs.Step.{WritesFront};
 
 use crate::sink::{PutFailed, Sink};
 use std::io;
@@ -26,22 +29,29 @@ impl<R: Print + Drop> Model for SinkOut<R> {
 impl<R: Print + Drop> SinkOut<R> {
     /// The standard output of a runtime. No put has failed yet.
     pub fn new(runtime: R) -> SinkOut<R>
-        ensures { result ≡ 0 }
+        ensures fresh { result ≡ 0 }
     {
         SinkOut { runtime, faults: 0 }
     }
 }
 
 // Writes the whole piece, and flushes it. A write that takes nothing has failed.
-fn write_whole<W: Write>(out: &mut W, piece: &[u8]) -> io::Result<()> {
+fn write_whole<W: Write>(out: &mut W, piece: &[u8]) -> io::Result<()>
+    ensures whole { OnOk result (Appends (W.contents out.old) (W.contents out.new) piece.now) }
+    ensures front { OnErr result (WritesFront (W.contents out.old) (W.contents out.new) piece.now) }
+{
     let mut rest = piece;
     for _ in 0..u64::MAX {
         if rest.is_empty() {
             return out.flush();
         }
         match out.write(rest) {
-            Ok(0) => break,
-            Ok(count) => rest = &rest[count..],
+            Ok(count) => {
+                if count == 0 {
+                    break;
+                }
+                rest = &rest[count..];
+            }
             Err(error) if error.kind() == ErrorKind::Interrupted => {}
             Err(error) => return Err(error),
         }
@@ -49,18 +59,27 @@ fn write_whole<W: Write>(out: &mut W, piece: &[u8]) -> io::Result<()> {
     Err(io::Error::from(ErrorKind::WriteZero))
 }
 
-impl<R: Print + Drop> Sink for SinkOut<R> {
-    ghost written = { λ _. None };
+// A put by a writer, of which the count of faults tells.
+fn put_by<W: Write>(out: &mut W, piece: &[u8], faults: &mut u64) -> Result<(), PutFailed>
+    ensures whole { OnOk result (Appends (W.contents out.old) (W.contents out.new) piece.now) }
+    ensures front { OnErr result (WritesFront (W.contents out.old) (W.contents out.new) piece.now) }
+    ensures still { OnOk result (faults.new ≡ faults.old) }
+    ensures count { OnErr result (faults.old ≤ faults.new) }
+    ensures rose { OnErr result (Rose faults.old faults.new) }
+{
+    match write_whole(out, piece) {
+        Ok(()) => Ok(()),
+        Err(_) => {
+            *faults = faults.saturating_add(1);
+            Err(PutFailed)
+        }
+    }
+}
 
-    ghost faults = { λ s. s };
+impl<R: Print + Drop> Sink for SinkOut<R> {
+    ghost told = { λ s. record { written = None; faults = s } };
 
     fn put(&mut self, piece: &[u8]) -> Result<(), PutFailed> {
-        match write_whole(&mut io::writer(&self.runtime), piece) {
-            Ok(()) => Ok(()),
-            Err(_) => {
-                self.faults = self.faults.saturating_add(1);
-                Err(PutFailed)
-            }
-        }
+        put_by(&mut io::writer(&self.runtime), piece, &mut self.faults)
     }
 }

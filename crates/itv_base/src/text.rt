@@ -47,7 +47,7 @@ impl Model for Text {
 impl Text {
     /// A copy of a text.
     pub fn from_text(alloc: Global, text: &str) -> Result<Text, NoMemory>
-        ensures { IfOk result (λ t. t ≡ text.now) }
+        ensures copy { IfOk result (λ t. t ≡ text.now) }
     {
         Ok(Text {
             inner: String::from_str(alloc, text)?,
@@ -56,7 +56,7 @@ impl Text {
 
     /// The text itself.
     pub fn as_text(&self) -> &str
-        ensures { result.now ≡ self.now }
+        ensures text { result.now ≡ self.now }
     {
         self.inner.as_str()
     }

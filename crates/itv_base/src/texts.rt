@@ -23,7 +23,7 @@ impl Model for Texts {
 impl Texts {
     /// The empty list.
     pub fn new(alloc: Global) -> Result<Texts, NoMemory>
-        ensures { IfOk result (λ t. t ≡ []) }
+        ensures empty { IfOk result (λ t. t ≡ []) }
     {
         Ok(Texts {
             items: Vec::new(alloc),
@@ -41,7 +41,7 @@ impl Texts {
 
     /// How many texts there are.
     pub fn len(&self) -> u64
-        ensures { result ≡ length self.now }
+        ensures count { result ≡ length self.now }
     {
         self.items.len() as u64
     }
@@ -49,7 +49,7 @@ impl Texts {
     /// The text at a place, counted from 0.
     pub fn get(&self, k: u64) -> &Text
         requires { k < length self.now }
-        ensures { slice_get self.now k ≡ Some result.now }
+        ensures item { slice_get self.now k ≡ Some result.now }
     {
         &self.items[k as usize]
     }

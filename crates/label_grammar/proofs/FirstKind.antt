@@ -4,7 +4,8 @@ use Rattle.std.specs.Option.{option_copied}
 use Rattle.std.proofs.lemmas.List.{at_drop_more}
 use Rattle.label_grammar.specs.declared.label.Kind.{Kind}
 use Rattle.label_grammar.specs.Label.{kind_text}
-use Rattle.label_grammar.specs.Reading.{stripped, first_kind}
+use Rattle.itv_base.specs.Cuts.{stripped}
+use Rattle.label_grammar.specs.Reading.{first_kind}
 
 -- a kind whose word does not stand first is passed over
 pub kind_more : (kinds : List Kind) (i : ℕ) (d : Kind) (text word : List ℕ) (stripping : Option (Bor (List ℕ))) (found : Option (Kind × List ℕ)) → i < length kinds

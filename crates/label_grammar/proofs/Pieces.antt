@@ -8,13 +8,15 @@ use Rattle.std.proofs.lemmas.Option.{cond_some, same_Some, some_pair_parts}
 use Rattle.itv_base.specs.Range.{Ends}
 use Rattle.label_grammar.specs.declared.label.Kind.{Kind}
 use Rattle.label_grammar.specs.declared.label.Kind.TheVariants.{Lin, Late, Early, Req, Ask}
-use Rattle.label_grammar.specs.Characters.{is_name, is_name_byte}
-use Rattle.label_grammar.specs.Label.{kind_text, shift_text, tag_text, ends_text, end_text, signed_text, number_text, note_text}
-use Rattle.label_grammar.specs.Reading.{◌>>=◌, stripped, after, after_while, is_numeral, value_of, first_kind, kind_of, shift_from, shift_of, tag_from, tag_of, number_from, number_of, end_of, ends_of, range_of, note_of}
-use Rattle.label_grammar.proofs.Cuts.{stripped_some}
-use Rattle.label_grammar.proofs.Runs.{stops, front_of_run, rest_of_run, run_whole}
-use Rattle.label_grammar.proofs.Numbers.{numeral_is}
-use Rattle.label_grammar.proofs.Numerals.{text-value, value-text, digits-text, numeral-text}
+use Rattle.itv_base.specs.Characters.{is_name, is_name_byte}
+use Rattle.itv_base.specs.Cuts.{stripped, after, after_while}
+use Rattle.itv_base.specs.Numerals.{end_text, signed_text, number_text, is_numeral, value_of}
+use Rattle.label_grammar.specs.Label.{kind_text, shift_text, tag_text, ends_text, note_text}
+use Rattle.label_grammar.specs.Reading.{◌>>=◌, first_kind, kind_of, shift_from, shift_of, tag_from, tag_of, number_from, number_of, end_of, ends_of, range_of, note_of}
+use Rattle.itv_base.proofs.Cuts.{stripped_some}
+use Rattle.itv_base.proofs.Runs.{stops, front_of_run, rest_of_run, run_whole}
+use Rattle.itv_base.proofs.Numbers.{numeral_is}
+use Rattle.itv_base.proofs.Numerals.{text-value, value-text, digits-text, numeral-text}
 
 -- ---- steps
 

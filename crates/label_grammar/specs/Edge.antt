@@ -3,7 +3,9 @@ use Rattle.std.specs.Prelude.{ℕ, ◌-◌, ◌&&◌, nat_le, Bool, if◌then◌
 use Rattle.std.specs.List.{before_first, after_first}
 use Rattle.label_grammar.specs.declared.edge.EdgeText.{EdgeText}
 use Rattle.label_grammar.specs.declared.edge.EdgeText.TheVariants.{Comment, Timing, Malformed}
-use Rattle.label_grammar.specs.Characters.{is_mark, is_space, is_timing_label}
+use Rattle.itv_base.specs.Characters.{is_mark}
+use Rattle.itv_base.specs.Cuts.{is_space}
+use Rattle.label_grammar.specs.Label.{is_timing_label}
 
 -- What an edge says, without where it lies in memory: of a timing edge the mark that it comes from, the mark that it goes
 -- to, and its label.

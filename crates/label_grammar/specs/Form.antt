@@ -1,6 +1,8 @@
 -- What is read of a label before its ends are looked at.
-use Rattle.std.specs.Prelude.{ℕ, ℤ, pos, negsuc, neg_ℤ, min, Bool, true, false, Option, Some, None, option_map, Result, Ok, Err, if◌then◌else◌}
+use Rattle.std.specs.Prelude.{ℤ, pos, negsuc, unsigned_abs, ◌+◌, min, Option, Some, None, option_map, Result, Ok, Err, if◌then◌else◌}
 use Rattle.std.specs.Option.{option_copied}
+use Rattle.itv_base.specs.declared.limits.TheConstants.{END_LIMIT}
+use Rattle.itv_base.specs.Numerals.{value_of, signed}
 use Rattle.itv_base.specs.Range.{Ends, has_wide, is_reversed}
 use Rattle.label_grammar.specs.declared.form.Number.{Number}
 use Rattle.label_grammar.specs.declared.form.EndPair.{EndPair}
@@ -8,12 +10,6 @@ use Rattle.label_grammar.specs.declared.form.Form.{Form}
 use Rattle.label_grammar.specs.declared.label.LabelFault.{LabelFault}
 use Rattle.label_grammar.specs.declared.label.LabelFault.TheVariants.{TooWide, EmptyRange}
 use Rattle.label_grammar.specs.Label.{LooseLabel}
-use Rattle.label_grammar.specs.Reading.{value_of}
-
--- a number with a sign
-abbrev pub signed : Bool → ℕ → ℤ
-signed false n = pos n
-signed true n = neg_ℤ (pos n)
 
 abbrev pub number_value : Number → ℤ
 number_value n = signed n.is_negative (value_of n.digits.now)
@@ -26,8 +22,8 @@ form_view f = record { kind = f.kind; shift = f.shift; tag = option_copied f.tag
 
 -- a number, or the next one beyond the limit on its side where it is further out
 abbrev pub capped : ℤ → ℤ
-capped (pos n) = pos (min n 1000000000001)
-capped (negsuc n) = negsuc (min n 1000000000000)
+capped (pos n) = pos (min n (unsigned_abs END_LIMIT + 1))
+capped (negsuc n) = negsuc (min n (unsigned_abs END_LIMIT))
 
 -- the range that the two ends of a label make, or what is wrong with them
 abbrev pub judged_ends : Option Ends → Result (Option Ends) LabelFault

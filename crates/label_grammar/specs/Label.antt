@@ -1,12 +1,13 @@
 -- What a label is, and the one text that spells it.
-use Rattle.std.specs.Prelude.{◌≡◌, ℕ, suc, ◌+◌, ◌≤◌, ◌==◌, ℤ, pos, negsuc, Bool, true, false, not, if◌then◌else◌, List, [], ◌++◌, map, codes, Option, Some, None, IfSome, is_some, IsTrue}
+use Rattle.std.specs.Prelude.{◌≡◌, ℕ, ◌≤◌, ◌==◌, Bool, true, false, not, if◌then◌else◌, List, [], ◌++◌, slice_index, codes, Option, Some, None, IfSome, is_some, IsTrue}
 use Rattle.std.specs.Option.{option_copied, option_map_or}
-use Rattle.std.specs.Int.Digits.{digits_of}
+use Rattle.itv_base.specs.declared.limits.TheConstants.{MAX_SHIFT}
 use Rattle.itv_base.specs.Range.{Ends, has_wide, is_reversed}
+use Rattle.itv_base.specs.Characters.{is_name}
+use Rattle.itv_base.specs.Numerals.{number_text, end_text}
 use Rattle.label_grammar.specs.declared.label.Kind.{Kind}
 use Rattle.label_grammar.specs.declared.label.Kind.TheVariants.{Lin, Late, Early, Req, Ask}
 use Rattle.label_grammar.specs.declared.label.Label.{Label}
-use Rattle.label_grammar.specs.Characters.{is_name}
 
 -- A label whose ends are whole numbers of any size, and not yet known to be a range. An end that is `None` is open.
 pub record LooseLabel : Type 0 where
@@ -15,6 +16,10 @@ pub record LooseLabel : Type 0 where
   pub tag : Option (List ℕ)
   pub ends : Option Ends
   pub note : Option (List ℕ)
+
+-- a label that means something: it begins with `@`
+abbrev pub is_timing_label : List ℕ → Bool
+is_timing_label label = slice_index label 0 == 64
 
 -- a label without where its texts lie in memory
 abbrev pub label_view : Label → LooseLabel
@@ -27,13 +32,13 @@ is_ask Early = false
 is_ask Req = false
 is_ask Ask = true
 
--- what has a spelling: the shift is 0 to 64, a tag is a name, and there are ends exactly where the kind is no ask
+-- what has a spelling: the shift is within the limit, a tag is a name, and there are ends exactly where the kind is no ask
 pub record IsLoose (l : LooseLabel) : Type 0 where
-  pub shift : l.shift ≤ 64
+  pub shift : l.shift ≤ MAX_SHIFT
   pub tag : IfSome l.tag (λ tag. IsTrue (is_name tag))
   pub ends : is_some l.ends ≡ not (is_ask l.kind)
 
--- a finite end is beyond 10^12 in absolute value
+-- a finite end is beyond the limit in absolute value
 abbrev pub has_wide_end : LooseLabel → Bool
 has_wide_end l = option_map_or has_wide l.ends false
 
@@ -48,18 +53,6 @@ pub record IsProper (l : LooseLabel) : Type 0 where
   pub ordered : has_reversed_ends l ≡ false
 
 -- ---- the spelling
-
--- a whole number in decimal, without a zero in front
-abbrev pub number_text : ℕ → List ℕ
-number_text n = if n == 0 then codes "0" else map (λ d. 48 + d) (digits_of 10 n)
-
-abbrev pub signed_text : ℤ → List ℕ
-signed_text (pos n) = number_text n
-signed_text (negsuc n) = codes "-" ++ number_text (suc n)
-
-abbrev pub end_text : Option ℤ → List ℕ
-end_text None = codes "*"
-end_text (Some value) = signed_text value
 
 abbrev pub kind_text : Kind → List ℕ
 kind_text Lin = codes "@lin"

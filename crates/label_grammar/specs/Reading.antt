@@ -1,41 +1,22 @@
 -- Reading a label from the front of a text. That what is read is spelled so, and the other way round, is the law
 -- `reading_inverts_spelling`.
-use Rattle.std.specs.Prelude.{ℕ, ℤ, pos, Bool, true, false, not, ◌&&◌, ◌||◌, ◌==◌, nat_lt, nat_le, if◌then◌else◌, List, [], ◌∷◌, length, drop, slice_index, codes, Option, Some, None, neg_ℤ}
+use Rattle.std.specs.Prelude.{ℕ, ℤ, pos, Bool, true, false, ◌&&◌, nat_lt, nat_le, if◌then◌else◌, List, [], ◌∷◌, codes, Option, Some, None, neg_ℤ}
 use Rattle.std.specs.Option.{option_and_then}
-use Rattle.std.specs.List.{prefix_len, take_while, list_all}
+use Rattle.std.specs.List.{take_while}
 use Rattle.std.specs.Char.{is_ascii_digit}
-use Rattle.std.specs.Str.Parse.{digits_value}
+use Rattle.itv_base.specs.declared.limits.TheConstants.{MAX_SHIFT}
 use Rattle.itv_base.specs.Range.{Ends}
+use Rattle.itv_base.specs.Characters.{is_name, is_name_byte}
+use Rattle.itv_base.specs.Cuts.{is_space, stripped, after, after_while}
+use Rattle.itv_base.specs.Numerals.{is_numeral, value_of}
 use Rattle.label_grammar.specs.declared.label.Kind.{Kind}
 use Rattle.label_grammar.specs.declared.label.Kind.TheVariants.{Lin, Late, Early, Req, Ask}
-use Rattle.label_grammar.specs.Characters.{is_name, is_name_byte, is_space}
 use Rattle.label_grammar.specs.Label.{LooseLabel, is_ask, kind_text}
 
+-- one thing read after another, where both can be
 infixl 10 ◌>>=◌
 abbrev pub ◌>>=◌ : {A B : Type 0} → Option A → (A → Option B) → Option B
 o >>= f = option_and_then f o
-
--- the text behind a front, if it stands there
-abbrev pub stripped : List ℕ → List ℕ → Option (List ℕ)
-stripped [] text = Some text
-stripped (c ∷ front) [] = None
-stripped (c ∷ front) (b ∷ text) = if b == c then stripped front text else None
-
--- one thing of the text behind a front, and another where the front does not stand there
-abbrev pub after : {R : Type 0} → Option (List ℕ) → (List ℕ → R) → R → R
-after None f other = other
-after (Some rest) f other = f rest
-
--- the text behind the bytes that pass a test
-abbrev pub after_while : (ℕ → Bool) → List ℕ → List ℕ
-after_while p text = drop (prefix_len p text) text
-
--- one digit or more, with no zero before another one
-abbrev pub is_numeral : List ℕ → Bool
-is_numeral text = list_all is_ascii_digit text && (nat_lt 0 (length text) && (not (slice_index text 0 == 48) || length text == 1))
-
-abbrev pub value_of : List ℕ → ℕ
-value_of digits = digits_value 10 digits
 
 -- Each of these answers what was read and the text behind it.
 
@@ -47,9 +28,9 @@ first_kind (kind ∷ kinds) text = after (stripped (kind_text kind) text) (λ re
 unfoldable pub kind_of : List ℕ → Option (Kind × List ℕ)
 kind_of text = first_kind (Lin ∷ Late ∷ Early ∷ Req ∷ Ask ∷ []) text
 
--- 1 to 64
+-- a shift is at least 1, where one is written
 abbrev pub shift_from : List ℕ → List ℕ → Option (ℕ × List ℕ)
-shift_from digits rest = if is_numeral digits && (nat_le 1 (value_of digits) && nat_le (value_of digits) 64) then Some (value_of digits, rest) else None
+shift_from digits rest = if is_numeral digits && (nat_le 1 (value_of digits) && nat_le (value_of digits) MAX_SHIFT) then Some (value_of digits, rest) else None
 
 unfoldable pub shift_of : List ℕ → Option (ℕ × List ℕ)
 shift_of text = after (stripped (codes "+") text) (λ rest. shift_from (take_while is_ascii_digit rest) (after_while is_ascii_digit rest)) (Some (0, text))

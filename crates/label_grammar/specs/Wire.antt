@@ -3,7 +3,9 @@ use Rattle.std.specs.Prelude.{ℕ, ◌&&◌, ◌==◌, if◌then◌else◌, List
 use Rattle.std.specs.List.{before_first, after_first}
 use Rattle.label_grammar.specs.declared.wire.WireText.{WireText}
 use Rattle.label_grammar.specs.declared.wire.WireText.TheVariants.{Comment, Timing, Malformed}
-use Rattle.label_grammar.specs.Characters.{is_name, is_mark, is_space, is_full_stop, is_timing_label}
+use Rattle.itv_base.specs.Characters.{is_name, is_mark}
+use Rattle.itv_base.specs.Cuts.{is_space, is_full_stop}
+use Rattle.label_grammar.specs.Label.{is_timing_label}
 
 -- a mark of a part
 pub record PartMark : Type 0 where

@@ -3,7 +3,7 @@
 ghost use Rattle.std.specs.Prelude.{◌≡◌};
 ghost use Rattle.label_grammar.specs.Edge.{edge_view, edge_of};
 
-use crate::characters::is_mark;
+use itv_base::is_mark;
 
 /// What the text of an edge says.
 #[derive(Clone, Copy, Debug, PartialEq, Eq)]
@@ -20,7 +20,7 @@ pub enum EdgeText<'a> {
 /// least three characters. The first and the last are the marks that it joins, and those between are not looked at.
 #[tactic(auto, unfolding(crate::specs::Edge::edge_of))]
 pub fn read_edge<'a>(text: &'a str) -> EdgeText<'a>
-    ensures { edge_view result ≡ edge_of text.now }
+    ensures says { edge_view result ≡ edge_of text.now }
 {
     let Some((shape, label)) = text.split_once(' ') else {
         return EdgeText::Comment;

@@ -1,7 +1,7 @@
 //! What is read of a label before its ends are looked at.
 
 ghost use Rattle.std.specs.Prelude.{IsTrue};
-ghost use Rattle.label_grammar.specs.Reading.{is_numeral};
+ghost use Rattle.itv_base.specs.Numerals.{is_numeral};
 
 use crate::label::Kind;
 

@@ -39,9 +39,9 @@ impl Kind {
 #[derive(Clone, Copy, Debug, PartialEq, Eq)]
 pub struct Label<'a> {
     pub kind: Kind,
-    /// How many cycles the from-event is before the to-event, 0 to 64.
+    /// How many cycles the from-event is before the to-event, at most [`MAX_SHIFT`](itv_base::MAX_SHIFT).
     pub shift: u32,
-    /// What tells apart the groups of causes of one target: 1 to 16 letters of ASCII, digits or `_`.
+    /// What tells apart the groups of causes of one target, as [`is_name`](itv_base::is_name) has it.
     pub tag: Option<&'a str>,
     /// The range of the separation in picoseconds. An ask alone has none.
     pub range: Option<Range>,
@@ -54,7 +54,7 @@ pub struct Label<'a> {
 pub enum LabelFault {
     /// The text has not the form of a label.
     BadLabel,
-    /// A number is beyond 10^12 in absolute value.
+    /// A number is beyond [`END_LIMIT`](itv_base::END_LIMIT) in absolute value.
     TooWide,
     /// The low end is above the high end.
     EmptyRange,

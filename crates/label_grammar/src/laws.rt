@@ -6,7 +6,7 @@ ghost use Rattle.label_grammar.specs.Reading.{label_of};
 
 /// Two labels have two spellings.
 pub fn spellings_differ()
-    ensures { (l m : LooseLabel) → IsLoose l → IsLoose m → spelling l ≡ spelling m → l ≡ m }
+    ensures differ { (l m : LooseLabel) → IsLoose l → IsLoose m → spelling l ≡ spelling m → l ≡ m }
 {}
 
 /// What is spelled is read, and what is read is spelled so.

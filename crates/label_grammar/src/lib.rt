@@ -3,14 +3,12 @@
 //! with every other text, `write_label` writes the spelling, and `read_edge` and `read_wire` cut their texts as defined.
 #![tactic(auto)]
 
-mod characters;
 mod edge;
 mod form;
 mod label;
 mod laws;
 mod parts;
 mod reading;
-mod scan;
 mod wire;
 mod writing;
 

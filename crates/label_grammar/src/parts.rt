@@ -6,13 +6,9 @@ ghost use Rattle.label_grammar.specs.Label.{is_ask};
 ghost use Rattle.label_grammar.specs.Reading.{kind_of, shift_of, tag_of, number_of, end_of, ends_of, range_of, note_of, label_of};
 ghost use Rattle.label_grammar.specs.Form.{number_value, ends_view, form_view};
 
-use crate::characters::is_name;
 use crate::form::{EndPair, Form, Number};
 use crate::label::Kind;
-use crate::scan::{is_numeral, split_digits, split_name, strip, value_up_to};
-
-// Cycles.
-const MAX_SHIFT: u64 = 64;
+use itv_base::{MAX_SHIFT, is_name, is_numeral, split_digits, split_name, strip, value_up_to};
 
 const KINDS: [Kind; 5] = [Kind::Lin, Kind::Late, Kind::Early, Kind::Req, Kind::Ask];
 
@@ -29,7 +25,7 @@ fn read_kind(text: &str) -> Option<(Kind, &str)>
     None
 }
 
-// `+` and 1 to 64, or nothing, which is a shift of 0.
+// `+` and a number of at least 1 within the limit, or nothing, which is a shift of 0.
 #[tactic(auto, unfolding(crate::specs::Reading::shift_of))]
 fn read_shift(text: &str) -> Option<(u32, &str)>
     ensures { option_map (λ x. (x.0, x.1.now)) result ≡ shift_of text.now }
@@ -41,7 +37,7 @@ fn read_shift(text: &str) -> Option<(u32, &str)>
     if !is_numeral(digits) {
         return None;
     }
-    let shift = value_up_to(digits, MAX_SHIFT)?;
+    let shift = value_up_to(digits, u64::from(MAX_SHIFT))?;
     (shift != 0).then_some((shift as u32, rest))
 }
 

@@ -9,8 +9,7 @@ ghost use Rattle.label_grammar.specs.Answer.{judged, Gives, IsUnspelled, SpellsW
 use crate::form::{EndPair, Number};
 use crate::label::{Label, LabelFault};
 use crate::parts::read_form;
-use crate::scan::value_up_to;
-use itv_base::{END_LIMIT, Range, RangeFault};
+use itv_base::{END_LIMIT, Range, RangeFault, value_up_to};
 
 // The number, or the next one beyond the limit of an end on its side where it is further out.
 fn capped(number: Number<'_>) -> i64

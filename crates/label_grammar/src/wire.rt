@@ -3,7 +3,7 @@
 ghost use Rattle.std.specs.Prelude.{◌≡◌, option_map};
 ghost use Rattle.label_grammar.specs.Wire.{wire_view, wire_of, part_mark_of};
 
-use crate::characters::{is_mark, is_name};
+use itv_base::{is_mark, is_name};
 
 /// What the text of a wire says.
 #[derive(Clone, Copy, Debug, PartialEq, Eq)]
@@ -39,7 +39,7 @@ fn read_part_mark(word: &str) -> Option<(&str, u8)>
 /// a part (1 to 16 letters of ASCII, digits or `_`), a full stop and a mark.
 #[tactic(auto, unfolding(crate::specs::Wire::wire_of))]
 pub fn read_wire<'a>(text: &'a str) -> WireText<'a>
-    ensures { wire_view result ≡ wire_of text.now }
+    ensures says { wire_view result ≡ wire_of text.now }
 {
     let Some((from, rest)) = text.split_once(' ') else {
         return WireText::Comment;

@@ -12,15 +12,14 @@ use Rattle.label_grammar.specs.declared.label.Kind.{Kind}
 use Rattle.label_grammar.specs.declared.label.Kind.TheVariants.{Lin, Req, Ask}
 use Rattle.sheet.specs.declared.groups.Group.{Group}
 use Rattle.sheet.specs.Rule.{SheetRule}
-use Rattle.sheet.specs.Links.{Link, is_cause, is_full, same_tag, joins, source_of, with_link, link_rules}
-use Rattle.sheet.specs.Groups.{opens, openers, kind_of, same_group, group_link, Places, place_of, StandsFor, AddsLink}
+use Rattle.sheet.specs.Links.{Link, is_cause, is_full, same_tag, joins, source_of, link_rules}
+use Rattle.sheet.specs.Groups.{opens, openers, kind_of, same_group, group_link, Places, place_of, StandsFor, AddsCause, AddsLink}
 use Rattle.sheet.proofs.Joins.{joins-same, joins-itself, joins-comm, joins-no_cause}
 use Rattle.sheet.proofs.Openers.{linear_rule, rule_for, link_rules-map, openers-push, opens-joined, any-openers}
 use Rattle.sheet.proofs.OneMore.{not_full, full-rule, rules-linear, rules-row, rules-first, rules-unopened, rules-joined, rule_for-joined, with_cause}
-use Rattle.sheet.specs.Answer.{Gives}
-use Rattle.sheet.proofs.Faults.{HasFault-on}
-use Rattle.sheet.specs.declared.fault.SheetFault.{SheetFault}
-use Rattle.sheet.specs.declared.fault.SheetFault.TheVariants.{TooManyCauses}
+use Rattle.sheet.specs.declared.groups.GroupFault.{GroupFault}
+use Rattle.sheet.specs.declared.groups.GroupFault.TheVariants.{TooManyCauses, NoMemory}
+use Rattle.itv_base.specs.declared.limits.TheConstants.{MAX_CAUSES}
 use Rattle.sheet.proofs.Lists.{list_any-same, list_any-none, position_from-none, none-from_position, position_from-other, position_from-push, position_from-same}
 use Rattle.sheet.proofs.OneChange.{ChangesAt}
 
@@ -51,14 +50,6 @@ same_group-joins g h cause = same_by g.kind h.kind g.target h.target g.tag h.tag
 
 -- ---- one link more
 
-chosen_ok : {A : Type 0} (b : Bool) (fault : SheetFault) (x y : A) → (if b then Err fault else Ok x) ≡ Ok y → (b ≡ false) × (y ≡ x)
-chosen_ok true fault x y e = cc
-chosen_ok false fault x y e = (refl, cc)
-
-chosen_err : {A B : Type 0} (b : Bool) (fault d : SheetFault) (x : A) (y : B) → (if b then Err fault else Ok x) ≡ Err d → (if b then Err fault else Ok y) ≡ Err d
-chosen_err true fault d x y e = cc
-chosen_err false fault d x y e = cc
-
 -- a first place has an element that passes
 any_from_place : (b : Bool) (o : Option ℕ) (place : ℕ) → (b ≡ false → o ≡ None) → o ≡ Some place → b ≡ true
 any_from_place true o place none at = refl
@@ -69,9 +60,6 @@ row_no_cause kind (inl is) = rw is refl
 row_no_cause kind (inr is) = rw is refl
 
 module _ (front : List SheetRule) (links : List Link) (all : List SheetRule) (places : Places) (n : ℕ) (link : Link) (stands : StandsFor front links all places) where
-  added : is_full links link ≡ false → with_link links n (Some link) ≡ Ok (links ++ link ∷ [])
-  added room = rw room
-
   other_by : (p : Link → Bool) (opened : Bool) (xs : List Link) → p link ≡ false → position_from p (length front) (xs ++ cond opened (link ∷ []) []) ≡ position_from p (length front) xs
   other_by p true xs other = position_from-other p (length front) xs link other
   other_by p false xs other = rw append-nil
@@ -89,7 +77,7 @@ module _ (front : List SheetRule) (links : List Link) (all : List SheetRule) (pl
   pub adds-linear : (more : List SheetRule) → link.label.kind ≡ Lin → more ≡ all ++ linear_rule link ∷ [] → AddsLink front links n link (Ok tt) more places
   adds-linear more is pushed =
       let no_cause : is_cause link.label.kind ≡ false = rw is refl in (
-        added (not_full links link (joins_none no_cause)),
+        (not_full links link (joins_none no_cause)),
         record {
           stand = rw (pushed, stands.stand, rules-linear links link is, append_assoc);
           found = found_apart no_cause;
@@ -99,7 +87,7 @@ module _ (front : List SheetRule) (links : List Link) (all : List SheetRule) (pl
   pub adds-row : (link.label.kind ≡ Req) ⊎ (link.label.kind ≡ Ask) → AddsLink front links n link (Ok tt) all places
   adds-row is =
       let no_cause : is_cause link.label.kind ≡ false = row_no_cause link.label.kind is in (
-        added (not_full links link (joins_none no_cause)),
+        (not_full links link (joins_none no_cause)),
         record {
           stand = rw (stands.stand, rules-row links link is);
           found = found_apart no_cause;
@@ -144,7 +132,7 @@ module _ (front : List SheetRule) (links : List Link) (all : List SheetRule) (pl
         → ((h : Group) → place_of table h ≡ (if same_group g h then Some (length all) else place_of places h)) → AddsLink front links n link (Ok tt) more table
     adds-first more table new pushed put =
         let none = joins_new new in (
-          added (not_full links link none),
+          (not_full links link none),
           record {
             stand = rw (pushed, stands.stand, rules-first links link g.kind kind cause none, append_assoc);
             found = λ h. put h ∙ found_first h (same_group g h) refl none;
@@ -163,9 +151,9 @@ module _ (front : List SheetRule) (links : List Link) (all : List SheetRule) (pl
       stand_map : all ≡ front ++ map (rule_for links) (openers links)
       stand_map = stands.stand ∙ ap (λ more. front ++ more) (link_rules-map links)
 
-      full_is : (old d : SheetRule) → old ≡ get_or all place d → nat_le 64 (length old.causes) ≡ is_full links link
+      full_is : (old d : SheetRule) → old ≡ get_or all place d → nat_le MAX_CAUSES (length old.causes) ≡ is_full links link
       full_is old d read =
-          ap (λ rule. nat_le 64 (length rule.causes)) (read ∙ ap (λ xs. get_or xs place d) stand_map ∙ change.stands d)
+          ap (λ rule. nat_le MAX_CAUSES (length rule.causes)) (read ∙ ap (λ xs. get_or xs place d) stand_map ∙ change.stands d)
           ∙ full-rule links link change.element change.passes
 
       stand_after : (old new d : SheetRule) → old ≡ get_or all place d → new ≡ with_cause old link → set all place new ≡ front ++ link_rules (links ++ link ∷ [])
@@ -181,12 +169,8 @@ module _ (front : List SheetRule) (links : List Link) (all : List SheetRule) (pl
       found_after : (h : Group) → place_of places h ≡ position_from (joins (group_link h)) (length front) (openers (links ++ link ∷ []))
       found_after h = stands.found h ∙ ap (position_from (joins (group_link h)) (length front)) (sym (openers-push links link ∙ rw unopened (append-nil _)))
 
-      pub adds-cause : (old new d : SheetRule) (result : Result ⊤ SheetFault) → old ≡ get_or all place d
-          → Gives (λ _. new) result (if nat_le 64 (length old.causes) then Err (TooManyCauses n) else Ok (with_cause old link))
+      pub adds-cause : (old new d : SheetRule) (result : Result ⊤ GroupFault) → old ≡ get_or all place d → AddsCause old n (source_of link) result new
           → AddsLink front links n link result (set all place new) places
-      adds-cause old new d (Ok x) read gave =
-          let parts = chosen_ok (is_full links link) (TooManyCauses n) (with_cause old link) new (rw (full_is old d read) at gave) in
-          (added parts.0, record { stand = stand_after old new d read parts.1; found = found_after })
-      adds-cause old new d (Err fault) read gave =
-          HasFault-on (if nat_le 64 (length old.causes) then Err (TooManyCauses n) else Ok (with_cause old link)) (with_link links n (Some link)) fault
-          (λ e is. chosen_err (is_full links link) (TooManyCauses n) e (with_cause old link) (links ++ link ∷ []) (rw (full_is old d read) at is)) gave
+      adds-cause old new d (Ok x) read gave = (sym (full_is old d read) ∙ gave.0, record { stand = stand_after old new d read gave.1; found = found_after })
+      adds-cause old new d (Err (TooManyCauses m)) read gave = (gave.0, sym (full_is old d read) ∙ gave.1)
+      adds-cause old new d (Err NoMemory) read gave = tt

@@ -3,18 +3,17 @@ use Rattle.std.proofs.Common.{◌≡◌, ℕ, ◌+◌, ◌-◌, ◌<◌, ◌≤�
 use Rattle.std.specs.Prelude.{nat_eq, position, filter_map, slice_get}
 use Rattle.std.specs.List.{list_any, enumerate_from, flat_map, position_from, IsDistinct}
 use Rattle.std.specs.Cmp.{nat_eq_equiv}
-use Rattle.std.proofs.lemmas.Bool.{eqb-true}
 use Rattle.std.proofs.lemmas.List.{drop_more, drop_all, map_push, append_assoc, length-append, length-map}
-use Rattle.std.proofs.lemmas.List.Elements.{All-push, All-map, All-contains}
+use Rattle.std.proofs.lemmas.List.Elements.{All-push, All-map}
 use Rattle.std.proofs.lemmas.Map.Keys.{IsDistinct-push}
-use Rattle.std.proofs.lemmas.Map.Views.{Contains-from_any}
-use Rattle.std.proofs.lemmas.Map.Steps.{length-le_from_distinct_below}
 use Rattle.wave_string.specs.declared.mark_kind.MarkKind.{MarkKind}
 use Rattle.wavejson.specs.declared.lane_text.LaneText.{LaneText}
-use Rattle.label_grammar.specs.Characters.{is_mark}
+use Rattle.itv_base.specs.Characters.{is_mark}
 use Rattle.sheet.specs.declared.mark.Mark.{Mark}
+use Rattle.sheet.specs.declared.mark.TheConstants.{MAX_MARKS}
+use Rattle.sheet.proofs.FewMarks.{few_marks}
 use Rattle.sheet.specs.declared.lanes.Span.{Span}
-use Rattle.sheet.specs.Fault.{◌>>=◌, unless}
+use Rattle.itv_base.specs.Reading.{◌>>=◌, unless}
 use Rattle.sheet.specs.Lanes.{mark_at, drawn_kind, lane_marks, marks_of, numbered_from, has_bad_node}
 use Rattle.sheet.specs.Sheet.{read_marks}
 use Rattle.sheet.specs.Steps.{AreMarks, with_marks, span_of}
@@ -41,21 +40,20 @@ marks_left-taken number lane place b bs taken = rw taken
 
 pub AreMarks-none : AreMarks []
 unfolding IsDistinct
-AreMarks-none = record { distinct = tt; ascii = search rules }
+AreMarks-none = record { distinct = tt; named = search rules }
 
-pub AreMarks-push : (marks : List Mark) (mark : Mark) → AreMarks marks → list_any (λ m. nat_eq mark.name m.name) marks ≡ false → mark.name < 128
+pub AreMarks-push : (marks : List Mark) (mark : Mark) → AreMarks marks → list_any (λ m. nat_eq mark.name m.name) marks ≡ false → is_mark mark.name ≡ true
     → AreMarks (marks ++ mark ∷ [])
-AreMarks-push marks mark are new ascii = record {
+AreMarks-push marks mark are new named = record {
   distinct = rw map_push (IsDistinct-push nat_eq_equiv _ _ are.distinct (list_any-map _ _ marks ∙ new));
-  ascii = All-push (λ m. m.name < 128) marks mark are.ascii ascii;
+  named = All-push (λ m. is_mark m.name ≡ true) marks mark are.named named;
 }
 
-pub length-le_from_AreMarks : (marks : List Mark) → AreMarks marks → length marks ≤ 128
+pub length-le_from_AreMarks : (marks : List Mark) → AreMarks marks → length marks ≤ MAX_MARKS
 length-le_from_AreMarks marks are =
     let names = map (λ (m : Mark). m.name) marks in
-    let ascii = All-map (λ n. n < 128) (λ (m : Mark). m.name) marks are.ascii in
-    let few : length names ≤ 128 = length-le_from_distinct_below names 128 are.distinct (λ q found. All-contains (λ n. n < 128) names q ascii (Contains-from_any eqb-true q names found)) in
-    rw length-map at few
+    let named = All-map (λ n. is_mark n ≡ true) (λ (m : Mark). m.name) marks are.named in
+    rw length-map at (few_marks names are.distinct named)
 
 -- ---- one character of a node
 

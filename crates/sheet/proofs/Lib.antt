@@ -1,6 +1,6 @@
+pub mod FewMarks
 pub mod Lists
 pub mod OneChange
-pub mod Faults
 pub mod Distinct
 pub mod LaneLists
 pub mod NumberedLanes
@@ -11,3 +11,4 @@ pub mod OneMore
 pub mod GroupTable
 pub mod EdgeWalk
 pub mod SheetSteps
+pub mod WholeSheets

@@ -4,6 +4,7 @@ use Rattle.std.specs.Prelude.{nat_le}
 use Rattle.std.specs.List.{list_any, position_from}
 use Rattle.std.proofs.lemmas.List.{append-nil, length-map, map-append}
 use Rattle.std.proofs.lemmas.List.Elements.{filter-append}
+use Rattle.itv_base.specs.declared.limits.TheConstants.{MAX_CAUSES}
 use Rattle.label_grammar.specs.declared.label.Kind.{Kind}
 use Rattle.label_grammar.specs.declared.label.Kind.TheVariants.{Lin, Late, Early, Req, Ask}
 use Rattle.itv_base.specs.declared.names.RuleKind.{RuleKind}
@@ -57,9 +58,9 @@ count_by_kind links o Req cause = cc
 count_by_kind links o Ask cause = cc
 
 -- the rule of an opener is full where a link that joins it is
-pub full-rule : (links : List Link) (link o : Link) → joins link o ≡ true → nat_le 64 (length (rule_for links o).causes) ≡ is_full links link
+pub full-rule : (links : List Link) (link o : Link) → joins link o ≡ true → nat_le MAX_CAUSES (length (rule_for links o).causes) ≡ is_full links link
 full-rule links link o joined =
-    ap (nat_le 64) (count_by_kind links o o.label.kind (joins-cause o link (sym (joins-comm link o) ∙ joined))
+    ap (nat_le MAX_CAUSES) (count_by_kind links o o.label.kind (joins-cause o link (sym (joins-comm link o) ∙ joined))
     ∙ ap length (filter-same (joins o) (joins link) links (λ m. sym (joins-same link o m joined))))
 
 -- ---- the rules

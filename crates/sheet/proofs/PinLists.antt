@@ -12,7 +12,7 @@ use Rattle.sheet.specs.declared.lanes.Span.{Span}
 use Rattle.sheet.specs.declared.pin.Pin.{Pin}
 use Rattle.sheet.specs.Lanes.{Numbered, numbered, pin_of}
 use Rattle.sheet.specs.Steps.{with_pins, numbered_by}
-use Rattle.sheet.specs.Fault.{◌>>=◌}
+use Rattle.itv_base.specs.Reading.{◌>>=◌}
 use Rattle.sheet.proofs.NumberedLanes.{length-numbered}
 use Rattle.sheet.proofs.Distinct.{with_distinct-stood, with_distinct-nil, with_distinct-new, with_distinct-append}
 use Rattle.sheet.proofs.Lists.{list_any-map}

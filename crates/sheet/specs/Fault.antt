@@ -1,13 +1,22 @@
--- Reading step by step, with the first fault that is met.
-use Rattle.std.specs.Prelude.{Option, Some, None, Result, Ok, Err}
+-- The faults of a drawing.
+use Rattle.std.specs.Prelude.{Bool, true, false}
 use Rattle.sheet.specs.declared.fault.SheetFault.{SheetFault}
+use Rattle.sheet.specs.declared.fault.SheetFault.TheVariants.{BadNode, DoubleMark, DoublePin, BadEdge, Label, NoMark, TooManyCauses, NoMemory}
+use Rattle.sheet.specs.declared.groups.GroupFault.{GroupFault}
+use Rattle.sheet.specs.declared.groups.GroupFault.TheVariants as group
 
-infixl 10 ◌>>=◌
-abbrev pub ◌>>=◌ : {A B : Type 0} → Result A SheetFault → (A → Result B SheetFault) → Result B SheetFault
-(Ok x) >>= f = f x
-(Err fault) >>= f = Err fault
+-- memory was wanted and not found, which says nothing of the drawing
+abbrev pub is_memory : SheetFault → Bool
+is_memory (BadNode lane) = false
+is_memory (DoubleMark mark) = false
+is_memory (DoublePin lane) = false
+is_memory (BadEdge n) = false
+is_memory (Label n fault) = false
+is_memory (NoMark n mark) = false
+is_memory (TooManyCauses n) = false
+is_memory NoMemory = true
 
--- a value where nothing is wrong with it, and else the fault of what is
-abbrev pub unless : {A X : Type 0} → Option X → (X → SheetFault) → A → Result A SheetFault
-unless None fault value = Ok value
-unless (Some x) fault value = Err (fault x)
+-- the fault of an edge that is one cause too many of its group
+abbrev pub sheet_fault : GroupFault → SheetFault
+sheet_fault (group.TooManyCauses n) = TooManyCauses n
+sheet_fault group.NoMemory = NoMemory

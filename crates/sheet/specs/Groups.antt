@@ -1,19 +1,21 @@
 -- The links as far as they are read, as a list of rules and a table of groups.
-use Rattle.std.specs.Prelude.{◌≡◌, ℕ, Bool, true, false, cond, not, ⊤, List, [], ◌∷◌, ◌++◌, length, Option, Some, None, IfSome, Result, Ok, Err, ◌<◌}
+use Rattle.std.specs.Prelude.{◌≡◌, ℕ, Bool, true, false, cond, not, ⊤, List, [], ◌∷◌, ◌++◌, length, Option, None, IfSome, Result, Ok, Err, ◌<◌, nat_le}
 use Rattle.std.specs.List.{list_any, position_from}
 use Rattle.std.specs.Option.{option_copied}
 use Rattle.std.specs.HashMap.{get, HashMap}
 use Rattle.std.specs.declared.hash.FoldHasher.{FoldHasher}
 use Rattle.std.specs.declared.hash.BuildHasherDefault.{BuildHasherDefault}
+use Rattle.itv_base.specs.declared.limits.TheConstants.{MAX_CAUSES}
 use Rattle.itv_base.specs.declared.names.RuleKind.{RuleKind}
 use Rattle.itv_base.specs.declared.names.RuleKind.TheVariants as rules
 use Rattle.label_grammar.specs.declared.label.Kind.{Kind}
 use Rattle.label_grammar.specs.declared.label.Kind.TheVariants.{Lin, Late, Early, Req, Ask}
-use Rattle.sheet.specs.declared.fault.SheetFault.{SheetFault}
 use Rattle.sheet.specs.declared.groups.Group.{Group}
+use Rattle.sheet.specs.declared.groups.GroupFault.{GroupFault}
+use Rattle.sheet.specs.declared.groups.GroupFault.TheVariants.{TooManyCauses, NoMemory}
+use Rattle.sheet.specs.declared.rule.Source.{Source}
 use Rattle.sheet.specs.contracts.groups.GroupPartialEq.TheImpl as group_eq
-use Rattle.sheet.specs.Answer.{HasFault}
-use Rattle.sheet.specs.Links.{Link, joins, with_link, link_rules}
+use Rattle.sheet.specs.Links.{Link, is_full, joins, link_rules}
 use Rattle.sheet.specs.Rule.{SheetRule}
 
 -- ---- the links that open a rule
@@ -71,7 +73,17 @@ pub record StandsFor (front : List SheetRule) (links : List Link) (all : List Sh
   pub stand : all ≡ front ++ link_rules links
   pub found : (group : Group) → place_of places group ≡ position_from (joins (group_link group)) (length front) (openers links)
 
+-- The fault of edge n is that its group is full. Memory may be wanted at any time.
+abbrev pub TellsFull : ℕ → Bool → GroupFault → Type 0
+TellsFull n full (TooManyCauses m) = (m ≡ n) × (full ≡ true)
+TellsFull n full NoMemory = Unit {0}
+
+-- what is answered to one cause more for a rule, that of edge n, and what the rule is then
+abbrev pub AddsCause : SheetRule → ℕ → Source → Result ⊤ GroupFault → SheetRule → Type 0
+AddsCause old n cause (Ok x) new = (nat_le MAX_CAUSES (length old.causes) ≡ false) × (new ≡ record old { causes = old.causes ++ cause ∷ [] })
+AddsCause old n cause (Err fault) new = TellsFull n (nat_le MAX_CAUSES (length old.causes)) fault
+
 -- what is answered to one link more, of edge n, and what stands then
-abbrev pub AddsLink : List SheetRule → List Link → ℕ → Link → Result ⊤ SheetFault → List SheetRule → Places → Type 0
-AddsLink front links n link (Ok x) all places = (with_link links n (Some link) ≡ Ok (links ++ link ∷ [])) × StandsFor front (links ++ link ∷ []) all places
-AddsLink front links n link (Err fault) all places = HasFault (with_link links n (Some link)) fault
+abbrev pub AddsLink : List SheetRule → List Link → ℕ → Link → Result ⊤ GroupFault → List SheetRule → Places → Type 0
+AddsLink front links n link (Ok x) all places = (is_full links link ≡ false) × StandsFor front (links ++ link ∷ []) all places
+AddsLink front links n link (Err fault) all places = TellsFull n (is_full links link) fault

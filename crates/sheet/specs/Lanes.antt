@@ -8,7 +8,7 @@ use Rattle.wave_string.specs.declared.mark_kind.MarkKind.{MarkKind}
 use Rattle.wave_string.specs.declared.mark_kind.MarkKind.TheVariants.{Bare}
 use Rattle.wave_string.specs.Kinds.{kind_of}
 use Rattle.wavejson.specs.declared.lane_text.LaneText.{LaneText}
-use Rattle.label_grammar.specs.Characters.{is_mark}
+use Rattle.itv_base.specs.Characters.{is_mark}
 use Rattle.sheet.specs.declared.mark.Mark.{Mark}
 use Rattle.sheet.specs.declared.pin.Pin.{Pin}
 use Rattle.sheet.specs.Rule.{SheetRule}

@@ -1,3 +1,8 @@
+pub use Rattle.itv_base.specs.Range
+pub use Rattle.itv_base.specs.Reading
+pub use Rattle.label_grammar.specs.Label
+pub use Rattle.label_grammar.specs.Edge
+pub use Rattle.wavejson.specs.Drawing
 pub mod Rule
 pub mod Contents
 pub mod Fault
@@ -6,4 +11,4 @@ pub mod Links
 pub mod Steps
 pub mod Groups
 pub mod Sheet
-pub mod Answer
+pub mod Whole

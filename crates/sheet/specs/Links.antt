@@ -1,8 +1,9 @@
 -- The rules and rows that the edges of a drawing give.
-use Rattle.std.specs.Prelude.{ℕ, ◌+◌, ◌&&◌, ◌==◌, Bool, true, false, nat_le, if◌then◌else◌, List, [], ◌∷◌, ◌++◌, length, map, filter, take, Option, Some, None, position, unwrap_or, Result, Ok, Err}
+use Rattle.std.specs.Prelude.{ℕ, ◌&&◌, ◌==◌, Bool, true, false, nat_le, if◌then◌else◌, List, [], ◌∷◌, ◌++◌, length, map, filter, take, Option, Some, None, position, unwrap_or, Result, Ok, Err}
 use Rattle.std.specs.List.{enumerate_from, filter_map, list_any}
 use Rattle.std.specs.Str.{bytes_eq}
 use Rattle.itv_base.specs.Range.{Ends}
+use Rattle.itv_base.specs.declared.limits.TheConstants.{MAX_CAUSES}
 use Rattle.itv_base.specs.declared.names.RuleKind.{RuleKind}
 use Rattle.itv_base.specs.declared.names.RuleKind.TheVariants as rules
 use Rattle.label_grammar.specs.declared.label.Kind.{Kind}
@@ -18,7 +19,7 @@ use Rattle.sheet.specs.declared.row.RowKind.TheVariants as asked
 use Rattle.sheet.specs.declared.row.SheetRow.{SheetRow}
 use Rattle.sheet.specs.declared.fault.SheetFault.{SheetFault}
 use Rattle.sheet.specs.declared.fault.SheetFault.TheVariants.{BadEdge, Label, NoMark, TooManyCauses}
-use Rattle.sheet.specs.Fault.{◌>>=◌}
+use Rattle.itv_base.specs.Reading.{◌>>=◌, walk}
 use Rattle.sheet.specs.Rule.{SheetRule}
 
 -- ---- one edge
@@ -77,22 +78,24 @@ joins a b = same_kind a.label.kind b.label.kind && (a.to == b.to && same_tag a.l
 
 -- the constraint of the link has as many causes as it may have
 abbrev pub is_full : List Link → Link → Bool
-is_full links link = nat_le 64 (length (filter (joins link) links))
+is_full links link = nat_le MAX_CAUSES (length (filter (joins link) links))
 
 -- ---- all edges, up to the first fault
 
 -- the links with what edge n says behind them
-abbrev pub with_link : List Link → ℕ → Option Link → Result (List Link) SheetFault
-with_link done n None = Ok done
-with_link done n (Some link) = if is_full done link then Err (TooManyCauses n) else Ok (done ++ link ∷ [])
+abbrev pub with_link : ℕ → List Link → Option Link → Result (List Link) SheetFault
+with_link n done None = Ok done
+with_link n done (Some link) = if is_full done link then Err (TooManyCauses n) else Ok (done ++ link ∷ [])
 
--- the links of the edges from number n on, behind those that are done
-abbrev pub links_from : List Mark → List Link → ℕ → List (List ℕ) → Result (List Link) SheetFault
-links_from marks done n [] = Ok done
-links_from marks done n (text ∷ texts) = do
+-- the links with the text of edge n read behind them
+abbrev pub with_edge : List Mark → ℕ → List Link → List ℕ → Result (List Link) SheetFault
+with_edge marks n done text = do
   link ← link_of marks n text
-  more ← with_link done n link
-  links_from marks more (n + 1) texts
+  with_link n done link
+
+-- the links of all edges
+abbrev pub links_of : List Mark → List (List ℕ) → Result (List Link) SheetFault
+links_of marks edges = walk (with_edge marks) 0 [] edges
 
 -- ---- rules and rows
 

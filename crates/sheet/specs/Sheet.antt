@@ -7,10 +7,10 @@ use Rattle.sheet.specs.declared.mark.Mark.{Mark}
 use Rattle.sheet.specs.declared.pin.Pin.{Pin}
 use Rattle.sheet.specs.declared.fault.SheetFault.{SheetFault}
 use Rattle.sheet.specs.declared.fault.SheetFault.TheVariants.{BadNode, DoubleMark, DoublePin}
-use Rattle.sheet.specs.Fault.{◌>>=◌, unless}
+use Rattle.itv_base.specs.Reading.{◌>>=◌, unless}
 use Rattle.sheet.specs.Contents.{Contents}
 use Rattle.sheet.specs.Lanes.{has_bad_node, marks_of, pins_of, order_rules, first_repeated}
-use Rattle.sheet.specs.Links.{links_from, link_rules, link_rows}
+use Rattle.sheet.specs.Links.{links_of, link_rules, link_rows}
 
 -- the marks of the lanes; else the first lane with a bad node, or the first mark that stands before
 unfoldable pub read_marks : List LaneText → Result (List Mark) SheetFault
@@ -27,5 +27,5 @@ unfoldable pub sheet_of : Drawing → Result Contents SheetFault
 sheet_of drawing = do
   marks ← read_marks drawing.lanes
   pins ← read_pins drawing.lanes
-  links ← links_from marks [] 0 drawing.edges
+  links ← links_of marks drawing.edges
   Ok (record { marks = marks; pins = pins; rules = order_rules drawing.lanes ++ link_rules links; rows = link_rows links })

@@ -1,8 +1,9 @@
 -- What the calls of this crate do one after another, on the way to a sheet.
-use Rattle.std.specs.Prelude.{ℕ, ◌<◌, Bool, All, List, ◌++◌, map, nat_eq, Result, Ok}
+use Rattle.std.specs.Prelude.{◌≡◌, ℕ, Bool, true, All, List, ◌++◌, map, nat_eq, Result, Ok}
 use Rattle.std.specs.List.{IsDistinct}
 use Rattle.std.specs.Str.{bytes_eq}
 use Rattle.wavejson.specs.declared.lane_text.LaneText.{LaneText}
+use Rattle.itv_base.specs.Characters.{is_mark}
 use Rattle.label_grammar.specs.Label.{label_view}
 use Rattle.sheet.specs.declared.edges.EdgeRules.{EdgeRules}
 use Rattle.sheet.specs.declared.fault.SheetFault.{SheetFault}
@@ -11,7 +12,7 @@ use Rattle.sheet.specs.declared.lanes.Span.{Span}
 use Rattle.sheet.specs.declared.link.Link as code
 use Rattle.sheet.specs.declared.mark.Mark.{Mark}
 use Rattle.sheet.specs.declared.pin.Pin.{Pin}
-use Rattle.sheet.specs.Fault.{◌>>=◌, unless}
+use Rattle.itv_base.specs.Reading.{◌>>=◌, unless}
 use Rattle.sheet.specs.Lanes.{Numbered, numbered, first_repeated}
 use Rattle.sheet.specs.Links.{Link, link_rules, link_rows}
 use Rattle.sheet.specs.Rule.{SheetRule}
@@ -23,10 +24,10 @@ with_distinct same key fault done more = unless (first_repeated same key (map ke
 abbrev pub with_marks : List Mark → List Mark → Result (List Mark) SheetFault
 with_marks = with_distinct nat_eq (λ mark. mark.name) (λ mark. DoubleMark mark.name)
 
--- no mark stands twice, and each is a character of ASCII
+-- no mark stands twice, and each is a character that may be one
 pub record AreMarks (marks : List Mark) : Type 0 where
   pub distinct : IsDistinct nat_eq (map (λ mark. mark.name) marks)
-  pub ascii : All (λ mark. mark.name < 128) marks
+  pub named : All (λ mark. is_mark mark.name ≡ true) marks
 
 abbrev pub with_pins : List Pin → List Pin → Result (List Pin) SheetFault
 with_pins = with_distinct bytes_eq (λ pin. pin.name) (λ pin. DoublePin pin.lane)

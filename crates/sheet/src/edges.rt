@@ -1,16 +1,17 @@
 //! The rules and the rows of the edges of a drawing, in one pass over the edges.
 
 ghost use Rattle.std.specs.Prelude.{◌≡◌, ◌≤◌, ◌++◌, ◌∷◌, [], List, length, nat_le, if◌then◌else◌, true, Ok, Err, OnOk, IfOk};
-ghost use Rattle.sheet.specs.Answer.{Gives};
-ghost use Rattle.sheet.specs.Groups.{ArePlaces, StandsFor, AddsLink, kind_of};
-ghost use Rattle.sheet.specs.Links.{Link as LinkSeen, links_from, is_cause, source_of};
+ghost use Rattle.sheet.specs.Fault.{is_memory};
+ghost use Rattle.itv_base.specs.Reading.{Gives};
+ghost use Rattle.sheet.specs.Groups.{ArePlaces, StandsFor, AddsCause, AddsLink, kind_of};
+ghost use Rattle.sheet.specs.Links.{Link as LinkSeen, links_of, is_cause, source_of};
 ghost use Rattle.sheet.specs.Rule.{SheetRule};
 ghost use Rattle.sheet.specs.Steps.{link_view, rules_and_rows};
 
 use crate::fault::SheetFault;
-use crate::groups::{Group, Places, place_of, put_place};
+use crate::groups::{Group, GroupFault, Places, place_of, put_place};
 use crate::link::{Link, read_link};
-use crate::mark::Mark;
+use crate::mark::{MAX_MARKS, Mark};
 use crate::row::SheetRows;
 use crate::rows::push_row;
 use crate::rule::{Rule, Rules, Source, Sources};
@@ -34,8 +35,8 @@ pub fn read_edges(
     edges: &Texts,
     mut rules: Vec<Rule>,
 ) -> Result<EdgeRules, SheetFault>
-    requires { length marks.now ≤ 128 }
-    ensures { Gives (λ read. read) result (rules_and_rows rules.items (links_from marks.now [] 0 edges.now)) }
+    requires { length marks.now ≤ MAX_MARKS }
+    ensures { Gives is_memory (λ read. read) result (rules_and_rows rules.items (links_of marks.now edges.now)) }
 {
     let mut places = Places::new(alloc);
     let mut rows = SheetRows::new(alloc);
@@ -62,7 +63,7 @@ fn push_link<'a>(
     places: &mut Places<'a>,
     n: u64,
     link: &Link<'a>,
-) -> Result<(), SheetFault>
+) -> Result<(), GroupFault>
     requires { ArePlaces places.old (length rules.old.items) }
     ensures { (front : List SheetRule) (links : List LinkSeen) → StandsFor front links rules.old.items places.old
         → AddsLink front links n (link_view link.now) result rules.new.items places.new }
@@ -86,7 +87,7 @@ fn join_group<'a>(
     n: u64,
     kind: RuleKind,
     link: &Link<'a>,
-) -> Result<(), SheetFault>
+) -> Result<(), GroupFault>
     requires places { ArePlaces places.old (length rules.old.items) }
     requires kind { kind_of kind ≡ link.now.label.kind }
     requires cause { is_cause link.now.label.kind ≡ true }
@@ -128,13 +129,11 @@ fn push_rule(
 }
 
 // Puts the cause of edge n at the end of those of a rule.
-fn push_cause(rule: &mut Rule, n: u64, cause: Source) -> Result<(), SheetFault>
-    ensures answer { Gives (λ _. rule.new) result (if nat_le 64 (length rule.old.causes)
-        then Err (SheetFault.TooManyCauses n)
-        else Ok (record rule.old { causes = rule.old.causes ++ cause ∷ [] })) }
+fn push_cause(rule: &mut Rule, n: u64, cause: Source) -> Result<(), GroupFault>
+    ensures { AddsCause rule.old n cause result rule.new }
 {
     if rule.causes().len() >= MAX_CAUSES as u64 {
-        return Err(SheetFault::TooManyCauses(n));
+        return Err(GroupFault::TooManyCauses(n));
     }
     rule.push_cause(cause)?;
     Ok(())

@@ -1,8 +1,10 @@
 //! Why a drawing is no sheet.
 
 ghost use Rattle.std.specs.Prelude.{◌≡◌};
+ghost use Rattle.sheet.specs.Fault.{sheet_fault};
 ghost use Rattle.sheet.specs.declared.fault.SheetFault.TheVariants.{NoMemory};
 
+use crate::groups::GroupFault;
 use itv_base::NoMemory as OutOfMemory;
 use label_grammar::LabelFault;
 use std::alloc::AllocFailed;
@@ -50,5 +52,16 @@ impl From<OutOfMemory> for SheetFault {
 
     fn from(_: OutOfMemory) -> SheetFault {
         SheetFault::NoMemory
+    }
+}
+
+impl From<GroupFault> for SheetFault {
+    ghost from_gives = { λ fault e. e ≡ sheet_fault fault };
+
+    fn from(fault: GroupFault) -> SheetFault {
+        match fault {
+            GroupFault::TooManyCauses(n) => SheetFault::TooManyCauses(n),
+            GroupFault::NoMemory => SheetFault::NoMemory,
+        }
     }
 }

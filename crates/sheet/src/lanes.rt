@@ -2,14 +2,15 @@
 
 ghost use Rattle.std.specs.Prelude.{◌≡◌, ◌+◌, ◌<◌, ◌≤◌, ℕ, List, All, length, option_map, position, nat_eq, IsTrue, IfOk, OnOk};
 ghost use Rattle.std.specs.List.{list_all, list_any};
-ghost use Rattle.label_grammar.specs.Characters.{is_mark};
-ghost use Rattle.sheet.specs.Answer.{Gives};
+ghost use Rattle.itv_base.specs.Characters.{is_mark};
+ghost use Rattle.sheet.specs.Fault.{is_memory};
+ghost use Rattle.itv_base.specs.Reading.{Gives};
 ghost use Rattle.sheet.specs.Lanes.{is_node_byte, node_of, has_bad_node, drawn_kind, lane_marks};
 ghost use Rattle.sheet.specs.Sheet.{read_marks};
 ghost use Rattle.sheet.specs.Steps.{AreMarks, with_marks, spans_of};
 
 use crate::fault::SheetFault;
-use crate::mark::{Mark, Marks};
+use crate::mark::{MAX_MARKS, Mark, Marks};
 use std::alloc::Global;
 use wave_string::{MarkKind, kind_at};
 use wavejson::{LaneText, Lanes};
@@ -30,10 +31,10 @@ pub struct LaneMarks {
 
 /// The marks of all lanes, or the first fault of a node. No character is a mark twice, so there are few.
 pub fn read_marks(alloc: Global, lanes: &Lanes) -> Result<LaneMarks, SheetFault>
-    ensures answer { Gives (λ read. read.marks) result (read_marks lanes.now) }
-    ensures few { IfOk result (λ read. length read.marks ≤ 128) }
+    ensures answer { Gives is_memory (λ read. read.marks) result (read_marks lanes.now) }
+    ensures few { IfOk result (λ read. length read.marks ≤ MAX_MARKS) }
     ensures spans { IfOk result (λ read. read.spans.items ≡ spans_of lanes.now) }
-    ensures within { IfOk result (λ read. All (λ s. s.first + s.count ≤ 128) read.spans.items) }
+    ensures within { IfOk result (λ read. All (λ s. s.first + s.count ≤ MAX_MARKS) read.spans.items) }
 {
     if let Some(lane) = bad_node(lanes) {
         return Err(SheetFault::BadNode(lane));
@@ -82,8 +83,7 @@ fn is_node_byte(b: u8) -> bool
 }
 
 fn is_mark(b: u8) -> bool
-    ensures value { result ≡ is_mark b }
-    ensures ascii { IsTrue result → b < 128 }
+    ensures { result ≡ is_mark b }
 {
     b.is_ascii_graphic() && b != b'.'
 }
@@ -99,7 +99,7 @@ fn node_of(lane: &LaneText) -> &[u8]
 
 // Puts the marks of a lane at the end, as far as none stood before.
 fn push_marks(marks: &mut Marks, number: u64, lane: &LaneText) -> Result<(), SheetFault>
-    ensures answer { Gives (λ _. marks.new) result (with_marks marks.old (lane_marks (number, lane.now))) }
+    ensures answer { Gives is_memory (λ _. marks.new) result (with_marks marks.old (lane_marks (number, lane.now))) }
     ensures distinct { OnOk result (AreMarks marks.old → AreMarks marks.new) }
 {
     let node = node_of(lane);

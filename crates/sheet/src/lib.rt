@@ -5,7 +5,7 @@
 
 mod edges;
 mod fault;
-mod groups;
+pub mod groups;
 mod lanes;
 mod link;
 mod mark;
@@ -21,7 +21,7 @@ mod sheet;
 mod tests;
 
 pub use fault::SheetFault;
-pub use mark::{Mark, Marks};
+pub use mark::{MAX_MARKS, Mark, Marks};
 pub use pin::{Pin, Pins};
 pub use read::read_sheet;
 pub use row::{RowKind, SheetRow, SheetRows};

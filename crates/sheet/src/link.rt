@@ -1,12 +1,13 @@
 //! What one edge of a drawing says.
 
 ghost use Rattle.std.specs.Prelude.{◌≡◌, ◌≤◌, length, option_map, unwrap_or};
-ghost use Rattle.sheet.specs.Answer.{Gives};
+ghost use Rattle.sheet.specs.Fault.{is_memory};
+ghost use Rattle.itv_base.specs.Reading.{Gives};
 ghost use Rattle.sheet.specs.Links.{number_of, link_of, source_of, open_ends};
 ghost use Rattle.sheet.specs.Steps.{link_view};
 
 use crate::fault::SheetFault;
-use crate::mark::Mark;
+use crate::mark::{MAX_MARKS, Mark};
 use crate::rule::Source;
 use itv_base::Range;
 use label_grammar::{EdgeText, Label, read_edge, read_label};
@@ -22,8 +23,8 @@ pub struct Link<'a> {
 /// What the text of an edge says, by the number of the edge: nothing where it is a comment.
 #[tactic(auto, unfolding(crate::specs::Links::link_of))]
 pub fn read_link<'a>(marks: &[Mark], n: u64, text: &'a str) -> Result<Option<Link<'a>>, SheetFault>
-    requires { length marks.now ≤ 128 }
-    ensures { Gives (λ link. option_map link_view link) result (link_of marks.now n text.now) }
+    requires { length marks.now ≤ MAX_MARKS }
+    ensures { Gives is_memory (λ link. option_map link_view link) result (link_of marks.now n text.now) }
 {
     let (from, to, label) = match read_edge(text) {
         EdgeText::Comment => return Ok(None),
@@ -42,7 +43,7 @@ pub fn read_link<'a>(marks: &[Mark], n: u64, text: &'a str) -> Result<Option<Lin
 
 // The number of the mark with a name.
 fn number_of(marks: &[Mark], name: u8) -> Option<u32>
-    requires { length marks.now ≤ 128 }
+    requires { length marks.now ≤ MAX_MARKS }
     ensures { result ≡ number_of marks.now name }
 {
     position_of(marks, name).map(|number| number as u32)

@@ -3,6 +3,9 @@
 use itv_base::Listing;
 use wave_string::MarkKind;
 
+/// Marks of a sheet: there are as many characters that may be one.
+pub const MAX_MARKS: u32 = 93;
+
 /// A mark on a lane: the lane's number from 0, the place of its character in the lane's `node` from 0, the character itself,
 /// and what the lane's wave draws there.
 #[derive(Clone, Copy, Debug, PartialEq, Eq)]

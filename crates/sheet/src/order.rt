@@ -5,6 +5,7 @@ ghost use Rattle.sheet.specs.Lanes.{follows_rule, order_of, lane_order, order_ru
 ghost use Rattle.sheet.specs.Steps.{spans_of, numbered_by};
 
 use crate::lanes::Span;
+use crate::mark::MAX_MARKS;
 use crate::rule::{Rule, Source, Sources};
 use itv_base::{NoMemory, Range, RuleKind};
 use std::alloc::Global;
@@ -18,7 +19,7 @@ pub fn push_lane_orders(
     spans: &[Span],
 ) -> Result<(), NoMemory>
     requires spans { spans.now ≡ spans_of lanes.now }
-    requires within { All (λ s. s.first + s.count ≤ 128) spans.now }
+    requires within { All (λ s. s.first + s.count ≤ MAX_MARKS) spans.now }
     ensures { OnOk result (rules.new.items ≡ rules.old.items ++ order_rules lanes.now) }
 {
     for (k, span) in spans.iter().enumerate() {
@@ -33,7 +34,7 @@ fn push_lane_order(
     lane: &LaneText,
     span: Span,
 ) -> Result<(), NoMemory>
-    requires { span.first + span.count ≤ 128 }
+    requires { span.first + span.count ≤ MAX_MARKS }
     ensures { (number : ℕ) → OnOk result (rules.new.items ≡ rules.old.items ++ lane_order (numbered_by number lane.now span)) }
 {
     if lane.name.is_some() && lane.wave.is_some() {
@@ -44,7 +45,7 @@ fn push_lane_order(
 
 // Each mark and the next, and then the last one and the first one of the next cycle.
 fn push_order(alloc: Global, rules: &mut Vec<Rule>, span: Span) -> Result<(), NoMemory>
-    requires { span.first + span.count ≤ 128 }
+    requires { span.first + span.count ≤ MAX_MARKS }
     ensures { OnOk result (rules.new.items ≡ rules.old.items ++ order_of span.first span.count) }
 {
     if span.count == 0 {

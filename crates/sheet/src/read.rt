@@ -1,6 +1,7 @@
 //! Reading a sheet from a drawing.
 
-ghost use Rattle.sheet.specs.Answer.{Gives};
+ghost use Rattle.sheet.specs.Fault.{is_memory};
+ghost use Rattle.itv_base.specs.Reading.{Gives};
 ghost use Rattle.sheet.specs.Sheet.{sheet_of};
 
 use crate::edges::{EdgeRules, read_edges};
@@ -21,7 +22,7 @@ use wavejson::Diagram;
 ///
 /// `NoMemory` may come in place of a sheet or a fault. After any fault no sheet was made.
 pub fn read_sheet(alloc: Global, diagram: &Diagram) -> Result<Sheet, SheetFault>
-    ensures { Gives (λ sheet. sheet) result (sheet_of diagram.now) }
+    ensures answer { Gives is_memory (λ sheet. sheet) result (sheet_of diagram.now) }
 {
     let lanes = diagram.lanes();
     let LaneMarks { marks, spans } = read_marks(alloc, lanes)?;

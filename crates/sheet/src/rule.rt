@@ -35,7 +35,7 @@ impl Model for Rule {
 impl Rule {
     /// A rule of these parts.
     pub fn new(kind: RuleKind, target: u32, causes: Sources) -> Rule
-        ensures { result ≡ record { kind = kind; target = target; causes = causes } }
+        ensures rule { result ≡ record { kind = kind; target = target; causes = causes } }
     {
         Rule {
             kind,
@@ -46,21 +46,21 @@ impl Rule {
 
     /// How the rule reads its causes.
     pub fn kind(&self) -> RuleKind
-        ensures { result ≡ self.now.kind }
+        ensures kind { result ≡ self.now.kind }
     {
         self.kind
     }
 
     /// The target's number.
     pub fn target(&self) -> u32
-        ensures { result ≡ self.now.target }
+        ensures target { result ≡ self.now.target }
     {
         self.target
     }
 
     /// The causes in order.
     pub fn causes(&self) -> &Sources
-        ensures { result.now ≡ self.now.causes }
+        ensures causes { result.now ≡ self.now.causes }
     {
         &self.causes
     }

@@ -1,6 +1,7 @@
 //! A sheet as it was read.
 
 ghost use Rattle.std.specs.Prelude.{◌≡◌};
+ghost use Rattle.sheet.specs.Whole.{IsWhole};
 
 use crate::mark::Marks;
 use crate::pin::Pins;
@@ -19,37 +20,41 @@ pub struct Sheet {
 
 impl Model for Sheet {
     ghost use Rattle.sheet.specs.Contents.{Contents};
+    ghost use Rattle.sheet.specs.Whole.{IsWhole};
 
     ghost Value = { Contents };
 
     ghost view = { λ s. record { marks = s.marks; pins = s.pins; rules = s.rules; rows = s.rows } };
+
+    ghost invariant = { λ s. IsWhole (record { marks = s.marks; pins = s.pins; rules = s.rules; rows = s.rows }) };
 }
 
 impl Sheet {
     /// The marks, numbered from 0 lane by lane and then by place.
     pub fn marks(&self) -> &Marks
-        ensures { result.now ≡ self.now.marks }
+        ensures marks { result.now ≡ self.now.marks }
+        ensures whole { IsWhole self.now }
     {
         &self.marks
     }
 
     /// The pins in the order of their lanes.
     pub fn pins(&self) -> &Pins
-        ensures { result.now ≡ self.now.pins }
+        ensures pins { result.now ≡ self.now.pins }
     {
         &self.pins
     }
 
     /// The rules in the order in which they become constraints: the order on the lanes, and then the edges.
     pub fn rules(&self) -> &Rules
-        ensures { result.now ≡ self.now.rules }
+        ensures rules { result.now ≡ self.now.rules }
     {
         &self.rules
     }
 
     /// The separations that are asked for, in the order of their edges.
     pub fn rows(&self) -> &SheetRows
-        ensures { result.now ≡ self.now.rows }
+        ensures rows { result.now ≡ self.now.rows }
     {
         &self.rows
     }

@@ -3,10 +3,10 @@ use Rattle.std.specs.Prelude.{ℕ, Bool, List, [], ◌∷◌, ◌++◌, Option, 
 use Rattle.std.specs.Option.{option_map_or}
 use Rattle.serde_json.specs.Data.{Data, null, boolean, number, string, array, object, Items, no_items, item}
 use Rattle.serde_json.specs.Find.{get, as_str, as_array, as_object}
+use Rattle.itv_base.specs.Reading.{◌>>=◌}
 use Rattle.wavejson.specs.declared.lane_text.LaneText.{LaneText}
 use Rattle.wavejson.specs.declared.fault.DiagramFault.{DiagramFault}
 use Rattle.wavejson.specs.declared.fault.DiagramFault.TheVariants.{NotObject, NoSignal, EdgesNotList, EdgeNotText}
-use Rattle.wavejson.specs.Steps.{◌>>=◌}
 
 -- the text under a key of an object; what is no string counts as absent
 abbrev pub text_at : List ℕ → Data → Option (List ℕ)

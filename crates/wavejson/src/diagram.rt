@@ -1,9 +1,10 @@
 //! A diagram, and how it is read from a tree.
 
-ghost use Rattle.std.specs.Prelude.{◌≡◌, ◌↔◌, ℕ, Some, IsNone, IsSome, IsSomeAnd, IsErrOf, position, codes};
+ghost use Rattle.std.specs.Prelude.{◌≡◌, ◌↔◌, ℕ, Some, IsNone, IsOk, IsSome, IsSomeAnd, IsErrOf, position, codes};
 ghost use Rattle.serde_json.specs.Find.{get, as_object};
 ghost use Rattle.serde_json.specs.View.{view};
-ghost use Rattle.wavejson.specs.Answer.{Gives};
+ghost use Rattle.itv_base.specs.Reading.{Gives};
+ghost use Rattle.wavejson.specs.Fault.{is_memory};
 ghost use Rattle.wavejson.specs.Drawing.{diagram_of, signal_of, edges_of, is_no_string};
 
 use crate::edges::{edge_list, read_texts};
@@ -32,14 +33,14 @@ impl Model for Diagram {
 impl Diagram {
     /// The lanes in order, groups flattened.
     pub fn lanes(&self) -> &Lanes
-        ensures { result.now ≡ self.now.lanes }
+        ensures lanes { result.now ≡ self.now.lanes }
     {
         &self.lanes
     }
 
     /// The texts of `edge` in order, as they are written. A missing `edge` gives none.
     pub fn edges(&self) -> &Texts
-        ensures { result.now ≡ self.now.edges }
+        ensures edges { result.now ≡ self.now.edges }
     {
         &self.edges
     }
@@ -52,7 +53,8 @@ impl Diagram {
 /// in it is passed over, a group's title too. Of a lane only `name`, `wave` and `node` are read, of the tree only `signal` and
 /// `edge`.
 pub fn read_diagram(alloc: Global, tree: &Value) -> Result<Diagram, DiagramFault>
-    ensures answer { Gives result (diagram_of (view tree.now)) }
+    ensures answer { Gives is_memory (λ drawing. drawing) result (diagram_of (view tree.now)) }
+    ensures memory { IsErrOf result DiagramFault.NoMemory → IsOk (diagram_of (view tree.now)) }
 
     // When each fault comes, in the order in which they are told.
     ensures not_object { IsErrOf result DiagramFault.NotObject ↔ IsNone (as_object (view tree.now)) }

@@ -28,7 +28,7 @@ impl Model for Lanes {
 impl Lanes {
     /// How many lanes there are.
     pub fn len(&self) -> u64
-        ensures { result ≡ length self.now }
+        ensures count { result ≡ length self.now }
     {
         self.items.len() as u64
     }
@@ -36,7 +36,7 @@ impl Lanes {
     /// The lane at a place, counted from 0.
     pub fn get(&self, k: u64) -> &LaneText
         requires { k < length self.now }
-        ensures { slice_get self.now k ≡ Some result.now }
+        ensures lane { slice_get self.now k ≡ Some result.now }
     {
         &self.items[k as usize]
     }

@@ -2,4 +2,4 @@ use Rattle.label_grammar.proofs.Whole.{spelling_injective}
 use Rattle.label_grammar.proofs.laws.spellings_differ.Goals as goal
 
 pub returns : goal.returns
-returns c = spelling_injective
+returns c = record { differ = spelling_injective }

@@ -10,11 +10,11 @@ loop-k-init c = sym (position_from-zero has_bad_node c.args.lanes.now)
 pub returns-then-has_bad_node : goal.returns-then-has_bad_node
 returns-then-has_bad_node c =
     let bad = sym c.has_bad_node.ensures ∙ c.if-has_bad_node.true in
-    let step = rw bad at (bad_node-step c.args.lanes.now c.loop-k.k c.get.result.now c.get.ensures) in
+    let step = rw bad at (bad_node-step c.args.lanes.now c.loop-k.k c.get.result.now c.get.ensures.lane) in
     sym step ∙ c.loop-k.invariant
 
 pub loop-k-preserved : goal.loop-k-preserved
 loop-k-preserved c =
     let good = sym c.has_bad_node.ensures ∙ c.if-has_bad_node.false in
-    let step = rw good at (bad_node-step c.args.lanes.now c.loop-k.k c.get.result.now c.get.ensures) in
+    let step = rw good at (bad_node-step c.args.lanes.now c.loop-k.k c.get.result.now c.get.ensures.lane) in
     sym step ∙ c.loop-k.invariant

@@ -8,6 +8,6 @@ get-requires c = omega (arith, ap length c.requires.spans, length-spans_of c.arg
 
 pub loop-k-preserved : goal.loop-k-preserved
 loop-k-preserved c =
-    let at = numbered-read c.args.lanes.now c.loop-k.k c.get.result.now c.args.spans.now _ c.get.ensures c.requires.spans in
+    let at = numbered-read c.args.lanes.now c.loop-k.k c.get.result.now c.args.spans.now _ c.get.ensures.lane c.requires.spans in
     let now = rw at at c.loop-k.invariant in
     rw (c.in_ok-push_lane_order.ensures c.loop-k.k, append_assoc) now
