@@ -32,7 +32,7 @@ use Rattle.diff_bounds.proofs.NamedWalks.{MeetsNamed, event, if_some, walk_bound
 use Rattle.diff_bounds.proofs.Climbs.{StartBelow}
 use Rattle.diff_bounds.proofs.Forests.{number-at, starts_below}
 use Rattle.diff_bounds.proofs.Poising.{new_potential, zeros_above, zeros_some}
-use Rattle.diff_bounds.proofs.Uppers.{AreTimes, IsBounding, has_path, in_reach, is_upper, lifted-some, lifted_attain, lifted_by, lifted_meet, lifted_origin, path_is, table, table_times, times_meet}
+use Rattle.diff_bounds.proofs.Uppers.{AreTimes, IsBounding, has_path, in_reach, is_upper, lifted-some, lifted_attain, lifted_by, lifted_meet, lifted_origin, path_is, source_zero, table, table_times, times_meet}
 
 -- ---- the stack
 
@@ -242,15 +242,22 @@ loop_is net st a edges walk h same is =
 never_chosen : (name : EdgeName) → Contains [] name → ⊥
 never_chosen name (k, below, is) = absurd (omega arith)
 
-pub none_root : (net : Net) → HasNoTimes net [] → HasNoRoot net
-none_root net none times met = none times (record { count = met.count; each = λ name e current is. of_current name e current is })
+-- with nothing chosen the current edges are the always-edges
+pub always_meets : (net : Net) (times : List ℤ) → MeetsCurrent net [] times → MeetsAlways times net
+always_meets net times met = record { count = met.count; each = λ name e always is. met.each name e (inl always) is }
+
+pub meets_always : (net : Net) (times : List ℤ) → MeetsAlways times net → MeetsCurrent net [] times
+meets_always net times met = record { count = met.count; each = λ name e current is. of_current name e current is }
   where
     of_current : (name : EdgeName) (e : Edge) → IsCurrent net [] name → edge net name ≡ Some e → Meets times e
     of_current name e (inl always) is = met.each name e always is
     of_current name e (inr chosen) is = absurd (never_chosen name chosen)
 
+pub none_root : (net : Net) → HasNoTimes net [] → HasNoRoot net
+none_root net none times met = none times (meets_always net times met)
+
 pub root_none : (net : Net) → HasNoRoot net → HasNoTimes net []
-root_none net none times met = none times (record { count = met.count; each = λ name e always is. met.each name e (inl always) is })
+root_none net none times met = none times (always_meets net times met)
 
 -- ---- paths
 
@@ -270,3 +277,9 @@ one_path net b source e z stands from below at =
 pub some_is : (o : Option ℤ) → IsSome o → (z : ℤ) × (o ≡ Some z)
 some_is None some = absurd (cc some)
 some_is (Some z) some = (z, refl)
+
+-- the source is at 0
+pub stands_source : (net : Net) (b : Standing) (source : EventId) → Stands net b → b.source ≡ Some source → upper_of b source.0 ≡ Some (pos 0)
+stands_source net b source stands from =
+    let bounding = stands_bounding net b source stands from in
+    source_zero (whole net (chosen_of b)) source (upper_of b) (parents_from b.trail.current.stamps 0) bounding.forest bounding.origin

@@ -3,4 +3,5 @@ mod Opening
 mod LoneLemmas
 mod ListTexts
 mod Reporting
+mod Forward
 mod Solving
