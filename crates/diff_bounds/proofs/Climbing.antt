@@ -1,6 +1,6 @@
 -- A climb that is written down, edge by edge.
-use Rattle.std.proofs.Common.{◌≡◌, ℕ, ◌+◌, ◌<◌, ◌≤◌, List, [], ◌∷◌, ◌++◌, length, set, take, Option, Some, None, sym, ◌∙◌, ap, subst, refl, arith, append_assoc}
-use Rattle.std.proofs.lemmas.Option.{none-some, same_Some}
+use Rattle.std.proofs.Common.{◌≡◌, ℕ, ◌+◌, ◌<◌, ◌≤◌, List, [], ◌∷◌, ◌++◌, length, set, take, Some, sym, ◌∙◌, ap, refl, arith, append_assoc}
+use Rattle.std.proofs.lemmas.Option.{none-some}
 use Rattle.std.proofs.lemmas.List.{length-append, length-take-le, take_more_set}
 use Rattle.itv_base.specs.declared.names.EdgeName.{EdgeName}
 use Rattle.event_graph.specs.declared.edge.Edge.{Edge}
@@ -8,7 +8,7 @@ use Rattle.event_graph.specs.Edges.{edge}
 use Rattle.event_graph.specs.Network.{Net}
 use Rattle.diff_bounds.specs.Labels.{IsClimb, Parents}
 use Rattle.diff_bounds.specs.Step.Walking.{IsOneClimb}
-use Rattle.diff_bounds.proofs.Climbs.{no_way_on, rest_of, way_on}
+use Rattle.diff_bounds.proofs.Climbs.{way_on}
 
 append_nothing : (xs : List EdgeName) → xs ++ [] ≡ xs
 append_nothing [] = refl

@@ -1,6 +1,6 @@
 -- What stands after a descent and after a retreat.
-use Rattle.std.proofs.Common.{◌≡◌, ℕ, ◌+◌, ◌<◌, ◌≤◌, ◌⊎◌, inl, inr, Bool, true, false, List, [], ◌∷◌, ◌++◌, length, reverse, take, Option, Some, None, is_none, is_some, cond, sym, ◌∙◌, ap, subst, refl, arith}
-use Rattle.std.proofs.lemmas.List.{length_push, length-map}
+use Rattle.std.proofs.Common.{◌≡◌, ℕ, ◌+◌, ◌<◌, inl, inr, true, false, List, [], ◌∷◌, ◌++◌, length, reverse, take, Option, Some, None, is_none, is_some, cond, sym, ◌∙◌, ap, subst, refl, arith}
+use Rattle.std.proofs.lemmas.List.{length-map}
 use Rattle.itv_base.specs.declared.names.EdgeName.{EdgeName}
 use Rattle.itv_base.specs.declared.names.EventId.{EventId}
 use Rattle.event_graph.specs.declared.edge.Edge.{Edge}
@@ -9,13 +9,13 @@ use Rattle.event_graph.specs.Network.{IsNet, Net}
 use Rattle.trail.specs.declared.stamp.Stamp.{Stamp}
 use Rattle.trail.specs.Stack.{Graph, Stack, after_pop, after_push, with_edge}
 use Rattle.diff_bounds.specs.declared.arc.Arc.{Arc}
-use Rattle.diff_bounds.specs.Arcs.{AreAlwaysArcs, AreChosenArcs, IsArc}
+use Rattle.diff_bounds.specs.Arcs.{AreChosenArcs, IsArc}
 use Rattle.diff_bounds.specs.Current.{HasNoTimes, IsLoop, with_choice}
-use Rattle.diff_bounds.specs.Labels.{HasFallen, Scope, labels_from, parents_from, stamp_at}
-use Rattle.diff_bounds.specs.Settled.{AddsOne, AreNear, AreSettled, HaveLabels, HaveUppers, IsFeasible, IsSettled, at_source, whole, zeros}
-use Rattle.diff_bounds.specs.Standing.{HasDescended, IsMadeFor, Standing, Stands, chosen_of}
+use Rattle.diff_bounds.specs.Labels.{HasFallen, stamp_at}
+use Rattle.diff_bounds.specs.Settled.{AreSettled, IsFeasible, IsSettled, at_source, whole, zeros}
+use Rattle.diff_bounds.specs.Standing.{HasDescended, Standing, Stands, chosen_of}
 use Rattle.diff_bounds.specs.Step.Falling.{HasRun, with_stamps}
-use Rattle.diff_bounds.specs.Step.Poised.{AreLow, IsReady, feasible_run, upper_run}
+use Rattle.diff_bounds.specs.Step.Poised.{IsReady, feasible_run, upper_run}
 use Rattle.diff_bounds.specs.Step.Waiting.{Waiting}
 use Rattle.diff_bounds.specs.Step.Walking.{HasLoop}
 use Rattle.diff_bounds.proofs.Networks.{edge_within}

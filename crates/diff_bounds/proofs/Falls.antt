@@ -1,5 +1,5 @@
 -- Parts of a fall, one after another.
-use Rattle.std.proofs.Common.{◌≡◌, ◌≢◌, ℕ, ◌+◌, ◌*◌, ◌<◌, ◌≤◌, ℤ, ◌+ℤ◌, ◌≤ℤ◌, ◌<ℤ◌, ◌⊎◌, inl, inr, Bool, true, false, List, length, Option, Some, get_or, set, sym, ◌∙◌, ap, subst, refl, arith}
+use Rattle.std.proofs.Common.{◌≡◌, ◌≢◌, ℕ, ◌+◌, ◌*◌, ◌<◌, ◌≤◌, ℤ, ◌+ℤ◌, ◌≤ℤ◌, ◌<ℤ◌, inl, inr, Bool, true, false, List, length, Option, Some, sym, ◌∙◌, ap, subst, refl, arith}
 use Rattle.std.proofs.Math.ListN.{length-set}
 use Rattle.std.proofs.lemmas.Int.{ints}
 use Rattle.std.proofs.lemmas.Bool.{cases_eq, cases_lt}
@@ -13,11 +13,11 @@ use Rattle.event_graph.specs.Network.{Net}
 use Rattle.trail.specs.declared.stamp.Stamp.{Stamp}
 use Rattle.trail.specs.Stack.{Stack}
 use Rattle.diff_bounds.specs.declared.falling.Run.{Run}
-use Rattle.diff_bounds.specs.Labels.{Follows, Labels, Scope, is_lower, labels_from, stamp_at}
-use Rattle.diff_bounds.specs.Step.Falling.{Falls, IsDone, IsPlaced, IsRunning, KeepsRuns, scope_of, total_height, with_stamps, work_left}
+use Rattle.diff_bounds.specs.Labels.{Follows, Labels, Scope, is_lower, labels_from}
+use Rattle.diff_bounds.specs.Step.Falling.{Falls, IsDone, IsPlaced, IsRunning, KeepsRuns, scope_of, with_stamps}
 use Rattle.diff_bounds.specs.Step.Waiting.{Pushes, Waiting, is_waiting}
 use Rattle.diff_bounds.proofs.Forests.{lower_number}
-use Rattle.diff_bounds.proofs.Runs.{OneFall, after_fall, fall_apart, height_falls, label_here, label_there, run_kept}
+use Rattle.diff_bounds.proofs.Runs.{OneFall, after_fall, height_falls, label_here, label_there, run_kept}
 
 pub running_on : (s : Scope) (run : Run) (a b : List Stamp) → IsRunning s run a → KeepsRuns s run a b → IsRunning s run b
 running_on s run a b running keeps = record {

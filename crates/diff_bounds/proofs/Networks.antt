@@ -1,5 +1,5 @@
 -- The edges of a network are between its events, and their weights are within the limit.
-use Rattle.std.proofs.Common.{◌≡◌, ◌<◌, ℕ, ℤ, pos, neg_ℤ, ◌≤ℤ◌, List, Option, Some, None, IfSome, option_map, slice_get, sym, ◌∙◌, ap, subst, refl, arith}
+use Rattle.std.proofs.Common.{◌≡◌, ◌<◌, ℕ, ℤ, neg_ℤ, Option, Some, None, option_map, subst, refl, arith}
 use Rattle.std.proofs.lemmas.Int.{ints}
 use Rattle.std.proofs.lemmas.Option.{option_and_then_some, same_Some}
 use Rattle.itv_base.specs.Range.{IsEnd}
@@ -10,7 +10,7 @@ use Rattle.itv_base.specs.declared.names.Side.TheVariants.{Lower, Upper}
 use Rattle.event_graph.specs.declared.cause.Cause.{Cause}
 use Rattle.event_graph.specs.declared.edge.Edge.{Edge}
 use Rattle.event_graph.specs.Edges.{edge, side_edge}
-use Rattle.event_graph.specs.Network.{AreEnds, Constraint, IsConstraint, IsNet, Net, cause_at}
+use Rattle.event_graph.specs.Network.{AreEnds, IsConstraint, IsNet, Net, cause_at}
 use Rattle.event_graph.proofs.EdgesMet.{All-found, cause_of}
 use Rattle.diff_bounds.specs.Labels.{IsWithin}
 

@@ -1,5 +1,5 @@
 -- The lists of always-edges, which grow by one name after another.
-use Rattle.std.proofs.Common.{◌≡◌, ◌≢◌, ℕ, ◌+◌, ◌<◌, ◌≤◌, ℤ, ◌≤ℤ◌, max, ◌⊎◌, inl, inr, List, [], ◌∷◌, ◌++◌, length, get_or, set, map, replicate, Option, Some, None, option_map, slice_get, All, Contains, sym, ◌∙◌, ap, subst, refl, arith}
+use Rattle.std.proofs.Common.{◌≡◌, ℕ, ◌+◌, ◌<◌, ◌≤ℤ◌, max, inl, inr, List, [], ◌∷◌, ◌++◌, length, get_or, set, replicate, Some, option_map, slice_get, All, Contains, sym, ◌∙◌, ap, subst, refl, arith}
 use Rattle.std.specs.Global.{Vec}
 use Rattle.std.proofs.lemmas.Int.{ints}
 use Rattle.std.proofs.lemmas.Bool.{cases_eq, cases_lt}
@@ -8,13 +8,12 @@ use Rattle.std.proofs.lemmas.List.{get_or-map, get_or-replicate, get_or-set_othe
 use Rattle.std.proofs.lemmas.List.Elements.{All-contains, All-nil, All-same, Contains-append_left, Contains-get_or, Contains-push, Contains-push_cases}
 use Rattle.std.proofs.lemmas.Grind.{get_or-set_at}
 use Rattle.itv_base.specs.declared.names.EdgeName.{EdgeName}
-use Rattle.itv_base.specs.declared.names.EventId.{EventId}
 use Rattle.itv_base.specs.declared.names.RuleKind.{RuleKind}
 use Rattle.itv_base.specs.declared.names.RuleKind.TheVariants.{Lin, Late, Early}
 use Rattle.itv_base.specs.declared.names.Side.{Side}
 use Rattle.itv_base.specs.declared.names.Side.TheVariants.{Lower, Upper}
 use Rattle.event_graph.specs.declared.edge.Edge.{Edge}
-use Rattle.event_graph.specs.Edges.{IsAlways, edge}
+use Rattle.event_graph.specs.Edges.{IsAlways}
 use Rattle.event_graph.specs.Network.{IsCauseCount, IsConstraint, IsNet, Net, cause_count_of, named_causes}
 use Rattle.event_graph.proofs.EdgesMet.{All-found, cause_of}
 use Rattle.diff_bounds.specs.declared.arc.Arc.{Arc}

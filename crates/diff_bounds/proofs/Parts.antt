@@ -1,5 +1,5 @@
 -- The edges that are tried in a fall, and its whole loop.
-use Rattle.std.proofs.Common.{◌≡◌, ◌≢◌, ℕ, ◌+◌, ◌<◌, ◌≤◌, ℤ, pos, ◌+ℤ◌, ◌≤ℤ◌, ◌⊎◌, inl, inr, Bool, true, false, List, length, map, Option, Some, All, Contains, get_or, set, sym, ◌∙◌, ap, subst, refl, arith}
+use Rattle.std.proofs.Common.{◌≡◌, ◌≢◌, ℕ, ◌+◌, ◌<◌, ◌≤◌, pos, ◌+ℤ◌, ◌≤ℤ◌, ◌⊎◌, inl, inr, Bool, false, List, length, map, All, Contains, get_or, set, sym, ◌∙◌, ap, subst, refl, arith}
 use Rattle.std.specs.List.{AllWithin}
 use Rattle.std.proofs.lemmas.Int.{ints}
 use Rattle.std.proofs.lemmas.Bool.{both_ways, cases_eq}
@@ -9,7 +9,7 @@ use Rattle.std.proofs.lemmas.List.Elements.{All-contains, AllWithin-more, Contai
 use Rattle.itv_base.specs.declared.names.EdgeName.{EdgeName}
 use Rattle.itv_base.specs.declared.names.EventId.{EventId}
 use Rattle.event_graph.specs.declared.edge.Edge.{Edge}
-use Rattle.event_graph.specs.Edges.{IsAlways, edge}
+use Rattle.event_graph.specs.Edges.{edge}
 use Rattle.event_graph.specs.Network.{Net}
 use Rattle.trail.specs.declared.stamp.Stamp.{Stamp}
 use Rattle.trail.specs.Stack.{Stack}
@@ -18,7 +18,7 @@ use Rattle.diff_bounds.specs.declared.falling.Run.{Run}
 use Rattle.diff_bounds.specs.Arcs.{AreAlwaysArcs, AreChosenArcs, HasLight, IsArc, edges_out}
 use Rattle.diff_bounds.specs.Current.{IsCurrent}
 use Rattle.diff_bounds.specs.Labels.{Follows, HaveSettled, IsAmong, Labels, Scope, labels_from}
-use Rattle.diff_bounds.specs.Step.Falling.{AllDone, Closes, Falls, IsAmongFrom, IsDone, IsDoneFrom, IsPlaced, IsRunning, KeepsRuns, RunsOn, scope_of, with_stamps}
+use Rattle.diff_bounds.specs.Step.Falling.{AllDone, Closes, Falls, IsAmongFrom, IsDone, IsDoneFrom, IsPlaced, IsRunning, RunsOn, scope_of}
 use Rattle.diff_bounds.specs.Step.Waiting.{Waiting, is_waiting}
 use Rattle.diff_bounds.proofs.Falls.{falls_on, placed_on, running_on, scope_same, stack_on}
 

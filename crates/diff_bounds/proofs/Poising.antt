@@ -1,9 +1,7 @@
 -- Labels that are poised to fall from one event, and what stands after the fall.
-use Rattle.std.proofs.Common.{◌≡◌, ◌≢◌, ℕ, ◌+◌, ◌*◌, ◌<◌, ◌≤◌, ℤ, pos, ◌+ℤ◌, ◌≤ℤ◌, ◌<ℤ◌, ◌⊎◌, inl, inr, Bool, true, false, cond, nat_eq, List, [], ◌∷◌, ◌++◌, length, Option, Some, None, IfNone, sym, ◌∙◌, ap, subst, refl, arith}
+use Rattle.std.proofs.Common.{◌≡◌, ℕ, ◌+◌, ◌*◌, ◌<◌, ◌≤◌, ℤ, pos, ◌+ℤ◌, ◌≤ℤ◌, ◌<ℤ◌, ◌⊎◌, inl, inr, Bool, true, false, cond, nat_eq, List, [], ◌∷◌, length, Option, Some, None, IfNone, sym, ◌∙◌, ap, subst, refl, arith}
 use Rattle.std.proofs.lemmas.Int.{ints}
-use Rattle.std.proofs.lemmas.Bool.{cases_eq}
-use Rattle.std.proofs.lemmas.Option.{none-some, same_Some}
-use Rattle.itv_base.specs.declared.limits.TheConstants.{MAX_EVENTS}
+use Rattle.std.proofs.lemmas.Option.{same_Some}
 use Rattle.itv_base.specs.declared.names.EdgeName.{EdgeName}
 use Rattle.itv_base.specs.declared.names.EventId.{EventId}
 use Rattle.event_graph.specs.declared.edge.Edge.{Edge}
@@ -12,12 +10,11 @@ use Rattle.trail.specs.declared.stamp.Stamp.{Stamp}
 use Rattle.trail.specs.Stack.{Stack}
 use Rattle.diff_bounds.specs.declared.arc.Arc.{Arc}
 use Rattle.diff_bounds.specs.declared.falling.Run.{Run}
-use Rattle.diff_bounds.specs.Arcs.{AreAlwaysArcs, AreChosenArcs}
-use Rattle.diff_bounds.specs.Labels.{Follows, HasFallen, HaveSettled, IsAmong, IsClimb, IsForest, IsHeld, IsRooted, Labels, Parents, Scope, is_lower, labels_from, number, parents_from, stamp_at}
+use Rattle.diff_bounds.specs.Labels.{Follows, HasFallen, HaveSettled, IsClimb, IsForest, IsRooted, Labels, Parents, Scope, is_lower, labels_from, number, parents_from, stamp_at}
 use Rattle.diff_bounds.specs.Limits.{weight_limit}
-use Rattle.diff_bounds.specs.Settled.{AreNear, HaveLabels, HaveUppers, IsFeasible, IsSettled, at_source, whole, zeros}
-use Rattle.diff_bounds.specs.Step.Falling.{AllDone, AreAbove, Closes, HasRun, IsPlaced, IsPotential, IsRunning, RunsOn, fresh, scope_of, with_stamps}
-use Rattle.diff_bounds.specs.Step.Poised.{AreLow, AreOthersFollowed, IsPoised, IsReady, feasible_run, scope_by, scope_from, upper_run}
+use Rattle.diff_bounds.specs.Settled.{AreNear, HaveLabels, IsFeasible, IsSettled, at_source, zeros}
+use Rattle.diff_bounds.specs.Step.Falling.{AllDone, AreAbove, Closes, HasRun, IsPlaced, IsPotential, IsRunning, RunsOn, fresh, with_stamps}
+use Rattle.diff_bounds.specs.Step.Poised.{AreLow, AreOthersFollowed, IsPoised, IsReady, feasible_run, scope_from, upper_run}
 use Rattle.diff_bounds.specs.Step.Waiting.{Waiting, is_waiting}
 use Rattle.diff_bounds.specs.Step.Walking.{HasLoop}
 use Rattle.diff_bounds.proofs.NamedWalks.{event}
@@ -25,7 +22,7 @@ use Rattle.diff_bounds.proofs.Climbs.{rest_of}
 use Rattle.diff_bounds.proofs.Forests.{fresh_is_parent, label_low, lower_number, number-at, starts_below}
 use Rattle.diff_bounds.proofs.Networks.{edge_within}
 use Rattle.diff_bounds.proofs.Runs.{run_not, stop_is_top}
-use Rattle.diff_bounds.proofs.Settled.{FellOn, closing_climb, closing_walk, forest_on}
+use Rattle.diff_bounds.proofs.Settled.{closing_climb, closing_walk, forest_on}
 
 -- ---- before a fall
 

@@ -1,5 +1,5 @@
 -- What one fall of a label keeps of a run, and how far labels can fall.
-use Rattle.std.proofs.Common.{◌≡◌, ◌≢◌, ℕ, ◌+◌, ◌*◌, ◌<◌, ◌≤◌, ℤ, pos, negsuc, neg_ℤ, ◌+ℤ◌, ◌≤ℤ◌, ◌<ℤ◌, cond, ◌⊎◌, inl, inr, true, List, [], length, get_or, set, Option, Some, None, is_some, count_by, sym, ◌∙◌, ap, subst, refl, arith}
+use Rattle.std.proofs.Common.{◌≡◌, ◌≢◌, ℕ, ◌+◌, ◌*◌, ◌<◌, ◌≤◌, ℤ, pos, negsuc, ◌+ℤ◌, ◌≤ℤ◌, ◌<ℤ◌, cond, ◌⊎◌, inl, inr, true, List, [], length, set, Option, Some, None, is_some, count_by, sym, ◌∙◌, ap, subst, refl, arith}
 use Rattle.std.proofs.Math.ListN.{length-set}
 use Rattle.std.proofs.lemmas.Int.{ints}
 use Rattle.std.proofs.lemmas.Bool.{cases_eq}
@@ -9,15 +9,14 @@ use Rattle.std.proofs.lemmas.List.Sums.{count_by-le-length, sum_by-set}
 use Rattle.std.proofs.lemmas.Grind.{get_or-set_at}
 use Rattle.itv_base.specs.declared.limits.TheConstants.{MAX_EVENTS}
 use Rattle.itv_base.specs.declared.names.EdgeName.{EdgeName}
-use Rattle.itv_base.specs.declared.names.EventId.{EventId}
 use Rattle.event_graph.specs.declared.edge.Edge.{Edge}
 use Rattle.trail.specs.declared.stamp.Stamp.{Stamp}
 use Rattle.trail.specs.Stack.{empty_stamp}
 use Rattle.diff_bounds.specs.declared.falling.Run.{Run}
-use Rattle.diff_bounds.specs.Labels.{HasFallen, IsAmong, IsClimb, IsWithin, Labels, Scope, is_lower, labels_from, number, parents_from, stamp_at}
+use Rattle.diff_bounds.specs.Labels.{HasFallen, IsAmong, IsWithin, Scope, is_lower, labels_from, number, parents_from, stamp_at}
 use Rattle.diff_bounds.specs.Limits.{IsNear, weight_limit}
 use Rattle.diff_bounds.specs.Settled.{AreNear}
-use Rattle.diff_bounds.specs.Step.Falling.{AreAbove, HasRun, IsRunning, KeepsRuns, Undercuts, fallen_stamp, fresh, height, natural_part, total_height}
+use Rattle.diff_bounds.specs.Step.Falling.{HasRun, IsRunning, KeepsRuns, Undercuts, fallen_stamp, fresh, height, natural_part, total_height}
 use Rattle.diff_bounds.proofs.Climbs.{ChangesAt}
 use Rattle.diff_bounds.proofs.Forests.{AllFallen, FallsBy, StopIsTop, forest_kept, fresh_changes, fresh_none, fresh_same, label_low, lower_number, lower_trans, no_climb, number-at}
 

@@ -1,7 +1,7 @@
 -- What stands, and what is known of its graph.
-use Rattle.std.proofs.Common.{◌≡◌, ◌≢◌, ℕ, suc, ◌+◌, ◌*◌, ◌<◌, ◌≤◌, ℤ, pos, neg_ℤ, ◌+ℤ◌, ◌-ℤ◌, ◌≤ℤ◌, ◌<ℤ◌, ◌⊎◌, inl, inr, Bool, true, List, [], ◌∷◌, ◌++◌, length, get_or, set, take, map, reverse, Option, Some, None, IfSome, IsSome, IsTrue, is_none, is_some, cond, slice_get, All, Contains, sym, ◌∙◌, ap, subst, refl, arith, zero-add}
+use Rattle.std.proofs.Common.{◌≡◌, ℕ, ◌+◌, ◌*◌, ◌<◌, ◌≤◌, ℤ, pos, ◌+ℤ◌, ◌≤ℤ◌, ◌<ℤ◌, inl, inr, Bool, List, [], ◌∷◌, ◌++◌, length, get_or, set, take, reverse, Option, Some, None, IfSome, IsSome, is_none, All, Contains, sym, ◌∙◌, ap, subst, refl, arith}
 use Rattle.std.proofs.lemmas.Int.{ints}
-use Rattle.std.proofs.lemmas.Option.{get_or_from_slice_get, none-some, same_Some}
+use Rattle.std.proofs.lemmas.Option.{none-some}
 use Rattle.std.proofs.lemmas.List.{length-reverse, length_push, map-append, take-append-le}
 use Rattle.std.specs.List.{take-map}
 use Rattle.std.proofs.lemmas.List.Elements.{All-push, All-take}
@@ -11,28 +11,26 @@ use Rattle.itv_base.specs.declared.names.EdgeName.{EdgeName}
 use Rattle.itv_base.specs.declared.names.EventId.{EventId}
 use Rattle.event_graph.specs.declared.edge.Edge.{Edge}
 use Rattle.event_graph.specs.Edges.{Meets, edge}
-use Rattle.event_graph.specs.Network.{IsNet, Net, splittable_count}
-use Rattle.event_graph.specs.Proof.{IsWalk, path_sum}
+use Rattle.event_graph.specs.Network.{IsNet, Net}
+use Rattle.event_graph.specs.Proof.{path_sum}
 use Rattle.event_graph.specs.RootBound.{HasNoRoot, MeetsAlways}
 use Rattle.event_graph.specs.Times.{raised, separation, time_of}
 use Rattle.event_graph.proofs.Rays.{get_or-raised_in, get_or-raised_out, length-raised}
 use Rattle.trail.specs.declared.stamp.Stamp.{Stamp}
-use Rattle.trail.specs.Stack.{Graph, Stack, after_pop, after_push, empty_stamp, with_edge}
+use Rattle.trail.specs.Stack.{Graph, Stack}
 use Rattle.diff_bounds.specs.declared.arc.Arc.{Arc}
 use Rattle.diff_bounds.specs.Arcs.{AreAlwaysArcs, AreChosenArcs, IsArc}
-use Rattle.diff_bounds.specs.Current.{HasNoTimes, IsCurrent, IsLoop, IsPath, IsUpper, MeetsCurrent, with_choice}
-use Rattle.diff_bounds.specs.Labels.{Labels, Parents, Scope, labels_from, number, parents_from, stamp_at}
+use Rattle.diff_bounds.specs.Current.{HasNoTimes, IsCurrent, IsLoop, IsPath, IsUpper, MeetsCurrent}
+use Rattle.diff_bounds.specs.Labels.{labels_from, number, parents_from}
 use Rattle.diff_bounds.specs.Limits.{IsReach, weight_limit}
-use Rattle.diff_bounds.specs.Settled.{AddsOne, AreSettled, HaveUppers, IsFeasible, IsRoot, IsSettled, at_source, bottom, whole, zeros}
-use Rattle.diff_bounds.specs.Standing.{AreTimesOf, IsLift, IsMadeFor, IsRayOf, Standing, Stands, chosen_of, feasible_of, lifted, upper_of}
-use Rattle.diff_bounds.specs.Step.Falling.{AreAbove}
-use Rattle.diff_bounds.specs.Step.Timing.{AreInReach, IsInReach, LiftsAll}
+use Rattle.diff_bounds.specs.Settled.{AddsOne, AreSettled, IsFeasible, IsRoot, IsSettled, bottom, whole}
+use Rattle.diff_bounds.specs.Standing.{AreTimesOf, IsMadeFor, IsRayOf, Standing, Stands, chosen_of, feasible_of, lifted, upper_of}
+use Rattle.diff_bounds.specs.Step.Timing.{AreInReach, IsInReach}
 use Rattle.diff_bounds.specs.Step.Walking.{HasLoop, IsOneClimb}
 use Rattle.diff_bounds.proofs.NamedWalks.{MeetsNamed, event, if_some, walk_bounds}
-use Rattle.diff_bounds.proofs.Climbs.{StartBelow}
 use Rattle.diff_bounds.proofs.Forests.{number-at, starts_below}
 use Rattle.diff_bounds.proofs.Poising.{new_potential, zeros_above, zeros_some}
-use Rattle.diff_bounds.proofs.Uppers.{AreTimes, IsBounding, has_path, in_reach, is_upper, lifted-some, lifted_attain, lifted_by, lifted_meet, lifted_origin, path_is, source_zero, table, table_times, times_meet}
+use Rattle.diff_bounds.proofs.Uppers.{AreTimes, IsBounding, has_path, in_reach, is_upper, lifted_attain, lifted_by, lifted_meet, lifted_origin, path_is, source_zero, table, table_times, times_meet}
 
 -- ---- the stack
 

@@ -1,27 +1,25 @@
 -- How labels begin, and what stands before edges that start at one more event are added.
-use Rattle.std.proofs.Common.{◌≡◌, ◌≢◌, ℕ, ◌+◌, ◌-◌, ◌*◌, ◌<◌, ◌≤◌, ℤ, pos, ◌≤ℤ◌, ◌⊎◌, inl, inr, cond, nat_eq, List, [], ◌∷◌, ◌++◌, length, get_or, set, map, Option, Some, None, is_some, count_by, Contains, sym, ◌∙◌, ap, subst, refl, arith, zero-add}
+use Rattle.std.proofs.Common.{◌≡◌, ℕ, ◌+◌, ◌-◌, ◌<◌, ◌≤◌, ℤ, pos, ◌≤ℤ◌, ◌⊎◌, inl, inr, nat_eq, List, [], ◌∷◌, ◌++◌, length, set, Some, None, Contains, sym, ◌∙◌, ap, subst, refl, arith, zero-add}
 use Rattle.std.proofs.lemmas.Int.{ints}
 use Rattle.std.proofs.lemmas.Bool.{cases_eq, cases_lt, cond-false, cond-true, eq-eqb, ne_eqb}
 use Rattle.std.proofs.lemmas.Option.{none-some, same_Some}
 use Rattle.std.proofs.lemmas.List.{get_or_past, length-set}
-use Rattle.std.proofs.lemmas.List.Elements.{All-nil, All-push, Contains-append_left, Contains-push_cases}
+use Rattle.std.proofs.lemmas.List.Elements.{All-nil, Contains-append_left, Contains-push_cases}
 use Rattle.itv_base.specs.declared.names.EdgeName.{EdgeName}
 use Rattle.itv_base.specs.declared.names.EventId.{EventId}
 use Rattle.event_graph.specs.declared.edge.Edge.{Edge}
 use Rattle.event_graph.specs.Edges.{edge}
 use Rattle.event_graph.specs.Network.{IsNet, Net}
 use Rattle.trail.specs.declared.stamp.Stamp.{Stamp}
-use Rattle.trail.specs.Stack.{Graph, Stack, empty_stamp}
+use Rattle.trail.specs.Stack.{Stack, empty_stamp}
 use Rattle.diff_bounds.specs.declared.arc.Arc.{Arc}
 use Rattle.diff_bounds.specs.Arcs.{AreAlwaysArcs, AreChosenArcs, IsArc}
 use Rattle.diff_bounds.specs.Current.{IsCurrent}
-use Rattle.diff_bounds.specs.Labels.{Follows, HaveSettled, IsAmong, IsForest, IsHeld, Labels, Parents, Scope, labels_from, parents_from, stamp_at}
-use Rattle.diff_bounds.specs.Limits.{weight_limit}
-use Rattle.diff_bounds.specs.Settled.{AreNear, HaveLabels, HaveUppers, IsFeasible, IsSettled, at_source, whole, zeros}
+use Rattle.diff_bounds.specs.Labels.{Follows, IsAmong, IsForest, Labels, Parents, Scope, labels_from, parents_from, stamp_at}
+use Rattle.diff_bounds.specs.Settled.{AreNear, HaveLabels, IsFeasible, IsSettled, at_source, whole, zeros}
 use Rattle.diff_bounds.specs.Step.Falling.{with_stamps}
-use Rattle.diff_bounds.specs.Step.Poised.{AreLow, AreOthersFollowed, HasBegun, HasCleared, IsFirst, IsPoised, IsReady, feasible_run, scope_by, scope_from, upper_run, zero_stamp}
+use Rattle.diff_bounds.specs.Step.Poised.{AreLow, HasBegun, HasCleared, IsPoised, IsReady, feasible_run, scope_by, scope_from, upper_run, zero_stamp}
 use Rattle.diff_bounds.specs.Step.Waiting.{Waiting}
-use Rattle.diff_bounds.proofs.NamedWalks.{event}
 use Rattle.diff_bounds.proofs.Networks.{edge_within}
 use Rattle.diff_bounds.proofs.Poising.{feasible_stay}
 use Rattle.diff_bounds.proofs.Runs.{stamp_other, stamp_same}

@@ -1,8 +1,8 @@
 -- The labels from a source are the greatest separations, and lifted times attain them.
-use Rattle.std.proofs.Common.{◌≡◌, ◌≢◌, ℕ, zero, suc, ◌+◌, ◌*◌, ◌<◌, ◌≤◌, ℤ, pos, negsuc, neg_ℤ, unsigned_abs, ◌+ℤ◌, ◌-ℤ◌, ◌≤ℤ◌, ◌<ℤ◌, cond, nat_eq, Bool, true, false, ◌⊎◌, inl, inr, List, [], ◌∷◌, ◌++◌, length, reverse, get_or, All, Option, Some, None, sym, ◌∙◌, ap, subst, refl, arith}
+use Rattle.std.proofs.Common.{◌≡◌, ℕ, zero, suc, ◌+◌, ◌*◌, ◌<◌, ◌≤◌, ℤ, pos, negsuc, unsigned_abs, ◌+ℤ◌, ◌-ℤ◌, ◌≤ℤ◌, nat_eq, inl, inr, List, [], ◌∷◌, length, reverse, get_or, All, Option, Some, None, sym, ◌∙◌, ap, subst, refl, arith}
 use Rattle.std.proofs.lemmas.Int.{ints}
-use Rattle.std.proofs.lemmas.Bool.{cases_Bool, cases_eq, cond-false, cond-true, eq-eqb, ne_eqb}
-use Rattle.std.proofs.lemmas.Option.{none-some, same_Some}
+use Rattle.std.proofs.lemmas.Bool.{cases_eq, cond-false, cond-true, eq-eqb, ne_eqb}
+use Rattle.std.proofs.lemmas.Option.{none-some}
 use Rattle.std.proofs.lemmas.List.{length-reverse}
 use Rattle.std.proofs.lemmas.List.Elements.{All-weaker}
 use Rattle.itv_base.specs.declared.limits.TheConstants.{MAX_EVENTS}
@@ -10,14 +10,14 @@ use Rattle.itv_base.specs.declared.names.EdgeName.{EdgeName}
 use Rattle.itv_base.specs.declared.names.EventId.{EventId}
 use Rattle.event_graph.specs.declared.edge.Edge.{Edge}
 use Rattle.event_graph.specs.Bounds.{IsGreatestAmong, IsUnboundedAmong}
-use Rattle.event_graph.specs.Edges.{Meets, edge}
+use Rattle.event_graph.specs.Edges.{edge}
 use Rattle.event_graph.specs.Network.{IsNet, Net}
 use Rattle.event_graph.specs.Proof.{IsWalk, path_sum}
 use Rattle.event_graph.specs.Times.{separation, time_of}
 use Rattle.diff_bounds.specs.Current.{IsCurrent, IsPath, IsUpper, MeetsCurrent}
 use Rattle.diff_bounds.specs.Labels.{HaveSettled, IsAmong, IsClimb, IsForest, Labels, Parents, Scope, number}
 use Rattle.diff_bounds.specs.Limits.{IsReach, weight_limit}
-use Rattle.diff_bounds.specs.Settled.{at_source, whole, zeros}
+use Rattle.diff_bounds.specs.Settled.{at_source, whole}
 use Rattle.diff_bounds.specs.Standing.{lifted}
 use Rattle.diff_bounds.specs.Step.Falling.{IsPotential}
 use Rattle.diff_bounds.proofs.NamedWalks.{MeetsNamed, event, sum-reverse, walk_bounds}

@@ -12,7 +12,7 @@ use Rattle.diff_bounds.specs.declared.falling.Run.{Run}
 use Rattle.diff_bounds.specs.declared.falling.Step.{Step}
 use Rattle.diff_bounds.specs.declared.falling.Step.TheVariants.{Kept, Fell, Stops}
 use Rattle.diff_bounds.specs.Arcs.{IsArc}
-use Rattle.diff_bounds.specs.Labels.{Follows, HasFallen, HaveSettled, IsAmong, IsForest, Labels, Parents, Scope, is_lower, labels_from, parents_from, stamp_at}
+use Rattle.diff_bounds.specs.Labels.{Follows, HasFallen, IsAmong, IsForest, Labels, Parents, Scope, is_lower, labels_from, parents_from, stamp_at}
 use Rattle.diff_bounds.specs.Limits.{weight_limit}
 use Rattle.diff_bounds.specs.Settled.{AreNear}
 use Rattle.diff_bounds.specs.Step.Waiting.{Waiting, is_waiting}

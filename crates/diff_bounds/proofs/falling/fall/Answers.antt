@@ -1,6 +1,5 @@
-use Rattle.std.proofs.Common.{◌≡◌, length, refl}
-use Rattle.std.proofs.Common.{All}
-use Rattle.diff_bounds.specs.Step.Falling.{Falls, IsDoneFrom, RunsOn, scope_of}
+use Rattle.std.proofs.Common.{refl}
+use Rattle.diff_bounds.specs.Step.Falling.{RunsOn, scope_of}
 use Rattle.diff_bounds.proofs.Parts.{at_first, chosen_among, chosen_now, done_again, runs_running, runs_step, settled}
 use Rattle.diff_bounds.proofs.falling.fall.Goals as goal
 use Rattle.diff_bounds.proofs.falling.fall.Goals.{After-relax_from}

@@ -1,6 +1,6 @@
 use Rattle.std.proofs.Common.{inl, refl, subst, sym}
 use Rattle.trail.specs.Stack.{Stack}
-use Rattle.diff_bounds.specs.Labels.{labels_from, stamp_at}
+use Rattle.diff_bounds.specs.Labels.{labels_from}
 use Rattle.diff_bounds.specs.Limits.{IsNear}
 use Rattle.diff_bounds.specs.Step.Falling.{Falls, IsDone, scope_of}
 use Rattle.diff_bounds.proofs.Falls.{fallen_at, falls_once, follows_itself}

@@ -1,4 +1,4 @@
-use Rattle.std.proofs.Common.{◌≡◌, ◌∙◌, ℤ, ◌+ℤ◌, Option, Some, ap, arith, false, of_z, refl, sym, to_z, true, w64}
+use Rattle.std.proofs.Common.{◌≡◌, ◌∙◌, ℤ, ◌+ℤ◌, Option, Some, ap, arith, of_z, sym, to_z, w64}
 use Rattle.std.proofs.lemmas.Int.{ints}
 use Rattle.diff_bounds.specs.Labels.{is_lower, labels_from}
 use Rattle.diff_bounds.proofs.Forests.{followed_from_test}

@@ -1,9 +1,8 @@
-use Rattle.std.proofs.Common.{◌≡◌, get_or}
 use Rattle.std.proofs.lemmas.Bool.{MatchBool-at_false, eqb-false}
 use Rattle.std.proofs.lemmas.List.{get_or_default}
 use Rattle.std.proofs.Common.{sym, ◌∙◌}
 use Rattle.diff_bounds.proofs.Falls.{falls_not}
-use Rattle.diff_bounds.proofs.Parts.{Tried, tried_falls, tried_on, tried_running}
+use Rattle.diff_bounds.proofs.Parts.{tried_falls, tried_on, tried_running}
 use Rattle.diff_bounds.proofs.falling.relax_from.Goals as goal
 use Rattle.diff_bounds.proofs.falling.relax_from.Goals.{else-eq-via-then-eq+else-follow, else-eq-via-else-eq}
 

@@ -1,4 +1,4 @@
-use Rattle.std.proofs.Common.{◌∙◌, ℤ, ◌≤ℤ◌, ap, arith}
+use Rattle.std.proofs.Common.{◌∙◌, ◌≤ℤ◌, ap, arith}
 use Rattle.std.proofs.lemmas.Int.{ints}
 use Rattle.diff_bounds.specs.declared.arc.Arc.{Arc}
 use Rattle.diff_bounds.proofs.OutLists.{joins_not, joins_place}

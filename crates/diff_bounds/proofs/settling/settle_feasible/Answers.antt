@@ -1,8 +1,7 @@
-use Rattle.std.proofs.Common.{◌≡◌, subst, sym}
+use Rattle.std.proofs.Common.{subst, sym}
 use Rattle.std.proofs.lemmas.Option.{IfSome_then}
 use Rattle.trail.specs.Stack.{Stack}
-use Rattle.diff_bounds.specs.Settled.{IsFeasible}
-use Rattle.diff_bounds.specs.Step.Falling.{HasRun, RunsOn}
+use Rattle.diff_bounds.specs.Step.Falling.{HasRun}
 use Rattle.diff_bounds.specs.Step.Poised.{feasible_run, scope_from}
 use Rattle.diff_bounds.specs.Step.Walking.{HasLoop}
 use Rattle.diff_bounds.proofs.Poising.{feasible_after, feasible_ran, feasible_running, if_none_then, loop_of}

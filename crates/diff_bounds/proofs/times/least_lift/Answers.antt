@@ -1,4 +1,4 @@
-use Rattle.std.proofs.Common.{◌≡◌, ℤ, pos, ◌+ℤ◌, ◌≤ℤ◌, IfSome, SFits, arith, of_z, rules, subst, to_z, w64}
+use Rattle.std.proofs.Common.{ℤ, pos, ◌+ℤ◌, ◌≤ℤ◌, IfSome, SFits, arith, rules, subst, w64}
 use Rattle.std.proofs.lemmas.Int.{ints, to_z-of_z}
 use Rattle.diff_bounds.specs.Limits.{near_limit}
 use Rattle.diff_bounds.proofs.Lifting.{lift_more}

@@ -1,16 +1,11 @@
-use Rattle.std.proofs.Common.{◌≡◌, ◌∙◌, ◌<◌, ◌++◌, ◌∷◌, [], List, None, Option, Some, ap, arith, false, is_none, length, refl, rules, subst, sym, take, true}
+use Rattle.std.proofs.Common.{◌≡◌, ◌∙◌, ◌<◌, ap, arith, false, is_none, length, refl, rules, subst, sym, take, true}
 use Rattle.std.specs.Vec.{with_items}
 use Rattle.std.proofs.lemmas.List.{with_items_is}
-use Rattle.itv_base.specs.declared.names.EdgeName.{EdgeName}
-use Rattle.itv_base.specs.declared.names.EventId.{EventId}
-use Rattle.event_graph.specs.Edges.{edge}
-use Rattle.trail.specs.declared.stamp.Stamp.{Stamp}
 use Rattle.trail.specs.Stack.{Stack}
 use Rattle.diff_bounds.specs.Current.{HasNoTimes, IsLoop, with_choice}
-use Rattle.diff_bounds.specs.Settled.{IsFeasible, IsSettled, zeros}
+use Rattle.diff_bounds.specs.Settled.{zeros}
 use Rattle.diff_bounds.specs.Standing.{Standing, Stands, chosen_of, standing_in}
-use Rattle.diff_bounds.specs.Step.Falling.{HasRun, with_stamps}
-use Rattle.diff_bounds.specs.Step.Poised.{AreLow, IsReady, feasible_run, upper_run}
+use Rattle.diff_bounds.specs.Step.Poised.{AreLow, IsReady, feasible_run}
 use Rattle.diff_bounds.proofs.Descending.{arcs_room, choice_loop, choice_ready, choice_stands, choice_times, choice_walk, chosen_stack, added_feasible, edges_room, has_added, none_there, push_stands, some_there, sunk_settled, sunk_stack, stack_is, stands_times, unsourced_settled, uppers_ready}
 use Rattle.diff_bounds.proofs.Standings.{stands_settled}
 use Rattle.diff_bounds.proofs.bounds.Bounds.descend.Goals as goal

@@ -1,4 +1,4 @@
-use Rattle.std.proofs.Common.{◌≡◌, ◌∙◌, ◌<◌, ap, length, subst, sym, take}
+use Rattle.std.proofs.Common.{◌∙◌, ◌<◌, ap, length, subst, sym, take}
 use Rattle.diff_bounds.specs.Standing.{Standing, Stands, standing_in}
 use Rattle.diff_bounds.proofs.Descending.{retreat_stands}
 use Rattle.diff_bounds.proofs.bounds.Bounds.retreat.Goals as goal

@@ -1,4 +1,4 @@
-use Rattle.std.proofs.Common.{◌≡◌, List, [], refl, subst}
+use Rattle.std.proofs.Common.{List, [], refl, subst}
 use Rattle.itv_base.specs.declared.names.EdgeName.{EdgeName}
 use Rattle.diff_bounds.specs.Current.{HasNoTimes}
 use Rattle.diff_bounds.proofs.Standings.{has_times, loop_none, none_root, root_none}
