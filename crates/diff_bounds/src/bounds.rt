@@ -194,8 +194,8 @@ impl Bounds {
     }
 
     /// Writes times in picoseconds, one per event, that meet the current edges. From a source they attain each
-    /// [`upper`](Bounds::upper) that is a number, all at once, and the source is at 0; all other events come as early as the feasible
-    /// times are put off by one number. A graph has to stand.
+    /// [`upper`](Bounds::upper) that is a number, all at once, and the source is at 0. Each other event has its feasible time, and
+    /// these are all put off by one number, which is as small as the labels ask. A graph has to stand.
     pub fn times_into(&self, out: &mut [i64])
         requires stands { (net : Net) × Stands net self.now }
         requires count { length out.old ≡ self.now.events }

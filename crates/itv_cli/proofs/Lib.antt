@@ -3,5 +3,6 @@ mod Opening
 mod LoneLemmas
 mod ListTexts
 mod Reporting
+mod Forward
 mod Solving
 mod Statuses

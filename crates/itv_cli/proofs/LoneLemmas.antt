@@ -21,7 +21,7 @@ use Rattle.itv_base.specs.declared.names.RuleKind.{RuleKind}
 use Rattle.itv_base.specs.declared.names.RuleKind.TheVariants.{Lin, Late, Early}
 use Rattle.event_graph.specs.declared.cause.Cause.{Cause}
 use Rattle.sheet.specs.declared.rule.Source.{Source}
-use Rattle.diff_bounds.specs.Linear.{HoldsZero}
+use Rattle.itv_cli.specs.Step.Linear.{HoldsZero}
 use Rattle.itv_cli.specs.Lone.{cause_of, holds_zero, is_easy, is_easy_rule, is_linear, asks}
 
 option_short : {X : Type 0} (o : Option X) → length (option_to_list o) ≤ 1

@@ -1,4 +1,5 @@
 -- Words of contracts within this crate.
+pub mod Linear
 pub mod Drawn
 pub mod Ending
 pub mod Searching

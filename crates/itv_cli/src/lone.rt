@@ -3,7 +3,7 @@
 ghost use Rattle.std.specs.Prelude.{◌≡◌, ◌<◌, ◌≤◌, ◌++◌, ◌&&◌, nat_le, IfOk, OnOk, All, IsTrue, length, map};
 ghost use Rattle.std.specs.List.{filter_map, list_all};
 ghost use Rattle.std.specs.Option.{option_to_list};
-ghost use Rattle.diff_bounds.specs.Linear.{IsLinearAroundZero};
+ghost use Rattle.itv_cli.specs.Step.Linear.{IsLinearAroundZero};
 ghost use Rattle.itv_cli.specs.Step.Drawn.{IsRowOf};
 ghost use Rattle.itv_cli.specs.Lone.{asks, constraint_of, holds_zero, is_easy, is_easy_rule, is_linear, lone_network, row_of};
 ghost use Rattle.itv_base.specs.Names.{name_view};

@@ -1,7 +1,7 @@
 //! Searching for the greatest separation of a row.
 
 ghost use Rattle.std.specs.Prelude.{IfOk};
-ghost use Rattle.diff_bounds.specs.Linear.{IsLinearAroundZero};
+ghost use Rattle.itv_cli.specs.Step.Linear.{IsLinearAroundZero};
 ghost use Rattle.itv_cli.specs.Step.Drawn.{IsRowOf};
 ghost use Rattle.itv_cli.specs.Step.Searching.{IsReady, Solves};
 

@@ -1,7 +1,7 @@
 -- What a lone sheet draws, as the code keeps it.
 use Rattle.std.specs.Prelude.{◌≡◌, ◌<◌, ℕ, List, length, map, All, codes}
 use Rattle.event_graph.specs.Network.{Net}
-use Rattle.diff_bounds.specs.Linear.{IsLinearAroundZero}
+use Rattle.itv_cli.specs.Step.Linear.{IsLinearAroundZero}
 use Rattle.itv_cli.specs.declared.asked.Asked.{Asked}
 use Rattle.itv_base.specs.Names.{Name}
 use Rattle.itv_cli.specs.Right.{Drawn}

@@ -4,6 +4,7 @@ use Rattle.event_graph.specs.Network.{Net}
 use Rattle.event_graph.specs.Times.{separation}
 use Rattle.event_graph.specs.Bounds.{IsGreatest, IsRay}
 use Rattle.diff_bounds.specs.Standing.{IsMadeFor}
+use Rattle.itv_cli.specs.Step.Linear.{IsLinearAroundZero}
 use Rattle.itv_base.specs.Outside.{SinkTold, Puts}
 use Rattle.itv_cli.specs.declared.asked.Asked.{Asked}
 use Rattle.itv_cli.specs.declared.search.Search.{Search}
@@ -12,6 +13,7 @@ use Rattle.itv_cli.specs.Right.{Drawn, IsMax, AreTimes, AreRows, IsReport, Begin
 
 -- the search has what it needs for a network
 pub record IsReady (net : Net) (search : Search) : Type 0 where
+  pub linear : IsLinearAroundZero net
   pub made : IsMadeFor net search.bounds
   pub times : length search.times.items ≡ net.events
   pub set : length search.set.items ≡ net.events
