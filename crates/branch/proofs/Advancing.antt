@@ -1,18 +1,14 @@
 -- One step of a search after what it has come to.
-use Rattle.std.proofs.Common.{◌≡◌, ◌+◌, ◌<◌, ◌≤◌, ◌≤ℤ◌, ◌<ℤ◌, ℕ, ℤ, List, [], ◌∷◌, ◌++◌, Contains, Option, Some, slice_get, refl, sym, subst, arith}
+use Rattle.std.proofs.Common.{◌≡◌, ◌≤ℤ◌, ℕ, ℤ, List, [], ◌∷◌, ◌++◌, slice_get, refl, sym, subst, arith}
 use Rattle.std.proofs.lemmas.Int.{ints}
-use Rattle.itv_base.specs.declared.names.EdgeName.{EdgeName}
-use Rattle.itv_base.specs.declared.names.EventId.{EventId}
-use Rattle.event_graph.specs.Bounds.{IsGreatestAmong}
-use Rattle.event_graph.specs.Network.{Constraint, IsNet, Net}
-use Rattle.event_graph.specs.Proof.{Bound, Case, Nothing, Path, ProofGoal, ProofLine, Reads, Split, closing_lines, count_causes, path_sum}
+use Rattle.event_graph.specs.Network.{Net}
+use Rattle.event_graph.specs.Proof.{Bound, Case, Nothing, ProofGoal, ProofLine, Reads, Split, path_sum}
 use Rattle.event_graph.specs.Satisfying.{Breaks}
-use Rattle.event_graph.specs.Times.{separation}
 use Rattle.event_graph.specs.Usable.{MeetsUsable}
 use Rattle.branch.specs.Lines.{IsAccepted}
-use Rattle.branch.specs.Needed.{IsBeyond, IsNeededToBound, IsNeededToFind}
+use Rattle.branch.specs.Needed.{IsNeededToBound, IsNeededToFind}
 use Rattle.branch.specs.Step.Cases.{IsFree, first_of, open_cases}
-use Rattle.branch.specs.Step.Searched.{Closes, IsBoundSearched, IsCutAfter, IsFindCutAfter, IsFindSearched, IsOpen, IsSearched, Steps, left_after}
+use Rattle.branch.specs.Step.Searched.{IsBoundSearched, IsCutAfter, IsFindCutAfter, IsFindSearched, IsOpen, IsSearched, Steps, left_after}
 use Rattle.branch.specs.declared.best.Aim.{Aim}
 use Rattle.branch.specs.declared.search.Entry.{Entry}
 use Rattle.branch.specs.declared.search.Search.{Search}
@@ -25,12 +21,16 @@ pub needed_open : (net : Net) (aim : Aim) (best : ℤ) (earlier : List ProofLine
 needed_open net aim best earlier cases closed chosen number least searched open' =
     let (times, meets, past) = open'.beyond in
     record {
-      beyond = (times, meets, record {
-        known_times = omega (arith, ints);
-        paths = λ names contains.
-            let within : path_sum net names ≤ℤ best = paths_within net aim.from aim.to best earlier ([] ∷ []) cases names searched.reads contains in
-            omega (arith, ints);
-      });
+      beyond = (
+        times,
+        meets,
+        record {
+          known_times = omega (arith, ints);
+          paths = λ names contains.
+              let within : path_sum net names ≤ℤ best = paths_within net aim.from aim.to best earlier ([] ∷ []) cases names searched.reads contains in
+              omega (arith, ints);
+        },
+      );
       broken = open'.broken;
     }
 
@@ -87,16 +87,18 @@ pub split_cut : (net : Net) (aim : Aim) (best : ℤ) (before : ℕ) (lines : Lis
     → aim.known ≤ℤ best → IsOpen net aim.from aim.to best chosen number → Reads net (Bound aim.from aim.to best) (open_cases net (first_of number chosen)) lines left
     → IsCutAfter net aim best chosen before (Split number ∷ lines)
 split_cut net aim best before lines chosen number left least open' reads =
-    λ earlier searched.
-        (best, cut_split net (Bound aim.from aim.to best) (IsNeededToBound net aim.from aim.to aim.known) earlier lines chosen number before left open'.free
-        (needed_open net aim best earlier (open_cases net chosen) before chosen number least searched open') searched reads)
+    λ earlier searched. (
+      best,
+      cut_split net (Bound aim.from aim.to best) (IsNeededToBound net aim.from aim.to aim.known) earlier lines chosen number before left open'.free
+          (needed_open net aim best earlier (open_cases net chosen) before chosen number least searched open') searched reads,
+    )
 
 pub path_cut : (net : Net) (aim : Aim) (was best : ℤ) (before : ℕ) (lines : List ProofLine) (chosen : Case) (left : List Case)
     → was ≤ℤ best → Reads net (Bound aim.from aim.to best) (open_cases net chosen) lines left → IsCutAfter net aim was chosen before lines
 path_cut net aim was best before lines chosen left up reads =
     λ earlier searched.
-        let higher = searched_higher net aim.from aim.to was best (IsNeededToBound net aim.from aim.to aim.known) earlier (open_cases net chosen) before up searched in
-        (best, (left, reads-append net (Bound aim.from aim.to best) earlier lines ([] ∷ []) (open_cases net chosen) left higher.reads reads))
+    let higher = searched_higher net aim.from aim.to was best (IsNeededToBound net aim.from aim.to aim.known) earlier (open_cases net chosen) before up searched in
+    (best, (left, reads-append net (Bound aim.from aim.to best) earlier lines ([] ∷ []) (open_cases net chosen) left higher.reads reads))
 
 -- the search for satisfying times goes on after a split on what they break
 pub find_goes : (net : Net) (before : ℕ) (earlier lines : List ProofLine) (chosen : Case) (now : Search) (entry : Entry) (number : ℕ) (times : List ℤ) → IsFree net chosen number

@@ -1,15 +1,14 @@
 -- A constraint that times break, which meet the usable edges of a case, can be split there.
-use Rattle.std.proofs.Common.{◌≡◌, ◌==◌, ◌<◌, ◌≤◌, ◌⊎◌, ℕ, ℤ, IsTrue, List, [], ◌∷◌, length, get_or, All, Contains, Option, Some, None, IfSome, IsSomeAnd, slice_get, refl, sym, ap, ◌∙◌, subst, inl, inr, arith}
+use Rattle.std.proofs.Common.{◌≡◌, ◌<◌, ◌≤◌, ◌⊎◌, ℕ, ℤ, IsTrue, List, [], ◌∷◌, length, get_or, All, Contains, Some, slice_get, refl, ap, subst, inl, inr, arith}
 use Rattle.std.proofs.lemmas.Bool.{cases_eq}
 use Rattle.std.proofs.lemmas.List.Elements.{All-cons, All-contains, All-nil, Contains-get_or}
 use Rattle.itv_base.specs.declared.names.EdgeName.{EdgeName}
 use Rattle.itv_base.specs.declared.names.RuleKind.{RuleKind}
 use Rattle.itv_base.specs.declared.names.RuleKind.TheVariants.{Lin, Late, Early}
-use Rattle.event_graph.specs.declared.edge.Edge.{Edge}
-use Rattle.event_graph.specs.Edges.{IsAlways, Meets, choice_side, edge, holds_always}
+use Rattle.event_graph.specs.Edges.{Meets, choice_side, edge, holds_always}
 use Rattle.event_graph.specs.Laws.{MeetsAlwaysOf, MeetsSomeChoice}
 use Rattle.event_graph.specs.Network.{Constraint, IsCauseCount, IsConstraint, IsNet, Net, cause_count_of, named_causes}
-use Rattle.event_graph.specs.Proof.{Case, Choice, HasChoice, IsOnChoiceSide, MaySplit, count_causes}
+use Rattle.event_graph.specs.Proof.{Case, Choice, HasChoice, IsOnChoiceSide, count_causes}
 use Rattle.event_graph.specs.Satisfying.{Breaks, Holds}
 use Rattle.event_graph.specs.Usable.{MeetsUsable}
 use Rattle.event_graph.proofs.ByEdges.{holds_by_edges}
@@ -47,7 +46,7 @@ named_all Early count has = refl
 
 -- times that meet the usable edges of a case, and a constraint that is there
 module _ (net : Net) (chosen : Case) (times : List ℤ) (number : ℕ) (k : Constraint) (is_net : IsNet net) (is_case : IsCase net chosen) (meets : MeetsUsable net chosen times)
-  (at_k : slice_get net.constraints number ≡ Some k) (breaks : Holds times k → ⊥) where
+    (at_k : slice_get net.constraints number ≡ Some k) (breaks : Holds times k → ⊥) where
   -- the edge of a cause on the choice side
   name_at : ℕ → EdgeName
   name_at cause = record { constraint = number; cause = cause; side = choice_side k.kind }
@@ -68,9 +67,12 @@ module _ (net : Net) (chosen : Case) (times : List ℤ) (number : ℕ) (k : Cons
 
   met_single : length k.causes ≡ 1 → MeetsSomeChoice times net number k
   met_single single =
-      let name : EdgeName = record { constraint = number; cause = 0; side = choice_side k.kind } in
-      (0, omega arith, met_if_some (edge net name) (Meets times)
-      (λ e is_edge. meets.each name e (inl (rw is_edge refl, rw at_k (single_always k.kind (length k.causes) has_choice single))) is_edge))
+      let name : EdgeName = record { constraint = number; cause = 0; side = choice_side k.kind } in (
+        0,
+        omega arith,
+        met_if_some (edge net name) (Meets times)
+            (λ e is_edge. meets.each name e (inl (rw is_edge refl, rw at_k (single_always k.kind (length k.causes) has_choice single))) is_edge),
+      )
 
   two_causes : 2 ≤ cause_count_of k
   two_causes =

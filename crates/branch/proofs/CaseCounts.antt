@@ -1,5 +1,5 @@
 -- Counting the constraints that are not split in a case.
-use Rattle.std.proofs.Common.{◌≡◌, ◌+◌, ◌-◌, ◌*◌, ◌<◌, ◌≤◌, ℕ, zero, suc, Bool, true, false, cond, min, eqb, nat_lt, count_by, List, [], ◌∷◌, ◌++◌, length, All, Option, Some, None, IsSomeAnd, slice_get, refl, sym, ap, ◌∙◌, subst, inl, inr, arith}
+use Rattle.std.proofs.Common.{◌≡◌, ◌+◌, ◌-◌, ◌*◌, ◌<◌, ◌≤◌, ℕ, zero, suc, true, false, cond, min, nat_lt, count_by, List, [], ◌∷◌, length, All, Option, Some, None, slice_get, refl, sym, ◌∙◌, subst, inl, inr, arith}
 use Rattle.std.proofs.lemmas.Bool.{cases_lt, le-ltb, lt-ltb}
 use Rattle.std.proofs.lemmas.Bool.Decides.{nat_tests}
 use Rattle.std.proofs.lemmas.List.Elements.{All-head, All-tail}
@@ -7,7 +7,7 @@ use Rattle.std.proofs.lemmas.List.Sums.{sum_by-cons}
 use Rattle.itv_base.specs.declared.names.RuleKind.{RuleKind}
 use Rattle.itv_base.specs.declared.names.RuleKind.TheVariants.{Lin, Late, Early}
 use Rattle.event_graph.specs.Network.{Constraint, Net, cause_count_of, named_causes}
-use Rattle.event_graph.specs.Proof.{Case, Choice, MaySplit, count_causes}
+use Rattle.event_graph.specs.Proof.{Case, Choice, count_causes}
 use Rattle.event_graph.specs.Network.{splittable_count}
 use Rattle.branch.specs.Step.Cases.{IsCase, IsChoice, IsFree, IsSplittable, first_of, is_split, one_if_splittable, unsplit_from, work_left}
 use Rattle.branch.proofs.Results.{some_and}

@@ -1,6 +1,6 @@
 -- The levels of bounds that stand on a case.
-use Rattle.std.proofs.Common.{◌≡◌, ◌+◌, ◌<◌, ◌≤◌, ℕ, List, [], ◌∷◌, length, map, sym, ap, ◌∙◌, subst, refl, arith}
-use Rattle.event_graph.specs.Network.{Net, splittable_count}
+use Rattle.std.proofs.Common.{◌≡◌, ◌<◌, List, [], ◌∷◌, length, map, sym, ap, subst, refl, arith}
+use Rattle.event_graph.specs.Network.{Net}
 use Rattle.event_graph.specs.Proof.{Case, Choice, ClosesByLoop}
 use Rattle.itv_base.specs.declared.names.EdgeName.{EdgeName}
 use Rattle.trail.specs.Stack.{Graph}

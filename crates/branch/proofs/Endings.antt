@@ -1,19 +1,16 @@
 -- How a search ends.
-use Rattle.std.proofs.Common.{◌≡◌, ◌+◌, ◌<◌, ◌≤◌, ◌≤ℤ◌, ℕ, ℤ, Bool, List, [], ◌∷◌, ◌++◌, Option, Some, refl, sym, subst, arith}
+use Rattle.std.proofs.Common.{◌≡◌, ◌+◌, ◌≤◌, ℕ, ℤ, Bool, List, [], ◌∷◌, Option, Some, refl, arith}
 use Rattle.std.proofs.lemmas.List.Elements.{All-cons, All-nil}
 use Rattle.itv_base.specs.declared.names.EdgeName.{EdgeName}
-use Rattle.itv_base.specs.declared.names.EventId.{EventId}
 use Rattle.event_graph.specs.Network.{IsNet, Net}
-use Rattle.event_graph.specs.Proof.{Bound, Case, ClosesByLoop, IsStoppedProof, Loop, Nothing, ProofGoal, ProofLine, closing_lines}
+use Rattle.event_graph.specs.Proof.{Bound, Case, ClosesByLoop, IsStoppedProof, Loop, Nothing, ProofGoal, ProofLine}
 use Rattle.event_graph.specs.RootBound.{IsRootBound, MeetsAlways}
 use Rattle.event_graph.specs.Satisfying.{Satisfies}
-use Rattle.event_graph.specs.Times.{separation}
 use Rattle.event_graph.proofs.SoundProofs.{proof_bounds, proof_of_nothing}
 use Rattle.event_graph.proofs.ProofCounts.{proof_is_within_choices, stopped_proof_is_below_choices}
 use Rattle.branch.specs.Answers.{IsClosedAt, IsCounted, IsEnclosedBy, IsFoundConsistent, IsFoundInconsistent, IsFoundUnsettled, IsShownUnbounded}
-use Rattle.event_graph.specs.Reading.{AtEachSplit}
 use Rattle.branch.specs.Step.Cases.{open_cases, siblings}
-use Rattle.branch.specs.Step.Searched.{AreBest, AreRays, Closes, IsBoundSearched, IsClosing, IsFindSearched, IsSearched}
+use Rattle.branch.specs.Step.Searched.{AreBest, AreRays, IsBoundSearched, IsClosing, IsFindSearched, IsSearched}
 use Rattle.branch.specs.declared.best.Aim.{Aim}
 use Rattle.branch.specs.declared.best.Best.{Best}
 use Rattle.branch.proofs.ReadingOn.{none_searched, searched_closes}

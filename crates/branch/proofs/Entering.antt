@@ -1,13 +1,12 @@
 -- Closing cases on the way to the next one.
-use Rattle.std.proofs.Common.{◌≡◌, ◌+◌, ◌<◌, ◌≤◌, ◌≤ℤ◌, ℕ, ℤ, List, [], ◌∷◌, ◌++◌, length, All, Option, Some, None, refl, sym, ap, ◌∙◌, subst, arith}
+use Rattle.std.proofs.Common.{◌≡◌, ◌+◌, ◌<◌, ◌≤◌, ℕ, List, [], ◌∷◌, ◌++◌, Some, refl, sym, ap, ◌∙◌, subst, arith}
 use Rattle.std.proofs.lemmas.List.Elements.{All-append, All-cons, All-nil}
 use Rattle.itv_base.specs.declared.names.EdgeName.{EdgeName}
-use Rattle.itv_base.specs.declared.names.EventId.{EventId}
 use Rattle.event_graph.specs.Network.{Net}
-use Rattle.event_graph.specs.Proof.{Bound, Case, ClosesByLoop, ClosesByPath, Loop, Path, ProofGoal, ProofLine, Reads, Split, closing_lines}
+use Rattle.event_graph.specs.Proof.{Case, ClosesByLoop, ClosesByPath, Loop, Path, ProofGoal, ProofLine, Reads, Split, closing_lines}
 use Rattle.event_graph.specs.Network.{splittable_count}
 use Rattle.branch.specs.Step.Cases.{IsCase, open_cases, siblings, work_left}
-use Rattle.branch.specs.Step.Searched.{Closes, EndsAs, IsAtCase, IsBelowCase, IsClosing, IsNext, IsSearched, Keeps, LeavesFor, Steps, left_after}
+use Rattle.branch.specs.Step.Searched.{Closes, IsAtCase, IsClosing, IsNext, IsSearched, Keeps, LeavesFor, Steps, left_after}
 use Rattle.branch.specs.Step.Standing.{AreOfSame, StandsOn}
 use Rattle.branch.specs.declared.search.Entry.{Entry}
 use Rattle.branch.specs.declared.search.Entry.TheVariants.{Entered, AllClosed, Stopped}

@@ -1,5 +1,5 @@
 -- The known times of working memory.
-use Rattle.std.proofs.Common.{◌≡◌, ℤ, Bool, true, false, cond, List, [], Option, Some, None, IsSomeAnd, unwrap_or, refl, ap}
+use Rattle.std.proofs.Common.{◌≡◌, ℤ, Bool, true, false, cond, List, [], Some, None, IsSomeAnd, unwrap_or, refl, ap}
 use Rattle.itv_base.specs.declared.names.EventId.{EventId}
 use Rattle.event_graph.specs.Times.{separation}
 

@@ -1,13 +1,13 @@
 -- What the times of a case show of it.
-use Rattle.std.proofs.Common.{◌≡◌, ◌⊎◌, ◌<◌, ◌≤ℤ◌, ◌<ℤ◌, ℕ, ℤ, pos, Bool, true, false, List, length, All, Option, Some, None, slice_get, sym, ap, ◌∙◌, subst, inl, inr, arith}
+use Rattle.std.proofs.Common.{◌≡◌, ◌⊎◌, ◌<◌, ◌≤ℤ◌, ◌<ℤ◌, ℕ, ℤ, pos, Bool, List, length, All, Some, None, sym, subst, inl, inr, arith}
 use Rattle.std.proofs.lemmas.Int.{ints}
 use Rattle.std.proofs.lemmas.List.Elements.{All-weaker}
 use Rattle.itv_base.specs.declared.names.EventId.{EventId}
-use Rattle.event_graph.specs.Bounds.{IsGreatestAmong, IsRay}
+use Rattle.event_graph.specs.Bounds.{IsRay}
 use Rattle.event_graph.specs.Network.{IsNet, Net}
 use Rattle.event_graph.specs.Proof.{Case}
 use Rattle.event_graph.specs.Satisfying.{Breaks, Satisfies}
-use Rattle.event_graph.specs.Times.{IsTime, raised, separation}
+use Rattle.event_graph.specs.Times.{IsTime, separation}
 use Rattle.event_graph.specs.Usable.{MeetsUsable}
 use Rattle.diff_bounds.specs.Limits.{IsNear}
 use Rattle.branch.specs.Step.Cases.{IsCase, IsFree}

@@ -1,13 +1,13 @@
 -- Reading lines, and then more of them.
-use Rattle.std.proofs.Common.{◌≡◌, ◌+◌, ◌-◌, ◌<◌, ◌≤ℤ◌, ◌⊎◌, ℕ, zero, suc, ℤ, List, [], ◌∷◌, ◌++◌, length, All, Contains, refl, sym, ap, ◌∙◌, subst, inl, inr, arith}
+use Rattle.std.proofs.Common.{◌≡◌, ◌+◌, ◌-◌, ◌<◌, ◌≤ℤ◌, ◌⊎◌, ℕ, zero, suc, ℤ, List, [], ◌∷◌, ◌++◌, All, Contains, refl, sym, ap, ◌∙◌, subst, inl, inr, arith}
 use Rattle.std.proofs.lemmas.Int.{ints}
-use Rattle.std.proofs.lemmas.List.Elements.{All-contains, All-nil, All-append, Contains-append_right, Contains-append_left}
+use Rattle.std.proofs.lemmas.List.Elements.{All-contains, Contains-append_right}
 use Rattle.itv_base.specs.declared.names.EdgeName.{EdgeName}
 use Rattle.itv_base.specs.declared.names.EventId.{EventId}
 use Rattle.event_graph.specs.Network.{Net}
-use Rattle.event_graph.specs.Proof.{Bound, Case, Choice, ClosesByLoop, ClosesByPath, Loop, MaySplit, Nothing, Path, ProofGoal, ProofLine, Reads, Split, cases_from, cases_of, closing_lines, count_causes, path_sum}
+use Rattle.event_graph.specs.Proof.{Bound, Case, ClosesByPath, Loop, MaySplit, Path, ProofGoal, ProofLine, Reads, Split, cases_from, cases_of, closing_lines, count_causes, path_sum}
 use Rattle.std.proofs.Common.{slice_get}
-use Rattle.event_graph.specs.Reading.{AtEachSplit, cases_left}
+use Rattle.event_graph.specs.Reading.{cases_left}
 use Rattle.branch.specs.Step.Cases.{first_of, open_cases, siblings}
 use Rattle.branch.specs.Step.Searched.{Closes, IsClosing, IsSearched}
 
@@ -165,7 +165,7 @@ searched_splits net goal IsNeeded lines chosen number closed searched may need s
             let there : cases_left net ([] ∷ []) lines ≡ case ∷ cases = subst (λ ls. cases_left net ([] ∷ []) ls ≡ case ∷ cases) is_lines at in
             let is_case : chosen ≡ case = cc in
             subst (λ ls. IsNeeded ls case other) (sym is_lines) (subst (λ c. IsNeeded lines c other) is_case (subst (IsNeeded lines chosen) is_number need))
-          )
+            )
       ];
   count = omega (arith, closing_lines-append lines (Split number ∷ []), searched.count);
 }

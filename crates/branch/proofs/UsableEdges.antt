@@ -1,5 +1,5 @@
 -- The edges that bounds have chosen are those that a proof may use in the case.
-use Rattle.std.proofs.Common.{◌≡◌, ◌+◌, ◌<◌, ◌≤ℤ◌, ◌<ℤ◌, ◌⊎◌, ℕ, zero, suc, ℤ, pos, Bool, true, false, cond, List, [], ◌∷◌, ◌++◌, length, map, All, Contains, Option, Some, None, IsSomeAnd, is_some, is_none, slice_get, refl, sym, ap, ◌∙◌, subst, inl, inr, arith}
+use Rattle.std.proofs.Common.{◌≡◌, ◌≤ℤ◌, ◌⊎◌, zero, suc, ℤ, pos, false, cond, List, [], ◌∷◌, ◌++◌, All, Contains, Option, Some, None, IsSomeAnd, is_some, slice_get, refl, sym, ap, subst, inl, inr, arith}
 use Rattle.std.proofs.lemmas.Int.{ints}
 use Rattle.std.proofs.lemmas.List.Elements.{All-cons, All-contains, All-head, All-nil, All-tail, Contains-append_left, Contains-push, Contains-push_cases}
 use Rattle.itv_base.specs.declared.names.EdgeName.{EdgeName}
@@ -8,15 +8,13 @@ use Rattle.itv_base.specs.declared.names.Side.{Side}
 use Rattle.event_graph.specs.declared.edge.Edge.{Edge}
 use Rattle.event_graph.specs.Edges.{IsAlways, choice_side, edge}
 use Rattle.event_graph.specs.Network.{Constraint, Net}
-use Rattle.event_graph.specs.Proof.{Bound, Case, Choice, ClosesByLoop, ClosesByPath, HasChoice, IsUsable, IsWalk, path_sum}
+use Rattle.event_graph.specs.Proof.{Bound, Case, Choice, ClosesByLoop, ClosesByPath, HasChoice, IsUsable}
 use Rattle.event_graph.specs.RootBound.{IsRootBound, MeetsAlways}
-use Rattle.event_graph.specs.Times.{separation}
 use Rattle.event_graph.specs.Usable.{MeetsUsable}
 use Rattle.diff_bounds.specs.Current.{IsCurrent, IsLoop, IsPath, IsUpper, MeetsCurrent, with_choice}
 use Rattle.branch.specs.Step.Cases.{IsCase}
 use Rattle.branch.specs.Step.Edges.{choice_name, side_of}
 use Rattle.branch.specs.Step.Standing.{IsUpperIn, edges_of}
-use Rattle.branch.proofs.Results.{some_and}
 
 added : (o : Option Edge) (chosen : List EdgeName) (choice name : EdgeName) → Contains (cond (is_some o) (chosen ++ choice ∷ []) chosen) name → Contains chosen name ⊎ (choice ≡ name)
 added None chosen choice name contains = inl contains

@@ -176,7 +176,7 @@ fn step<S: Scribe>(
     ensures rose { OnErr result (Rose (S.faults scribe.old) (S.faults scribe.new)) }
     ensures work { IfOk result (λ end. end ≡ Some Entry.Entered
         → work_left net.now search.new.budget search.new.leaves search.new.cases.chosen
-            < work_left net.now search.old.budget search.old.leaves search.old.cases.chosen) }
+        < work_left net.now search.old.budget search.old.leaves search.old.cases.chosen) }
 {
     match look_at_case(net, search, trial, aim, best.value) {
         Look::Splits(number) => Ok(Some(split_case(net, search, number, scribe)?)),

@@ -87,6 +87,8 @@ impl Decisions {
         ensures { (result ≡ false)
             → All (λ (choice : ChoiceOf). choice.constraint ≡ constraint → ⊥) self.now.chosen }
     {
-        self.choices.iter().any(|choice| choice.constraint == constraint)
+        self.choices
+            .iter()
+            .any(|choice| choice.constraint == constraint)
     }
 }

@@ -67,7 +67,11 @@ impl Distances {
     {
         if net.kind(constraint) == RuleKind::Early {
             for cause in 0..net.cause_count(constraint) {
-                mark_event(&mut self.marks, net.cause(constraint, cause).event, constraint);
+                mark_event(
+                    &mut self.marks,
+                    net.cause(constraint, cause).event,
+                    constraint,
+                );
             }
         } else {
             mark_event(&mut self.marks, net.target(constraint), constraint);

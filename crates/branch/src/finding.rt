@@ -81,7 +81,7 @@ fn try_times<S: Scribe>(
     ensures rose { OnErr result (Rose (S.faults scribe.old) (S.faults scribe.new)) }
     ensures work { IfOk result (λ end. end ≡ Some Entry.Entered
         → work_left net.now search.new.budget search.new.leaves search.new.cases.chosen
-            < work_left net.now search.old.budget search.old.leaves search.old.cases.chosen) }
+        < work_left net.now search.old.budget search.old.leaves search.old.cases.chosen) }
 {
     times_in(net, search, candidate);
     match net.broken(candidate) {

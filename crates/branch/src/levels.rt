@@ -27,10 +27,11 @@ pub fn start(net: &Network, search: &mut Search, source: Option<EventId>, budget
     ensures source { search.new.bounds.source ≡ source }
     ensures made { IsMadeFor net.now search.new.bounds }
     ensures others { search.new ≡ record {
-        bounds = search.new.bounds;
-        cases = record { room = search.old.cases.room; chosen = [] };
-        leaves = 0;
-        budget = budget } }
+      bounds = search.new.bounds;
+      cases = record { room = search.old.cases.room; chosen = [] };
+      leaves = 0;
+      budget = budget;
+    } }
 {
     search.cases.clear();
     search.leaves = 0;

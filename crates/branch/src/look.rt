@@ -98,7 +98,13 @@ fn look_at_ray(net: &Network, search: &Search, trial: &mut Trial, aim: Aim) -> L
         &mut trial.candidate,
         &mut trial.ray,
     );
-    raise(&mut trial.candidate, &trial.ray, aim.from, aim.to, aim.known);
+    raise(
+        &mut trial.candidate,
+        &trial.ray,
+        aim.from,
+        aim.to,
+        aim.known,
+    );
     match net.broken(&trial.candidate) {
         None => Look::Unbounded,
         Some(first) => Look::Splits(nearest_open(

@@ -50,14 +50,14 @@ pub fn split_case<S: Scribe>(
     ensures ends { IfOk result (EndsAs net.now search.new) }
     ensures lines { IfOk result (λ entry. (lines : List ProofLine) × S.Grew scribe.old (Split number ∷ lines) scribe.new
         × ((goal : ProofGoal) → Steps net.now goal (open_cases net.now (first_of number search.old.cases.chosen))
-            search.old.leaves search.new entry lines)) }
+        search.old.leaves search.new entry lines)) }
     ensures cut { OnErr result ((lines : List ProofLine) × S.WasCut scribe.old (Split number ∷ lines) scribe.new
         × ((goal : ProofGoal) → (left : List Case)
-            × Reads net.now goal (open_cases net.now (first_of number search.old.cases.chosen)) lines left)) }
+        × Reads net.now goal (open_cases net.now (first_of number search.old.cases.chosen)) lines left)) }
     ensures rose { OnErr result (Rose (S.faults scribe.old) (S.faults scribe.new)) }
     ensures work { IfOk result (λ entry. entry ≡ Entry.Entered
         → work_left net.now search.new.budget search.new.leaves search.new.cases.chosen
-            < work_left net.now search.old.budget search.old.leaves search.old.cases.chosen) }
+        < work_left net.now search.old.budget search.old.leaves search.old.cases.chosen) }
 {
     scribe.split(number)?;
     search.cases.push(Choice {
@@ -82,18 +82,18 @@ pub fn close_case<S: Scribe>(
     ensures ends { IfOk result (EndsAs net.now search.new) }
     ensures lines { IfOk result (λ entry. (lines : List ProofLine) × S.Grew scribe.old lines scribe.new
         × ((from : EventId) (value best : ℤ) → search.old.bounds.source ≡ Some from
-            → HasUpper search.old.bounds to value → value ≤ℤ best
-            → Steps net.now (Bound from to best) (open_cases net.now search.old.cases.chosen)
-                search.old.leaves search.new entry lines)) }
+        → HasUpper search.old.bounds to value → value ≤ℤ best
+        → Steps net.now (Bound from to best) (open_cases net.now search.old.cases.chosen)
+        search.old.leaves search.new entry lines)) }
     ensures cut { OnErr result ((lines : List ProofLine) × S.WasCut scribe.old lines scribe.new
         × ((from : EventId) (value best : ℤ) → search.old.bounds.source ≡ Some from
-            → HasUpper search.old.bounds to value → value ≤ℤ best
-            → (left : List Case)
-                × Reads net.now (Bound from to best) (open_cases net.now search.old.cases.chosen) lines left)) }
+        → HasUpper search.old.bounds to value → value ≤ℤ best
+        → (left : List Case)
+        × Reads net.now (Bound from to best) (open_cases net.now search.old.cases.chosen) lines left)) }
     ensures rose { OnErr result (Rose (S.faults scribe.old) (S.faults scribe.new)) }
     ensures work { IfOk result (λ entry. entry ≡ Entry.Entered
         → work_left net.now search.new.budget search.new.leaves search.new.cases.chosen
-            < work_left net.now search.old.budget search.old.leaves search.old.cases.chosen) }
+        < work_left net.now search.old.budget search.old.leaves search.old.cases.chosen) }
 {
     find_path(net, search, to);
     scribe.cut_path(search.bounds.walk())?;
@@ -116,14 +116,14 @@ fn enter_case<S: Scribe>(
     ensures ends { IfOk result (EndsAs net.now search.new) }
     ensures lines { IfOk result (λ entry. (lines : List ProofLine) × S.Grew scribe.old lines scribe.new
         × ((goal : ProofGoal) → Steps net.now goal (open_cases net.now search.old.cases.chosen)
-            search.old.leaves search.new entry lines)) }
+        search.old.leaves search.new entry lines)) }
     ensures cut { OnErr result ((lines : List ProofLine) × S.WasCut scribe.old lines scribe.new
         × ((goal : ProofGoal) → (left : List Case)
-            × Reads net.now goal (open_cases net.now search.old.cases.chosen) lines left)) }
+        × Reads net.now goal (open_cases net.now search.old.cases.chosen) lines left)) }
     ensures rose { OnErr result (Rose (S.faults scribe.old) (S.faults scribe.new)) }
     ensures work { IfOk result (λ entry. entry ≡ Entry.Entered
         → work_left net.now search.new.budget search.new.leaves search.new.cases.chosen
-            ≤ work_left net.now search.old.budget search.old.leaves search.old.cases.chosen) }
+        ≤ work_left net.now search.old.budget search.old.leaves search.old.cases.chosen) }
 {
     while let Some(choice) = search.cases.top() {
         if enter_choice(net, search, choice) == Fit::Fits {

@@ -1,5 +1,5 @@
 -- The cases that a search has still to close.
-use Rattle.std.specs.Prelude.{◌≡◌, ◌==◌, ◌+◌, ◌-◌, ◌*◌, ◌<◌, ◌≤◌, ℕ, Bool, true, false, cond, min, List, [], ◌∷◌, ◌++◌, length, Option, IsSomeAnd, slice_get}
+use Rattle.std.specs.Prelude.{◌==◌, ◌+◌, ◌-◌, ◌*◌, ◌<◌, ◌≤◌, ℕ, Bool, true, false, cond, min, List, [], ◌∷◌, ◌++◌, Option, IsSomeAnd, slice_get}
 use Rattle.event_graph.specs.Network.{Constraint, Net, cause_count_of}
 use Rattle.event_graph.specs.Proof.{Case, Choice, MaySplit, cases_from, count_causes}
 use Rattle.event_graph.specs.Network.{splittable_count}

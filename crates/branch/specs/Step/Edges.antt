@@ -1,11 +1,10 @@
 -- The edges of the choices of a case.
-use Rattle.std.specs.Prelude.{◌≡◌, ◌<◌, ℕ, ℤ, List, map, Option, Some, None, option_map, slice_get}
+use Rattle.std.specs.Prelude.{List, map, Option, Some, None, slice_get}
 use Rattle.itv_base.specs.declared.names.EdgeName.{EdgeName}
 use Rattle.itv_base.specs.declared.names.Side.{Side}
 use Rattle.itv_base.specs.declared.names.Side.TheVariants.{Upper}
-use Rattle.event_graph.specs.declared.edge.Edge.{Edge}
-use Rattle.event_graph.specs.Edges.{Meets, choice_side, edge}
-use Rattle.event_graph.specs.Network.{Constraint, Net, cause_count_of}
+use Rattle.event_graph.specs.Edges.{choice_side}
+use Rattle.event_graph.specs.Network.{Constraint, Net}
 use Rattle.event_graph.specs.Proof.{Case, Choice}
 
 -- the choice side of a constraint that is there

@@ -5,7 +5,7 @@ use Rattle.event_graph.specs.Bounds.{IsGreatestAmong, IsRay}
 use Rattle.event_graph.specs.Network.{Net}
 use Rattle.event_graph.specs.Proof.{Bound, Case, Loop, Nothing, Path, ProofGoal, ProofLine, Reads, Split, closing_lines}
 use Rattle.event_graph.specs.Satisfying.{Breaks, Satisfies}
-use Rattle.event_graph.specs.Times.{IsTime, separation}
+use Rattle.event_graph.specs.Times.{separation}
 use Rattle.event_graph.specs.Usable.{MeetsUsable}
 use Rattle.event_graph.specs.Reading.{AtEachSplit}
 use Rattle.event_graph.specs.Network.{splittable_count}
@@ -140,7 +140,7 @@ abbrev pub Advances : Net → Aim → Search → Search → Best → Best → Li
 Advances net aim before now best_before best ray lines (Some entry) =
     AreBest net aim best
     × ((earlier : List ProofLine) → IsBoundSearched net aim best_before.value earlier (open_cases net before.cases.chosen) before.leaves
-        → IsBoundSearched net aim best.value (earlier ++ lines) (left_after net now.cases.chosen entry) now.leaves)
+    → IsBoundSearched net aim best.value (earlier ++ lines) (left_after net now.cases.chosen entry) now.leaves)
 Advances net aim before now best_before best ray lines None =
     AreRays net aim best.times.items ray × (lines ≡ []) × (now.leaves ≡ before.leaves + 1)
 

@@ -1,4 +1,4 @@
-use Rattle.std.proofs.Common.{◌≡◌, ◌+◌, ◌≤◌, ◌∙◌, ℕ, ℤ, Option, List, [], Some, ap, sym, subst, to_z, of_z, w64, arith, rules}
+use Rattle.std.proofs.Common.{◌≡◌, ◌≤◌, ◌∙◌, ℤ, Option, [], ap, sym, subst, to_z, of_z, w64, arith, rules}
 use Rattle.diff_bounds.specs.declared.fit.Fit.TheVariants.{Loop as Looped}
 use Rattle.event_graph.specs.Proof.{Bound, Case}
 use Rattle.event_graph.specs.RootBound.{IsRootBound}

@@ -1,4 +1,4 @@
-use Rattle.std.proofs.Common.{◌≡◌, ◌∙◌, ℤ, Option, [], Some, ap, subst}
+use Rattle.std.proofs.Common.{◌≡◌, ℤ, Option, [], ap, subst}
 use Rattle.event_graph.specs.Proof.{Case}
 use Rattle.branch.specs.Step.Standing.{IsUpperIn}
 use Rattle.branch.specs.declared.search.Search.{Search}

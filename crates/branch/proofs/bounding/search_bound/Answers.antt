@@ -1,5 +1,5 @@
-use Rattle.std.proofs.Common.{◌≡◌, ◌+◌, ◌≤◌, ◌∙◌, ℕ, ℤ, List, [], ◌∷◌, ◌++◌, Some, sym, ap, refl, subst, arith}
-use Rattle.event_graph.specs.Proof.{Bound, Case, ProofLine}
+use Rattle.std.proofs.Common.{◌≡◌, ◌+◌, ◌∙◌, ℤ, List, [], ◌++◌, Some, sym, ap, subst}
+use Rattle.event_graph.specs.Proof.{Bound, ProofLine}
 use Rattle.branch.specs.Needed.{IsNeededToBound}
 use Rattle.branch.specs.Step.Cases.{open_cases}
 use Rattle.branch.specs.Step.Searched.{IsBoundSearched}
@@ -14,8 +14,11 @@ cases-init g c =
     let aim = c.args.aim in
     let s : Search = c.args.search.now in
     record {
-      lines = ([], g.met.S.Scribe.grew_none _,
-          root_read net (Bound aim.from aim.to c.args.best.now.value) (IsNeededToBound net aim.from aim.to aim.known) s c.requires.root c.requires.leaves);
+      lines = (
+        [],
+        g.met.S.Scribe.grew_none _,
+        root_read net (Bound aim.from aim.to c.args.best.now.value) (IsNeededToBound net aim.from aim.to aim.known) s c.requires.root c.requires.leaves,
+      );
       at = c.requires.case;
       source = c.requires.source;
       best = c.requires.best;

@@ -1,14 +1,11 @@
-use Rattle.std.proofs.Common.{◌≡◌, ◌+◌, ◌<◌, ◌≤ℤ◌, ◌<ℤ◌, ◌∙◌, ℕ, ℤ, Bool, List, [], ◌∷◌, Some, length, sym, ap, refl, subst, to_z, of_z, w64, arith, rules}
+use Rattle.std.proofs.Common.{◌≡◌, ◌≤ℤ◌, ◌<ℤ◌, ◌∙◌, ℤ, Bool, List, [], ◌∷◌, length, sym, refl, subst, arith}
 use Rattle.std.proofs.lemmas.Int.{ints}
-use Rattle.event_graph.specs.Bounds.{IsRay}
-use Rattle.event_graph.specs.Proof.{Bound, Case, ProofLine, Split}
+use Rattle.event_graph.specs.Proof.{Bound, Split}
 use Rattle.event_graph.specs.Satisfying.{Satisfies}
 use Rattle.event_graph.specs.Times.{separation}
-use Rattle.branch.specs.Step.Cases.{work_left}
 use Rattle.branch.specs.Step.Raising.{IsNearSeparation}
 use Rattle.branch.specs.Step.Searched.{AreBest, AreRays, IsOpen}
 use Rattle.branch.specs.declared.best.Best.{Best}
-use Rattle.branch.specs.declared.search.Search.{Search}
 use Rattle.branch.proofs.Advancing.{path_cut, path_goes, split_cut, split_goes}
 use Rattle.branch.proofs.Looking.{near_separation}
 use Rattle.branch.proofs.Results.{on_err}
@@ -24,9 +21,11 @@ returns-in_err-split_case-in-Splits-clause-cut g c =
     subst (λ (v : ℤ). IsOpen net aim.from aim.to v c.args.search.now.cases.chosen c.in-Splits.number) (passed_separation best c.requires.best.near) c.in-Splits.ensures.looks in
     let cut = c.in_err-split_case-in-Splits.ensures.cut in
     let left = cut.2 (Bound aim.from aim.to best) in
-    on_err c.from_residual.result _
-    (Split c.in-Splits.number ∷ cut.0, cut.1,
-    split_cut net aim best c.args.search.now.leaves cut.0 c.args.search.now.cases.chosen c.in-Splits.number left.0 c.requires.best.least open' left.1)
+    on_err c.from_residual.result _ (
+      Split c.in-Splits.number ∷ cut.0,
+      cut.1,
+      split_cut net aim best c.args.search.now.leaves cut.0 c.args.search.now.cases.chosen c.in-Splits.number left.0 c.requires.best.least open' left.1,
+    )
 
 pub returns-in_err-close_case-in-Beaten-clause-cut : goal.returns-in_err-close_case-in-Beaten-clause-cut
 returns-in_err-close_case-in-Beaten-clause-cut g c =
@@ -63,9 +62,12 @@ returns-in_ok-split_case-in-Splits-clause-advances g c =
     let lines = c.in_ok-split_case-in-Splits.ensures.lines in (
       Split c.in-Splits.number ∷ lines.0,
       lines.1,
-      (c.requires.best, λ earlier searched.
-          split_goes net aim best c.args.search.now.leaves earlier lines.0 c.args.search.now.cases.chosen c.split_case.new.search c.in_ok-split_case-in-Splits.field-0 c.in-Splits.number
-          c.requires.best.least open' (lines.2 (Bound aim.from aim.to best)) searched),
+      (
+        c.requires.best,
+        λ earlier searched.
+            split_goes net aim best c.args.search.now.leaves earlier lines.0 c.args.search.now.cases.chosen c.split_case.new.search c.in_ok-split_case-in-Splits.field-0 c.in-Splits.number
+            c.requires.best.least open' (lines.2 (Bound aim.from aim.to best)) searched,
+      ),
     )
 
 pub returns-in_ok-split_case-in-Splits-clause-work : goal.returns-in_ok-split_case-in-Splits-clause-work
@@ -81,9 +83,12 @@ returns-in_ok-close_case-in-Beaten-clause-advances g c =
     let lines = c.in_ok-close_case-in-Beaten.ensures.lines in (
       lines.0,
       lines.1,
-      (c.requires.best, λ earlier searched.
-          path_goes net aim best best c.args.search.now.leaves earlier lines.0 c.args.search.now.cases.chosen c.close_case.new.search c.in_ok-close_case-in-Beaten.field-0 (omega (arith, ints))
-          (lines.2 aim.from looked.0 best c.requires.source looked.1 within) searched),
+      (
+        c.requires.best,
+        λ earlier searched.
+            path_goes net aim best best c.args.search.now.leaves earlier lines.0 c.args.search.now.cases.chosen c.close_case.new.search c.in_ok-close_case-in-Beaten.field-0 (omega (arith, ints))
+            (lines.2 aim.from looked.0 best c.requires.source looked.1 within) searched,
+      ),
     )
 
 pub returns-in_ok-close_case-in-Attained-clause-advances : goal.returns-in_ok-close_case-in-Attained-clause-advances
@@ -113,9 +118,12 @@ returns-in_ok-close_case-in-Attained-clause-advances g c =
     let lines = c.in_ok-close_case-in-Attained.ensures.lines in (
       lines.0,
       lines.1,
-      (are_best, λ earlier searched.
-          path_goes net aim was best.value c.args.search.now.leaves earlier lines.0 c.args.search.now.cases.chosen c.close_case-in-Attained.new.search c.in_ok-close_case-in-Attained.field-0 up
-          (lines.2 aim.from value best.value c.requires.source looked.0 upper) searched),
+      (
+        are_best,
+        λ earlier searched.
+            path_goes net aim was best.value c.args.search.now.leaves earlier lines.0 c.args.search.now.cases.chosen c.close_case-in-Attained.new.search c.in_ok-close_case-in-Attained.field-0 up
+            (lines.2 aim.from value best.value c.requires.source looked.0 upper) searched,
+      ),
     )
 
 pub returns-in_ok-close_case-in-Attained-clause-work : goal.returns-in_ok-close_case-in-Attained-clause-work

@@ -1,4 +1,4 @@
-use Rattle.std.proofs.Common.{◌<◌, length, IfSome, slice_get, arith}
+use Rattle.std.proofs.Common.{slice_get, arith}
 use Rattle.std.proofs.lemmas.Option.{IfSome_then, slice_get_within}
 use Rattle.event_graph.specs.Network.{Constraint}
 use Rattle.event_graph.specs.Satisfying.{Holds}
@@ -16,5 +16,5 @@ loop-next-preserved c =
     let net = c.args.net.now in
     IfSome_then c.broken_from-next.result c.broken_from-next.ensures.first
     (λ number first.
-        let found = some_and (slice_get net.constraints number) (λ (k : Constraint). Holds c.args.times.now k → ⊥) first.broken in
-        slice_get_within net.constraints number found.0 found.1)
+    let found = some_and (slice_get net.constraints number) (λ (k : Constraint). Holds c.args.times.now k → ⊥) first.broken in
+    slice_get_within net.constraints number found.0 found.1)

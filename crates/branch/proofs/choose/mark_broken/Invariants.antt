@@ -1,4 +1,4 @@
-use Rattle.std.proofs.Common.{◌+◌, ◌-◌, ◌<◌, IfSome, length, option_map, unwrap_or}
+use Rattle.std.proofs.Common.{◌-◌, ◌<◌, IfSome, length, option_map, unwrap_or}
 use Rattle.branch.proofs.choose.mark_broken.Given as goal
 
 -- the next constraint is there

@@ -1,7 +1,7 @@
-use Rattle.std.proofs.Common.{◌≡◌, ◌+◌, ◌≤◌, ◌∙◌, ℕ, ℤ, List, [], ◌∷◌, ◌++◌, Some, sym, ap, subst, arith, rules}
+use Rattle.std.proofs.Common.{◌≡◌, ◌+◌, ◌∙◌, ℤ, List, [], ◌∷◌, ◌++◌, Some, sym, ap, subst, arith, rules}
 use Rattle.itv_base.specs.declared.names.EdgeName.{EdgeName}
 use Rattle.diff_bounds.specs.declared.fit.Fit.TheVariants.{Fits, Loop as Looped}
-use Rattle.event_graph.specs.Proof.{Case, ClosesByLoop, Loop, Nothing, ProofLine}
+use Rattle.event_graph.specs.Proof.{ClosesByLoop, Loop, Nothing, ProofLine}
 use Rattle.event_graph.specs.Reading.{AtEachSplit}
 use Rattle.branch.specs.Answers.{IsFoundConsistent}
 use Rattle.branch.specs.Needed.{IsNeededToFind}

@@ -1,9 +1,8 @@
-use Rattle.std.proofs.Common.{List, ◌∷◌}
+use Rattle.std.proofs.Common.{◌∷◌}
 use Rattle.event_graph.specs.Proof.{Nothing, Split}
 use Rattle.branch.proofs.Advancing.{find_cut, find_goes}
 use Rattle.branch.proofs.BrokenSplits.{broken_is_free}
 use Rattle.branch.proofs.Results.{on_err}
-use Rattle.branch.proofs.UsableEdges.{meets_always}
 use Rattle.branch.proofs.finding.try_times.Goals as goal
 
 pub split_case-requires-clause-free : goal.split_case-requires-clause-free

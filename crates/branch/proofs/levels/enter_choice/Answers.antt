@@ -9,6 +9,6 @@ descend-requires-clause-levels c =
 pub returns-clause-walk : goal.returns-clause-walk
 returns-clause-walk c =
     λ is_loop.
-        let latest = c.requires.latest in
-        loop_closes c.args.net.now c.args.search.now.cases.chosen c.args.choice latest.0 c.args.search.now.bounds c.name_of.result c.descend.new.self.walk latest.1 c.requires.case
-        c.requires.below c.name_of.ensures (c.descend.ensures.walk is_loop)
+    let latest = c.requires.latest in
+    loop_closes c.args.net.now c.args.search.now.cases.chosen c.args.choice latest.0 c.args.search.now.bounds c.name_of.result c.descend.new.self.walk latest.1 c.requires.case
+    c.requires.below c.name_of.ensures (c.descend.ensures.walk is_loop)

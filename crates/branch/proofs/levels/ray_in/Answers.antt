@@ -1,4 +1,4 @@
-use Rattle.std.proofs.Common.{◌≡◌, ◌<◌, ◌∙◌, List, Option, Some, true, false, is_none, is_some, slice_get, ap, sym, subst, arith}
+use Rattle.std.proofs.Common.{◌≡◌, ◌<◌, ◌∙◌, List, Option, Some, true, is_some, ap, sym, subst, arith}
 use Rattle.std.proofs.Common.{ℤ}
 use Rattle.itv_base.specs.declared.names.EdgeName.{EdgeName}
 use Rattle.event_graph.specs.Times.{raised}

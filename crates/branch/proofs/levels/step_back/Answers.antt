@@ -1,4 +1,4 @@
-use Rattle.std.proofs.Common.{◌≡◌, [], rules}
+use Rattle.std.proofs.Common.{rules}
 use Rattle.branch.proofs.CaseLevels.{level_above}
 use Rattle.branch.proofs.levels.step_back.Goals as goal
 

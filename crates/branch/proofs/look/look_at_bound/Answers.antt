@@ -1,4 +1,4 @@
-use Rattle.std.proofs.Common.{◌≡◌, ◌∙◌, ◌<ℤ◌, ℤ, List, length, All, Some, IfSome, to_z, of_z, w64, sym, ap, subst, rules}
+use Rattle.std.proofs.Common.{◌≡◌, ◌∙◌, ◌<ℤ◌, ℤ, List, length, All, to_z, of_z, w64, sym, ap, subst, rules}
 use Rattle.std.specs.Vec.{with_items}
 use Rattle.std.proofs.lemmas.Int.{to_z-of_z}
 use Rattle.std.proofs.lemmas.List.{with_items_is}
@@ -29,29 +29,29 @@ nearest_broken-requires-clause-times c =
 pub returns-in-None-clause-looks : goal.returns-in-None-clause-looks
 returns-in-None-clause-looks c =
     λ best past.
-        let at = (goal.at.returns-in-None-clause-looks c).After-times_in in
-        let net = c.args.net.now in
-        let aim = c.args.aim in
-        let out : List ℤ = c.times_in.new.out in
-        let upper : ℤ = c.args.upper in
-        let passed : to_z w64 (of_z w64 upper) ≡ upper = to_z-of_z w64 upper c.ranges.upper in
-        let satisfies : Satisfies c.deref.result.now net = search rules in
-        let here : Satisfies out net = subst (λ (xs : List ℤ). Satisfies xs net) (c.deref.ensures.value ∙ written at) satisfies in
-        let attained : separation out aim.from aim.to ≡ upper = c.times_in.ensures.attained aim.from aim.to upper c.requires.source c.requires.to c.requires.value in
-        let P : List ℤ → ℤ → Type 0 = λ xs v.
-            HasUpper c.args.search.now.bounds aim.to v × (best <ℤ v) × Satisfies xs net × (separation xs aim.from aim.to ≡ v) × All IsNear xs in
-        subst (λ (xs : List ℤ). P xs (to_z w64 (of_z w64 upper))) (sym (written at))
-        (subst (λ (v : ℤ). P out v) (sym passed) (c.requires.value, past, here, attained, c.times_in.ensures.near))
+    let at = (goal.at.returns-in-None-clause-looks c).After-times_in in
+    let net = c.args.net.now in
+    let aim = c.args.aim in
+    let out : List ℤ = c.times_in.new.out in
+    let upper : ℤ = c.args.upper in
+    let passed : to_z w64 (of_z w64 upper) ≡ upper = to_z-of_z w64 upper c.ranges.upper in
+    let satisfies : Satisfies c.deref.result.now net = search rules in
+    let here : Satisfies out net = subst (λ (xs : List ℤ). Satisfies xs net) (c.deref.ensures.value ∙ written at) satisfies in
+    let attained : separation out aim.from aim.to ≡ upper = c.times_in.ensures.attained aim.from aim.to upper c.requires.source c.requires.to c.requires.value in
+    let P : List ℤ → ℤ → Type 0 = λ xs v.
+    HasUpper c.args.search.now.bounds aim.to v × (best <ℤ v) × Satisfies xs net × (separation xs aim.from aim.to ≡ v) × All IsNear xs in
+    subst (λ (xs : List ℤ). P xs (to_z w64 (of_z w64 upper))) (sym (written at))
+    (subst (λ (v : ℤ). P out v) (sym passed) (c.requires.value, past, here, attained, c.times_in.ensures.near))
 
 pub returns-in-Some-clause-looks : goal.returns-in-Some-clause-looks
 returns-in-Some-clause-looks c =
     λ best past.
-        let at = (goal.at.returns-in-Some-clause-looks c).After-times_in in
-        let net = c.args.net.now in
-        let aim = c.args.aim in
-        let out : List ℤ = c.times_in.new.out in
-        let upper : ℤ = c.args.upper in
-        let breaks : Breaks out net c.nearest_broken.result =
-        subst (λ (xs : List ℤ). Breaks xs net c.nearest_broken.result) (c.deref-in-Some.ensures.value ∙ written at) c.nearest_broken.ensures in
-        let attained : separation out aim.from aim.to ≡ upper = c.times_in.ensures.attained aim.from aim.to upper c.requires.source c.requires.to c.requires.value in
-        open_at_bound net aim.from aim.to best upper c.args.search.now.cases.chosen out c.nearest_broken.result c.requires.net c.requires.case c.requires.upper c.times_in.ensures.meets attained past breaks
+    let at = (goal.at.returns-in-Some-clause-looks c).After-times_in in
+    let net = c.args.net.now in
+    let aim = c.args.aim in
+    let out : List ℤ = c.times_in.new.out in
+    let upper : ℤ = c.args.upper in
+    let breaks : Breaks out net c.nearest_broken.result =
+    subst (λ (xs : List ℤ). Breaks xs net c.nearest_broken.result) (c.deref-in-Some.ensures.value ∙ written at) c.nearest_broken.ensures in
+    let attained : separation out aim.from aim.to ≡ upper = c.times_in.ensures.attained aim.from aim.to upper c.requires.source c.requires.to c.requires.value in
+    open_at_bound net aim.from aim.to best upper c.args.search.now.cases.chosen out c.nearest_broken.result c.requires.net c.requires.case c.requires.upper c.times_in.ensures.meets attained past breaks

@@ -1,4 +1,4 @@
-use Rattle.std.proofs.Common.{◌≡◌, ◌∙◌, ◌⊎◌, ◌≤ℤ◌, ℤ, Bool, List, length, to_z, of_z, w64, sym, ap, subst, inl, inr, rules}
+use Rattle.std.proofs.Common.{◌≡◌, ◌∙◌, ◌⊎◌, ◌≤ℤ◌, ℤ, Bool, List, length, to_z, of_z, w64, sym, ap, subst, rules}
 use Rattle.std.specs.Vec.{with_items}
 use Rattle.std.proofs.lemmas.List.{with_items_is}
 use Rattle.event_graph.specs.Bounds.{IsRay}
@@ -41,29 +41,29 @@ raised c =
 pub returns-in-None-clause-looks : goal.returns-in-None-clause-looks
 returns-in-None-clause-looks c =
     λ best.
-        let at = (goal.at.returns-in-None-clause-looks c).After-raise in
-        let net = c.args.net.now in
-        let aim = c.args.aim in
-        let times : List ℤ = c.raise.new.times in
-        let ray : List Bool = c.ray_in.new.ray in
-        let are_raised = raised at in
-        let satisfies : Satisfies c.deref-2.result.now net = search rules in
-        let here : Satisfies times net = subst (λ (xs : List ℤ). Satisfies xs net) (c.deref-2.ensures.value ∙ written at) satisfies in
-        let is_ray : IsRay net aim.from aim.to times ray =
-        ray_at net c.args.search.now.cases.chosen aim.from aim.to aim.known c.ray_in.new.out times ray c.requires.net c.ray_in.ensures are_raised here in
-        let P : List ℤ → List Bool → Type 0 = λ xs set. Satisfies xs net × IsRay net aim.from aim.to xs set × (aim.known ≤ℤ separation xs aim.from aim.to) in
-        subst (λ (xs : List ℤ). P xs (with_items c.args.trial.now.ray ray).items) (sym (written at))
-        (subst (λ (set : List Bool). P times set) (sym (ray_written at)) (here, is_ray, are_raised.reached))
+    let at = (goal.at.returns-in-None-clause-looks c).After-raise in
+    let net = c.args.net.now in
+    let aim = c.args.aim in
+    let times : List ℤ = c.raise.new.times in
+    let ray : List Bool = c.ray_in.new.ray in
+    let are_raised = raised at in
+    let satisfies : Satisfies c.deref-2.result.now net = search rules in
+    let here : Satisfies times net = subst (λ (xs : List ℤ). Satisfies xs net) (c.deref-2.ensures.value ∙ written at) satisfies in
+    let is_ray : IsRay net aim.from aim.to times ray =
+    ray_at net c.args.search.now.cases.chosen aim.from aim.to aim.known c.ray_in.new.out times ray c.requires.net c.ray_in.ensures are_raised here in
+    let P : List ℤ → List Bool → Type 0 = λ xs set. Satisfies xs net × IsRay net aim.from aim.to xs set × (aim.known ≤ℤ separation xs aim.from aim.to) in
+    subst (λ (xs : List ℤ). P xs (with_items c.args.trial.now.ray ray).items) (sym (written at))
+    (subst (λ (set : List Bool). P times set) (sym (ray_written at)) (here, is_ray, are_raised.reached))
 
 pub returns-in-Some-clause-looks : goal.returns-in-Some-clause-looks
 returns-in-Some-clause-looks c =
     λ best.
-        let at = (goal.at.returns-in-Some-clause-looks c).After-raise in
-        let net = c.args.net.now in
-        let aim = c.args.aim in
-        let chosen = c.args.search.now.cases.chosen in
-        let times : List ℤ = c.raise.new.times in
-        let meets = raised_meets net chosen aim.from aim.to aim.known c.ray_in.new.out times c.ray_in.new.ray c.ray_in.ensures (raised at) in
-        let splits : Breaks times net c.nearest_open.result ⊎ IsFree net chosen c.nearest_open.result =
-        subst (λ (xs : List ℤ). Breaks xs net c.nearest_open.result ⊎ IsFree net chosen c.nearest_open.result) (c.deref-in-Some.ensures.value ∙ written at) c.nearest_open.ensures in
-        open_at_ray net aim.from aim.to best chosen times c.nearest_open.result c.requires.net c.requires.case c.requires.upper meets splits
+    let at = (goal.at.returns-in-Some-clause-looks c).After-raise in
+    let net = c.args.net.now in
+    let aim = c.args.aim in
+    let chosen = c.args.search.now.cases.chosen in
+    let times : List ℤ = c.raise.new.times in
+    let meets = raised_meets net chosen aim.from aim.to aim.known c.ray_in.new.out times c.ray_in.new.ray c.ray_in.ensures (raised at) in
+    let splits : Breaks times net c.nearest_open.result ⊎ IsFree net chosen c.nearest_open.result =
+    subst (λ (xs : List ℤ). Breaks xs net c.nearest_open.result ⊎ IsFree net chosen c.nearest_open.result) (c.deref-in-Some.ensures.value ∙ written at) c.nearest_open.ensures in
+    open_at_ray net aim.from aim.to best chosen times c.nearest_open.result c.requires.net c.requires.case c.requires.upper meets splits

@@ -1,5 +1,4 @@
-use Rattle.std.proofs.Common.{◌≡◌, ◌≤ℤ◌, ◌+ℤ◌, ◌∙◌, ℕ, ℤ, List, pos, to_z, of_z, w64, subst}
-use Rattle.event_graph.specs.Times.{raised}
+use Rattle.std.proofs.Common.{◌≡◌, ◌∙◌, ℤ, List, to_z, of_z, w64, subst}
 use Rattle.branch.specs.Step.Raising.{IsRise}
 use Rattle.branch.proofs.RaisingSets.{are_raised}
 use Rattle.branch.proofs.Signs.{passed_rise, passed_separation}

@@ -1,5 +1,4 @@
-use Rattle.std.proofs.Common.{◌≡◌, ◌<◌, ◌∙◌, ℕ, ℤ, pos, Bool, false, length, to_z, of_z, w64, get_or, subst, sym, arith, rules}
-use Rattle.std.proofs.lemmas.Int.{to_z-of_z}
+use Rattle.std.proofs.Common.{◌≡◌, ◌<◌, ◌∙◌, ℕ, ℤ, pos, false, length, to_z, of_z, w64, get_or, subst, sym, arith, rules}
 use Rattle.diff_bounds.specs.Limits.{IsNear}
 use Rattle.branch.specs.Step.Raising.{raised_to}
 use Rattle.branch.proofs.RaisingSets.{raised_step, rest_step}

@@ -1,6 +1,5 @@
-use Rattle.std.proofs.Common.{◌≡◌, ◌<◌, ◌≤ℤ◌, ◌+ℤ◌, ◌-ℤ◌, ◌∙◌, ℕ, ℤ, pos, Bool, true, false, length, Some, slice_get, to_z, of_z, w64, get_or, subst, sym, ap, arith, rules}
+use Rattle.std.proofs.Common.{◌≡◌, ◌<◌, ◌≤ℤ◌, ◌+ℤ◌, ◌-ℤ◌, ℕ, ℤ, pos, true, false, length, to_z, of_z, w64, get_or, subst, arith}
 use Rattle.std.proofs.lemmas.Option.{slice_get_within}
-use Rattle.std.proofs.lemmas.Int.{ints}
 use Rattle.diff_bounds.specs.Limits.{IsNear}
 use Rattle.branch.proofs.RaisingSets.{lower_more, rise_of, upper_more}
 use Rattle.branch.proofs.Signs.{passed_near, passed_rise, passed_separation}

@@ -1,9 +1,7 @@
-use Rattle.std.proofs.Common.{◌≡◌, ◌+◌, ◌≤ℤ◌, ◌∙◌, ℕ, ℤ, List, [], ◌∷◌, ◌++◌, Some, ap, subst, sym, arith, rules}
+use Rattle.std.proofs.Common.{◌≡◌, ◌+◌, ◌∙◌, List, [], ◌∷◌, ap, subst, sym}
 use Rattle.itv_base.specs.declared.names.EdgeName.{EdgeName}
-use Rattle.itv_base.specs.declared.names.EventId.{EventId}
-use Rattle.event_graph.specs.Proof.{Bound, Case, ClosesByPath, Path, ProofGoal, ProofLine, Reads}
+use Rattle.event_graph.specs.Proof.{Bound, Case, ClosesByPath, Path, ProofGoal}
 use Rattle.branch.specs.Step.Cases.{open_cases, siblings}
-use Rattle.branch.specs.Step.Standing.{HasUpper}
 use Rattle.branch.specs.declared.search.Search.{Search}
 use Rattle.branch.proofs.Entering.{HasClosed, closed_end, closed_next, closed_none, closed_one, path_reads, steps_after}
 use Rattle.branch.proofs.ReadingOn.{reads-append}
@@ -57,10 +55,10 @@ returns-in-None-clause-lines g c =
     sym (ap (λ (s : Search). s.cases.chosen) c.step_back.ensures.others ∙ ap (λ (s : Search). s.cases.chosen) c.find_path.ensures.others) in
     let closed : (goal : ProofGoal) → ClosesByPath net goal at.cases.chosen walk → HasClosed net goal (open_cases net at.cases.chosen) (open_cases net now.cases.chosen) at.leaves now.leaves (Path walk ∷ []) =
     λ goal closes.
-        let cases : List Case = open_cases net at.cases.chosen in
-        let one = closed_one net goal cases at.cases.chosen at.leaves at.leaves now.leaves [] (Path walk) (closed_none net goal cases at.leaves) tt (path_reads net goal at.cases.chosen walk closes) one_more in
-        let Has : Case → Type 0 = λ chosen. HasClosed net goal cases (siblings net chosen) at.leaves now.leaves (Path walk ∷ []) in
-        closed_next net goal cases mid now at.leaves (Path walk ∷ []) (subst Has same one) c.in-None.ensures.next.0 in
+    let cases : List Case = open_cases net at.cases.chosen in
+    let one = closed_one net goal cases at.cases.chosen at.leaves at.leaves now.leaves [] (Path walk) (closed_none net goal cases at.leaves) tt (path_reads net goal at.cases.chosen walk closes) one_more in
+    let Has : Case → Type 0 = λ chosen. HasClosed net goal cases (siblings net chosen) at.leaves now.leaves (Path walk ∷ []) in
+    closed_next net goal cases mid now at.leaves (Path walk ∷ []) (subst Has same one) c.in-None.ensures.next.0 in
     if_ok_then c.enter_case.result _ _ c.enter_case.ensures.lines
     (λ entry more. (
       Path walk ∷ more.0,
@@ -83,10 +81,10 @@ returns-in-None-clause-cut g c =
     sym (ap (λ (s : Search). s.cases.chosen) c.step_back.ensures.others ∙ ap (λ (s : Search). s.cases.chosen) c.find_path.ensures.others) in
     let closed : (goal : ProofGoal) → ClosesByPath net goal at.cases.chosen walk → HasClosed net goal (open_cases net at.cases.chosen) (open_cases net now.cases.chosen) at.leaves now.leaves (Path walk ∷ []) =
     λ goal closes.
-        let cases : List Case = open_cases net at.cases.chosen in
-        let one = closed_one net goal cases at.cases.chosen at.leaves at.leaves now.leaves [] (Path walk) (closed_none net goal cases at.leaves) tt (path_reads net goal at.cases.chosen walk closes) one_more in
-        let Has : Case → Type 0 = λ chosen. HasClosed net goal cases (siblings net chosen) at.leaves now.leaves (Path walk ∷ []) in
-        closed_next net goal cases mid now at.leaves (Path walk ∷ []) (subst Has same one) c.in-None.ensures.next.0 in
+    let cases : List Case = open_cases net at.cases.chosen in
+    let one = closed_one net goal cases at.cases.chosen at.leaves at.leaves now.leaves [] (Path walk) (closed_none net goal cases at.leaves) tt (path_reads net goal at.cases.chosen walk closes) one_more in
+    let Has : Case → Type 0 = λ chosen. HasClosed net goal cases (siblings net chosen) at.leaves now.leaves (Path walk ∷ []) in
+    closed_next net goal cases mid now at.leaves (Path walk ∷ []) (subst Has same one) c.in-None.ensures.next.0 in
     on_err_then c.enter_case.result _ _ c.enter_case.ensures.cut
     (λ more. (
       Path walk ∷ more.0,

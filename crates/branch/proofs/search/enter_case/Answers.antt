@@ -1,7 +1,7 @@
-use Rattle.std.proofs.Common.{◌≡◌, ◌+◌, ◌<◌, ◌∙◌, ℕ, List, [], ◌∷◌, ◌++◌, ap, subst, sym, arith, rules}
+use Rattle.std.proofs.Common.{◌≡◌, ◌+◌, ◌∙◌, List, [], ◌∷◌, ◌++◌, ap, subst, sym, arith, rules}
 use Rattle.itv_base.specs.declared.names.EdgeName.{EdgeName}
-use Rattle.diff_bounds.specs.declared.fit.Fit.TheVariants.{Fits, Loop as Looped}
-use Rattle.event_graph.specs.Proof.{Case, ClosesByLoop, Loop, ProofGoal, ProofLine, Reads}
+use Rattle.diff_bounds.specs.declared.fit.Fit.TheVariants.{Loop as Looped}
+use Rattle.event_graph.specs.Proof.{Case, ClosesByLoop, Loop}
 use Rattle.branch.specs.Step.Cases.{open_cases, siblings, work_left}
 use Rattle.branch.specs.declared.search.Search.{Search}
 use Rattle.branch.proofs.Entering.{HasClosed, closed_end, closed_next, closed_one, keeps_bounds, keeps_then, loop_reads, steps_here}
@@ -30,9 +30,11 @@ returns-in_err-cut_loop-clause-cut g c =
     on_err c.from_residual.result _ (
       lines.0 ++ Loop walk ∷ [],
       g.met.S.Scribe.cut_after _ _ _ _ _ lines.1 c.in_err-cut_loop.ensures.cut,
-      λ goal. (siblings net chosen,
-          reads-append net goal lines.0 (Loop walk ∷ []) (open_cases net c.args.search.now.cases.chosen) (open_cases net chosen) (siblings net chosen)
-          (lines.2 goal).closes.reads (loop_reads net goal chosen walk closes)),
+      λ goal. (
+        siblings net chosen,
+        reads-append net goal lines.0 (Loop walk ∷ []) (open_cases net c.args.search.now.cases.chosen) (open_cases net chosen) (siblings net chosen)
+            (lines.2 goal).closes.reads (loop_reads net goal chosen walk closes),
+      ),
     )
 
 pub returns-in-Some-leave_case-clause-lines : goal.returns-in-Some-leave_case-clause-lines

@@ -1,4 +1,4 @@
-use Rattle.std.proofs.Common.{◌≡◌, ◌+◌, ◌-◌, ◌<◌, ◌≤◌, List, length}
+use Rattle.std.proofs.Common.{◌-◌, ◌<◌, ◌≤◌, List, length}
 use Rattle.event_graph.specs.Proof.{ProofGoal, ProofLine}
 use Rattle.branch.specs.Step.Cases.{open_cases, work_left}
 use Rattle.branch.specs.Step.Searched.{IsBelowCase, Keeps}
@@ -10,7 +10,7 @@ abbrev pub invariant-loop-choice : goal.invariant-loop-choice
 invariant-loop-choice g l = record {
   lines : (lines : List ProofLine) × g.S.Scribe.Grew l.fn.scribe lines l.scribe
       × ((goal : ProofGoal)
-          → HasClosed l.net goal (open_cases l.net l.fn.search.cases.chosen) (open_cases l.net l.search.cases.chosen) l.fn.search.leaves l.search.leaves lines);
+      → HasClosed l.net goal (open_cases l.net l.fn.search.cases.chosen) (open_cases l.net l.search.cases.chosen) l.fn.search.leaves l.search.leaves lines);
   below : IsBelowCase l.net l.search;
   some : 0 < length l.search.cases.chosen;
   same : Keeps l.net l.fn.search l.search;

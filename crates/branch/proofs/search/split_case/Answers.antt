@@ -1,5 +1,5 @@
-use Rattle.std.proofs.Common.{◌≡◌, ◌<◌, ◌≤◌, ℕ, List, [], ◌∷◌, ap, subst, sym, arith, rules}
-use Rattle.event_graph.specs.Proof.{Case, ProofGoal, ProofLine, Reads, Split}
+use Rattle.std.proofs.Common.{◌≡◌, List, ap, subst, arith}
+use Rattle.event_graph.specs.Proof.{Case, Reads}
 use Rattle.branch.specs.Step.Cases.{Chosen, first_of, open_cases, work_left}
 use Rattle.branch.specs.Step.Searched.{Steps}
 use Rattle.branch.proofs.CaseCounts.{free_room, split_falls}

@@ -1,5 +1,4 @@
 use Rattle.std.proofs.Common.{◌≡◌, ◌≤ℤ◌, ◌∙◌, ℤ, List, IsSomeAnd, to_z, of_z, w64, sym, ap, subst}
-use Rattle.event_graph.specs.Proof.{ProofLine}
 use Rattle.event_graph.specs.Reading.{AtEachSplit}
 use Rattle.event_graph.specs.Satisfying.{Satisfies}
 use Rattle.event_graph.specs.Times.{separation}
@@ -35,8 +34,8 @@ returns-clause-lines g c =
     let to = c.args.to in
     if_ok_then c.bound_pair.result _ _ c.bound_pair.ensures.lines
     (λ answer more.
-        let needed : AtEachSplit net (IsNeededToBound net from to (to_z w64 (of_z w64 c.separation_of-known.result))) more.0 = more.3 in
-        (more.0, more.1, more.2, subst (λ (v : ℤ). AtEachSplit net (IsNeededToBound net from to v) more.0) (sym (known_is g at)) needed))
+    let needed : AtEachSplit net (IsNeededToBound net from to (to_z w64 (of_z w64 c.separation_of-known.result))) more.0 = more.3 in
+    (more.0, more.1, more.2, subst (λ (v : ℤ). AtEachSplit net (IsNeededToBound net from to v) more.0) (sym (known_is g at)) needed))
 
 pub returns-clause-least : goal.returns-clause-least
 returns-clause-least g c =
