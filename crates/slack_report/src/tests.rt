@@ -279,4 +279,5 @@ fn laws_take_nothing() {
     laws::report_texts_differ();
     laws::begun_reports_can_end();
     laws::first_wrong_line_is_one();
+    laws::right_lines_keep_order();
 }

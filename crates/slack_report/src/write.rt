@@ -22,8 +22,8 @@ use line_words::{LineBuffer, put_spaced, put_words};
 use requirements::{Bound, Slack, Verdict};
 use sheet::RowKind;
 
-/// Bytes of the longest line of a report on a design within the limits: a time takes at most 21 of them, and an edge 23. A
-/// buffer with this room takes each of its lines.
+/// Room for the bytes of a line. Each line of a report on a design within the limits has fewer, since a time takes at most 21
+/// and an edge of a proof at most 23.
 pub const LINE_ROOM: u32 = 131_072;
 
 // ---- lines of a few words
