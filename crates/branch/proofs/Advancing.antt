@@ -13,7 +13,8 @@ use Rattle.branch.specs.declared.best.Aim.{Aim}
 use Rattle.branch.specs.declared.search.Entry.{Entry}
 use Rattle.branch.specs.declared.search.Search.{Search}
 use Rattle.branch.proofs.CaseCounts.{splittable_causes}
-use Rattle.branch.proofs.ReadingOn.{paths_within, reads-append, searched_closes, searched_higher, searched_splits}
+use Rattle.event_graph.proofs.ReadingOn.{reads-append}
+use Rattle.branch.proofs.SearchedLines.{paths_within, searched_closes, searched_higher, searched_splits}
 
 -- what is open above the best is needed, since no path before is above it
 pub needed_open : (net : Net) (aim : Aim) (best : ℤ) (earlier : List ProofLine) (cases : List Case) (closed : ℕ) (chosen : Case) (number : ℕ) → aim.known ≤ℤ best

@@ -13,7 +13,7 @@ use Rattle.branch.specs.Step.Cases.{open_cases, siblings}
 use Rattle.branch.specs.Step.Searched.{AreBest, AreRays, IsBoundSearched, IsClosing, IsFindSearched, IsSearched}
 use Rattle.branch.specs.declared.best.Aim.{Aim}
 use Rattle.branch.specs.declared.best.Best.{Best}
-use Rattle.branch.proofs.ReadingOn.{none_searched, searched_closes}
+use Rattle.branch.proofs.SearchedLines.{none_searched, searched_closes}
 
 -- lines that leave a case open are a stopped proof
 pub is_stopped : (net : Net) (goal : ProofGoal) (IsNeeded : List ProofLine → Case → ℕ → Type 0) (lines : List ProofLine) (chosen : Case) (closed : ℕ)

@@ -12,7 +12,8 @@ use Rattle.branch.specs.declared.search.Entry.{Entry}
 use Rattle.branch.specs.declared.search.Entry.TheVariants.{Entered, AllClosed, Stopped}
 use Rattle.branch.specs.declared.search.Search.{Search}
 use Rattle.branch.proofs.CaseCounts.{work_falls}
-use Rattle.branch.proofs.ReadingOn.{closing_lines-append, none_searched, reads-append}
+use Rattle.event_graph.proofs.ReadingOn.{closing_lines-append, reads-append}
+use Rattle.branch.proofs.SearchedLines.{none_searched}
 
 -- a closed case leaves less work
 pub leave_falls : (net : Net) (before now : Search) → before.leaves < before.budget → IsCase net now.cases.chosen → now.budget ≡ before.budget → now.leaves ≡ before.leaves + 1

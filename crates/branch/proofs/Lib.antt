@@ -1,6 +1,6 @@
 mod Results
 mod CaseCounts
-mod ReadingOn
+mod SearchedLines
 mod Endings
 mod Advancing
 mod Gaps

@@ -5,7 +5,7 @@ use Rattle.branch.specs.Step.Cases.{open_cases}
 use Rattle.branch.specs.Step.Searched.{IsBoundSearched}
 use Rattle.branch.specs.declared.search.Search.{Search}
 use Rattle.branch.proofs.Entering.{keeps_same, keeps_then, root_read}
-use Rattle.branch.proofs.ReadingOn.{nothing_after}
+use Rattle.branch.proofs.SearchedLines.{nothing_after}
 use Rattle.branch.proofs.bounding.search_bound.Goals as goal
 
 pub cases-init : goal.cases-init

@@ -10,7 +10,7 @@ use Rattle.branch.specs.Step.Searched.{IsFindSearched}
 use Rattle.branch.specs.declared.search.Search.{Search}
 use Rattle.branch.proofs.Endings.{found_consistent, found_inconsistent, found_unsettled, proof_count, root_searched, stopped_count}
 use Rattle.branch.proofs.Entering.{at_root, root_read}
-use Rattle.branch.proofs.ReadingOn.{nothing_after}
+use Rattle.branch.proofs.SearchedLines.{nothing_after}
 use Rattle.branch.proofs.finding.find_times.Goals as goal
 
 pub returns-then-eq-clause-lines : goal.returns-then-eq-clause-lines

@@ -4,7 +4,7 @@ use Rattle.event_graph.specs.Proof.{Bound, Case, ClosesByPath, Path, ProofGoal}
 use Rattle.branch.specs.Step.Cases.{open_cases, siblings}
 use Rattle.branch.specs.declared.search.Search.{Search}
 use Rattle.branch.proofs.Entering.{HasClosed, closed_end, closed_next, closed_none, closed_one, path_reads, steps_after}
-use Rattle.branch.proofs.ReadingOn.{reads-append}
+use Rattle.event_graph.proofs.ReadingOn.{reads-append}
 use Rattle.branch.proofs.Results.{if_ok_then, on_err, on_err_then}
 use Rattle.branch.proofs.search.close_case.Goals as goal
 

@@ -5,7 +5,7 @@ use Rattle.event_graph.specs.Proof.{Case, ClosesByLoop, Loop}
 use Rattle.branch.specs.Step.Cases.{open_cases, siblings, work_left}
 use Rattle.branch.specs.declared.search.Search.{Search}
 use Rattle.branch.proofs.Entering.{HasClosed, closed_end, closed_next, closed_one, keeps_bounds, keeps_then, loop_reads, steps_here}
-use Rattle.branch.proofs.ReadingOn.{reads-append}
+use Rattle.event_graph.proofs.ReadingOn.{reads-append}
 use Rattle.branch.proofs.Results.{on_err}
 use Rattle.branch.proofs.search.enter_case.Goals as goal
 

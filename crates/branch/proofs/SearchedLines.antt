@@ -1,4 +1,4 @@
--- Reading lines, and then more of them.
+-- What a search has come to by its lines.
 use Rattle.std.proofs.Common.{◌≡◌, ◌+◌, ◌-◌, ◌<◌, ◌≤ℤ◌, ◌⊎◌, ℕ, zero, suc, ℤ, List, [], ◌∷◌, ◌++◌, All, Contains, refl, sym, ap, ◌∙◌, subst, inl, inr, arith}
 use Rattle.std.proofs.lemmas.Int.{ints}
 use Rattle.std.proofs.lemmas.List.Elements.{All-contains, Contains-append_right}
@@ -8,33 +8,9 @@ use Rattle.event_graph.specs.Network.{Net}
 use Rattle.event_graph.specs.Proof.{Bound, Case, ClosesByPath, Loop, MaySplit, Path, ProofGoal, ProofLine, Reads, Split, cases_from, cases_of, closing_lines, count_causes, path_sum}
 use Rattle.std.proofs.Common.{slice_get}
 use Rattle.event_graph.specs.Reading.{cases_left}
+use Rattle.event_graph.proofs.ReadingOn.{closing_lines-append, reading_leaves_cases, reads-append}
 use Rattle.branch.specs.Step.Cases.{first_of, open_cases, siblings}
 use Rattle.branch.specs.Step.Searched.{Closes, IsClosing, IsSearched}
-
-pub reads-append : (net : Net) (goal : ProofGoal) (xs ys : List ProofLine) (cases mid left : List Case) → Reads net goal cases xs mid → Reads net goal mid ys left
-    → Reads net goal cases (xs ++ ys) left
-reads-append net goal [] ys cases mid left first rest = subst (λ c. Reads net goal c ys left) (sym first) rest
-reads-append net goal (line ∷ xs) ys [] mid left first rest = absurd first
-reads-append net goal (Split number ∷ xs) ys (chosen ∷ cases) mid left first rest =
-    (first.0, reads-append net goal xs ys (cases_of net chosen number ++ cases) mid left first.1 rest)
-reads-append net goal (Path names ∷ xs) ys (chosen ∷ cases) mid left first rest =
-    (first.0, reads-append net goal xs ys cases mid left first.1 rest)
-reads-append net goal (Loop names ∷ xs) ys (chosen ∷ cases) mid left first rest =
-    (first.0, reads-append net goal xs ys cases mid left first.1 rest)
-
-pub closing_lines-append : (xs ys : List ProofLine) → closing_lines (xs ++ ys) ≡ closing_lines xs + closing_lines ys
-closing_lines-append [] ys = omega arith
-closing_lines-append (Split number ∷ xs) ys = closing_lines-append xs ys
-closing_lines-append (Path names ∷ xs) ys = omega (arith, closing_lines-append xs ys)
-closing_lines-append (Loop names ∷ xs) ys = omega (arith, closing_lines-append xs ys)
-
--- what reading leaves does not depend on what is shown
-pub reads_left : (net : Net) (goal : ProofGoal) (lines : List ProofLine) (cases left : List Case) → Reads net goal cases lines left → cases_left net cases lines ≡ left
-reads_left net goal [] cases left reads = reads
-reads_left net goal (line ∷ lines) [] left reads = absurd reads
-reads_left net goal (Split number ∷ lines) (chosen ∷ cases) left reads = reads_left net goal lines (cases_of net chosen number ++ cases) left reads.1
-reads_left net goal (Path names ∷ lines) (chosen ∷ cases) left reads = reads_left net goal lines cases left reads.1
-reads_left net goal (Loop names ∷ lines) (chosen ∷ cases) left reads = reads_left net goal lines cases left reads.1
 
 path_raises : (net : Net) (from to : EventId) (value higher : ℤ) (chosen : Case) (names : List EdgeName) → value ≤ℤ higher
     → ClosesByPath net (Bound from to value) chosen names → ClosesByPath net (Bound from to higher) chosen names
@@ -161,7 +137,7 @@ searched_splits net goal IsNeeded lines chosen number closed searched may need s
             let is_same : Split number ≡ Split other = only.1 in
             let is_lines : before ≡ lines = is_before ∙ ap (λ (ls : List ProofLine). lines ++ ls) is_none ∙ nothing_after lines in
             let is_number : number ≡ other = cc in
-            let here : cases_left net ([] ∷ []) lines ≡ open_cases net chosen = reads_left net goal lines ([] ∷ []) (open_cases net chosen) searched.reads in
+            let here : cases_left net ([] ∷ []) lines ≡ open_cases net chosen = reading_leaves_cases net goal ([] ∷ []) (open_cases net chosen) lines searched.reads in
             let there : cases_left net ([] ∷ []) lines ≡ case ∷ cases = subst (λ ls. cases_left net ([] ∷ []) ls ≡ case ∷ cases) is_lines at in
             let is_case : chosen ≡ case = cc in
             subst (λ ls. IsNeeded ls case other) (sym is_lines) (subst (λ c. IsNeeded lines c other) is_case (subst (IsNeeded lines chosen) is_number need))
