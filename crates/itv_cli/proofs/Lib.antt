@@ -1,6 +1,6 @@
 mod Ending
-mod Judging
+mod Opening
 mod LoneLemmas
-mod Putting
+mod ListTexts
 mod Reporting
 mod Solving

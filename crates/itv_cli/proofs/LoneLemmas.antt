@@ -11,9 +11,9 @@ use Rattle.sheet.specs.Rule.{SheetRule}
 use Rattle.sheet.specs.declared.mark.Mark.{Mark}
 use Rattle.sheet.specs.declared.row.SheetRow.{SheetRow}
 use Rattle.sheet.specs.Contents.{Contents}
-use Rattle.itv_cli.specs.declared.row.Row.{Row}
+use Rattle.itv_cli.specs.declared.asked.Asked.{Asked}
 use Rattle.itv_cli.specs.Lone.{constraint_of, event_of, row_of, lone_network, name_of_mark}
-use Rattle.itv_cli.specs.Drawing.{drawn_by, IsDrawn, IsRowOf, name_of_byte}
+use Rattle.itv_cli.specs.Step.Drawn.{drawn_by, IsDrawn, IsRowOf, name_of_byte}
 use Rattle.sheet.specs.Whole.{IsWhole, IsWholeRow}
 use Rattle.std.specs.List.{list_all}
 use Rattle.itv_base.specs.Range.{Ends, Allows}
@@ -105,14 +105,14 @@ pub easy_rules : (sheet : Contents) → IsTrue (is_easy sheet) → list_all is_e
 easy_rules sheet h = let p = both (list_all is_easy_rule sheet.rules && list_all (λ row. asks row.kind) sheet.rows) _ h in (both _ _ p.0).0
 
 -- what the parts make is what the sheet draws
-pub lone_is : (sheet : Contents) (net : Net) (marks : List ℕ) (rows : List Row) (n : ℕ) → n ≡ length sheet.marks
+pub lone_is : (sheet : Contents) (net : Net) (marks : List ℕ) (rows : List Asked) (n : ℕ) → n ≡ length sheet.marks
     → net ≡ record { events = n; constraints = filter_map constraint_of sheet.rules } → marks ≡ map (λ mark. mark.name) sheet.marks → rows ≡ filter_map row_of sheet.rows
     → drawn_by net marks rows ≡ lone_network sheet
 lone_is sheet net marks rows n count e m r =
     let names : map name_of_byte marks ≡ map name_of_mark sheet.marks = ap (map name_of_byte) m ∙ map_names sheet.marks in
     rw (e, count, names, r) refl
 
-pub lone_drawn : (sheet : Contents) (net : Net) (marks : List ℕ) (rows : List Row) (n : ℕ) → n ≡ length sheet.marks → IsWhole sheet → list_all is_easy_rule sheet.rules ≡ true
+pub lone_drawn : (sheet : Contents) (net : Net) (marks : List ℕ) (rows : List Asked) (n : ℕ) → n ≡ length sheet.marks → IsWhole sheet → list_all is_easy_rule sheet.rules ≡ true
     → net ≡ record { events = n; constraints = filter_map constraint_of sheet.rules } → marks ≡ map (λ mark. mark.name) sheet.marks → rows ≡ filter_map row_of sheet.rows
     → IsDrawn (drawn_by net marks rows)
 lone_drawn sheet net marks rows n count whole easy e m r =

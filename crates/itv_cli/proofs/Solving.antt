@@ -6,13 +6,13 @@ use Rattle.event_graph.specs.RootBound.{HasNoRoot}
 use Rattle.diff_bounds.specs.Linear.{IsLinearAroundZero}
 use Rattle.diff_bounds.specs.Standing.{Standing, Stands, ray_of}
 use Rattle.diff_bounds.proofs.Forward.{weight_low}
-use Rattle.itv_cli.specs.declared.row.Row.{Row}
+use Rattle.itv_cli.specs.declared.asked.Asked.{Asked}
 use Rattle.itv_cli.specs.Right.{IsMax}
 use Rattle.itv_cli.specs.Right.IsMax.{is_closed, is_unbounded}
-use Rattle.itv_cli.specs.Searching.{Solves, answer_lines}
+use Rattle.itv_cli.specs.Step.Searching.{Solves, answer_lines}
 
 -- a row is solved by bounds that stand from its from-event
-pub solves : (net : Net) (r : Row) (bounds : Standing) (times : List ℤ) (set : List Bool) (answer : Option ℤ) → Stands net bounds → bounds.source ≡ Some r.from
+pub solves : (net : Net) (r : Asked) (bounds : Standing) (times : List ℤ) (set : List Bool) (answer : Option ℤ) → Stands net bounds → bounds.source ≡ Some r.from
     → times ≡ bounds.times → set ≡ ray_of bounds → slice_get bounds.uppers r.to.0 ≡ Some answer → Solves net r times set answer
 solves net r bounds times set (Some value) stands from t s u =
     let f = stands.from_source r.from from in
@@ -35,6 +35,6 @@ no_loop net linear none = none (replicate net.events (pos 0)) (record {
 })
 
 -- the lines of what was found are right
-pub is_max : (net : Net) (r : Row) (times : List ℤ) (set : List Bool) (answer : Option ℤ) → Solves net r times set answer → IsMax net r (answer_lines answer times set)
+pub is_max : (net : Net) (r : Asked) (times : List ℤ) (set : List Bool) (answer : Option ℤ) → Solves net r times set answer → IsMax net r (answer_lines answer times set)
 is_max net r times set (Some value) s = is_closed value times s.0 s.1 s.2
 is_max net r times set None s = is_unbounded times set s.0 s.1

@@ -2,6 +2,8 @@
 use Rattle.std.specs.Prelude.{ℕ, ◌&&◌, ◌==◌, pos, int_le, Bool, true, false, nat_le, if◌then◌else◌, length, map, codes, Option, Some, None}
 use Rattle.std.specs.List.{filter_map, list_all}
 use Rattle.std.specs.Option.{option_map_or}
+use Rattle.itv_base.specs.declared.limits.TheConstants.{MAX_CONSTRAINTS, MAX_ROWS}
+use Rattle.itv_base.specs.Names.{Name}
 use Rattle.itv_base.specs.Range.{Ends}
 use Rattle.itv_base.specs.declared.names.EventId.{EventId}
 use Rattle.itv_base.specs.declared.names.RuleKind.{RuleKind}
@@ -15,8 +17,7 @@ use Rattle.sheet.specs.declared.row.RowKind.TheVariants.{Ask, Req}
 use Rattle.sheet.specs.declared.row.SheetRow.{SheetRow}
 use Rattle.sheet.specs.Rule.{SheetRule}
 use Rattle.sheet.specs.Contents.{Contents}
-use Rattle.itv_cli.specs.Report.{Name}
-use Rattle.itv_cli.specs.declared.row.Row.{Row}
+use Rattle.itv_cli.specs.declared.asked.Asked.{Asked}
 use Rattle.itv_cli.specs.Right.{Drawn}
 
 -- the event of a mark, in the one cycle
@@ -36,7 +37,7 @@ constraint_of rule =
     if list_all (λ source. source.shift == 0) rule.causes then Some (record { kind = rule.kind; target = event_of rule.target; causes = map cause_of rule.causes }) else None
 
 -- likewise a row
-abbrev pub row_of : SheetRow → Option Row
+abbrev pub row_of : SheetRow → Option Asked
 row_of row = if row.shift == 0 then Some (record { kind = row.kind; from = event_of row.from; to = event_of row.to }) else None
 
 abbrev pub lone_network : Contents → Drawn
@@ -67,4 +68,4 @@ asks (Req ends) = false
 
 -- every rule is easy and every row only asks, and there are not too many of either
 abbrev pub is_easy : Contents → Bool
-is_easy sheet = (list_all is_easy_rule sheet.rules && list_all (λ row. asks row.kind) sheet.rows) && (nat_le (length sheet.rules) 65536 && nat_le (length sheet.rows) 4096)
+is_easy sheet = (list_all is_easy_rule sheet.rules && list_all (λ row. asks row.kind) sheet.rows) && (nat_le (length sheet.rules) MAX_CONSTRAINTS && nat_le (length sheet.rows) MAX_ROWS)

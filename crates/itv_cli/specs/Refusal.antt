@@ -1,6 +1,7 @@
 -- Why a design is refused, and the line that says so.
-use Rattle.std.specs.Prelude.{ℕ, List, [], ◌∷◌, ◌++◌, codes, decimal}
+use Rattle.std.specs.Prelude.{ℕ, List, [], ◌∷◌, ◌++◌, codes}
 use Rattle.std.specs.List.{concat}
+use Rattle.itv_base.specs.Numerals.{number_text}
 use Rattle.label_grammar.specs.declared.label.LabelFault.{LabelFault}
 use Rattle.label_grammar.specs.declared.label.LabelFault.TheVariants.{BadLabel, TooWide, EmptyRange}
 use Rattle.wavejson.specs.declared.fault.DiagramFault.{DiagramFault}
@@ -20,17 +21,17 @@ abbrev pub diagram_fault_parts : DiagramFault → List (List ℕ)
 diagram_fault_parts diagram.NotObject = codes "NotObject" ∷ []
 diagram_fault_parts diagram.NoSignal = codes "NoSignal" ∷ []
 diagram_fault_parts diagram.EdgesNotList = codes "EdgesNotList" ∷ []
-diagram_fault_parts (diagram.EdgeNotText n) = codes "EdgeNotText " ∷ decimal n ∷ []
+diagram_fault_parts (diagram.EdgeNotText n) = codes "EdgeNotText " ∷ number_text n ∷ []
 diagram_fault_parts diagram.NoMemory = []
 
 abbrev pub sheet_fault_parts : SheetFault → List (List ℕ)
-sheet_fault_parts (sheet.BadNode lane) = codes "BadNode " ∷ decimal lane ∷ []
+sheet_fault_parts (sheet.BadNode lane) = codes "BadNode " ∷ number_text lane ∷ []
 sheet_fault_parts (sheet.DoubleMark mark) = codes "DoubleMark " ∷ (mark ∷ []) ∷ []
-sheet_fault_parts (sheet.DoublePin lane) = codes "DoublePin " ∷ decimal lane ∷ []
-sheet_fault_parts (sheet.BadEdge n) = codes "BadEdge " ∷ decimal n ∷ []
-sheet_fault_parts (sheet.Label n fault) = codes "Label " ∷ decimal n ∷ codes " " ∷ label_fault_text fault ∷ []
-sheet_fault_parts (sheet.NoMark n mark) = codes "NoMark " ∷ decimal n ∷ codes " " ∷ (mark ∷ []) ∷ []
-sheet_fault_parts (sheet.TooManyCauses n) = codes "TooManyCauses " ∷ decimal n ∷ []
+sheet_fault_parts (sheet.DoublePin lane) = codes "DoublePin " ∷ number_text lane ∷ []
+sheet_fault_parts (sheet.BadEdge n) = codes "BadEdge " ∷ number_text n ∷ []
+sheet_fault_parts (sheet.Label n fault) = codes "Label " ∷ number_text n ∷ codes " " ∷ label_fault_text fault ∷ []
+sheet_fault_parts (sheet.NoMark n mark) = codes "NoMark " ∷ number_text n ∷ codes " " ∷ (mark ∷ []) ∷ []
+sheet_fault_parts (sheet.TooManyCauses n) = codes "TooManyCauses " ∷ number_text n ∷ []
 sheet_fault_parts sheet.NoMemory = []
 
 -- the line of a refusal of the design file

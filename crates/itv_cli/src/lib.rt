@@ -3,12 +3,12 @@
 //! The one contract is that of `run`: where it ends with a report, the report is right.
 #![tactic(auto)]
 
+mod asked;
 mod lines;
 mod lone;
 mod outcome;
 mod refusal;
 mod report;
-mod row;
 mod search;
 mod top;
 mod words;

@@ -4,30 +4,30 @@ ghost use Rattle.std.specs.Prelude.{◌≡◌, ◌<◌, ◌≤◌, ◌++◌, ◌
 ghost use Rattle.std.specs.List.{filter_map, list_all};
 ghost use Rattle.std.specs.Option.{option_to_list};
 ghost use Rattle.diff_bounds.specs.Linear.{IsLinearAroundZero};
-ghost use Rattle.itv_cli.specs.Drawing.{IsRowOf};
+ghost use Rattle.itv_cli.specs.Step.Drawn.{IsRowOf};
 ghost use Rattle.itv_cli.specs.Lone.{asks, constraint_of, holds_zero, is_easy, is_easy_rule, is_linear, lone_network, row_of};
-ghost use Rattle.itv_cli.specs.Name.{name_view};
+ghost use Rattle.itv_base.specs.Names.{name_view};
 ghost use Rattle.itv_cli.specs.Right.{name_of};
 ghost use Rattle.sheet.specs.Whole.{IsWholeRule};
 
-use crate::row::Row;
+use crate::asked::Asked;
 use event_graph::{Network, PushFault};
-use itv_base::{EventId, EventName, MAX_CONSTRAINTS, MAX_ROWS, NoMemory, RuleKind};
+use itv_base::{EventId, EventName, MAX_CONSTRAINTS, MAX_EVENTS, MAX_ROWS, NoMemory, RuleKind};
 use sheet::{Mark, RowKind, Rule, Sheet, SheetRow, Source};
 use std::alloc::Global;
 use std::marker::Model;
 
 /// What a lone sheet draws in its one cycle: the network, the names of its events, and the rows that it asks for.
 #[derive(Debug, Drop)]
-pub struct LoneDesign {
+pub struct LoneDrawn {
     network: Network,
     marks: Vec<u8>,
-    rows: Vec<Row>,
+    rows: Vec<Asked>,
 }
 
-impl Model for LoneDesign {
+impl Model for LoneDrawn {
     ghost use Rattle.itv_cli.specs.Right.{Drawn};
-    ghost use Rattle.itv_cli.specs.Drawing.{drawn_by, IsDrawn};
+    ghost use Rattle.itv_cli.specs.Step.Drawn.{drawn_by, IsDrawn};
 
     ghost Value = { Drawn };
 
@@ -79,7 +79,7 @@ fn all_ask(rows: &[SheetRow]) -> bool
 }
 
 fn are_few(rules: &[Rule], rows: &[SheetRow]) -> bool
-    ensures { result ≡ (nat_le (length rules.now) 65536 && nat_le (length rows.now) 4096) }
+    ensures { result ≡ (nat_le (length rules.now) MAX_CONSTRAINTS && nat_le (length rows.now) MAX_ROWS) }
 {
     rules.len() <= MAX_CONSTRAINTS as usize && rows.len() <= MAX_ROWS as usize
 }
@@ -119,10 +119,10 @@ fn push_rule(alloc: Global, network: &mut Network, rule: &Rule) -> Result<(), No
 
 // The network of the rules.
 fn network_of(alloc: Global, events: u32, rules: &[Rule]) -> Result<Network, NoMemory>
-    requires events { events ≤ 4096 }
+    requires events { events ≤ MAX_EVENTS }
     requires whole { All (IsWholeRule events) rules.now }
     requires easy { IsTrue (list_all is_easy_rule rules.now) }
-    requires count { length rules.now ≤ 65536 }
+    requires count { length rules.now ≤ MAX_CONSTRAINTS }
     ensures { IfOk result (λ net. net ≡ record { events = events; constraints = filter_map constraint_of rules.now }) }
 {
     let mut network = Network::new(alloc, events)?;
@@ -133,20 +133,20 @@ fn network_of(alloc: Global, events: u32, rules: &[Rule]) -> Result<Network, NoM
 }
 
 // A row, if its two events are in the one cycle.
-fn row_of(row: &SheetRow) -> Option<Row>
+fn row_of(row: &SheetRow) -> Option<Asked>
     ensures { result ≡ row_of row.now }
 {
     if row.shift != 0 {
         return None;
     }
-    Some(Row {
+    Some(Asked {
         kind: row.kind,
         from: EventId(row.from),
         to: EventId(row.to),
     })
 }
 
-fn rows_of(alloc: Global, rows: &[SheetRow]) -> Result<Vec<Row>, NoMemory>
+fn rows_of(alloc: Global, rows: &[SheetRow]) -> Result<Vec<Asked>, NoMemory>
     ensures { IfOk result (λ found. found.items ≡ filter_map row_of rows.now) }
 {
     let found = rows.iter().filter_map(row_of).collect(alloc)?;
@@ -160,9 +160,9 @@ fn names_of(alloc: Global, marks: &[Mark]) -> Result<Vec<u8>, NoMemory>
     Ok(names)
 }
 
-impl LoneDesign {
+impl LoneDrawn {
     /// What a sheet draws in its one cycle, for a sheet that [`is_easy`].
-    pub fn new(alloc: Global, sheet: &Sheet) -> Result<LoneDesign, NoMemory>
+    pub fn new(alloc: Global, sheet: &Sheet) -> Result<LoneDrawn, NoMemory>
         requires { IsTrue (is_easy sheet.now) }
         ensures { IfOk result (λ design. design ≡ lone_network sheet.now) }
     {
@@ -170,7 +170,7 @@ impl LoneDesign {
         let rows = rows_of(alloc, sheet.rows().as_slice())?;
         let events = sheet.marks().len() as u32;
         let network = network_of(alloc, events, sheet.rules().as_slice())?;
-        Ok(LoneDesign {
+        Ok(LoneDrawn {
             network,
             marks,
             rows,
@@ -187,7 +187,7 @@ impl LoneDesign {
     }
 
     /// The rows in order.
-    pub fn rows(&self) -> &[Row]
+    pub fn rows(&self) -> &[Asked]
         ensures rows { result.now ≡ self.now.rows }
         ensures within { All (IsRowOf self.now.net) result.now }
     {

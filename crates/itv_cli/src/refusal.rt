@@ -1,12 +1,13 @@
 //! Why a design is refused, and the line that says so.
 
-ghost use Rattle.std.specs.Prelude.{◌≡◌, ◌∷◌, [], map, codes, decimal};
+ghost use Rattle.std.specs.Prelude.{◌≡◌, ◌∷◌, [], map, codes};
 ghost use Rattle.std.specs.List.{concat};
+ghost use Rattle.itv_base.specs.Numerals.{number_text};
 ghost use Rattle.itv_base.specs.Outside.{Puts};
 ghost use Rattle.itv_cli.specs.Refusal.{refusal_text, file_refusal, diagram_fault_parts, sheet_fault_parts, label_fault_text};
 
 use itoa::Buffer;
-use itv_base::{PutFailed, Sink, put_all};
+use itv_base::{PutFailed, Sink, number_text, put_all};
 use label_grammar::LabelFault;
 use sheet::SheetFault;
 use wavejson::DiagramFault;
@@ -30,7 +31,7 @@ pub enum Refusal {
 
 // The line of a refusal of the design file, from its fault.
 fn put_file_refusal<K: Sink>(parts: &[&[u8]], sink: &mut K) -> Result<(), PutFailed>
-    ensures { Puts K.written K.faults sink.old sink.new (file_refusal (map (λ p. p.now) parts.now)) result }
+    ensures { Puts (K.told sink.old) (K.told sink.new) (file_refusal (map (λ p. p.now) parts.now)) result }
 {
     sink.put(b"refused file 0 ")?;
     put_all(sink, parts)?;
@@ -39,20 +40,28 @@ fn put_file_refusal<K: Sink>(parts: &[&[u8]], sink: &mut K) -> Result<(), PutFai
 
 // By a word and a number.
 fn put_number<K: Sink>(word: &[u8], number: u64, sink: &mut K) -> Result<(), PutFailed>
-    ensures { Puts K.written K.faults sink.old sink.new
-        (file_refusal (word.now ∷ decimal number ∷ [])) result }
+    ensures { Puts (K.told sink.old) (K.told sink.new)
+        (file_refusal (word.now ∷ number_text number ∷ [])) result }
 {
     let mut digits = Buffer::new();
-    put_file_refusal(&[word, digits.format(number).as_bytes()], sink)
+    put_file_refusal(&[word, number_text(number, &mut digits).as_bytes()], sink)
 }
 
 // By a word, the number of an edge, and what is wrong with it.
 fn put_edge<K: Sink>(word: &[u8], number: u64, what: &[u8], sink: &mut K) -> Result<(), PutFailed>
-    ensures { Puts K.written K.faults sink.old sink.new
-        (file_refusal (word.now ∷ decimal number ∷ codes " " ∷ what.now ∷ [])) result }
+    ensures { Puts (K.told sink.old) (K.told sink.new)
+        (file_refusal (word.now ∷ number_text number ∷ codes " " ∷ what.now ∷ [])) result }
 {
     let mut digits = Buffer::new();
-    put_file_refusal(&[word, digits.format(number).as_bytes(), b" ", what], sink)
+    put_file_refusal(
+        &[
+            word,
+            number_text(number, &mut digits).as_bytes(),
+            b" ",
+            what,
+        ],
+        sink,
+    )
 }
 
 fn label_fault_word(fault: LabelFault) -> &'static [u8]
@@ -66,7 +75,7 @@ fn label_fault_word(fault: LabelFault) -> &'static [u8]
 }
 
 fn put_diagram_fault<K: Sink>(fault: DiagramFault, sink: &mut K) -> Result<(), PutFailed>
-    ensures { Puts K.written K.faults sink.old sink.new
+    ensures { Puts (K.told sink.old) (K.told sink.new)
         (file_refusal (diagram_fault_parts fault)) result }
 {
     match fault {
@@ -79,7 +88,7 @@ fn put_diagram_fault<K: Sink>(fault: DiagramFault, sink: &mut K) -> Result<(), P
 }
 
 fn put_sheet_fault<K: Sink>(fault: SheetFault, sink: &mut K) -> Result<(), PutFailed>
-    ensures { Puts K.written K.faults sink.old sink.new
+    ensures { Puts (K.told sink.old) (K.told sink.new)
         (file_refusal (sheet_fault_parts fault)) result }
 {
     match fault {
@@ -98,7 +107,7 @@ fn put_sheet_fault<K: Sink>(fault: SheetFault, sink: &mut K) -> Result<(), PutFa
 
 /// Writes the line of a refusal.
 pub fn put_refusal<K: Sink>(refusal: Refusal, sink: &mut K) -> Result<(), PutFailed>
-    ensures { Puts K.written K.faults sink.old sink.new (refusal_text refusal) result }
+    ensures { Puts (K.told sink.old) (K.told sink.new) (refusal_text refusal) result }
 {
     match refusal {
         Refusal::TooLong => sink.put(b"refused file 0 TooLong\n"),

@@ -2,10 +2,10 @@
 
 ghost use Rattle.std.specs.Prelude.{IfOk};
 ghost use Rattle.diff_bounds.specs.Linear.{IsLinearAroundZero};
-ghost use Rattle.itv_cli.specs.Drawing.{IsRowOf};
-ghost use Rattle.itv_cli.specs.Searching.{IsReady, Solves};
+ghost use Rattle.itv_cli.specs.Step.Drawn.{IsRowOf};
+ghost use Rattle.itv_cli.specs.Step.Searching.{IsReady, Solves};
 
-use crate::row::Row;
+use crate::asked::Asked;
 use diff_bounds::{Bounds, Fit};
 use event_graph::Network;
 use itv_base::NoMemory;
@@ -37,7 +37,7 @@ impl Search {
 
     /// The greatest separation of a row in picoseconds, attained by `times`, or `None` where it is unbounded, as `times` and
     /// `set` show. Takes no memory.
-    pub fn solve(&mut self, net: &Network, row: &Row) -> Option<i64>
+    pub fn solve(&mut self, net: &Network, row: &Asked) -> Option<i64>
         requires ready { IsReady net.now self.old }
         requires row { IsRowOf net.now row.now }
         ensures ready { IsReady net.now self.new }

@@ -1,13 +1,12 @@
-use Rattle.std.proofs.Common.{List, take, Ok}
-use Rattle.itv_base.specs.Outside.{Puts}
-use Rattle.itv_base.specs.declared.sink.PutFailed.{PutFailed}
-use Rattle.itv_cli.specs.Report.{Item, report_text}
+use Rattle.std.proofs.Common.{◌≡◌, List, take}
+use Rattle.itv_base.specs.Outside.{grown}
+use Rattle.itv_cli.specs.Report.{Line, report_text}
 use Rattle.itv_cli.specs.Right.{AreRows}
-use Rattle.itv_cli.specs.Searching.{IsReady}
+use Rattle.itv_cli.specs.Step.Searching.{IsReady}
 use Rattle.itv_cli.proofs.report.put_rows.Given as goal
 
 abbrev pub invariant-loop-number : goal.invariant-loop-number
 invariant-loop-number g l =
     IsReady l.design.net l.search
-    × ((lines : List Item) × AreRows l.design 0 (take l.number l.design.rows) lines
-    × Puts {E = PutFailed} g.K.Sink.written g.K.Sink.faults l.fn.sink l.sink (report_text lines) (Ok tt))
+    × ((lines : List Line) × AreRows l.design 0 (take l.number l.design.rows) lines
+    × (g.K.Sink.told l.sink ≡ grown (g.K.Sink.told l.fn.sink) (report_text lines)))

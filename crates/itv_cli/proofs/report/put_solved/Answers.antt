@@ -1,8 +1,8 @@
 use Rattle.std.proofs.Common.{sym}
 use Rattle.std.proofs.lemmas.Result.{err_from_is_err_and}
 use Rattle.itv_base.specs.declared.sink.PutFailed.{PutFailed}
-use Rattle.itv_cli.specs.Searching.{answer_lines}
-use Rattle.itv_cli.proofs.Reporting.{items_then, items_cut}
+use Rattle.itv_cli.specs.Step.Searching.{answer_lines}
+use Rattle.itv_cli.proofs.Reporting.{lines_then, lines_cut}
 use Rattle.itv_cli.proofs.Solving.{is_max}
 use Rattle.itv_cli.proofs.report.put_solved.Goals as goal
 
@@ -16,7 +16,7 @@ returns-in_err-put_row-clause-writes g c =
       lines,
       is_max d.net c.args.row.now times set c.solve-answer.result (rw c.network.ensures.network at c.solve-answer.ensures.solved),
       rw (p.1, sym c.name-from.ensures, sym c.name-to.ensures)
-          (items_cut {D = PutFailed} {E = PutFailed} g.K.Sink.written g.K.Sink.faults c.args.sink.now c.put_row.new.sink _ lines (record {}) p.0 c.in_err-put_row.ensures),
+          (lines_cut (g.K.Sink.told c.args.sink.now) (g.K.Sink.told c.put_row.new.sink) _ lines c.in_err-put_row.ensures),
     )
 
 pub returns-clause-writes : goal.returns-clause-writes
@@ -28,6 +28,5 @@ returns-clause-writes g c =
       lines,
       is_max d.net c.args.row.now times set c.solve-answer.result (rw c.network.ensures.network at c.solve-answer.ensures.solved),
       rw (sym c.name-from.ensures, sym c.name-to.ensures)
-          (items_then PutFailed g.K.Sink.written g.K.Sink.faults c.args.sink.now c.put_row.new.sink c.put_answer.new.sink _ lines c.put_answer.result c.in_ok-put_row.ensures
-          (rw (sym c.deref.ensures.value, sym c.deref-2.ensures.value) c.put_answer.ensures)),
+          (lines_then {E = PutFailed} (g.K.Sink.told c.args.sink.now) (g.K.Sink.told c.put_row.new.sink) (g.K.Sink.told c.put_answer.new.sink) _ lines c.put_answer.result c.in_ok-put_row.ensures (rw (sym c.deref.ensures.value, sym c.deref-2.ensures.value) c.put_answer.ensures)),
     )

@@ -1,5 +1,5 @@
 use Rattle.std.proofs.Common.{refl}
-use Rattle.itv_cli.proofs.Judging.{tree_some, tree_none, never_true}
+use Rattle.itv_cli.proofs.Opening.{tree_some, tree_none, never_true}
 use Rattle.itv_cli.proofs.top.read_tree.Goals as goal
 
 pub returns-in-Ok : goal.returns-in-Ok

@@ -5,7 +5,7 @@ use sheet::RowKind;
 
 /// A separation that is asked for, from an event to an event.
 #[derive(Clone, Copy, Debug, PartialEq, Eq)]
-pub struct Row {
+pub struct Asked {
     pub kind: RowKind,
     pub from: EventId,
     pub to: EventId,
