@@ -81,28 +81,34 @@ fn bytes_end(
     run_ends(rt, alloc, &["sheet.json"], &mut shelf, wanted)
 }
 
-// The report of a lone sheet in one cycle: its marks in the order of their events, and of each row its two marks and the lines
-// of its answer.
-fn report_of(alloc: Global, marks: &str, rows: &[(&str, &str)]) -> Result<String, Fail> {
+// The report of a lone sheet in one cycle: its marks in the order of their events, and its rows, each a line `row FROM TO` with
+// its two marks and the lines of its answer.
+fn report_of(alloc: Global, marks: &str, rows: &str) -> Result<String, Fail> {
     let mut report = format!(in alloc; "itv report 0\nevents {}\n", marks.len())?;
     for (number, mark) in marks.chars().enumerate() {
         report.push_str(format!(in alloc; "event {number} U.{mark}@0\n")?.as_str())?;
     }
-    report.push_str(format!(in alloc; "rows {}\n", rows.len())?.as_str())?;
-    for (number, (ends, answer)) in rows.iter().enumerate() {
-        let (from, to) = ends.split_at_checked(1).ok_or("a row has two marks")?;
-        let row = format!(in alloc; "row {number} ask U.{from}@0 U.{to}@0\n{answer}")?;
-        report.push_str(row.as_str())?;
+    let mut count = 0u32;
+    let mut lines = String::new(alloc);
+    for line in rows.lines() {
+        let ends = line
+            .strip_prefix("row ")
+            .and_then(|ends| ends.split_once(' '));
+        let text = match ends {
+            Some((from, to)) => format!(in alloc; "row {count} ask U.{from}@0 U.{to}@0\n")?,
+            None => format!(in alloc; "{line}\n")?,
+        };
+        lines.push_str(text.as_str())?;
+        if ends.is_some() {
+            count = count.saturating_add(1);
+        }
     }
-    report.push_str("end pass\n")?;
+    report.push_str(format!(in alloc; "rows {count}\n{lines}end pass\n")?.as_str())?;
     Ok(report)
 }
 
-// A file, the marks of its events in order, and of each row its two marks and the lines of its answer.
-type Reported<'t> = (&'t str, &'t str, &'t [(&'t str, &'t str)]);
-
-// Each file of a table is reported so, and passes.
-fn all_pass(rt: &impl Abort, alloc: Global, table: &[Reported<'_>]) -> Result<(), Fail> {
+// Each file of a table is reported by its marks and its rows, and passes.
+fn all_pass(rt: &impl Abort, alloc: Global, table: &[(&str, &str, &str)]) -> Result<(), Fail> {
     for (file, marks, rows) in table {
         let report = report_of(alloc, marks, rows)?;
         let wanted = (Outcome::AllPass, report.as_str());

@@ -2,9 +2,11 @@
 use Rattle.std.specs.Prelude.{ℕ, Bool, ◌==◌, if◌then◌else◌, List, [], ◌∷◌, drop, Option, Some, None}
 use Rattle.std.specs.List.{prefix_len}
 
+-- where words end
 abbrev pub is_space : ℕ → Bool
 is_space b = b == 32
 
+-- what stands between a part and its mark
 abbrev pub is_full_stop : ℕ → Bool
 is_full_stop b = b == 46
 

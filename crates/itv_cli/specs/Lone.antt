@@ -24,9 +24,11 @@ use Rattle.itv_cli.specs.Right.{Drawn}
 abbrev pub event_of : ℕ → EventId
 event_of mark = record { 0 = mark }
 
+-- the name of the event of a mark
 abbrev pub name_of_mark : Mark → Name
 name_of_mark mark = record { part = codes "U"; mark = mark.name; cycle = 0 }
 
+-- a source in the cycle of its target, as a cause
 abbrev pub cause_of : Source → Cause
 cause_of source = record { event = event_of source.mark; range = source.range }
 
@@ -40,6 +42,7 @@ constraint_of rule =
 abbrev pub row_of : SheetRow → Option Asked
 row_of row = if row.shift == 0 then Some (record { kind = row.kind; from = event_of row.from; to = event_of row.to }) else None
 
+-- an event for each mark, a constraint for each rule, and a row for each row, where they are in the one cycle
 abbrev pub lone_network : Contents → Drawn
 lone_network sheet = record {
   net = record { events = length sheet.marks; constraints = filter_map constraint_of sheet.rules };
@@ -53,6 +56,7 @@ lone_network sheet = record {
 abbrev pub holds_zero : Ends → Bool
 holds_zero ends = option_map_or (λ low. int_le low (pos 0)) ends.low true && option_map_or (λ high. int_le (pos 0) high) ends.high true
 
+-- a linear rule
 abbrev pub is_linear : RuleKind → Bool
 is_linear Lin = true
 is_linear Late = false
@@ -62,6 +66,7 @@ is_linear Early = false
 abbrev pub is_easy_rule : SheetRule → Bool
 is_easy_rule rule = is_linear rule.kind && list_all (λ source. holds_zero source.range) rule.causes
 
+-- a row that only asks
 abbrev pub asks : RowKind → Bool
 asks Ask = true
 asks (Req ends) = false

@@ -11,6 +11,7 @@ use Rattle.sheet.specs.declared.fault.SheetFault.TheVariants as sheet
 use Rattle.itv_cli.specs.declared.refusal.Refusal.{Refusal}
 use Rattle.itv_cli.specs.declared.refusal.Refusal.TheVariants.{TooLong, NotJson, NetlistNotYet, Diagram, Sheet, NotYet}
 
+-- the name of a fault of a label
 abbrev pub label_fault_text : LabelFault → List ℕ
 label_fault_text BadLabel = codes "BadLabel"
 label_fault_text TooWide = codes "TooWide"
@@ -24,6 +25,7 @@ diagram_fault_parts diagram.EdgesNotList = codes "EdgesNotList" ∷ []
 diagram_fault_parts (diagram.EdgeNotText n) = codes "EdgeNotText " ∷ number_text n ∷ []
 diagram_fault_parts diagram.NoMemory = []
 
+-- likewise the faults of a sheet
 abbrev pub sheet_fault_parts : SheetFault → List (List ℕ)
 sheet_fault_parts (sheet.BadNode lane) = codes "BadNode " ∷ number_text lane ∷ []
 sheet_fault_parts (sheet.DoubleMark mark) = codes "DoubleMark " ∷ (mark ∷ []) ∷ []

@@ -18,13 +18,15 @@ pub record Call : Type 0 where
   pub sink_before : SinkTold
   pub sink_after : SinkTold
 
--- files of which nothing is told, before a run, and an output of which nothing is told
+-- files of which nothing is told, before a run
 abbrev pub nothing_failed : ShelfTold
 nothing_failed = record { files = None; faults = 0; last = []; is_faithful = false }
 
+-- an output of which nothing is told, before a run
 abbrev pub nothing_written : SinkTold
 nothing_written = record { written = None; faults = 0 }
 
+-- a run, from what is told before and after it
 abbrev pub call_of : List (List ℕ) → ShelfTold → ShelfTold → SinkTold → SinkTold → Call
 call_of words shelf shelf' sink sink' = record { words = words; shelf_before = shelf; shelf_after = shelf'; sink_before = sink; sink_after = sink' }
 

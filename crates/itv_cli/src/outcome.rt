@@ -34,7 +34,7 @@ impl Outcome {
 
     /// The exit status of the program.
     pub fn code(&self) -> u8
-        ensures { result ≡ code_of self.now }
+        ensures code { result ≡ code_of self.now }
     {
         match self {
             Outcome::AllPass | Outcome::Help => 0,

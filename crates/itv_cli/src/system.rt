@@ -10,12 +10,11 @@ use crate::outcome::Outcome;
 use crate::top::run;
 use itv_base::{NoMemory, ShelfDir, SinkOut, Texts};
 use std::alloc::Global;
-use std::env;
 use std::env::{Args, Env};
-use std::io;
 use std::io::ErrorKind;
 use std::process::ExitCode;
 use std::rt::Files;
+use std::{env, io};
 
 // The status where the system does not give the words.
 const NO_WORDS: u8 = 10;

@@ -9,6 +9,7 @@ use Rattle.label_grammar.specs.Label.{LooseLabel, label_view, IsLoose, has_wide_
 abbrev pub judged_label : LooseLabel → Result LooseLabel LabelFault
 judged_label l = if has_wide_end l then Err TooWide else (if has_reversed_ends l then Err EmptyRange else Ok l)
 
+-- a text that spells no label is refused first
 abbrev pub judged : Option LooseLabel → Result LooseLabel LabelFault
 judged None = Err BadLabel
 judged (Some l) = judged_label l

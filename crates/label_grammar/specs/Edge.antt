@@ -14,11 +14,13 @@ pub data EdgeSeen : Type 0 where
   timing : ℕ → ℕ → List ℕ → EdgeSeen
   malformed : EdgeSeen
 
+-- what is read of an edge, without where it lies in memory
 abbrev pub edge_view : EdgeText → EdgeSeen
 edge_view Comment = comment
 edge_view (Timing from to label) = timing from to label.now
 edge_view Malformed = malformed
 
+-- the last byte of a word
 abbrev pub last_byte : List ℕ → ℕ
 last_byte word = slice_index word (length word - 1)
 

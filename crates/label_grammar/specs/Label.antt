@@ -25,6 +25,7 @@ is_timing_label label = slice_index label 0 == 64
 abbrev pub label_view : Label → LooseLabel
 label_view l = record { kind = l.kind; shift = l.shift; tag = option_copied l.tag; ends = l.range; note = option_copied l.note }
 
+-- whether a label only asks
 abbrev pub is_ask : Kind → Bool
 is_ask Lin = false
 is_ask Late = false
@@ -54,6 +55,7 @@ pub record IsProper (l : LooseLabel) : Type 0 where
 
 -- ---- the spelling
 
+-- what a label of a kind begins with
 abbrev pub kind_text : Kind → List ℕ
 kind_text Lin = codes "@lin"
 kind_text Late = codes "@late"
@@ -61,17 +63,21 @@ kind_text Early = codes "@early"
 kind_text Req = codes "@req"
 kind_text Ask = codes "@ask"
 
+-- a shift of 0 is not written
 abbrev pub shift_text : ℕ → List ℕ
 shift_text shift = if shift == 0 then [] else codes "+" ++ number_text shift
 
+-- a tag stands behind a colon
 abbrev pub tag_text : Option (List ℕ) → List ℕ
 tag_text None = []
 tag_text (Some tag) = codes ":" ++ tag
 
+-- the ends stand in brackets, behind a space
 abbrev pub ends_text : Option Ends → List ℕ
 ends_text None = []
 ends_text (Some ends) = codes " [" ++ (end_text ends.low ++ (codes "," ++ (end_text ends.high ++ codes "]")))
 
+-- a note stands behind a space
 abbrev pub note_text : Option (List ℕ) → List ℕ
 note_text None = []
 note_text (Some note) = codes " " ++ note

@@ -25,6 +25,7 @@ abbrev pub first_kind : List Kind → List ℕ → Option (Kind × List ℕ)
 first_kind [] text = None
 first_kind (kind ∷ kinds) text = after (stripped (kind_text kind) text) (λ rest. Some (kind, rest)) (first_kind kinds text)
 
+-- `@` and the word of a kind
 unfoldable pub kind_of : List ℕ → Option (Kind × List ℕ)
 kind_of text = first_kind (Lin ∷ Late ∷ Early ∷ Req ∷ Ask ∷ []) text
 
@@ -32,12 +33,15 @@ kind_of text = first_kind (Lin ∷ Late ∷ Early ∷ Req ∷ Ask ∷ []) text
 abbrev pub shift_from : List ℕ → List ℕ → Option (ℕ × List ℕ)
 shift_from digits rest = if is_numeral digits && (nat_le 1 (value_of digits) && nat_le (value_of digits) MAX_SHIFT) then Some (value_of digits, rest) else None
 
+-- a plus and a shift, or nothing, which is a shift of 0
 unfoldable pub shift_of : List ℕ → Option (ℕ × List ℕ)
 shift_of text = after (stripped (codes "+") text) (λ rest. shift_from (take_while is_ascii_digit rest) (after_while is_ascii_digit rest)) (Some (0, text))
 
+-- a tag has the form of a name
 abbrev pub tag_from : List ℕ → List ℕ → Option (Option (List ℕ) × List ℕ)
 tag_from tag rest = if is_name tag then Some (Some tag, rest) else None
 
+-- a colon and a tag, or nothing
 unfoldable pub tag_of : List ℕ → Option (Option (List ℕ) × List ℕ)
 tag_of text = after (stripped (codes ":") text) (λ rest. tag_from (take_while is_name_byte rest) (after_while is_name_byte rest)) (Some (None, text))
 
@@ -46,12 +50,15 @@ abbrev pub number_from : Bool → List ℕ → List ℕ → Option (Option ℤ �
 number_from false digits rest = if is_numeral digits then Some (Some (pos (value_of digits)), rest) else None
 number_from true digits rest = if is_numeral digits && nat_lt 0 (value_of digits) then Some (Some (neg_ℤ (pos (value_of digits))), rest) else None
 
+-- the digits of a number behind its sign
 abbrev pub number_of : Bool → List ℕ → Option (Option ℤ × List ℕ)
 number_of is_negative text = number_from is_negative (take_while is_ascii_digit text) (after_while is_ascii_digit text)
 
+-- a star for an open end, or a number with a minus or none
 unfoldable pub end_of : List ℕ → Option (Option ℤ × List ℕ)
 end_of text = after (stripped (codes "*") text) (λ rest. Some (None, rest)) (after (stripped (codes "-") text) (number_of true) (number_of false text))
 
+-- a space, and the two ends in brackets
 unfoldable pub ends_of : List ℕ → Option (Ends × List ℕ)
 ends_of text = do
   opened ← stripped (codes " [") text
@@ -73,6 +80,7 @@ unfoldable pub note_of : List ℕ → Option (Option (List ℕ))
 note_of [] = Some None
 note_of (b ∷ note) = if is_space b then Some (Some note) else None
 
+-- the label that a whole text spells, if it does
 unfoldable pub label_of : List ℕ → Option LooseLabel
 label_of text = do
   kind ← kind_of text

@@ -19,6 +19,7 @@ pub data WireSeen : Type 0 where
   timing : PartMark → PartMark → List ℕ → WireSeen
   malformed : WireSeen
 
+-- what is read of a wire, without where it lies in memory
 abbrev pub wire_view : WireText → WireSeen
 wire_view Comment = comment
 wire_view (Timing from_part from_mark to_part to_mark label) =
@@ -34,6 +35,7 @@ part_mark_from part mark =
 unfoldable pub part_mark_of : List ℕ → Option PartMark
 part_mark_of word = part_mark_from (before_first is_full_stop word) (after_first is_full_stop word)
 
+-- a wire from its two words, each of which has to name a mark of a part
 abbrev pub wire_between : Option PartMark → Option PartMark → List ℕ → WireSeen
 wire_between None to label = malformed
 wire_between (Some from) None label = malformed

@@ -4,7 +4,7 @@ ghost use Rattle.std.specs.Prelude.{◌≡◌, option_map};
 ghost use Rattle.std.specs.Option.{option_copied};
 ghost use Rattle.label_grammar.specs.Label.{is_ask};
 ghost use Rattle.label_grammar.specs.Reading.{kind_of, shift_of, tag_of, number_of, end_of, ends_of, range_of, note_of, label_of};
-ghost use Rattle.label_grammar.specs.Form.{number_value, ends_view, form_view};
+ghost use Rattle.label_grammar.specs.Step.Form.{number_value, ends_view, form_view};
 
 use crate::form::{EndPair, Form, Number};
 use crate::label::Kind;

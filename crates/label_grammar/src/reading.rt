@@ -3,7 +3,7 @@
 ghost use Rattle.std.specs.Prelude.{◌≡◌, ◌↔◌, IfOk, IsOkAnd, IsErrOf, option_map};
 ghost use Rattle.label_grammar.specs.Label.{LooseLabel, label_view, IsProper, spelling};
 ghost use Rattle.label_grammar.specs.Reading.{label_of};
-ghost use Rattle.label_grammar.specs.Form.{number_value, ends_view, capped, judged_ends};
+ghost use Rattle.label_grammar.specs.Step.Form.{number_value, ends_view, capped, judged_ends};
 ghost use Rattle.label_grammar.specs.Answer.{judged, Gives, IsUnspelled, SpellsWideEnd, SpellsReversedEnds};
 
 use crate::form::{EndPair, Number};

@@ -45,6 +45,7 @@ abbrev pub elements : Items → List Data
 elements no_items = []
 elements (item d rest) = d ∷ elements rest
 
+-- an element that is no string
 abbrev pub is_no_string : Data → Bool
 is_no_string d = is_none (as_str d)
 

@@ -72,7 +72,7 @@ fn lanes_of_one_name_may_stand_without_marks(rt: HostRuntime) -> Result<(), Fail
             r#"{"signal":[{"name":"A","node":"a"},{"name":"A","node":". ."},{"name":"A","wave":"01"},
                 {"name":"","node":"b"},{"name":"","node":"c"},{"name":"a","node":"d"}]}"#,
             "abcd",
-            &[],
+            "",
         )],
     )
 }
@@ -102,11 +102,11 @@ fn marks_of_a_named_wave_come_in_order(rt: HostRuntime) -> Result<(), Fail> {
     ];
     for (lane, is_ordered) in lanes {
         let answer = match is_ordered {
-            true => "max 0\ntimes 0 0\n",
-            false => "max unbounded\ntimes 0 0\nraise 0\n",
+            true => "row b a\nmax 0\ntimes 0 0\n",
+            false => "row b a\nmax unbounded\ntimes 0 0\nraise 0\n",
         };
         let file = format!(in alloc; r#"{{"signal":[{lane}],"edge":["b->a @ask"]}}"#)?;
-        all_pass(&rt, alloc, &[(file.as_str(), "ab", &[("ba", answer)])])?;
+        all_pass(&rt, alloc, &[(file.as_str(), "ab", answer)])?;
     }
     Ok(())
 }
@@ -126,7 +126,7 @@ fn waves_of_all_kinds_are_taken(rt: HostRuntime) -> Result<(), Fail> {
         all_pass(
             &rt,
             alloc,
-            &[(file.as_str(), "c", &[("cc", "max 0\ntimes 0\n")])],
+            &[(file.as_str(), "c", "row c c\nmax 0\ntimes 0\n")],
         )?;
     }
     Ok(())

@@ -11,12 +11,15 @@ use Rattle.label_grammar.specs.declared.label.LabelFault.{LabelFault}
 use Rattle.label_grammar.specs.declared.label.LabelFault.TheVariants.{TooWide, EmptyRange}
 use Rattle.label_grammar.specs.Label.{LooseLabel}
 
+-- the number that is written
 abbrev pub number_value : Number → ℤ
 number_value n = signed n.is_negative (value_of n.digits.now)
 
+-- the two ends as numbers
 abbrev pub ends_view : EndPair → Ends
 ends_view e = record { low = option_map number_value e.low; high = option_map number_value e.high }
 
+-- the label that is written
 abbrev pub form_view : Form → LooseLabel
 form_view f = record { kind = f.kind; shift = f.shift; tag = option_copied f.tag; ends = option_map ends_view f.ends; note = option_copied f.note }
 
