@@ -240,11 +240,11 @@ fn a_text_that_is_cut_or_goes_on_is_refused(rt: HostRuntime) {
     expect_refused(&rt, b"itv report 1\n", 2);
     expect_refused(&rt, b"itv report 1\nbudget \xff\n", 2);
     // each front of the text ends in the line behind its whole ones
-    let mut lines = 1;
+    let mut lines = 1u64;
     for len in 0..bytes.len() {
         expect_refused(&rt, &bytes[..len], lines);
         if bytes[len] == b'\n' {
-            lines += 1;
+            lines = lines.saturating_add(1);
         }
     }
 }
@@ -259,19 +259,34 @@ fn what_stands_behind_a_report_is_refused(rt: HostRuntime) -> Result<(), Fail> {
     Ok(())
 }
 
-// The second put would fail: none comes where the line fits the buffer.
-#[test]
-fn a_line_goes_by_one_put(rt: HostRuntime) -> Result<(), Fail> {
-    let times = [0, 250];
-    let item = Item::Times(&times);
-    for (room, is_one) in [(12, true), (11, false)] {
+// Whether each line of a text is written where the second put fails.
+fn expect_one_put<R: Abort + AllocGlobal>(
+    rt: &R,
+    text: &str,
+    room: u32,
+    is_one: bool,
+) -> Result<(), Fail> {
+    let report = match read_report(rt.alloc(), text.as_bytes()) {
+        Ok(report) => report,
+        Err(fault) => panic!(rt; "{text} is refused: {fault:?}"),
+    };
+    let items = report.items();
+    for k in 0..items.len() {
+        let (item, line) = items.get(k);
         let mut buffer = LineBuffer::new(rt.alloc(), room)?;
         let mut sink = SinkMem::new(rt.alloc(), 100)?;
         sink.fail_call(1);
         let written = write_item(&item, &mut buffer, &mut sink);
-        assert_eq!(rt; written.is_ok(), is_one, "with room {room}");
+        assert_eq!(rt; written.is_ok(), is_one, "line {line} with room {room}");
     }
     Ok(())
+}
+
+// A line that fits the buffer goes by one put, and by several where it does not.
+#[test]
+fn a_line_goes_by_one_put(rt: HostRuntime) -> Result<(), Fail> {
+    expect_one_put(&rt, PROVED, LINE_ROOM, true)?;
+    expect_one_put(&rt, PROVED, 5, false)
 }
 
 #[test]
