@@ -1,0 +1,9 @@
+pub mod Leading
+pub mod Showing
+pub mod Checking
+pub mod FirstWrong
+pub mod Ordering
+pub mod Findings
+pub mod Standing
+pub mod RowBounds
+pub mod RowVerdicts

@@ -1,0 +1,87 @@
+-- Laws of right reports, over the definitions alone.
+use Rattle.std.specs.Prelude.{◌≡◌, ℕ, ℤ, List, All, Some, length, slice_get}
+use Rattle.itv_base.specs.Range.{Ends}
+use Rattle.event_graph.specs.Bounds.{IsInconsistent}
+use Rattle.event_graph.specs.Satisfying.{Satisfies}
+use Rattle.requirements.specs.Bounds.{IsGreatestBound, IsLeastBound}
+use Rattle.requirements.specs.Laws.{IsBrokenHigh, IsBrokenLow, IsMet}
+use Rattle.requirements.specs.declared.bound.Bound.{Bound}
+use Rattle.requirements.specs.declared.verdict.Verdict.TheVariants as verdicts
+use Rattle.sheet.specs.declared.row.RowKind.TheVariants as kinds
+use Rattle.slack_report.specs.declared.words.FindingWord.TheVariants as findings
+use Rattle.slack_report.specs.declared.words.Which.TheVariants as sorts
+use Rattle.slack_report.specs.Entry.{Entry, IsEntry}
+use Rattle.slack_report.specs.Order.{IsReport}
+use Rattle.slack_report.specs.Report.{IsReportText}
+use Rattle.slack_report.specs.Text.{report_text}
+use Rattle.slack_report.specs.Right.Drawn.{Drawn, Row}
+use Rattle.slack_report.specs.Right.Facts.{BeginsRightReport, IsRightReport}
+use Rattle.right_report.specs.Checked.{IsChecked}
+use Rattle.right_report.specs.Shown.{IsBareReport, IsShownReport}
+use Rattle.right_report.specs.Told.{bound_on, finding_in, verdict_on}
+use Rattle.right_report.specs.Wrong.{IsFirstWrongIn}
+
+-- ---- ways to be right
+
+-- a report that shows its numbers is right
+abbrev pub ShownIsRight : Type 0
+ShownIsRight = (drawn : Drawn) (most : ℕ) (lines : List Entry) → IsShownReport drawn most lines → IsRightReport drawn lines
+
+-- and so is one without the lines that show them
+abbrev pub BareIsRight : Type 0
+BareIsRight = (drawn : Drawn) (most : ℕ) (lines : List Entry) → IsBareReport drawn most lines → IsRightReport drawn lines
+
+-- a report in which each line meets the check is right, whoever wrote it
+abbrev pub CheckedIsRight : Type 0
+CheckedIsRight = (drawn : Drawn) (lines : List Entry) → IsChecked drawn lines → IsRightReport drawn lines
+
+-- ---- the first wrong line
+
+-- there is one first wrong line
+abbrev pub OneFirstWrong : Type 0
+OneFirstWrong = (drawn : Drawn) (lines : List Entry) (m n : ℕ) → IsFirstWrongIn drawn lines m → IsFirstWrongIn drawn lines n → m ≡ n
+
+-- a report in which each line meets the check has no wrong line
+abbrev pub CheckedHasNoWrong : Type 0
+CheckedHasNoWrong = (drawn : Drawn) (lines : List Entry) (number : ℕ) → IsChecked drawn lines → IsFirstWrongIn drawn lines number → ⊥
+
+-- ---- what a right report says
+
+-- an inconsistent finding says that no times satisfy
+abbrev pub InconsistentIsSo : Type 0
+InconsistentIsSo = (drawn : Drawn) (lines : List Entry) → BeginsRightReport drawn lines → finding_in lines ≡ Some findings.Inconsistent → IsInconsistent drawn.net
+
+-- a consistent finding says that some times do
+abbrev pub ConsistentIsSo : Type 0
+ConsistentIsSo = (drawn : Drawn) (lines : List Entry) → IsRightReport drawn lines → finding_in lines ≡ Some findings.Consistent → (list : List ℤ) × Satisfies list drawn.net
+
+-- a greatest bound is the greatest bound of the pair of its row
+abbrev pub GreatestIsRight : Type 0
+GreatestIsRight = (drawn : Drawn) (lines : List Entry) (number : ℕ) (r : Row) (value : Bound) → IsRightReport drawn lines → slice_get drawn.rows number ≡ Some r
+    → bound_on lines number sorts.Max ≡ Some value → IsGreatestBound drawn.net r.from r.to value
+
+-- and a least bound its least
+abbrev pub LeastIsRight : Type 0
+LeastIsRight = (drawn : Drawn) (lines : List Entry) (number : ℕ) (r : Row) (value : Bound) → IsRightReport drawn lines → slice_get drawn.rows number ≡ Some r
+    → bound_on lines number sorts.Min ≡ Some value → IsLeastBound drawn.net r.from r.to value
+
+-- a verdict `pass` says that all satisfying times meet the requirement of the row
+abbrev pub PassIsMet : Type 0
+PassIsMet = (drawn : Drawn) (lines : List Entry) (number : ℕ) (r : Row) → BeginsRightReport drawn lines → slice_get drawn.rows number ≡ Some r
+    → verdict_on lines number ≡ Some verdicts.Pass → (range : Ends) × (r.kind ≡ kinds.Req range) × IsMet drawn.net r.from r.to range
+
+-- `fail high` says that some satisfying times are past its high end
+abbrev pub FailHighIsBroken : Type 0
+FailHighIsBroken = (drawn : Drawn) (lines : List Entry) (number : ℕ) (r : Row) → BeginsRightReport drawn lines → slice_get drawn.rows number ≡ Some r
+    → verdict_on lines number ≡ Some verdicts.FailHigh → (range : Ends) × (r.kind ≡ kinds.Req range) × IsBrokenHigh drawn.net r.from r.to range
+
+-- and `fail low` that some are past its low end
+abbrev pub FailLowIsBroken : Type 0
+FailLowIsBroken = (drawn : Drawn) (lines : List Entry) (number : ℕ) (r : Row) → BeginsRightReport drawn lines → slice_get drawn.rows number ≡ Some r
+    → verdict_on lines number ≡ Some verdicts.FailLow → (range : Ends) × (r.kind ≡ kinds.Req range) × IsBrokenLow drawn.net r.from r.to range
+
+-- ---- its text
+
+-- a right report whose lines have texts is a report, and its text that of a report
+abbrev pub RightIsReport : Type 0
+RightIsReport = (drawn : Drawn) (lines : List Entry) → IsRightReport drawn lines → All (IsEntry (length drawn.names)) lines → IsReport lines × IsReportText (report_text lines)
