@@ -3,8 +3,10 @@ use Rattle.std.proofs.Common.{◌≡◌, ℕ, List, [], ◌∷◌, ◌++◌, map
 use Rattle.itv_base.specs.Outside.{CutShort, Puts, SinkTold, grown}
 use Rattle.itv_base.proofs.Written.{cut_then, grown-append, grown-nil}
 use Rattle.event_graph.specs.Proof.{ProofLine}
+use Rattle.certificate.specs.Scribing.{SinkGrew, SinkWasCut}
+use Rattle.certificate.specs.Text.{proof_line_text, proof_text}
 use Rattle.slack_report.specs.Entry.{Entry, proof}
-use Rattle.slack_report.specs.Text.{entry_text, report_text}
+use Rattle.slack_report.specs.Text.{entry_text, report_text, words_of}
 use Rattle.slack_report.specs.Right.Drawn.{Drawn}
 use Rattle.slack_report.specs.Right.At.{At, Side, Telling, at_bound, at_event, at_finding}
 use Rattle.slack_report.specs.Right.Following.{Facts, MayFollow, Reads}
@@ -111,3 +113,17 @@ behind_proof number (line ∷ lines) = at_finding (line ∷ lines)
 pub reads_event_proof : (facts : Facts) (drawn : Drawn) (number : ℕ) (lines : List ProofLine) → Reads facts drawn (at_event number []) (map proof lines) (behind_proof number lines)
 reads_event_proof facts drawn number [] = refl
 reads_event_proof facts drawn number (line ∷ lines) = (at_finding (line ∷ []), inl (line, refl, refl), reads_finding_proof facts drawn (line ∷ []) lines)
+
+-- their text is that of lines of a report
+proof_text-lines : (lines : List ProofLine) → proof_text lines ≡ report_text (map proof lines)
+unfolding words_of
+proof_text-lines [] = refl
+proof_text-lines (line ∷ lines) = ap (λ text. proof_line_text line ++ text) (proof_text-lines lines)
+
+-- A search told its lines of a proof to a sink, whole or cut short: lines were put that lead from a place to another.
+module _ {facts : Facts} {drawn : Drawn} {here : At} {old new : SinkTold} (last : At) (lines : List ProofLine) (reads : Reads facts drawn here (map proof lines) last) where
+  pub wrote_proof : SinkGrew old lines new → Wrote facts drawn here last old new
+  wrote_proof grew = record { lines = map proof lines; reads = reads; grew = grew ∙ ap (grown old) (proof_text-lines lines) }
+
+  pub stopped_proof : SinkWasCut old lines new → Stopped facts drawn here old new
+  stopped_proof cut = record { lines = map proof lines; last = last; reads = reads; cut = subst (CutShort old new) (proof_text-lines lines) cut }

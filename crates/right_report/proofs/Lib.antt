@@ -7,3 +7,4 @@ pub mod Findings
 pub mod Standing
 pub mod RowBounds
 pub mod RowVerdicts
+pub mod Refusing

@@ -10,7 +10,7 @@ use Rattle.slack_report.specs.Right.Drawn.{Drawn, Row}
 use Rattle.slack_report.specs.Right.At.{At, Side, Telling, at_heading, at_bound, at_times, at_raise, at_last, behind_bound, behind_times, bounded, greatest, least_by}
 use Rattle.slack_report.specs.Right.Facts.{IsBoundOf, right}
 use Rattle.slack_report.specs.Right.Following.{MayFollow, Reads}
-use Rattle.right_report.specs.Laws.{GreatestIsRight, LeastIsRight}
+use Rattle.right_report.specs.Laws.{GreatestIsRight, LeastIsRight, UnboundedAbove, UnboundedBelow}
 use Rattle.right_report.specs.Told.{first_bound}
 use Rattle.right_report.proofs.Standing.{IsRightBound, attained_is_right, closed_is_right, none_is_right, on_row, rise_is_right}
 
@@ -121,3 +121,9 @@ pub least_is_right : LeastIsRight
 least_is_right drawn lines number r value h get is =
     on_row drawn at_last (first_bound Min) (λ x found. IsLeastBound drawn.net x.from x.to found) refl
     (λ told more found t reads first. min_lines drawn told.row found more (at_bound told greatest []) refl reads first) lines at_heading number r value tt h get is
+
+pub unbounded_above : UnboundedAbove
+unbounded_above drawn lines number r h get is = greatest_is_right drawn lines number r Unbounded h get is
+
+pub unbounded_below : UnboundedBelow
+unbounded_below drawn lines number r h get is = least_is_right drawn lines number r Unbounded h get is

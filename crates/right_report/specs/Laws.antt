@@ -1,11 +1,12 @@
 -- Laws of right reports, over the definitions alone.
 use Rattle.std.specs.Prelude.{◌≡◌, ℕ, ℤ, List, All, Some, length, slice_get}
 use Rattle.itv_base.specs.Range.{Ends}
-use Rattle.event_graph.specs.Bounds.{IsInconsistent}
+use Rattle.event_graph.specs.Bounds.{IsInconsistent, IsUnbounded}
 use Rattle.event_graph.specs.Satisfying.{Satisfies}
 use Rattle.requirements.specs.Bounds.{IsGreatestBound, IsLeastBound}
 use Rattle.requirements.specs.Laws.{IsBrokenHigh, IsBrokenLow, IsMet}
 use Rattle.requirements.specs.declared.bound.Bound.{Bound}
+use Rattle.requirements.specs.declared.bound.Bound.TheVariants as bounds
 use Rattle.requirements.specs.declared.verdict.Verdict.TheVariants as verdicts
 use Rattle.sheet.specs.declared.row.RowKind.TheVariants as kinds
 use Rattle.slack_report.specs.declared.words.FindingWord.TheVariants as findings
@@ -18,6 +19,7 @@ use Rattle.slack_report.specs.Right.Drawn.{Drawn, Row}
 use Rattle.slack_report.specs.Right.Facts.{BeginsRightReport, IsRightReport}
 use Rattle.right_report.specs.Checked.{IsChecked}
 use Rattle.right_report.specs.Shown.{IsBareReport, IsShownReport}
+use Rattle.right_report.specs.Texts.{IsAcceptedText, IsRefusedText, IsRightText}
 use Rattle.right_report.specs.Told.{bound_on, finding_in, verdict_on}
 use Rattle.right_report.specs.Wrong.{IsFirstWrongIn}
 
@@ -65,6 +67,16 @@ abbrev pub LeastIsRight : Type 0
 LeastIsRight = (drawn : Drawn) (lines : List Entry) (number : ℕ) (r : Row) (value : Bound) → IsRightReport drawn lines → slice_get drawn.rows number ≡ Some r
     → bound_on lines number sorts.Min ≡ Some value → IsLeastBound drawn.net r.from r.to value
 
+-- an unbounded greatest bound says that satisfying separations of the pair exceed every number
+abbrev pub UnboundedAbove : Type 0
+UnboundedAbove = (drawn : Drawn) (lines : List Entry) (number : ℕ) (r : Row) → IsRightReport drawn lines → slice_get drawn.rows number ≡ Some r
+    → bound_on lines number sorts.Max ≡ Some bounds.Unbounded → IsUnbounded drawn.net r.from r.to
+
+-- and an unbounded least bound that those of the reversed pair do
+abbrev pub UnboundedBelow : Type 0
+UnboundedBelow = (drawn : Drawn) (lines : List Entry) (number : ℕ) (r : Row) → IsRightReport drawn lines → slice_get drawn.rows number ≡ Some r
+    → bound_on lines number sorts.Min ≡ Some bounds.Unbounded → IsUnbounded drawn.net r.to r.from
+
 -- a verdict `pass` says that all satisfying times meet the requirement of the row
 abbrev pub PassIsMet : Type 0
 PassIsMet = (drawn : Drawn) (lines : List Entry) (number : ℕ) (r : Row) → BeginsRightReport drawn lines → slice_get drawn.rows number ≡ Some r
@@ -80,8 +92,20 @@ abbrev pub FailLowIsBroken : Type 0
 FailLowIsBroken = (drawn : Drawn) (lines : List Entry) (number : ℕ) (r : Row) → BeginsRightReport drawn lines → slice_get drawn.rows number ≡ Some r
     → verdict_on lines number ≡ Some verdicts.FailLow → (range : Ends) × (r.kind ≡ kinds.Req range) × IsBrokenLow drawn.net r.from r.to range
 
--- ---- its text
+-- ---- texts
 
 -- a right report whose lines have texts is a report, and its text that of a report
 abbrev pub RightIsReport : Type 0
 RightIsReport = (drawn : Drawn) (lines : List Entry) → IsRightReport drawn lines → All (IsEntry (length drawn.names)) lines → IsReport lines × IsReportText (report_text lines)
+
+-- a text that the check accepts is the text of a right report, whoever wrote it
+abbrev pub AcceptedTextIsRight : Type 0
+AcceptedTextIsRight = (drawn : Drawn) (bytes : List ℕ) → IsAcceptedText drawn bytes → IsRightText drawn bytes
+
+-- the check refuses a text at one line
+abbrev pub OneRefusedLine : Type 0
+OneRefusedLine = (drawn : Drawn) (bytes : List ℕ) (line other : ℕ) → IsRefusedText drawn bytes line → IsRefusedText drawn bytes other → line ≡ other
+
+-- the check never accepts a text and refuses it too
+abbrev pub AcceptedTextIsNotRefused : Type 0
+AcceptedTextIsNotRefused = (drawn : Drawn) (bytes : List ℕ) (line : ℕ) → IsAcceptedText drawn bytes → IsRefusedText drawn bytes line → ⊥

@@ -1,6 +1,6 @@
 //! Laws of right reports. The functions do nothing; what they ensure holds of all networks and all reports.
 
-ghost use Rattle.right_report.specs.Laws.{BareIsRight, CheckedHasNoWrong, CheckedIsRight, ConsistentIsSo, FailHighIsBroken, FailLowIsBroken, GreatestIsRight, InconsistentIsSo, LeastIsRight, OneFirstWrong, PassIsMet, RightIsReport, ShownIsRight};
+ghost use Rattle.right_report.specs.Laws.{AcceptedTextIsNotRefused, AcceptedTextIsRight, BareIsRight, CheckedHasNoWrong, CheckedIsRight, ConsistentIsSo, FailHighIsBroken, FailLowIsBroken, GreatestIsRight, InconsistentIsSo, LeastIsRight, OneFirstWrong, OneRefusedLine, PassIsMet, RightIsReport, ShownIsRight, UnboundedAbove, UnboundedBelow};
 
 /// A report that shows its numbers by the lines before them is right.
 pub fn shown_is_right()
@@ -48,6 +48,13 @@ pub fn least_is_right()
     ensures { LeastIsRight }
 {}
 
+/// Where a right report says that a pair is unbounded, satisfying separations of it exceed every number, or for a least bound those
+/// of the reversed pair do.
+pub fn unbounded_is_so()
+    ensures above { UnboundedAbove }
+    ensures below { UnboundedBelow }
+{}
+
 /// Where a right report says `pass`, every satisfying separation lies in the range of the row.
 pub fn pass_is_met()
     ensures { PassIsMet }
@@ -66,4 +73,19 @@ pub fn fail_low_is_broken()
 /// A right report whose numbers and names have texts is a report, and its text is that of a report.
 pub fn right_is_report()
     ensures { RightIsReport }
+{}
+
+/// A text that the check accepts is the text of a right report, whoever wrote it.
+pub fn accepted_text_is_right()
+    ensures { AcceptedTextIsRight }
+{}
+
+/// The check refuses a text at one line.
+pub fn one_refused_line()
+    ensures { OneRefusedLine }
+{}
+
+/// The check never accepts a text and refuses it too.
+pub fn accepted_text_is_not_refused()
+    ensures { AcceptedTextIsNotRefused }
 {}
