@@ -8,3 +8,4 @@ pub mod Standing
 pub mod RowBounds
 pub mod RowVerdicts
 pub mod Refusing
+pub mod Ending

@@ -68,7 +68,7 @@ Stands drawn (at_bound told side lines) = IsTold drawn told × IsSide drawn.net 
 Stands drawn (at_times told side value) = IsTold drawn told × IsSide drawn.net told.row side × IsBoundOf drawn.net told.course.found told.row side value
 Stands drawn (at_raise told side list) = IsTold drawn told × IsSide drawn.net told.row side
 Stands drawn (at_verdict told range least most) = IsTold drawn told × (told.row.kind ≡ Req range) × AreBounds drawn.net told.row.from told.row.to least most
-Stands drawn (at_past told range least most) = IsTold drawn told
+Stands drawn (at_past told range least most) = IsTold drawn told × (told.row.kind ≡ Req range) × AreBounds drawn.net told.row.from told.row.to least most
 Stands drawn (at_slack course number later range least most) = later ≡ drop number drawn.rows
 Stands drawn (at_end word) = Unit {0}
 Stands drawn at_last = Unit {0}
@@ -119,11 +119,11 @@ module _ (drawn : Drawn) where
       stands_bounded told side (Within limit (Some value)) h.0 h.1 (attained_is_right drawn.net told.course.found told.row side limit value list h.2 t a)
   stands_times told side (Within limit None) list h t a = stands_bounded told side (Within limit None) h.0 h.1 (none_is_right drawn.net told.course.found told.row side limit h.2)
 
-  stands_verdict : (told : Telling) (range : Ends) (least most : Bound) (word : Verdict) → IsTold drawn told → Stands drawn (behind_verdict told range least most word)
-  stands_verdict told range least most verdicts.Pass t = t.are_later
-  stands_verdict told range least most verdicts.FailHigh t = t
-  stands_verdict told range least most verdicts.FailLow t = t
-  stands_verdict told range least most verdicts.Undecided t = t.are_later
+  stands_verdict : (told : Telling) (range : Ends) (least most : Bound) (word : Verdict) → Stands drawn (at_verdict told range least most) → Stands drawn (behind_verdict told range least most word)
+  stands_verdict told range least most verdicts.Pass s = s.0.are_later
+  stands_verdict told range least most verdicts.FailHigh s = s
+  stands_verdict told range least most verdicts.FailLow s = s
+  stands_verdict told range least most verdicts.Undecided s = s.0.are_later
 
   stands_finding : (word : FindingWord) → Stands drawn (behind_finding word)
   stands_finding findings.Consistent = tt
@@ -156,8 +156,8 @@ module _ (drawn : Drawn) where
   stands (at_times told side value) line next s h = subst (Stands drawn) (sym h.3) (stands_times told side value h.0 s h.2.0 h.2.1)
   stands (at_raise told side list) line next s h =
       subst (Stands drawn) (sym h.3) (stands_bounded told side Unbounded s.0 s.1 (rise_is_right drawn.net told.row side list h.0 h.2))
-  stands (at_verdict told range least most) line next s h = subst (Stands drawn) (sym h.1) (stands_verdict told range least most (verdict_of range least most) s.0)
-  stands (at_past told range least most) line next s h = subst (Stands drawn) (sym h.3) s.are_later
+  stands (at_verdict told range least most) line next s h = subst (Stands drawn) (sym h.1) (stands_verdict told range least most (verdict_of range least most) s)
+  stands (at_past told range least most) line next s h = subst (Stands drawn) (sym h.3) s.0.are_later
   stands (at_slack course number later range least most) line next s h = subst (Stands drawn) (sym h.1) s
   stands (at_end word) line next s h = subst (Stands drawn) (sym h.1) tt
   stands at_last line next s h = absurd h

@@ -1,7 +1,8 @@
 -- Laws of right reports, over the definitions alone.
-use Rattle.std.specs.Prelude.{◌≡◌, ℕ, ℤ, List, All, Some, length, slice_get}
+use Rattle.std.specs.Prelude.{◌≡◌, ◌⊎◌, ℕ, ℤ, List, All, Some, length, slice_get}
 use Rattle.itv_base.specs.Range.{Ends}
 use Rattle.event_graph.specs.Bounds.{IsInconsistent, IsUnbounded}
+use Rattle.event_graph.specs.Network.{Net}
 use Rattle.event_graph.specs.Satisfying.{Satisfies}
 use Rattle.requirements.specs.Bounds.{IsGreatestBound, IsLeastBound}
 use Rattle.requirements.specs.Laws.{IsBrokenHigh, IsBrokenLow, IsMet}
@@ -9,6 +10,7 @@ use Rattle.requirements.specs.declared.bound.Bound.{Bound}
 use Rattle.requirements.specs.declared.bound.Bound.TheVariants as bounds
 use Rattle.requirements.specs.declared.verdict.Verdict.TheVariants as verdicts
 use Rattle.sheet.specs.declared.row.RowKind.TheVariants as kinds
+use Rattle.slack_report.specs.declared.words.EndWord.TheVariants as endings
 use Rattle.slack_report.specs.declared.words.FindingWord.TheVariants as findings
 use Rattle.slack_report.specs.declared.words.Which.TheVariants as sorts
 use Rattle.slack_report.specs.Entry.{Entry, IsEntry}
@@ -20,7 +22,7 @@ use Rattle.slack_report.specs.Right.Facts.{BeginsRightReport, IsRightReport}
 use Rattle.right_report.specs.Checked.{IsChecked}
 use Rattle.right_report.specs.Shown.{IsBareReport, IsShownReport}
 use Rattle.right_report.specs.Texts.{IsAcceptedText, IsRefusedText, IsRightText}
-use Rattle.right_report.specs.Told.{bound_on, finding_in, verdict_on}
+use Rattle.right_report.specs.Told.{bound_on, end_in, finding_in, verdict_on}
 use Rattle.right_report.specs.Wrong.{IsFirstWrongIn}
 
 -- ---- ways to be right
@@ -91,6 +93,37 @@ FailHighIsBroken = (drawn : Drawn) (lines : List Entry) (number : ℕ) (r : Row)
 abbrev pub FailLowIsBroken : Type 0
 FailLowIsBroken = (drawn : Drawn) (lines : List Entry) (number : ℕ) (r : Row) → BeginsRightReport drawn lines → slice_get drawn.rows number ≡ Some r
     → verdict_on lines number ≡ Some verdicts.FailLow → (range : Ends) × (r.kind ≡ kinds.Req range) × IsBrokenLow drawn.net r.from r.to range
+
+-- ---- what its end says
+
+-- some times satisfy a network
+abbrev pub SomeSatisfy : Net → Type 0
+SomeSatisfy net = (list : List ℤ) × Satisfies list net
+
+-- every requirement of the rows is met
+abbrev pub AllMet : Drawn → Type 0
+AllMet drawn = (number : ℕ) (r : Row) (range : Ends) → slice_get drawn.rows number ≡ Some r → r.kind ≡ kinds.Req range → IsMet drawn.net r.from r.to range
+
+-- the requirement of some row is broken
+pub record SomeBroken (drawn : Drawn) : Type 0 where
+  pub number : ℕ
+  pub asked : Row
+  pub range : Ends
+  pub is_row : slice_get drawn.rows number ≡ Some asked
+  pub is_kind : asked.kind ≡ kinds.Req range
+  pub is_broken : IsBrokenHigh drawn.net asked.from asked.to range ⊎ IsBrokenLow drawn.net asked.from asked.to range
+
+-- `end pass` says that some times satisfy, and that every requirement is met
+abbrev pub PassEndIsSo : Type 0
+PassEndIsSo = (drawn : Drawn) (lines : List Entry) → BeginsRightReport drawn lines → end_in lines ≡ Some endings.Pass → SomeSatisfy drawn.net × AllMet drawn
+
+-- `end fail` says that some requirement is broken
+abbrev pub FailEndIsSo : Type 0
+FailEndIsSo = (drawn : Drawn) (lines : List Entry) → BeginsRightReport drawn lines → end_in lines ≡ Some endings.Fail → SomeBroken drawn
+
+-- `end inconsistent` says that no times satisfy
+abbrev pub InconsistentEndIsSo : Type 0
+InconsistentEndIsSo = (drawn : Drawn) (lines : List Entry) → BeginsRightReport drawn lines → end_in lines ≡ Some endings.Inconsistent → IsInconsistent drawn.net
 
 -- ---- texts
 

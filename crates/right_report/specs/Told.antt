@@ -3,8 +3,9 @@ use Rattle.std.specs.Prelude.{◌==◌, ℕ, if◌then◌else◌, List, [], ◌�
 use Rattle.requirements.specs.declared.bound.Bound.{Bound}
 use Rattle.requirements.specs.declared.verdict.Verdict.{Verdict}
 use Rattle.slack_report.specs.declared.words.FindingWord.{FindingWord}
+use Rattle.slack_report.specs.declared.words.EndWord.{EndWord}
 use Rattle.slack_report.specs.declared.words.Which.{Which}
-use Rattle.slack_report.specs.Entry.{Entry, bound, finding, row, verdict}
+use Rattle.slack_report.specs.Entry.{Entry, bound, ending, finding, row, verdict}
 use Rattle.slack_report.specs.Order.{is_which}
 
 -- the finding
@@ -12,6 +13,12 @@ abbrev pub finding_in : List Entry → Option FindingWord
 finding_in [] = None
 finding_in (finding word ∷ lines) = Some word
 finding_in (line ∷ lines) = finding_in lines
+
+-- the word at the end
+abbrev pub end_in : List Entry → Option EndWord
+end_in [] = None
+end_in (ending word ∷ lines) = Some word
+end_in (line ∷ lines) = end_in lines
 
 -- the lines behind the first line of the row of a number
 abbrev pub behind_row : ℕ → List Entry → List Entry

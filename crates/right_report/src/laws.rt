@@ -1,6 +1,6 @@
 //! Laws of right reports. The functions do nothing; what they ensure holds of all networks and all reports.
 
-ghost use Rattle.right_report.specs.Laws.{AcceptedTextIsNotRefused, AcceptedTextIsRight, BareIsRight, CheckedHasNoWrong, CheckedIsRight, ConsistentIsSo, FailHighIsBroken, FailLowIsBroken, GreatestIsRight, InconsistentIsSo, LeastIsRight, OneFirstWrong, OneRefusedLine, PassIsMet, RightIsReport, ShownIsRight, UnboundedAbove, UnboundedBelow};
+ghost use Rattle.right_report.specs.Laws.{AcceptedTextIsNotRefused, AcceptedTextIsRight, BareIsRight, CheckedHasNoWrong, CheckedIsRight, ConsistentIsSo, FailEndIsSo, FailHighIsBroken, FailLowIsBroken, GreatestIsRight, InconsistentEndIsSo, InconsistentIsSo, LeastIsRight, OneFirstWrong, OneRefusedLine, PassEndIsSo, PassIsMet, RightIsReport, ShownIsRight, UnboundedAbove, UnboundedBelow};
 
 /// A report that shows its numbers by the lines before them is right.
 pub fn shown_is_right()
@@ -68,6 +68,21 @@ pub fn fail_high_is_broken()
 /// Where a right report says `fail low`, some satisfying separation is past the low end of the row.
 pub fn fail_low_is_broken()
     ensures { FailLowIsBroken }
+{}
+
+/// A right report that ends with `pass` says that some times satisfy the network, and that all that do meet every requirement.
+pub fn pass_end_is_so()
+    ensures { PassEndIsSo }
+{}
+
+/// One that ends with `fail` says that some satisfying times break a requirement.
+pub fn fail_end_is_so()
+    ensures { FailEndIsSo }
+{}
+
+/// One that ends with `inconsistent` says that no times satisfy the network.
+pub fn inconsistent_end_is_so()
+    ensures { InconsistentEndIsSo }
 {}
 
 /// A right report whose numbers and names have texts is a report, and its text is that of a report.
