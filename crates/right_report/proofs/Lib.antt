@@ -9,3 +9,4 @@ pub mod RowBounds
 pub mod RowVerdicts
 pub mod Refusing
 pub mod Ending
+pub mod Undecided

@@ -1,8 +1,9 @@
 -- Laws of right reports, over the definitions alone.
-use Rattle.std.specs.Prelude.{◌≡◌, ◌⊎◌, ℕ, ℤ, List, All, Some, length, slice_get}
+use Rattle.std.specs.Prelude.{◌≡◌, ◌<◌, ◌⊎◌, ℕ, ℤ, List, All, Some, length, slice_get}
 use Rattle.itv_base.specs.Range.{Ends}
 use Rattle.event_graph.specs.Bounds.{IsInconsistent, IsUnbounded}
-use Rattle.event_graph.specs.Network.{Net}
+use Rattle.event_graph.specs.Edges.{cause_choices}
+use Rattle.event_graph.specs.Network.{IsNet, Net}
 use Rattle.event_graph.specs.Satisfying.{Satisfies}
 use Rattle.requirements.specs.Bounds.{IsGreatestBound, IsLeastBound}
 use Rattle.requirements.specs.Laws.{IsBrokenHigh, IsBrokenLow, IsMet}
@@ -55,9 +56,13 @@ CheckedHasNoWrong = (drawn : Drawn) (lines : List Entry) (number : ℕ) → IsCh
 abbrev pub InconsistentIsSo : Type 0
 InconsistentIsSo = (drawn : Drawn) (lines : List Entry) → BeginsRightReport drawn lines → finding_in lines ≡ Some findings.Inconsistent → IsInconsistent drawn.net
 
+-- some times satisfy a network
+abbrev pub SomeSatisfy : Net → Type 0
+SomeSatisfy net = (list : List ℤ) × Satisfies list net
+
 -- a consistent finding says that some times do
 abbrev pub ConsistentIsSo : Type 0
-ConsistentIsSo = (drawn : Drawn) (lines : List Entry) → IsRightReport drawn lines → finding_in lines ≡ Some findings.Consistent → (list : List ℤ) × Satisfies list drawn.net
+ConsistentIsSo = (drawn : Drawn) (lines : List Entry) → IsRightReport drawn lines → finding_in lines ≡ Some findings.Consistent → SomeSatisfy drawn.net
 
 -- a greatest bound is the greatest bound of the pair of its row
 abbrev pub GreatestIsRight : Type 0
@@ -96,10 +101,6 @@ FailLowIsBroken = (drawn : Drawn) (lines : List Entry) (number : ℕ) (r : Row) 
 
 -- ---- what its end says
 
--- some times satisfy a network
-abbrev pub SomeSatisfy : Net → Type 0
-SomeSatisfy net = (list : List ℤ) × Satisfies list net
-
 -- every requirement of the rows is met
 abbrev pub AllMet : Drawn → Type 0
 AllMet drawn = (number : ℕ) (r : Row) (range : Ends) → slice_get drawn.rows number ≡ Some r → r.kind ≡ kinds.Req range → IsMet drawn.net r.from r.to range
@@ -124,6 +125,15 @@ FailEndIsSo = (drawn : Drawn) (lines : List Entry) → BeginsRightReport drawn l
 -- `end inconsistent` says that no times satisfy
 abbrev pub InconsistentEndIsSo : Type 0
 InconsistentEndIsSo = (drawn : Drawn) (lines : List Entry) → BeginsRightReport drawn lines → end_in lines ≡ Some endings.Inconsistent → IsInconsistent drawn.net
+
+-- `end undecided` never comes where the budget is as great as the number of cause choices
+abbrev pub ShownUndecidedIsBelow : Type 0
+ShownUndecidedIsBelow = (drawn : Drawn) (most : ℕ) (lines : List Entry) → IsNet drawn.net → IsShownReport drawn most lines → end_in lines ≡ Some endings.Undecided
+    → most < cause_choices drawn.net.constraints
+
+abbrev pub BareUndecidedIsBelow : Type 0
+BareUndecidedIsBelow = (drawn : Drawn) (most : ℕ) (lines : List Entry) → IsNet drawn.net → IsBareReport drawn most lines → end_in lines ≡ Some endings.Undecided
+    → most < cause_choices drawn.net.constraints
 
 -- ---- texts
 

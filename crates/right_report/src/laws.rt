@@ -1,6 +1,6 @@
 //! Laws of right reports. The functions do nothing; what they ensure holds of all networks and all reports.
 
-ghost use Rattle.right_report.specs.Laws.{AcceptedTextIsNotRefused, AcceptedTextIsRight, BareIsRight, CheckedHasNoWrong, CheckedIsRight, ConsistentIsSo, FailEndIsSo, FailHighIsBroken, FailLowIsBroken, GreatestIsRight, InconsistentEndIsSo, InconsistentIsSo, LeastIsRight, OneFirstWrong, OneRefusedLine, PassEndIsSo, PassIsMet, RightIsReport, ShownIsRight, UnboundedAbove, UnboundedBelow};
+ghost use Rattle.right_report.specs.Laws.{AcceptedTextIsNotRefused, AcceptedTextIsRight, BareIsRight, BareUndecidedIsBelow, CheckedHasNoWrong, CheckedIsRight, ConsistentIsSo, FailEndIsSo, FailHighIsBroken, FailLowIsBroken, GreatestIsRight, InconsistentEndIsSo, InconsistentIsSo, LeastIsRight, OneFirstWrong, OneRefusedLine, PassEndIsSo, PassIsMet, RightIsReport, ShownIsRight, ShownUndecidedIsBelow, UnboundedAbove, UnboundedBelow};
 
 /// A report that shows its numbers by the lines before them is right.
 pub fn shown_is_right()
@@ -83,6 +83,12 @@ pub fn fail_end_is_so()
 /// One that ends with `inconsistent` says that no times satisfy the network.
 pub fn inconsistent_end_is_so()
     ensures { InconsistentEndIsSo }
+{}
+
+/// A report that shows its numbers, or could, ends with `undecided` only where its budget is less than the number of cause choices.
+pub fn undecided_is_below_choices()
+    ensures shown { ShownUndecidedIsBelow }
+    ensures bare { BareUndecidedIsBelow }
 {}
 
 /// A right report whose numbers and names have texts is a report, and its text is that of a report.
