@@ -10,3 +10,4 @@ pub mod RowVerdicts
 pub mod Refusing
 pub mod Ending
 pub mod Undecided
+pub mod RowSets

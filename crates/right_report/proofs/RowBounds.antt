@@ -33,24 +33,24 @@ module _ (drawn : Drawn) (told : Telling) (side : Side) where
 -- ---- the first bound of a sort in a row
 
 -- a place at which the greatest bound of a row is yet to come
-abbrev IsBeforeMax : Row → At → Type 0
+abbrev pub IsBeforeMax : Row → At → Type 0
 IsBeforeMax r (at_bound told greatest lines) = told.row ≡ r
 IsBeforeMax r other = ⊥
 
 -- a place at which the least bound of a row is yet to come
-abbrev IsBeforeMin : Row → At → Type 0
+abbrev pub IsBeforeMin : Row → At → Type 0
 IsBeforeMin r (at_bound told side lines) = told.row ≡ r
 IsBeforeMin r (at_times told greatest value) = told.row ≡ r
 IsBeforeMin r (at_raise told greatest list) = told.row ≡ r
 IsBeforeMin r other = ⊥
 
-before_min_bound : (r : Row) (told : Telling) (value : Bound) → told.row ≡ r → IsBeforeMin r (behind_bound told greatest value)
+pub before_min_bound : (r : Row) (told : Telling) (value : Bound) → told.row ≡ r → IsBeforeMin r (behind_bound told greatest value)
 before_min_bound r told (Closed value) is = is
 before_min_bound r told Unbounded is = is
 before_min_bound r told (Within limit (Some found)) is = is
 before_min_bound r told (Within limit None) is = is
 
-before_min_times : (r : Row) (told : Telling) (value : Bound) (list : List ℤ) → told.row ≡ r → IsBeforeMin r (behind_times told greatest value list)
+pub before_min_times : (r : Row) (told : Telling) (value : Bound) (list : List ℤ) → told.row ≡ r → IsBeforeMin r (behind_times told greatest value list)
 before_min_times r told (Closed value) list is = is
 before_min_times r told Unbounded list is = is
 before_min_times r told (Within limit attained) list is = is

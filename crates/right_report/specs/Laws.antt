@@ -1,5 +1,5 @@
 -- Laws of right reports, over the definitions alone.
-use Rattle.std.specs.Prelude.{◌≡◌, ◌<◌, ◌⊎◌, ℕ, ℤ, List, All, Some, length, slice_get}
+use Rattle.std.specs.Prelude.{◌≡◌, ◌<◌, ◌⊎◌, ℕ, ℤ, Bool, List, All, Some, length, slice_get}
 use Rattle.itv_base.specs.Range.{Ends}
 use Rattle.event_graph.specs.Bounds.{IsInconsistent, IsUnbounded}
 use Rattle.event_graph.specs.Edges.{cause_choices}
@@ -23,7 +23,7 @@ use Rattle.slack_report.specs.Right.Facts.{BeginsRightReport, IsRightReport}
 use Rattle.right_report.specs.Checked.{IsChecked}
 use Rattle.right_report.specs.Shown.{IsBareReport, IsShownReport}
 use Rattle.right_report.specs.Texts.{IsAcceptedText, IsRefusedText, IsRightText}
-use Rattle.right_report.specs.Told.{bound_on, end_in, finding_in, verdict_on}
+use Rattle.right_report.specs.Told.{bound_on, end_in, finding_in, set_on, verdict_on}
 use Rattle.right_report.specs.Wrong.{IsFirstWrongIn}
 
 -- ---- ways to be right
@@ -83,6 +83,15 @@ UnboundedAbove = (drawn : Drawn) (lines : List Entry) (number : ℕ) (r : Row) �
 abbrev pub UnboundedBelow : Type 0
 UnboundedBelow = (drawn : Drawn) (lines : List Entry) (number : ℕ) (r : Row) → IsRightReport drawn lines → slice_get drawn.rows number ≡ Some r
     → bound_on lines number sorts.Min ≡ Some bounds.Unbounded → IsUnbounded drawn.net r.to r.from
+
+-- so does the set of events that stands with a bound, however far the report goes on
+abbrev pub SetShowsAbove : Type 0
+SetShowsAbove = (drawn : Drawn) (lines : List Entry) (number : ℕ) (r : Row) (set : List Bool) → BeginsRightReport drawn lines → slice_get drawn.rows number ≡ Some r
+    → set_on lines number sorts.Max ≡ Some set → IsUnbounded drawn.net r.from r.to
+
+abbrev pub SetShowsBelow : Type 0
+SetShowsBelow = (drawn : Drawn) (lines : List Entry) (number : ℕ) (r : Row) (set : List Bool) → BeginsRightReport drawn lines → slice_get drawn.rows number ≡ Some r
+    → set_on lines number sorts.Min ≡ Some set → IsUnbounded drawn.net r.to r.from
 
 -- a verdict `pass` says that all satisfying times meet the requirement of the row
 abbrev pub PassIsMet : Type 0

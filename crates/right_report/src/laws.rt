@@ -1,6 +1,6 @@
 //! Laws of right reports. The functions do nothing; what they ensure holds of all networks and all reports.
 
-ghost use Rattle.right_report.specs.Laws.{AcceptedTextIsNotRefused, AcceptedTextIsRight, BareIsRight, BareUndecidedIsBelow, CheckedHasNoWrong, CheckedIsRight, ConsistentIsSo, FailEndIsSo, FailHighIsBroken, FailLowIsBroken, GreatestIsRight, InconsistentEndIsSo, InconsistentIsSo, LeastIsRight, OneFirstWrong, OneRefusedLine, PassEndIsSo, PassIsMet, RightIsReport, ShownIsRight, ShownUndecidedIsBelow, UnboundedAbove, UnboundedBelow};
+ghost use Rattle.right_report.specs.Laws.{AcceptedTextIsNotRefused, AcceptedTextIsRight, BareIsRight, BareUndecidedIsBelow, CheckedHasNoWrong, CheckedIsRight, ConsistentIsSo, FailEndIsSo, FailHighIsBroken, FailLowIsBroken, GreatestIsRight, InconsistentEndIsSo, InconsistentIsSo, LeastIsRight, OneFirstWrong, OneRefusedLine, PassEndIsSo, PassIsMet, RightIsReport, SetShowsAbove, SetShowsBelow, ShownIsRight, ShownUndecidedIsBelow, UnboundedAbove, UnboundedBelow};
 
 /// A report that shows its numbers by the lines before them is right.
 pub fn shown_is_right()
@@ -53,6 +53,12 @@ pub fn least_is_right()
 pub fn unbounded_is_so()
     ensures above { UnboundedAbove }
     ensures below { UnboundedBelow }
+{}
+
+/// The set of events that stands behind a bound in lines that begin a right report shows the same.
+pub fn set_shows_unbounded()
+    ensures above { SetShowsAbove }
+    ensures below { SetShowsBelow }
 {}
 
 /// Where a right report says `pass`, every satisfying separation lies in the range of the row.
