@@ -84,11 +84,12 @@ abbrev pub UnboundedBelow : Type 0
 UnboundedBelow = (drawn : Drawn) (lines : List Entry) (number : ℕ) (r : Row) → IsRightReport drawn lines → slice_get drawn.rows number ≡ Some r
     → bound_on lines number sorts.Min ≡ Some bounds.Unbounded → IsUnbounded drawn.net r.to r.from
 
--- so does the set of events that stands with a bound, however far the report goes on
+-- the set of events behind a greatest bound says the same, in lines that only begin a right report too
 abbrev pub SetShowsAbove : Type 0
 SetShowsAbove = (drawn : Drawn) (lines : List Entry) (number : ℕ) (r : Row) (set : List Bool) → BeginsRightReport drawn lines → slice_get drawn.rows number ≡ Some r
     → set_on lines number sorts.Max ≡ Some set → IsUnbounded drawn.net r.from r.to
 
+-- and behind a least bound it does so for the reversed pair
 abbrev pub SetShowsBelow : Type 0
 SetShowsBelow = (drawn : Drawn) (lines : List Entry) (number : ℕ) (r : Row) (set : List Bool) → BeginsRightReport drawn lines → slice_get drawn.rows number ≡ Some r
     → set_on lines number sorts.Min ≡ Some set → IsUnbounded drawn.net r.to r.from
@@ -135,11 +136,12 @@ FailEndIsSo = (drawn : Drawn) (lines : List Entry) → BeginsRightReport drawn l
 abbrev pub InconsistentEndIsSo : Type 0
 InconsistentEndIsSo = (drawn : Drawn) (lines : List Entry) → BeginsRightReport drawn lines → end_in lines ≡ Some endings.Inconsistent → IsInconsistent drawn.net
 
--- `end undecided` never comes where the budget is as great as the number of cause choices
+-- `end undecided` comes only where the budget is below the number of cause choices, in a report that shows its numbers
 abbrev pub ShownUndecidedIsBelow : Type 0
 ShownUndecidedIsBelow = (drawn : Drawn) (most : ℕ) (lines : List Entry) → IsNet drawn.net → IsShownReport drawn most lines → end_in lines ≡ Some endings.Undecided
     → most < cause_choices drawn.net.constraints
 
+-- and in one without the lines that show them
 abbrev pub BareUndecidedIsBelow : Type 0
 BareUndecidedIsBelow = (drawn : Drawn) (most : ℕ) (lines : List Entry) → IsNet drawn.net → IsBareReport drawn most lines → end_in lines ≡ Some endings.Undecided
     → most < cause_choices drawn.net.constraints

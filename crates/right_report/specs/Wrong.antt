@@ -13,8 +13,8 @@ use Rattle.slack_report.specs.Right.Following.{MayFollow}
 use Rattle.right_report.specs.Checked.{checked}
 use Rattle.right_report.specs.Shown.{goal_of}
 
--- What lines of a proof at a place are to show, by the first line behind them that is none. Only a closed bound and an inconsistent
--- finding are to be shown; before any other line they are passed over.
+-- What lines of a proof at a place are to show, where this line stands behind them. Only a closed bound and an inconsistent finding
+-- are to be shown; before any other line they are passed over.
 abbrev pub goal_by : At → Entry → Option ProofGoal
 goal_by (at_bound told side lines) (bound word (bounds.Closed value)) = Some (goal_of told.row side value)
 goal_by (at_bound told side lines) other = None
@@ -23,6 +23,7 @@ goal_by (at_finding lines) other = None
 goal_by (at_event number []) (finding findings.Inconsistent) = Some Nothing
 goal_by at other = None
 
+-- what they are to show, by the first of the lines to come that is none of a proof
 abbrev pub goal_ahead : At → List Entry → Option ProofGoal
 goal_ahead at [] = None
 goal_ahead at (proof line ∷ lines) = goal_ahead at lines
@@ -43,7 +44,7 @@ abbrev pub IsRefused : Net → At → Entry → List Entry → Type 0
 IsRefused net at (proof line) rest = IsSomeAnd (goal_ahead at rest) (λ goal. Takes net goal (proof_so_far at ++ line ∷ []) → ⊥)
 IsRefused net at other rest = ⊥
 
--- a line is wrong before others: a check lets it not follow, or it is a line of a proof that is refused
+-- a line is wrong before others: the check does not let it follow, or it is a line of a proof that is refused
 abbrev pub IsWrong : Drawn → At → Entry → List Entry → Type 0
 IsWrong drawn at line rest = ((next : At) → MayFollow (checked drawn.net) drawn at line next → ⊥) ⊎ IsRefused drawn.net at line rest
 
