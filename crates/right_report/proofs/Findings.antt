@@ -1,0 +1,75 @@
+-- What the finding of a right report says.
+use Rattle.std.proofs.Common.{◌≡◌, ℤ, List, [], ◌∷◌, Some, inl, inr, sym, subst, ap, ◌∙◌}
+use Rattle.std.proofs.lemmas.Option.{same_Some}
+use Rattle.event_graph.specs.Satisfying.{Satisfies}
+use Rattle.event_graph.specs.Proof.{ProofLine}
+use Rattle.slack_report.specs.declared.words.FindingWord.{FindingWord}
+use Rattle.slack_report.specs.declared.words.FindingWord.TheVariants.{Consistent, Inconsistent}
+use Rattle.slack_report.specs.Entry.{Entry, finding}
+use Rattle.slack_report.specs.Right.Drawn.{Drawn}
+use Rattle.slack_report.specs.Right.At.{At, at_heading, at_budget, at_events, at_event, at_finding, at_known, at_rows, at_row, at_bound, at_times, at_raise, at_verdict, at_past, at_slack, at_end, at_last, behind_finding}
+use Rattle.slack_report.specs.Right.Facts.{IsFinding, right}
+use Rattle.slack_report.specs.Right.Following.{Facts, MayFind, MayFollow, Reads}
+use Rattle.right_report.specs.Laws.{ConsistentIsSo, InconsistentIsSo}
+use Rattle.right_report.specs.Told.{finding_in}
+
+-- a line of a finding, with the lines of a proof before it
+pub record Finds (facts : Facts) (word : FindingWord) (next : At) : Type 0 where
+  pub lines : List ProofLine
+  pub holds : facts.finding lines word
+  pub leads : next ≡ behind_finding word
+
+same_finding : (a b : FindingWord) → finding a ≡ finding b → a ≡ b
+same_finding a b e = cc
+
+module _ (facts : Facts) (drawn : Drawn) (word : FindingWord) (next : At) where
+  find_finds : (lines : List ProofLine) → MayFind facts lines (finding word) next → Finds facts word next
+  find_finds lines (inl h) = absurd (cc h.1)
+  find_finds lines (inr h) =
+      let same : h.0 ≡ word = sym (same_finding word h.0 h.1) in
+      record { lines = lines; holds = subst (facts.finding lines) same h.2; leads = h.3 ∙ ap behind_finding same }
+
+  finds : (here : At) → MayFollow facts drawn here (finding word) next → Finds facts word next
+  finds at_heading h = absurd (cc h.0)
+  finds at_budget h = absurd (cc h.1)
+  finds at_events h = absurd (cc h.0)
+  finds (at_event number (name ∷ names)) h = absurd (cc h.0)
+  finds (at_event number []) h = find_finds [] h
+  finds (at_finding lines) h = find_finds lines h
+  finds at_known h = absurd (cc h.1)
+  finds (at_rows other) h = absurd (cc h.0)
+  finds (at_row course number []) h = absurd (cc h.0)
+  finds (at_row course number (r ∷ later)) h = absurd (cc h.0)
+  finds (at_bound told side lines) (inl h) = absurd (cc h.1)
+  finds (at_bound told side lines) (inr h) = absurd (cc h.1)
+  finds (at_times told side value) h = absurd (cc h.1)
+  finds (at_raise told side list) h = absurd (cc h.1)
+  finds (at_verdict told range least most) h = absurd (cc h.0)
+  finds (at_past told range least most) h = absurd (cc h.1)
+  finds (at_slack course number later range least most) h = absurd (cc h.0)
+  finds (at_end other) h = absurd (cc h.0)
+  finds at_last h = absurd h
+
+-- the finding that lines tell is right, and the lines behind it lead on
+pub record Tells (drawn : Drawn) (word : FindingWord) (last : At) : Type 0 where
+  pub holds : IsFinding drawn.net word
+  pub lines : List Entry
+  pub reads : Reads (right drawn.net) drawn (behind_finding word) lines last
+
+tells : (drawn : Drawn) (word : FindingWord) (lines : List Entry) (here last : At) → Reads (right drawn.net) drawn here lines last → finding_in lines ≡ Some word → Tells drawn word last
+tells drawn word [] here last h is = absurd (cc)
+tells drawn word (finding other ∷ lines) here last h is =
+    let same : other ≡ word = same_Some other word is in
+    let f : Finds (right drawn.net) word h.0 = finds (right drawn.net) drawn word h.0 here (subst (λ w. MayFollow (right drawn.net) drawn here (finding w) h.0) same h.1) in
+    record { holds = f.holds; lines = lines; reads = subst (λ x. Reads (right drawn.net) drawn x lines last) f.leads h.2 }
+tells drawn word (line ∷ lines) here last h is = tells drawn word lines h.0 last h.2 is
+
+pub inconsistent_is_so : InconsistentIsSo
+inconsistent_is_so drawn lines h is = (tells drawn Inconsistent lines at_heading h.0 h.1 is).holds
+
+known_times : (drawn : Drawn) (lines : List Entry) → Reads (right drawn.net) drawn at_known lines at_last → (list : List ℤ) × Satisfies list drawn.net
+known_times drawn [] h = absurd (cc)
+known_times drawn (line ∷ lines) h = let m = h.1 in (m.0, m.2.0)
+
+pub consistent_is_so : ConsistentIsSo
+consistent_is_so drawn lines h is = let t = tells drawn Consistent lines at_heading at_last h is in known_times drawn t.lines t.reads

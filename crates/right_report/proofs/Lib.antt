@@ -1,0 +1,13 @@
+pub mod Leading
+pub mod Showing
+pub mod Checking
+pub mod FirstWrong
+pub mod Ordering
+pub mod Findings
+pub mod Standing
+pub mod RowBounds
+pub mod RowVerdicts
+pub mod Refusing
+pub mod Ending
+pub mod Undecided
+pub mod RowSets

@@ -1,0 +1,55 @@
+-- Right reports are reports, and their texts are texts of reports.
+use Rattle.std.proofs.Common.{◌≡◌, ℕ, List, [], ◌∷◌, All, length, refl, sym, subst, ap}
+use Rattle.std.proofs.lemmas.List.Elements.{All-head, All-tail}
+use Rattle.slack_report.specs.Entry.{Entry, IsEntry}
+use Rattle.slack_report.specs.Order.{IsReport, Leads, events_at}
+use Rattle.slack_report.specs.Right.Drawn.{Drawn}
+use Rattle.slack_report.specs.Right.At.{At, at_heading, at_budget, at_events, at_event, at_finding, at_known, at_rows, at_row, at_bound, at_times, at_raise, at_verdict, at_past, at_slack, at_end, at_last, end_word}
+use Rattle.slack_report.specs.Right.Facts.{right}
+use Rattle.slack_report.specs.Right.Following.{Facts, MayFollow, Reads}
+use Rattle.slack_report.specs.Right.Order.{place_of}
+use Rattle.slack_report.specs.Entry.{budget, ending, events, heading}
+use Rattle.slack_report.proofs.RightOrder.{right_lines_keep_order}
+use Rattle.right_report.specs.Laws.{RightIsReport}
+
+module _ (facts : Facts) (drawn : Drawn) (line : Entry) (next : At) where
+  -- a line that may stand in a report of so many events may stand where the order asks for another number
+  other_count : (count : ℕ) (known : Entry) → line ≡ known → (IsEntry (length drawn.names) known → IsEntry count known) → IsEntry (length drawn.names) line → IsEntry count line
+  other_count count known same free e = subst (IsEntry count) (sym same) (free (subst (IsEntry (length drawn.names)) same e))
+
+  entry_there : (here : At) → MayFollow facts drawn here line next → IsEntry (length drawn.names) line → IsEntry (events_at (place_of drawn here)) line
+  entry_there at_heading h e = other_count 0 heading h.0 (λ x. x) e
+  entry_there at_budget h e = other_count 0 (budget h.0) h.1 (λ x. x) e
+  entry_there at_events h e = other_count 0 (events (length drawn.names)) h.0 (λ x. x) e
+  entry_there (at_event number (name ∷ names)) h e = e
+  entry_there (at_event number []) h e = e
+  entry_there (at_finding lines) h e = e
+  entry_there at_known h e = e
+  entry_there (at_rows word) h e = e
+  entry_there (at_row course number []) h e = other_count 0 (ending (end_word course)) h.0 (λ x. x) e
+  entry_there (at_row course number (r ∷ later)) h e = e
+  entry_there (at_bound told side lines) h e = e
+  entry_there (at_times told side value) h e = e
+  entry_there (at_raise told side list) h e = e
+  entry_there (at_verdict told range least most) h e = e
+  entry_there (at_past told range least most) h e = e
+  entry_there (at_slack course number later range least most) h e = e
+  entry_there (at_end word) h e = other_count 0 (ending word) h.0 (λ x. x) e
+  entry_there at_last h e = absurd h
+
+leads : (drawn : Drawn) (lines : List Entry) (here last : At) → Reads (right drawn.net) drawn here lines last → All (IsEntry (length drawn.names)) lines
+    → Leads (place_of drawn here) lines (place_of drawn last)
+leads drawn [] here last h all = ap (place_of drawn) h
+leads drawn (line ∷ lines) here last h all = (
+  place_of drawn h.0,
+  record {
+    is_entry = entry_there (right drawn.net) drawn line h.0 here h.1 (All-head (IsEntry (length drawn.names)) line lines all);
+    leads = right_lines_keep_order drawn here line h.0 h.1;
+  },
+  leads drawn lines h.0 last h.2 (All-tail (IsEntry (length drawn.names)) line lines all),
+)
+
+pub right_is_report : RightIsReport
+right_is_report drawn lines h all =
+    let report : IsReport lines = leads drawn lines at_heading at_last h all in
+    (report, record { entries = lines; report = report; text = refl })

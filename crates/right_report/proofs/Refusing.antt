@@ -1,0 +1,43 @@
+-- Texts that a check accepts or refuses.
+use Rattle.std.proofs.Common.{◌≡◌, ◌+◌, ℕ, List, inl, inr, sym, ap, subst, ◌∙◌}
+use Rattle.slack_report.specs.Entry.{Entry}
+use Rattle.slack_report.specs.Order.{IsReport}
+use Rattle.slack_report.specs.Report.{IsFirstWrongLine}
+use Rattle.slack_report.specs.Text.{report_text}
+use Rattle.slack_report.specs.Right.Drawn.{Drawn}
+use Rattle.slack_report.proofs.Judging.{first_same, texts_differ}
+use Rattle.right_report.specs.Laws.{AcceptedTextIsNotRefused, AcceptedTextIsRight, OneRefusedLine}
+use Rattle.right_report.specs.Texts.{HasFirstWrong}
+use Rattle.right_report.specs.Wrong.{IsFirstWrongIn}
+use Rattle.right_report.proofs.Checking.{checked_is_right}
+use Rattle.right_report.proofs.FirstWrong.{checked_has_no_wrong, one_first_wrong}
+
+pub accepted_text_is_right : AcceptedTextIsRight
+accepted_text_is_right drawn bytes a = record {
+  lines = a.lines;
+  report = a.report;
+  text = a.text;
+  is_right = checked_is_right drawn a.lines a.is_checked;
+}
+
+-- a report's text has no line from which on it is none
+no_text_fault : (bytes : List ℕ) (line : ℕ) (lines : List Entry) → IsReport lines → bytes ≡ report_text lines → IsFirstWrongLine bytes line → ⊥
+no_text_fault bytes line lines report text wrong = wrong.none (record { entries = lines; report = report; text = text })
+
+same_wrong : (drawn : Drawn) (bytes : List ℕ) (line other : ℕ) → HasFirstWrong drawn bytes line → HasFirstWrong drawn bytes other → line ≡ other
+same_wrong drawn bytes line other a b =
+    let same : a.lines ≡ b.lines = texts_differ a.lines b.lines a.report b.report (sym a.text ∙ b.text) in
+    let number : a.number ≡ b.number = one_first_wrong drawn b.lines a.number b.number (subst (λ lines. IsFirstWrongIn drawn lines a.number) same a.is_wrong) b.is_wrong in
+    a.is_line ∙ ap (λ n. n + 1) number ∙ sym b.is_line
+
+pub one_refused_line : OneRefusedLine
+one_refused_line drawn bytes line other (inl a) (inl b) = first_same bytes line other a b
+one_refused_line drawn bytes line other (inl a) (inr b) = absurd (no_text_fault bytes line b.lines b.report b.text a)
+one_refused_line drawn bytes line other (inr a) (inl b) = absurd (no_text_fault bytes other a.lines a.report a.text b)
+one_refused_line drawn bytes line other (inr a) (inr b) = same_wrong drawn bytes line other a b
+
+pub accepted_text_is_not_refused : AcceptedTextIsNotRefused
+accepted_text_is_not_refused drawn bytes line a (inl wrong) = no_text_fault bytes line a.lines a.report a.text wrong
+accepted_text_is_not_refused drawn bytes line a (inr wrong) =
+    let same : wrong.lines ≡ a.lines = texts_differ wrong.lines a.lines wrong.report a.report (sym wrong.text ∙ a.text) in
+    checked_has_no_wrong drawn a.lines wrong.number a.is_checked (subst (λ lines. IsFirstWrongIn drawn lines wrong.number) same wrong.is_wrong)

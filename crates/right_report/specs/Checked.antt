@@ -1,0 +1,49 @@
+-- What a check asks of each line of a report, for a network: proofs in place of truth, and numbers below 2^61 in absolute value.
+use Rattle.std.specs.Prelude.{◌≡◌, ℤ, List, All, IfSome}
+use Rattle.event_graph.specs.Network.{Net}
+use Rattle.event_graph.specs.Proof.{IsProof, Nothing, ProofLine}
+use Rattle.event_graph.specs.RootBound.{MeetsAlways}
+use Rattle.event_graph.specs.Times.{IsTime}
+use Rattle.requirements.specs.declared.bound.Bound.{Bound}
+use Rattle.requirements.specs.declared.bound.Bound.TheVariants as bounds
+use Rattle.slack_report.specs.declared.words.FindingWord.{FindingWord}
+use Rattle.slack_report.specs.declared.words.FindingWord.TheVariants as findings
+use Rattle.slack_report.specs.Entry.{Entry}
+use Rattle.slack_report.specs.Right.Drawn.{Drawn, Row}
+use Rattle.slack_report.specs.Right.At.{Side, at_heading, at_last}
+use Rattle.slack_report.specs.Right.Facts.{HasAttained, IsLimit, right}
+use Rattle.slack_report.specs.Right.Following.{Facts, Reads}
+use Rattle.right_report.specs.Shown.{goal_of}
+
+-- an inconsistent finding is proved by the lines before it
+abbrev pub ProvesFinding : Net → List ProofLine → FindingWord → Type 0
+ProvesFinding net lines findings.Consistent = Unit {0}
+ProvesFinding net lines findings.Inconsistent = IsProof net Nothing lines
+ProvesFinding net lines findings.Unsettled = (list : List ℤ) × MeetsAlways list net
+
+-- a closed bound is proved by the lines before it; the times behind it show that it is attained
+abbrev pub ProvesBound : Net → FindingWord → Row → Side → List ProofLine → Bound → Type 0
+ProvesBound net found r side lines (bounds.Closed value) = (found ≡ findings.Consistent) × IsProof net (goal_of r side value) lines
+ProvesBound net found r side lines bounds.Unbounded = found ≡ findings.Consistent
+ProvesBound net found r side lines (bounds.Within limit attained) = IsLimit net r side limit × HasAttained found attained
+
+-- the numbers of a bound are below 2^61 in absolute value; a limit is so by itself
+abbrev pub IsWithinTimes : Bound → Type 0
+IsWithinTimes (bounds.Closed value) = IsTime value
+IsWithinTimes bounds.Unbounded = Unit {0}
+IsWithinTimes (bounds.Within limit attained) = IfSome attained IsTime
+
+-- what a check asks
+abbrev pub checked : Net → Facts
+checked net = record {
+  finding = λ lines word. ProvesFinding net lines word;
+  known = λ list. All IsTime list × (right net).known list;
+  bound = λ found r side lines value. IsWithinTimes value × ProvesBound net found r side lines value;
+  times = λ r value list. All IsTime list × (right net).times r value list;
+  raise = λ r side list set. (right net).raise r side list set;
+  past = λ r range word list. All IsTime list × (right net).past r range word list;
+}
+
+-- a whole report in which each line meets the check
+abbrev pub IsChecked : Drawn → List Entry → Type 0
+IsChecked drawn lines = Reads (checked drawn.net) drawn at_heading lines at_last

@@ -1,0 +1,26 @@
+-- What a writer of a report promises: the lines that it put lead from a place to another.
+use Rattle.std.specs.Prelude.{◌≡◌, List, Result, Ok, Err}
+use Rattle.itv_base.specs.Outside.{CutShort, SinkTold, grown}
+use Rattle.slack_report.specs.Entry.{Entry}
+use Rattle.slack_report.specs.Text.{report_text}
+use Rattle.slack_report.specs.Right.Drawn.{Drawn}
+use Rattle.slack_report.specs.Right.At.{At}
+use Rattle.slack_report.specs.Right.Following.{Facts, Reads}
+
+-- lines were put whole, and lead from a place to another
+pub record Wrote (facts : Facts) (drawn : Drawn) (here last : At) (old new : SinkTold) : Type 0 where
+  pub lines : List Entry
+  pub reads : Reads facts drawn here lines last
+  pub grew : new ≡ grown old (report_text lines)
+
+-- a put failed: of lines that lead from a place to some other, a front was put
+pub record Stopped (facts : Facts) (drawn : Drawn) (here : At) (old new : SinkTold) : Type 0 where
+  pub lines : List Entry
+  pub last : At
+  pub reads : Reads facts drawn here lines last
+  pub cut : CutShort old new (report_text lines)
+
+-- what a step writes: lines that lead from a place to one that its answer names, or a front of such lines
+abbrev pub Leads : {B E : Type 0} → Facts → Drawn → At → (B → At) → SinkTold → SinkTold → Result B E → Type 0
+Leads facts drawn here to old new (Ok x) = Wrote facts drawn here (to x) old new
+Leads facts drawn here to old new (Err e) = Stopped facts drawn here old new
