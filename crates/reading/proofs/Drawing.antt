@@ -1,0 +1,86 @@
+-- What netlists and their sheets draw, step by step.
+use Rattle.std.proofs.Common.{◌≡◌, ℕ, ◌&&◌, true, false, List, [], is_some, Result, Ok, Err, IsErrAnd, codes, refl, subst}
+use Rattle.std.specs.Prelude.{is_none}
+use Rattle.serde_json.specs.Data.{Data}
+use Rattle.serde_json.specs.Find.{get, as_object}
+use Rattle.itv_base.specs.Outside.{ShelfTold}
+use Rattle.itv_base.specs.Reading.{HasFault}
+use Rattle.netlist.specs.Contents.{Contents}
+use Rattle.netlist.specs.Netlist.{netlist_of, sheet_names}
+use Rattle.compose.specs.declared.fault.JoinFault.{JoinFault}
+use Rattle.compose.specs.Fault.{is_memory as is_join_memory}
+use Rattle.compose.specs.Design.{Composed}
+use Rattle.compose.specs.Compose.{composed}
+use Rattle.compose.specs.Sheets.{SheetMap}
+use Rattle.unroll.specs.declared.fault.UnrollFault.{UnrollFault}
+use Rattle.unroll.specs.Fault.{is_memory as is_limit_memory}
+use Rattle.unroll.specs.Drawn.{Drawn}
+use Rattle.unroll.specs.Limits.{unrolled}
+use Rattle.reading.specs.declared.place.Place.TheVariants.{File, Design}
+use Rattle.reading.specs.declared.refusal.Refusal.TheVariants.{Netlist, Joins, Limits}
+use Rattle.reading.specs.declared.stop.Stop.{Stop}
+use Rattle.reading.specs.Opening.{◌>>=◌, at, Comes, ready}
+use Rattle.reading.specs.Design.{NamedSheets, drawn_at, lone_at, netlist_at, sheets_from, tree_drawn}
+use Rattle.reading.specs.Step.{Opens, stop_of}
+use Rattle.reading.proofs.Opens.{at_ok, at_err, comes_then, opens_stop, opens_then, opens_up}
+
+module _ (told : ShelfTold) (netlist : Contents) (sheets : SheetMap) where
+  pub joins_refused : (fault : JoinFault) → HasFault is_join_memory (composed netlist sheets) fault
+      → Opens (λ (d : Drawn). d) told told (drawn_at netlist sheets.entries) (Err (stop_of is_join_memory Joins Design fault))
+  unfolding drawn_at
+  joins_refused fault h =
+      opens_stop (λ (d : Composed). d) (λ (d : Drawn). d) (at Design Joins (composed netlist sheets)) (λ design. at Design Limits (unrolled design)) told told (stop_of is_join_memory Joins Design fault)
+      (at_err is_join_memory (λ (d : Composed). d) told Design Joins (composed netlist sheets) fault h)
+
+  module _ (design : Composed) (is : composed netlist sheets ≡ Ok design) where
+    pub limits_refused : (fault : UnrollFault) → HasFault is_limit_memory (unrolled design) fault
+        → Opens (λ (d : Drawn). d) told told (drawn_at netlist sheets.entries) (Err (stop_of is_limit_memory Limits Design fault))
+    unfolding drawn_at
+    limits_refused fault h =
+        opens_then (λ (d : Composed). d) (λ (d : Drawn). d) (at Design Joins (composed netlist sheets)) (λ design. at Design Limits (unrolled design)) told told told design (Err (stop_of is_limit_memory Limits Design fault))
+        (at_ok told Design Joins (composed netlist sheets) design is, refl)
+        (at_err is_limit_memory (λ (d : Drawn). d) told Design Limits (unrolled design) fault h)
+
+    pub drawn_ready : (drawn : Drawn) → unrolled design ≡ Ok drawn → Comes told (drawn_at netlist sheets.entries) (ready drawn)
+    unfolding drawn_at
+    drawn_ready drawn e =
+        comes_then told (at Design Joins (composed netlist sheets)) (λ design. at Design Limits (unrolled design)) design (ready drawn) (at_ok told Design Joins (composed netlist sheets) design is)
+        (at_ok told Design Limits (unrolled design) drawn e)
+
+-- the same netlist and the same sheets, told otherwise
+pub drawn_same : (told : ShelfTold) (n m : Contents) (es fs : NamedSheets) (r : Result Drawn Stop) → n ≡ m → es ≡ fs → Opens (λ (d : Drawn). d) told told (drawn_at n es) r → Opens (λ (d : Drawn). d) told told (drawn_at m fs) r
+drawn_same told n m es fs r e f h = subst (λ x. Opens (λ (d : Drawn). d) told told (drawn_at m x) r) f (subst (λ x. Opens (λ (d : Drawn). d) told told (drawn_at x es) r) e h)
+
+-- ---- netlists
+
+module _ (old new : ShelfTold) (tree : Data) (netlist : Contents) (is : netlist_of tree ≡ Ok netlist) (r : Result Drawn Stop) where
+  -- the netlist was read, and its sheets are
+  netlist_read : Opens (λ (d : Drawn). d) old new (sheets_from 1 [] (sheet_names netlist.parts) >>= (λ sheets. drawn_at netlist sheets)) r → Opens (λ (d : Drawn). d) old new (netlist_at tree) r
+  netlist_read h =
+      opens_then (λ (n : Contents). n) (λ (d : Drawn). d) (at (File 0) Netlist (netlist_of tree)) (λ n. sheets_from 1 [] (sheet_names n.parts) >>= (λ sheets. drawn_at n sheets)) old old new netlist r
+      (at_ok old (File 0) Netlist (netlist_of tree) netlist is, refl) h
+
+  module _ (names : List (List ℕ)) (named : names ≡ sheet_names netlist.parts) where
+    -- they can't be read
+    pub netlist_up : (s : Stop) → IsErrAnd r (λ e. e ≡ s) → Opens (λ (m : SheetMap). m.entries) old new (sheets_from 1 [] names) (Err s) → Opens (λ (d : Drawn). d) old new (netlist_at tree) r
+    netlist_up s err h =
+        netlist_read
+        (opens_up (λ (m : SheetMap). m.entries) (λ (d : Drawn). d) (sheets_from 1 [] (sheet_names netlist.parts)) (λ sheets. drawn_at netlist sheets) old new s r err
+        (subst (λ listed. Opens (λ (m : SheetMap). m.entries) old new (sheets_from 1 [] listed) (Err s)) named h))
+
+    -- they are read, and the design is drawn
+    pub netlist_on : (sheets : SheetMap) → Opens (λ (m : SheetMap). m.entries) old new (sheets_from 1 [] names) (Ok sheets)
+        → Opens (λ (d : Drawn). d) new new (drawn_at netlist sheets.entries) r → Opens (λ (d : Drawn). d) old new (netlist_at tree) r
+    netlist_on sheets h drawn =
+        netlist_read
+        (opens_then (λ (m : SheetMap). m.entries) (λ (d : Drawn). d) (sheets_from 1 [] (sheet_names netlist.parts)) (λ sheets. drawn_at netlist sheets) old new new sheets r
+        (subst (λ listed. Opens (λ (m : SheetMap). m.entries) old new (sheets_from 1 [] listed) (Ok sheets)) named h) drawn)
+
+-- ---- trees
+
+module _ (old new : ShelfTold) (name : List ℕ) (tree : Data) (r : Result Drawn Stop) where
+  pub lone_on : (is_some (as_object tree) && is_none (get (codes "itv") tree)) ≡ true → Opens (λ (d : Drawn). d) old new (lone_at name tree) r → Opens (λ (d : Drawn). d) old new (tree_drawn name tree) r
+  lone_on e h = rw e h
+
+  pub netlist_tree_on : (is_some (as_object tree) && is_none (get (codes "itv") tree)) ≡ false → Opens (λ (d : Drawn). d) old new (netlist_at tree) r → Opens (λ (d : Drawn). d) old new (tree_drawn name tree) r
+  netlist_tree_on e h = rw e h

@@ -1,0 +1,5 @@
+pub mod Opens
+pub mod Trees
+pub mod Named
+pub mod Drawing
+pub mod WideNumbers

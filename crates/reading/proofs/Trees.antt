@@ -1,0 +1,42 @@
+-- The trees of bytes.
+use Rattle.std.proofs.Common.{◌≡◌, Bool, true, false, cond, List, ℕ, Option, Some, None, refl}
+use Rattle.std.specs.Prelude.{ok_or}
+use Rattle.std.specs.Str.{IsUtf8, is_utf8}
+use Rattle.std.proofs.lemmas.Str.{IsUtf8-from_is_utf8, is_utf8-from_IsUtf8}
+use Rattle.serde_json.specs.Data.{Data}
+use Rattle.serde_json.specs.Read.{read}
+use Rattle.itv_base.specs.Outside.{ShelfTold}
+use Rattle.reading.specs.declared.place.Place.{Place}
+use Rattle.reading.specs.declared.refusal.Refusal.{Refusal}
+use Rattle.reading.specs.declared.refusal.Refusal.TheVariants.{NotJson}
+use Rattle.reading.specs.Opening.{Comes, at, ready, refused}
+use Rattle.reading.specs.Design.{tree_of, tree_at}
+
+tree_some : (bytes : List ℕ) (tree : Data) → IsUtf8 bytes → read bytes ≡ Some tree → tree_of bytes ≡ Some tree
+tree_some bytes tree utf8 e = rw (is_utf8-from_IsUtf8 bytes utf8) e
+
+tree_none_by : (bytes : List ℕ) (b : Bool) → is_utf8 bytes ≡ b → (IsUtf8 bytes → read bytes ≡ None) → cond b (read bytes) None ≡ None
+tree_none_by bytes true e h = h (IsUtf8-from_is_utf8 bytes e)
+tree_none_by bytes false e h = refl
+
+tree_none : (bytes : List ℕ) → (IsUtf8 bytes → read bytes ≡ None) → tree_of bytes ≡ None
+tree_none bytes h = tree_none_by bytes (is_utf8 bytes) refl h
+
+found : (told : ShelfTold) (place : Place) (o : Option Data) (tree : Data) → o ≡ Some tree → Comes told (at place (λ (fault : Refusal). fault) (ok_or o NotJson)) (ready tree)
+found told place o tree e = rw e refl
+
+missing : (told : ShelfTold) (place : Place) (o : Option Data) → o ≡ None → Comes told (at place (λ (fault : Refusal). fault) (ok_or o NotJson)) (refused place NotJson)
+missing told place o e = rw e refl
+
+-- bytes that are the text of a tree give it
+pub tree_ready : (told : ShelfTold) (place : Place) (bytes : List ℕ) (tree : Data) → IsUtf8 bytes → read bytes ≡ Some tree → Comes told (tree_at place bytes) (ready tree)
+unfolding tree_at
+tree_ready told place bytes tree utf8 e = found told place (tree_of bytes) tree (tree_some bytes tree utf8 e)
+
+-- others are refused
+pub tree_refused : (told : ShelfTold) (place : Place) (bytes : List ℕ) → (IsUtf8 bytes → read bytes ≡ None) → Comes told (tree_at place bytes) (refused place NotJson)
+unfolding tree_at
+tree_refused told place bytes h = missing told place (tree_of bytes) (tree_none bytes h)
+
+pub never_true : {P : Type 0} → (P → false ≡ true) → P → ⊥
+never_true f p = let e = f p in cc

@@ -1,0 +1,7 @@
+pub use Rattle.itv_base.specs.Outside
+pub use Rattle.serde_json.specs.View
+pub mod Place
+pub mod Refusal
+pub mod Opening
+pub mod Design
+pub mod Step

@@ -1,0 +1,26 @@
+//! Why files are refused.
+
+use compose::JoinFault;
+use netlist::NetlistFault;
+use sheet::SheetFault;
+use unroll::UnrollFault;
+use wavejson::DiagramFault;
+
+/// The first refusal of files. None of its faults is want of memory, which is no refusal.
+#[derive(Clone, Copy, Debug, PartialEq, Eq)]
+pub enum Refusal {
+    /// The file is longer than its limit.
+    TooLong,
+    /// The file is no JSON.
+    NotJson,
+    /// The tree of the file is no diagram.
+    Diagram(DiagramFault),
+    /// The diagram is no sheet.
+    Sheet(SheetFault),
+    /// The tree of the file is no netlist.
+    Netlist(NetlistFault),
+    /// The netlist and its sheets make no design.
+    Joins(JoinFault),
+    /// The design draws more than a limit allows.
+    Limits(UnrollFault),
+}

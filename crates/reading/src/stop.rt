@@ -1,0 +1,96 @@
+//! Why a reading gave nothing.
+
+ghost use Rattle.std.specs.Prelude.{◌≡◌};
+ghost use Rattle.wavejson.specs.Fault.{is_memory as is_diagram_memory};
+ghost use Rattle.sheet.specs.Fault.{is_memory as is_sheet_memory};
+ghost use Rattle.netlist.specs.Fault.{is_memory as is_netlist_memory};
+ghost use Rattle.compose.specs.Fault.{is_memory as is_join_memory};
+ghost use Rattle.unroll.specs.Fault.{is_memory as is_limit_memory};
+ghost use Rattle.reading.specs.Step.{stop_of};
+ghost use Rattle.reading.specs.declared.stop.Stop.TheVariants.{NoMemory};
+
+use crate::place::Place;
+use crate::refusal::Refusal;
+use compose::JoinFault;
+use itv_base::NoMemory as OutOfMemory;
+use netlist::NetlistFault;
+use sheet::SheetFault;
+use std::alloc::AllocFailed;
+use unroll::UnrollFault;
+use wavejson::DiagramFault;
+
+/// Why a reading gave nothing.
+#[derive(Clone, Copy, Debug, PartialEq, Eq)]
+pub enum Stop {
+    /// The first refusal, and its place.
+    Refused(Place, Refusal),
+    /// The fetch of the file at a place failed.
+    ReadFault(Place),
+    NoMemory,
+}
+
+impl<T: Drop> From<AllocFailed<T>> for Stop {
+    ghost from_gives = { λ _ e. e ≡ NoMemory };
+
+    fn from(_: AllocFailed<T>) -> Stop {
+        Stop::NoMemory
+    }
+}
+
+impl From<OutOfMemory> for Stop {
+    ghost from_gives = { λ _ e. e ≡ NoMemory };
+
+    fn from(_: OutOfMemory) -> Stop {
+        Stop::NoMemory
+    }
+}
+
+/// By a fault of a diagram.
+pub fn diagram_stop(place: Place, fault: DiagramFault) -> Stop
+    ensures { result ≡ stop_of is_diagram_memory Refusal.Diagram place fault }
+{
+    match fault {
+        DiagramFault::NoMemory => Stop::NoMemory,
+        _ => Stop::Refused(place, Refusal::Diagram(fault)),
+    }
+}
+
+/// By a fault of a sheet.
+pub fn sheet_stop(place: Place, fault: SheetFault) -> Stop
+    ensures { result ≡ stop_of is_sheet_memory Refusal.Sheet place fault }
+{
+    match fault {
+        SheetFault::NoMemory => Stop::NoMemory,
+        _ => Stop::Refused(place, Refusal::Sheet(fault)),
+    }
+}
+
+/// By a fault of a netlist.
+pub fn netlist_stop(place: Place, fault: NetlistFault) -> Stop
+    ensures { result ≡ stop_of is_netlist_memory Refusal.Netlist place fault }
+{
+    match fault {
+        NetlistFault::NoMemory => Stop::NoMemory,
+        _ => Stop::Refused(place, Refusal::Netlist(fault)),
+    }
+}
+
+/// By a fault of the joins of a design.
+pub fn join_stop(place: Place, fault: JoinFault) -> Stop
+    ensures { result ≡ stop_of is_join_memory Refusal.Joins place fault }
+{
+    match fault {
+        JoinFault::NoMemory => Stop::NoMemory,
+        _ => Stop::Refused(place, Refusal::Joins(fault)),
+    }
+}
+
+/// By a limit that is passed.
+pub fn limit_stop(place: Place, fault: UnrollFault) -> Stop
+    ensures { result ≡ stop_of is_limit_memory Refusal.Limits place fault }
+{
+    match fault {
+        UnrollFault::NoMemory => Stop::NoMemory,
+        _ => Stop::Refused(place, Refusal::Limits(fault)),
+    }
+}
