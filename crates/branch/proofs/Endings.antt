@@ -1,11 +1,12 @@
 -- How a search ends.
-use Rattle.std.proofs.Common.{◌≡◌, ◌+◌, ◌≤◌, ℕ, ℤ, Bool, List, [], ◌∷◌, Option, Some, refl, arith}
+use Rattle.std.proofs.Common.{◌≡◌, ◌+◌, ◌≤◌, ℕ, ℤ, Bool, List, [], ◌∷◌, Option, Some, IfSome, refl, arith}
 use Rattle.std.proofs.lemmas.List.Elements.{All-cons, All-nil}
 use Rattle.itv_base.specs.declared.names.EdgeName.{EdgeName}
 use Rattle.event_graph.specs.Network.{IsNet, Net}
 use Rattle.event_graph.specs.Proof.{Bound, Case, ClosesByLoop, IsStoppedProof, Loop, Nothing, ProofGoal, ProofLine}
 use Rattle.event_graph.specs.RootBound.{IsRootBound, MeetsAlways}
 use Rattle.event_graph.specs.Satisfying.{Satisfies}
+use Rattle.event_graph.specs.Times.{IsTime}
 use Rattle.event_graph.proofs.SoundProofs.{proof_bounds, proof_of_nothing}
 use Rattle.event_graph.proofs.ProofCounts.{proof_is_within_choices, stopped_proof_is_below_choices}
 use Rattle.branch.specs.Answers.{IsClosedAt, IsCounted, IsEnclosedBy, IsFoundConsistent, IsFoundInconsistent, IsFoundUnsettled, IsShownUnbounded}
@@ -50,12 +51,13 @@ stopped_count net goal IsNeeded budget lines leaves closed chosen is_net within 
 }
 
 pub enclosed_by : (net : Net) (aim : Aim) (upper : Option ℤ) (best : Best) (budget : ℕ) (lines : List ProofLine) (leaves : ℕ) (chosen : Case) → IsNet net
-    → IsRootBound net aim.from aim.to upper → AreBest net aim best → leaves ≡ budget → IsBoundSearched net aim best.value lines (open_cases net chosen) leaves
+    → IsRootBound net aim.from aim.to upper → IfSome upper IsTime → AreBest net aim best → leaves ≡ budget → IsBoundSearched net aim best.value lines (open_cases net chosen) leaves
     → IsEnclosedBy net aim.from aim.to upper best.value budget lines leaves best.times.items
-enclosed_by net aim upper best budget lines leaves chosen is_net root are_best used searched =
+enclosed_by net aim upper best budget lines leaves chosen is_net root within are_best used searched =
     let stopped = is_stopped net (Bound aim.from aim.to best.value) _ lines chosen leaves searched in
     record {
       root = root;
+      within = within;
       attains = are_best.attained;
       stopped = stopped;
       used = used;

@@ -3,11 +3,12 @@ use Rattle.std.proofs.Common.{◌≡◌, ◌+◌, ◌*◌, ◌<◌, ◌≤◌, �
 use Rattle.std.proofs.Common.{get_or-set_other}
 use Rattle.std.proofs.lemmas.Int.{ints}
 use Rattle.std.proofs.lemmas.Bool.{cases_eq}
-use Rattle.std.proofs.lemmas.List.Elements.{All-from_get_or}
+use Rattle.std.proofs.lemmas.List.Elements.{All-from_get_or, All-weaker}
 use Rattle.std.proofs.lemmas.Option.{get_or_from_slice_get, slice_get-get_or, slice_get_within}
 use Rattle.itv_base.specs.declared.names.EventId.{EventId}
 use Rattle.event_graph.specs.Times.{IsTime, raised, separation, time_of}
 use Rattle.diff_bounds.specs.Limits.{IsNear, near_limit, weight_limit}
+use Rattle.branch.specs.Work.{IsClose}
 use Rattle.branch.specs.Step.Raising.{AreRaised, IsApart, IsGap, IsNearSeparation, IsRise, raised_to}
 use Rattle.branch.proofs.Gaps.{length-raised, time_of-raised}
 
@@ -64,7 +65,17 @@ range_after : (flag : Bool) (time : ℤ) (n : ℕ) → IsNear time → pos n ≤
 range_after true time n near high = (omega (arith, ints), omega (arith, ints))
 range_after false time n near high = (omega (arith, ints), omega (arith, ints))
 
+-- and below 2^60
+close_after : (flag : Bool) (time : ℤ) (n : ℕ) → IsNear time → pos n ≤ℤ pos (5 * near_limit) → IsClose (raised_to flag time n)
+close_after true time n near high = (omega (arith, ints), omega (arith, ints))
+close_after false time n near high = (omega (arith, ints), omega (arith, ints))
+
+-- so are near times
+pub near_close : (times : List ℤ) → All IsNear times → All IsClose times
+near_close times near = All-weaker IsNear IsClose (λ t n. (omega (arith, ints), omega (arith, ints))) times near
+
 -- the events of the set and all others are apart after the rise
+
 apart_after : (flags : List Bool) (times : List ℤ) (by : ℤ) (n : ℕ) → by ≡ pos n → length flags ≡ length times → IsGap flags times by → IsApart flags (raised flags n times)
 apart_after flags times by n is count gap low high out in_set =
     let low_time : time_of (raised flags n times) low ≡ time_of times low = time_of-raised flags n times low.0 false out (omega (arith, slice_get_within flags low.0 false out)) in
@@ -94,6 +105,12 @@ are_raised flags from to reach old new by near count out in_set rise is_raised =
           let at : slice_get flags k ≡ Some flag = slice_get-get_or flags k false (omega arith) in
           let moved = time_of-raised flags n old k flag at in_old in
           subst (λ times. IsTime (get_or times k (pos 0))) (sym is_new) (subst IsTime (sym moved) (range_after flag (get_or old k (pos 0)) n (near k (pos 0) in_old) high)));
+      close = All-from_get_or IsClose new (pos 0) (λ k within.
+          let in_old : k < length old = omega (arith, length-raised flags n old, ap length is_new) in
+          let flag : Bool = get_or flags k false in
+          let at : slice_get flags k ≡ Some flag = slice_get-get_or flags k false (omega arith) in
+          let moved = time_of-raised flags n old k flag at in_old in
+          subst (λ times. IsClose (get_or times k (pos 0))) (sym is_new) (subst IsClose (sym moved) (close_after flag (get_or old k (pos 0)) n (near k (pos 0) in_old) high)));
     }
 
 -- the least time of a set after one more event

@@ -1,5 +1,5 @@
 -- What a search answers, and what its lines show.
-use Rattle.std.specs.Prelude.{◌≡◌, ◌<◌, ◌≤◌, ℕ, ℤ, Bool, List, Option, IsSomeAnd}
+use Rattle.std.specs.Prelude.{◌≡◌, ◌<◌, ◌≤◌, ℕ, ℤ, Bool, List, Option, IfSome, IsSomeAnd}
 use Rattle.itv_base.specs.declared.names.EventId.{EventId}
 use Rattle.event_graph.specs.Bounds.{IsGreatest, IsInconsistent, IsRay}
 use Rattle.event_graph.specs.Edges.{cause_choices}
@@ -8,7 +8,7 @@ use Rattle.event_graph.specs.Proof.{IsProof, IsStoppedProof, Nothing, ProofLine,
 use Rattle.event_graph.specs.Proof.{Bound as BoundGoal}
 use Rattle.event_graph.specs.RootBound.{HasNoRoot, IsRootBound, MeetsAlways}
 use Rattle.event_graph.specs.Satisfying.{Satisfies}
-use Rattle.event_graph.specs.Times.{separation}
+use Rattle.event_graph.specs.Times.{IsTime, separation}
 use Rattle.branch.specs.declared.answer.Answer.{Answer}
 use Rattle.branch.specs.declared.answer.Answer.TheVariants.{Closed, Unbounded, Enclosed}
 use Rattle.branch.specs.declared.answer.Found.{Found}
@@ -33,10 +33,11 @@ pub record IsShownUnbounded (net : Net) (from to : EventId) (lines : List ProofL
   pub raised : IsRay net from to times ray
   pub stopped : (value : ℤ) × (count : ℕ) × IsStoppedProof net (BoundGoal from to value) lines count × (count ≤ leaves)
 
--- the budget ended the search: the root bound encloses, the times attain the other value, and the lines are a stopped proof of it with
+-- the budget ended the search: the root bound encloses, which is below 2^61 in absolute value, the times attain the other value, and the lines are a stopped proof of it with
 -- as many closing lines as the budget, which is less than the cause choices
 pub record IsEnclosedBy (net : Net) (from to : EventId) (upper : Option ℤ) (attained : ℤ) (budget : ℕ) (lines : List ProofLine) (leaves : ℕ) (times : List ℤ) : Type 0 where
   pub root : IsRootBound net from to upper
+  pub within : IfSome upper IsTime
   pub attains : separation times from to ≡ attained
   pub stopped : IsStoppedProof net (BoundGoal from to attained) lines leaves
   pub used : leaves ≡ budget
@@ -72,6 +73,11 @@ abbrev pub Finds : Net → ℕ → List ProofLine → ℕ → Option (List ℤ) 
 Finds net budget lines leaves known Consistent = IsFoundConsistent net lines leaves known
 Finds net budget lines leaves known Inconsistent = IsFoundInconsistent net lines leaves
 Finds net budget lines leaves known Unsettled = IsFoundUnsettled net budget lines leaves
+
+-- the number of a root bound is below 2^61 in absolute value
+abbrev pub IsRootTime : Root → Type 0
+IsRootTime NoTimes = Unit {0}
+IsRootTime (Bound upper) = IfSome upper IsTime
 
 -- the root bound of a pair, or none where no times meet the always-edges
 abbrev pub IsRoot : Net → EventId → EventId → Root → Type 0

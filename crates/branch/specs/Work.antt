@@ -1,5 +1,5 @@
 -- The working memory of the searches, as its callers see it.
-use Rattle.std.specs.Prelude.{◌≡◌, ◌≤◌, ℕ, ℤ, Bool, List, [], length, Option, unwrap_or}
+use Rattle.std.specs.Prelude.{◌≡◌, ◌≤◌, ◌^◌, ℕ, ℤ, pos, neg_ℤ, ◌<ℤ◌, Bool, List, [], length, Option, unwrap_or}
 use Rattle.itv_base.specs.declared.names.EventId.{EventId}
 use Rattle.event_graph.specs.Network.{IsNet, Net}
 use Rattle.event_graph.specs.Times.{separation}
@@ -23,6 +23,10 @@ pub record IsMadeFor (net : Net) (work : View) : Type 0 where
   pub bounds : IsBoundsFor net work.bounds
   pub room : splittable_count net ≤ work.room
   pub places : length work.times ≡ net.events
+
+-- a time is below 2^60 in absolute value, so that separations of such times are below 2^61
+abbrev pub IsClose : ℤ → Type 0
+IsClose time = (neg_ℤ (pos (2 ^ 60)) <ℤ time) × (time <ℤ pos (2 ^ 60))
 
 -- the separation of a pair in the known times
 abbrev pub known_separation : View → EventId → EventId → ℤ

@@ -7,11 +7,12 @@ ghost use Rattle.event_graph.specs.Proof.{Bound, ProofLine};
 ghost use Rattle.event_graph.specs.Satisfying.{Satisfies};
 ghost use Rattle.event_graph.specs.Times.{separation};
 ghost use Rattle.diff_bounds.specs.Standing.{IsMadeFor};
-ghost use Rattle.branch.specs.Answers.{Answers, IsCounted, IsRoot};
+ghost use Rattle.branch.specs.Answers.{Answers, IsCounted, IsRoot, IsRootTime};
 ghost use Rattle.event_graph.specs.Reading.{AtEachSplit};
 ghost use Rattle.event_graph.specs.Network.{splittable_count};
 ghost use Rattle.branch.specs.Lines.{IsAccepted};
 ghost use Rattle.branch.specs.Needed.{IsNeededToBound};
+ghost use Rattle.branch.specs.Work.{IsClose};
 ghost use Rattle.branch.specs.Step.Cases.{work_left};
 ghost use Rattle.diff_bounds.specs.Limits.{IsNear};
 ghost use Rattle.branch.specs.Step.Raising.{IsNearSeparation};
@@ -57,6 +58,7 @@ pub fn bound_pair<S: Scribe>(
         × AtEachSplit net.now (IsNeededToBound net.now aim.from aim.to aim.known) lines) }
     ensures count { OnOk result (IsCounted net.now budget search.new.leaves) }
     ensures times { OnOk result (Satisfies best.new.times.items net.now) }
+    ensures close { OnOk result (All IsClose best.new.times.items) }
     ensures least { OnOk result (aim.known ≤ℤ separation best.new.times.items aim.from aim.to) }
     ensures cut { OnErr result ((lines : List ProofLine) × S.WasCut scribe.old lines scribe.new
         × ((value : ℤ) × IsAccepted net.now (Bound aim.from aim.to value) lines)) }
@@ -84,6 +86,7 @@ pub fn root_of(net: &Network, search: &mut Search, from: EventId, to: EventId) -
     requires from { from.0 < net.now.events }
     requires to { to.0 < net.now.events }
     ensures root { IsRoot net.now from to result }
+    ensures within { IsRootTime result }
     ensures made { IsMadeFor net.now search.new.bounds }
     ensures room { search.new.cases.room ≡ search.old.cases.room }
     ensures leaves { search.new.leaves ≡ search.old.leaves }

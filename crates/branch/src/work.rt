@@ -1,16 +1,16 @@
 //! The working memory of the searches.
 
-ghost use Rattle.std.specs.Prelude.{◌≡◌, ◌<◌, ◌≤ℤ◌, ◌↔◌, ℤ, List, IsTrue, IsSome, IsSomeAnd, IfOk, OnOk, OnErr, Ok, Some, None};
+ghost use Rattle.std.specs.Prelude.{◌≡◌, ◌<◌, ◌≤ℤ◌, ◌↔◌, ℤ, List, All, IsTrue, IsSome, IsSomeAnd, IfOk, IfSome, OnOk, OnErr, Ok, Some, None};
 ghost use Rattle.itv_base.specs.Outside.{Rose};
 ghost use Rattle.event_graph.specs.Proof.{Bound, Nothing, ProofLine};
 ghost use Rattle.event_graph.specs.Satisfying.{Satisfies};
 ghost use Rattle.event_graph.specs.Times.{separation};
-ghost use Rattle.branch.specs.Answers.{Answers, Finds, IsCounted, IsRoot};
+ghost use Rattle.branch.specs.Answers.{Answers, Finds, IsCounted, IsRoot, IsRootTime};
 ghost use Rattle.event_graph.specs.Reading.{AtEachSplit};
 ghost use Rattle.event_graph.specs.Network.{splittable_count};
 ghost use Rattle.branch.specs.Lines.{IsAccepted};
 ghost use Rattle.branch.specs.Needed.{IsNeededToBound, IsNeededToFind};
-ghost use Rattle.branch.specs.Work.{IsMadeFor, known_separation};
+ghost use Rattle.branch.specs.Work.{IsClose, IsMadeFor, known_separation};
 
 use crate::answer::{Answer, Found, Root};
 use crate::best::{Aim, Best};
@@ -138,6 +138,7 @@ pub fn find<S: Scribe>(
     ensures count { OnOk result (IsCounted net.now budget work.new.leaves) }
     ensures cut { OnErr result ((lines : List ProofLine) × S.WasCut scribe.old lines scribe.new
         × IsAccepted net.now Nothing lines) }
+    ensures close { IfSome work.new.known (All IsClose) }
     ensures rose { OnErr result (Rose (S.faults scribe.old) (S.faults scribe.new)) }
 {
     work.has_known = false;
@@ -178,6 +179,7 @@ pub fn greatest<S: Scribe>(
         × AtEachSplit net.now (IsNeededToBound net.now from to (known_separation work.old from to)) lines) }
     ensures count { OnOk result (IsCounted net.now budget work.new.leaves) }
     ensures times { OnOk result (Satisfies work.new.times net.now) }
+    ensures close { OnOk result (All IsClose work.new.times) }
     ensures least { OnOk result (known_separation work.old from to ≤ℤ separation work.new.times from to) }
     ensures cut { OnErr result ((lines : List ProofLine) × S.WasCut scribe.old lines scribe.new
         × ((value : ℤ) × IsAccepted net.now (Bound from to value) lines)) }
@@ -204,6 +206,7 @@ pub fn root_bound(work: &mut Work, net: &Network, from: EventId, to: EventId) ->
     requires from { from.0 < net.now.events }
     requires to { to.0 < net.now.events }
     ensures root { IsRoot net.now from to result }
+    ensures within { IsRootTime result }
     ensures made { IsMadeFor net.now work.new }
     ensures others { work.new ≡ record work.old { bounds = work.new.bounds } }
 {

@@ -4,3 +4,4 @@ pub mod Drawn
 pub mod Limits
 pub mod Fault
 pub mod Step
+pub mod Reported

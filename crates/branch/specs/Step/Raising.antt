@@ -3,6 +3,7 @@ use Rattle.std.specs.Prelude.{◌≡◌, ◌*◌, ℕ, ℤ, pos, neg_ℤ, ◌+�
 use Rattle.itv_base.specs.declared.names.EventId.{EventId}
 use Rattle.event_graph.specs.Times.{IsTime, raised, separation, time_of}
 use Rattle.diff_bounds.specs.Limits.{near_limit, weight_limit}
+use Rattle.branch.specs.Work.{IsClose}
 
 -- no separation of near times is beyond twice their limit
 abbrev pub IsNearSeparation : ℤ → Type 0
@@ -30,6 +31,7 @@ pub record AreRaised (set : List Bool) (from to : EventId) (reach : ℤ) (old ne
   pub apart : IsApart set new
   pub reached : reach ≤ℤ separation new from to
   pub times : All IsTime new
+  pub close : All IsClose new
 
 -- a number that is enough to raise the set by
 pub record IsRise (set : List Bool) (from to : EventId) (reach : ℤ) (times : List ℤ) (by : ℤ) : Type 0 where

@@ -10,6 +10,7 @@ use Rattle.event_graph.specs.Usable.{MeetsUsable}
 use Rattle.event_graph.specs.Reading.{AtEachSplit}
 use Rattle.event_graph.specs.Network.{splittable_count}
 use Rattle.branch.specs.Lines.{IsAccepted}
+use Rattle.branch.specs.Work.{IsClose}
 use Rattle.branch.specs.Needed.{IsNeededToBound, IsNeededToFind}
 use Rattle.branch.specs.Step.Cases.{IsCase, IsFree, open_cases, siblings}
 use Rattle.diff_bounds.specs.Limits.{IsNear}
@@ -115,7 +116,7 @@ Looks net aim best s trial (Attained value) =
 Looks net aim best s trial (Splits number) = IsOpen net aim.from aim.to best s.cases.chosen number
 Looks net aim best s trial Unbounded =
     Satisfies trial.candidate.items net × IsRay net aim.from aim.to trial.candidate.items trial.ray.items
-    × (aim.known ≤ℤ separation trial.candidate.items aim.from aim.to)
+    × (aim.known ≤ℤ separation trial.candidate.items aim.from aim.to) × All IsClose trial.candidate.items
 
 -- a search for a bound of a pair has come to a value
 abbrev pub IsBoundSearched : Net → Aim → ℤ → List ProofLine → List Case → ℕ → Type 0
@@ -128,12 +129,14 @@ pub record AreBest (net : Net) (aim : Aim) (best : Best) : Type 0 where
   pub attained : separation best.times.items aim.from aim.to ≡ best.value
   pub least : aim.known ≤ℤ best.value
   pub near : IsNearSeparation best.value
+  pub close : All IsClose best.times.items
 
 -- satisfying times that can be raised without end, no less than the known ones
 pub record AreRays (net : Net) (aim : Aim) (times : List ℤ) (ray : List Bool) : Type 0 where
   pub satisfies : Satisfies times net
   pub raises : IsRay net aim.from aim.to times ray
   pub least : aim.known ≤ℤ separation times aim.from aim.to
+  pub close : All IsClose times
 
 -- what a step of the search for a bound comes to: the next case stands or the search ends, or the pair is unbounded
 abbrev pub Advances : Net → Aim → Search → Search → Best → Best → List Bool → List ProofLine → Option Entry → Type 0

@@ -63,7 +63,7 @@ returns-in-Ended-clause-lines g c =
     root_upper net aim.from aim.to upper (subst (λ (case : Case). IsUpperIn net case aim.from aim.to upper) none (c.upper_in-upper.ensures.upper aim.from c.start.ensures.source)) in
     let budget : c.start.new.search.budget ≡ c.args.budget = ap (λ (s : Search). s.budget) c.start.ensures.others in
     let used : now.leaves ≡ c.args.budget = ended.2.1 ∙ c.search_bound.ensures.same.budget ∙ budget in
-    let enclosed = enclosed_by net aim upper best c.args.budget ended.0 now.leaves chosen c.requires.net root ended.2.0 used searched in
+    let enclosed = enclosed_by net aim upper best c.args.budget ended.0 now.leaves chosen c.requires.net root c.upper_in-upper.ensures.within ended.2.0 used searched in
     let passed : to_z w64 (of_z w64 best.value) ≡ best.value = passed_separation best.value ended.2.0.near in
     (ended.0, ended.1, subst (λ (v : ℤ). IsEnclosedBy net aim.from aim.to upper v c.args.budget ended.0 now.leaves best.times.items) (sym passed) enclosed, searched.needed)
 

@@ -1,9 +1,11 @@
-use Rattle.std.proofs.Common.{◌≡◌, ◌≤ℤ◌, ◌<ℤ◌, ◌∙◌, ℤ, Bool, List, [], ◌∷◌, length, sym, refl, subst, arith}
+use Rattle.std.proofs.Common.{◌≡◌, ◌≤ℤ◌, ◌<ℤ◌, ◌∙◌, ℤ, Bool, List, All, [], ◌∷◌, length, sym, refl, subst, arith}
 use Rattle.std.proofs.lemmas.Int.{ints}
 use Rattle.event_graph.specs.Proof.{Bound, Split}
 use Rattle.event_graph.specs.Satisfying.{Satisfies}
 use Rattle.event_graph.specs.Times.{separation}
 use Rattle.branch.specs.Step.Raising.{IsNearSeparation}
+use Rattle.branch.specs.Work.{IsClose}
+use Rattle.branch.proofs.RaisingSets.{near_close}
 use Rattle.branch.specs.Step.Searched.{AreBest, AreRays, IsOpen}
 use Rattle.branch.specs.declared.best.Best.{Best}
 use Rattle.branch.proofs.Advancing.{path_cut, path_goes, split_cut, split_goes}
@@ -114,6 +116,7 @@ returns-in_ok-close_case-in-Attained-clause-advances g c =
       attained = subst (λ (times : List ℤ). separation times aim.from aim.to ≡ best.value) (sym is_times) (looked.3 ∙ sym is_value);
       least = omega (arith, ints, c.requires.best.least, up);
       near = subst IsNearSeparation (sym is_value) near;
+      close = subst (λ (times : List ℤ). All IsClose times) (sym is_times) (near_close candidate looked.4);
     } in
     let lines = c.in_ok-close_case-in-Attained.ensures.lines in (
       lines.0,
@@ -138,5 +141,5 @@ returns-in-Unbounded-clause-advances g c =
     let times : List ℤ = c.take-in-Unbounded.new.self.times.items in
     let is_times : times ≡ candidate = c.take-in-Unbounded.ensures.times ∙ c.deref-in-Unbounded.ensures.value in
     let looked = c.in-Unbounded.ensures.looks in
-    let rays : AreRays net aim candidate ray = record { satisfies = looked.0; raises = looked.1; least = looked.2 } in
+    let rays : AreRays net aim candidate ray = record { satisfies = looked.0; raises = looked.1; least = looked.2; close = looked.3 } in
     ([], g.met.S.Scribe.grew_none _, (subst (λ (xs : List ℤ). AreRays net aim xs ray) (sym is_times) rays, refl, refl))

@@ -1,4 +1,4 @@
-use Rattle.std.proofs.Common.{◌≡◌, ◌∙◌, ◌⊎◌, ◌≤ℤ◌, ℤ, Bool, List, length, to_z, of_z, w64, sym, ap, subst, rules}
+use Rattle.std.proofs.Common.{◌≡◌, ◌∙◌, ◌⊎◌, ◌≤ℤ◌, ℤ, Bool, List, All, length, to_z, of_z, w64, sym, ap, subst, rules}
 use Rattle.std.specs.Vec.{with_items}
 use Rattle.std.proofs.lemmas.List.{with_items_is}
 use Rattle.event_graph.specs.Bounds.{IsRay}
@@ -6,6 +6,7 @@ use Rattle.event_graph.specs.Satisfying.{Breaks, Satisfies}
 use Rattle.event_graph.specs.Times.{separation}
 use Rattle.branch.specs.Step.Cases.{IsFree}
 use Rattle.branch.specs.Step.Raising.{AreRaised}
+use Rattle.branch.specs.Work.{IsClose}
 use Rattle.branch.proofs.Looking.{open_at_ray, raised_meets, ray_at}
 use Rattle.branch.proofs.Signs.{passed_separation}
 use Rattle.branch.proofs.look.look_at_ray.Goals as goal
@@ -51,9 +52,9 @@ returns-in-None-clause-looks c =
     let here : Satisfies times net = subst (λ (xs : List ℤ). Satisfies xs net) (c.deref-2.ensures.value ∙ written at) satisfies in
     let is_ray : IsRay net aim.from aim.to times ray =
     ray_at net c.args.search.now.cases.chosen aim.from aim.to aim.known c.ray_in.new.out times ray c.requires.net c.ray_in.ensures are_raised here in
-    let P : List ℤ → List Bool → Type 0 = λ xs set. Satisfies xs net × IsRay net aim.from aim.to xs set × (aim.known ≤ℤ separation xs aim.from aim.to) in
+    let P : List ℤ → List Bool → Type 0 = λ xs set. Satisfies xs net × IsRay net aim.from aim.to xs set × (aim.known ≤ℤ separation xs aim.from aim.to) × All IsClose xs in
     subst (λ (xs : List ℤ). P xs (with_items c.args.trial.now.ray ray).items) (sym (written at))
-    (subst (λ (set : List Bool). P times set) (sym (ray_written at)) (here, is_ray, are_raised.reached))
+    (subst (λ (set : List Bool). P times set) (sym (ray_written at)) (here, is_ray, are_raised.reached, are_raised.close))
 
 pub returns-in-Some-clause-looks : goal.returns-in-Some-clause-looks
 returns-in-Some-clause-looks c =

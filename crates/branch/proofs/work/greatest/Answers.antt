@@ -1,10 +1,11 @@
-use Rattle.std.proofs.Common.{◌≡◌, ◌≤ℤ◌, ◌∙◌, ℤ, List, IsSomeAnd, to_z, of_z, w64, sym, ap, subst}
+use Rattle.std.proofs.Common.{◌≡◌, ◌≤ℤ◌, ◌∙◌, ℤ, List, All, IsSomeAnd, true, to_z, of_z, w64, sym, ap, subst, rules}
 use Rattle.event_graph.specs.Reading.{AtEachSplit}
 use Rattle.event_graph.specs.Satisfying.{Satisfies}
 use Rattle.event_graph.specs.Times.{separation}
 use Rattle.branch.specs.Needed.{IsNeededToBound}
-use Rattle.branch.specs.Work.{View, known_separation}
-use Rattle.branch.proofs.KnownTimes.{known_separation_is}
+use Rattle.branch.specs.Work.{IsClose, View, known_separation}
+use Rattle.branch.proofs.KnownTimes.{known_has, known_separation_is}
+use Rattle.branch.proofs.RaisingSets.{near_close}
 use Rattle.branch.proofs.Results.{if_ok_then, on_ok_then}
 use Rattle.branch.proofs.Signs.{passed_separation}
 use Rattle.branch.proofs.work.greatest.Given.{Over}
@@ -42,3 +43,20 @@ returns-clause-least g c =
     let at = (goal.at.returns-clause-least g c).After-separation_of-known in
     let reached : ℤ = separation c.bound_pair.new.best.times.items c.args.from c.args.to in
     on_ok_then c.bound_pair.result _ _ c.bound_pair.ensures.least (λ least. subst (λ (v : ℤ). v ≤ℤ reached) (sym (known_is g at)) least)
+
+-- the search starts from the known times, which are near
+pub bound_pair-requires-clause-best : goal.bound_pair-requires-clause-best
+bound_pair-requires-clause-best g c =
+    let inside = c.work.inside in
+    let Satisfying : List ℤ → Type 0 = λ times. Satisfies times c.args.net.now in
+    let known = subst (λ (w : View). IsSomeAnd w.known Satisfying) (sym c.work.view_is) c.requires.known in
+    let has : inside.has_known ≡ true = known_has inside.has_known inside.known.items Satisfying known in
+    let close : All IsClose inside.known.items = near_close inside.known.items (c.work.invariant.near has) in
+    let is_times : c.take.new.self.times.items ≡ inside.known.items = c.take.ensures.times ∙ c.deref-2.ensures.value in
+    record {
+      satisfies = search rules;
+      attained = search rules;
+      least = search rules;
+      near = search rules;
+      close = subst (λ (times : List ℤ). All IsClose times) (sym is_times) close;
+    }

@@ -1,0 +1,33 @@
+-- What the check of a report answers and writes.
+use Rattle.std.specs.Prelude.{◌≡◌, ℕ, ⊥, List, ◌++◌, codes}
+use Rattle.std.specs.Prelude.{decimal}
+use Rattle.job_answer.specs.declared.answer.Answer.{Answer}
+use Rattle.job_answer.specs.declared.answer.Answer.TheVariants.{AllPass, SomeFail, Inconsistent, Undecided, CheckRefused}
+use Rattle.slack_report.specs.Right.Drawn.{Drawn}
+use Rattle.right_report.specs.Texts.{IsAcceptedText, IsRefusedText}
+use Rattle.report_check.specs.declared.check.Checked.{Checked}
+use Rattle.report_check.specs.declared.check.Checked.TheVariants.{Accepted, Refused}
+
+-- what becomes of the bytes
+abbrev pub IsCheckOf : Drawn → List ℕ → Checked → Type 0
+IsCheckOf drawn bytes Accepted = IsAcceptedText drawn bytes
+IsCheckOf drawn bytes (Refused line) = IsRefusedText drawn bytes line
+
+-- the line that tells it
+abbrev pub accepted_text : List ℕ
+accepted_text = codes "report accepted\n"
+
+abbrev pub refused_text : ℕ → List ℕ
+refused_text line = codes "report refused at line " ++ (decimal line ++ codes "\n")
+
+-- what the job answers and writes
+abbrev pub AnswersCheck : Drawn → List ℕ → Answer → List ℕ → Type 0
+AnswersCheck drawn bytes AllPass text = IsAcceptedText drawn bytes × (text ≡ accepted_text)
+AnswersCheck drawn bytes SomeFail text = ⊥
+AnswersCheck drawn bytes Inconsistent text = ⊥
+AnswersCheck drawn bytes Undecided text = ⊥
+AnswersCheck drawn bytes CheckRefused text = (line : ℕ) × IsRefusedText drawn bytes line × (text ≡ refused_text line)
+
+-- what it may have begun to write
+abbrev pub BeginsCheck : Drawn → List ℕ → List ℕ → Type 0
+BeginsCheck drawn bytes text = (answer : Answer) × AnswersCheck drawn bytes answer text

@@ -1,0 +1,10 @@
+//! Job check: whether a report of a drawn network is right, without any search.
+//! The contract of the crate: a text is accepted exactly where it is that of a report each line of which meets the check, which a
+//! right report alone does; any other is refused at its first wrong line.
+#![tactic(auto)]
+
+mod answer;
+mod check;
+
+pub use answer::answer_check;
+pub use check::{Checked, check_report};
