@@ -1,0 +1,139 @@
+-- The names of the events of designs.
+use Rattle.std.proofs.Common.{◌≡◌, ◌<◌, ◌≤◌, ◌+◌, ℕ, zero, suc, Bool, true, false, if◌then◌else◌, List, [], ◌∷◌, ◌++◌, map, All, Option, Some, None, Result, Ok, Err, refl, sym, ap, ◌∙◌, subst, arith}
+use Rattle.std.specs.Prelude.{IsTrue, ◌&&◌, is_some, is_none, codes}
+use Rattle.std.proofs.lemmas.List.Elements.{All-append, All-cons, All-head, All-map, All-nil, All-tail, All-weaker}
+use Rattle.serde_json.specs.Data.{Data}
+use Rattle.serde_json.specs.Find.{as_object, get}
+use Rattle.wavejson.specs.Drawing.{diagram_of}
+use Rattle.itv_base.specs.Characters.{is_name}
+use Rattle.itv_base.specs.Names.{Name}
+use Rattle.itv_base.specs.Outside.{ShelfTold}
+use Rattle.itv_base.specs.declared.limits.TheConstants.{MAX_CYCLES}
+use Rattle.sheet.specs.Contents as sheet
+use Rattle.sheet.specs.declared.mark.Mark.{Mark}
+use Rattle.netlist.specs.Contents.{Contents}
+use Rattle.netlist.specs.Netlist.{lone_netlist, netlist_of, sheet_names}
+use Rattle.compose.specs.declared.fault.JoinFault.{JoinFault}
+use Rattle.netlist.specs.declared.part.Part.{Part}
+use Rattle.compose.specs.Compose.{composed_on}
+use Rattle.compose.specs.Nets.{joins_of}
+use Rattle.compose.specs.Wires.{wire_links}
+use Rattle.compose.specs.Design.{Composed}
+use Rattle.unroll.specs.Cycles.{in_cycles}
+use Rattle.unroll.specs.Drawn.{Drawn, drawn_of, names_in}
+use Rattle.unroll.specs.Limits.{counts_of, first_passed, unrolled, within}
+use Rattle.unroll.specs.declared.counted.Counted.{Counted}
+use Rattle.unroll.specs.declared.fault.UnrollFault.{UnrollFault}
+use Rattle.slack_report.specs.Entry.{IsName}
+use Rattle.reading.specs.declared.place.Place.{Place}
+use Rattle.reading.specs.declared.place.Place.TheVariants.{Design, File}
+use Rattle.reading.specs.declared.refusal.Refusal.TheVariants.{Diagram, Joins, Limits, Netlist, Sheet}
+use Rattle.reading.specs.Opening.{Comes, at, ready}
+use Rattle.reading.specs.Design.{NamedSheets, design_at, drawn_at, lone_at, netlist_at, sheet_at, sheet_in, tree_in, sheets_from, sheets_on, tree_drawn, with_sheet}
+use Rattle.drawn_names.specs.Law.{DrawnNamesHaveForm}
+use Rattle.drawn_names.proofs.Steps.{at_gave, gave, opening_then, result_then}
+use Rattle.drawn_names.proofs.Sheets.{AreMarked, HasMarks, HoldsMarks, IsMarked, sheet_holds, sheets_hold, with_sheet_holds}
+use Rattle.drawn_names.proofs.Netlists.{IsNamed, IsNamedNetlist, lone_holds, netlist_holds}
+
+-- ---- names in cycles
+
+-- the text is a part's name
+abbrev pub IsPartName : List ℕ → Type 0
+IsPartName part = IsTrue (is_name part)
+
+names_hold : (parts : List (List ℕ)) (sheets : List sheet.Contents) (cycle : ℕ) → All IsPartName parts → All HasMarks sheets → cycle < MAX_CYCLES → All IsName (names_in parts sheets cycle)
+names_hold [] sheets cycle named marked few = All-nil IsName
+names_hold (part ∷ parts) [] cycle named marked few = All-nil IsName
+names_hold (part ∷ parts) (drawn ∷ sheets) cycle named marked few =
+    let name_of : Mark → Name = λ mark. record { part = part; mark = mark.name; cycle = cycle } in
+    let here : All IsName (map name_of drawn.marks) =
+    All-map IsName name_of drawn.marks (All-weaker IsMarked (λ mark. IsName (name_of mark)) (λ mark is. record { part = All-head IsPartName part parts named; mark = is; cycle = few }) drawn.marks
+    (All-head HasMarks drawn sheets marked)) in
+    All-append IsName (map name_of drawn.marks) (names_in parts sheets cycle) here
+    (names_hold parts sheets cycle (All-tail IsPartName part parts named) (All-tail HasMarks drawn sheets marked) few)
+
+cycles_names : (each : ℕ → List Name) (n : ℕ) → ((cycle : ℕ) → cycle < n → All IsName (each cycle)) → All IsName (in_cycles each n)
+cycles_names each zero holds = All-nil IsName
+cycles_names each (suc n) holds =
+    All-append IsName (in_cycles each n) (each n) (cycles_names each n (λ cycle less. holds cycle (omega arith))) (holds n (omega arith))
+
+-- what names a design's events come from
+record IsNamedDesign (d : Composed) : Type 0 where
+  cycles : d.cycles ≤ MAX_CYCLES
+  parts : All IsPartName d.parts
+  sheets : All HasMarks d.sheets
+
+drawn_holds : (d : Composed) → IsNamedDesign d → All IsName (drawn_of d).names
+drawn_holds d named = cycles_names (names_in d.parts d.sheets) d.cycles (λ cycle less. names_hold d.parts d.sheets cycle named.parts named.sheets (omega (arith, less, named.cycles)))
+
+-- ---- designs
+
+within_holds : (d : Drawn) (o : Option Counted) (drawn : Drawn) → within d o ≡ Ok drawn → d ≡ drawn
+within_holds d None drawn is = cc is
+within_holds d (Some passed) drawn is = absurd (cc is)
+
+abbrev pub IsComposed : Composed → Result Composed JoinFault → Type 0
+IsComposed c result = Ok c ≡ result
+
+ok_field : {X : Type 0} (f : Composed → X) (c d : Composed) → IsComposed c (Ok d) → f c ≡ f d
+ok_field f c d is = let same : c ≡ d = cc is in ap f same
+
+composed_holds : (netlist : Contents) (sheets : List sheet.Contents) (d : Composed) → IsNamedNetlist netlist → All HasMarks sheets → composed_on netlist sheets ≡ Ok d → IsNamedDesign d
+unfolding composed_on
+composed_holds netlist sheets d named marked is =
+    let (joins, are_joins, rest) = result_then (joins_of netlist.parts sheets netlist.nets) _ d is in
+    let (links, are_links, last) = result_then (wire_links netlist.parts sheets netlist.wires) _ d rest in
+    let cycles : netlist.cycles ≡ d.cycles = ok_field (λ (c : Composed). c.cycles) _ d last in
+    let parts : map (λ (part : Part). part.name) netlist.parts ≡ d.parts = ok_field (λ (c : Composed). c.parts) _ d last in
+    let same : sheets ≡ d.sheets = ok_field (λ (c : Composed). c.sheets) _ d last in
+    record {
+      cycles = subst (λ n. n ≤ MAX_CYCLES) cycles named.cycles;
+      parts = subst (All IsPartName) parts (All-map IsPartName (λ (part : Part). part.name) netlist.parts named.parts);
+      sheets = subst (All HasMarks) same marked;
+    }
+
+drawn_at_holds : (shelf : ShelfTold) (netlist : Contents) (sheets : NamedSheets) (drawn : Drawn) → IsNamedNetlist netlist → AreMarked sheets
+    → Comes shelf (drawn_at netlist sheets) (ready drawn) → All IsName drawn.names
+unfolding drawn_at unrolled
+drawn_at_holds shelf netlist sheets drawn named marked comes =
+    let (d, first, rest) = opening_then shelf (at Design (λ why. Joins why) (composed_on netlist (sheets_on sheets netlist.parts))) _ drawn comes in
+    let joined : composed_on netlist (sheets_on sheets netlist.parts) ≡ Ok d = at_gave shelf Design (λ why. Joins why) _ d first in
+    let limited : unrolled d ≡ Ok drawn = at_gave shelf Design (λ why. Limits why) _ drawn rest in
+    let same : drawn_of d ≡ drawn = within_holds (drawn_of d) (first_passed (counts_of (drawn_of d))) drawn limited in
+    subst (λ (x : Drawn). All IsName x.names) same (drawn_holds d (composed_holds netlist (sheets_on sheets netlist.parts) d named (sheets_hold sheets netlist.parts marked) joined))
+
+sheet_at_holds : (shelf : ShelfTold) (place : Place) (tree : Data) (found : sheet.Contents) → Comes shelf (sheet_at place tree) (ready found) → HasMarks found
+sheet_at_holds shelf place tree found comes =
+    let (drawing, first, rest) = opening_then shelf (at place (λ why. Diagram why) (diagram_of tree)) _ found comes in
+    sheet_holds drawing found (at_gave shelf place (λ why. Sheet why) _ found rest)
+
+sheets_from_hold : (shelf : ShelfTold) (number : ℕ) (sheets all : NamedSheets) (names : List (List ℕ)) → AreMarked sheets → Comes shelf (sheets_from number sheets names) (ready all)
+    → AreMarked all
+sheets_from_hold shelf number sheets all [] marked comes = subst AreMarked (gave shelf sheets all comes) marked
+sheets_from_hold shelf number sheets all (name ∷ names) marked comes =
+    let (found, first, rest) = opening_then shelf (sheet_in number name) _ all comes in
+    let (tree, read, drawn) = opening_then shelf (tree_in (File number) name) _ found first in
+    sheets_from_hold shelf (number + 1) (with_sheet sheets name found) all names (with_sheet_holds sheets name found marked (sheet_at_holds shelf (File number) tree found drawn)) rest
+
+lone_at_holds : (shelf : ShelfTold) (name : List ℕ) (tree : Data) (drawn : Drawn) → Comes shelf (lone_at name tree) (ready drawn) → All IsName drawn.names
+lone_at_holds shelf name tree drawn comes =
+    let (found, first, rest) = opening_then shelf (sheet_at (File 0) tree) _ drawn comes in
+    drawn_at_holds shelf (lone_netlist name) (with_sheet [] name found) drawn (lone_holds name)
+    (with_sheet_holds [] name found (All-nil HoldsMarks) (sheet_at_holds shelf (File 0) tree found first)) rest
+
+netlist_at_holds : (shelf : ShelfTold) (tree : Data) (drawn : Drawn) → Comes shelf (netlist_at tree) (ready drawn) → All IsName drawn.names
+netlist_at_holds shelf tree drawn comes =
+    let (netlist, first, rest) = opening_then shelf (at (File 0) (λ why. Netlist why) (netlist_of tree)) _ drawn comes in
+    let (sheets, fetched, last) = opening_then shelf (sheets_from 1 [] (sheet_names netlist.parts)) _ drawn rest in
+    let read : netlist_of tree ≡ Ok netlist = at_gave shelf (File 0) (λ why. Netlist why) _ netlist first in
+    drawn_at_holds shelf netlist sheets drawn (netlist_holds tree netlist read) (sheets_from_hold shelf 1 [] sheets (sheet_names netlist.parts) (All-nil HoldsMarks) fetched) last
+
+either_holds : (shelf : ShelfTold) (b : Bool) (name : List ℕ) (tree : Data) (drawn : Drawn) → Comes shelf (if b then lone_at name tree else netlist_at tree) (ready drawn) → All IsName drawn.names
+either_holds shelf true name tree drawn comes = lone_at_holds shelf name tree drawn comes
+either_holds shelf false name tree drawn comes = netlist_at_holds shelf tree drawn comes
+
+-- each event of a drawn network has a name of its form
+pub drawn_names_have_form : DrawnNamesHaveForm
+drawn_names_have_form shelf name drawn comes =
+    let (tree, first, rest) = opening_then shelf (tree_in (File 0) name) _ drawn comes in
+    either_holds shelf (is_some (as_object tree) && is_none (get (codes "itv") tree)) name tree drawn rest

@@ -1,0 +1,4 @@
+pub mod Steps
+pub mod Sheets
+pub mod Netlists
+pub mod Designs

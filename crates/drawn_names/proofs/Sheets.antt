@@ -1,0 +1,115 @@
+-- The marks of sheets.
+use Rattle.std.proofs.Common.{◌≡◌, ◌+◌, ℕ, Bool, true, false, if◌then◌else◌, List, [], ◌∷◌, ◌++◌, cond, All, Option, Some, None, Result, Ok, Err, refl, sym, ap, ◌∙◌, subst, nat_eq, position}
+use Rattle.std.specs.Prelude.{IsTrue, IfSome}
+use Rattle.std.specs.List.{cons_option, filter_map, flat_map, enumerate_from}
+use Rattle.std.specs.Map.{lookup}
+use Rattle.std.specs.Cmp.Lexicographic.{pointwise}
+use Rattle.std.proofs.lemmas.List.Elements.{All-append, All-cons, All-head, All-nil, All-tail}
+use Rattle.itv_base.specs.Characters.{is_mark}
+use Rattle.wavejson.specs.Drawing.{Drawing}
+use Rattle.wavejson.specs.declared.lane_text.LaneText.{LaneText}
+use Rattle.netlist.specs.declared.part.Part.{Part}
+use Rattle.sheet.specs.declared.mark.Mark.{Mark}
+use Rattle.sheet.specs.Contents.{Contents}
+use Rattle.sheet.specs.declared.fault.SheetFault.{SheetFault}
+use Rattle.sheet.specs.declared.fault.SheetFault.TheVariants.{BadNode, DoubleMark}
+use Rattle.itv_base.specs.Reading.{unless}
+use Rattle.sheet.specs.Lanes.{drawn_kind, first_repeated, has_bad_node, lane_marks, mark_at, marks_of, node_of}
+use Rattle.sheet.specs.Links.{links_of}
+use Rattle.sheet.specs.Sheet.{read_marks, read_pins, sheet_of}
+use Rattle.indexmap.specs.IndexMap.{insert_entry}
+use Rattle.reading.specs.Design.{NamedSheets, sheet_among, sheets_on, with_sheet}
+use Rattle.drawn_names.proofs.Steps.{result_then, unless_gave}
+
+-- the name of a mark is one of a mark
+abbrev pub IsMarked : Mark → Type 0
+IsMarked mark = IsTrue (is_mark mark.name)
+
+abbrev pub HasMarks : Contents → Type 0
+HasMarks sheet = All IsMarked sheet.marks
+
+-- ---- lists that are read element by element
+
+cons_holds : {Y : Type 0} (P : Y → Type 0) (o : Option Y) (ys : List Y) → IfSome o P → All P ys → All P (cons_option o ys)
+cons_holds P None ys p all = all
+cons_holds P (Some y) ys p all = All-cons P y ys p all
+
+pub all_filtered : {X Y : Type 0} (P : Y → Type 0) (h : X → Option Y) → ((x : X) → IfSome (h x) P) → (xs : List X) → All P (filter_map h xs)
+all_filtered P h each [] = All-nil P
+all_filtered P h each (x ∷ xs) = cons_holds P (h x) (filter_map h xs) (each x) (all_filtered P h each xs)
+
+pub all_flat : {X Y : Type 0} (P : Y → Type 0) (f : X → List Y) → ((x : X) → All P (f x)) → (xs : List X) → All P (flat_map f xs)
+all_flat P f each [] = All-nil P
+all_flat P f each (x ∷ xs) = All-append P (f x) (flat_map f xs) (each x) (all_flat P f each xs)
+
+-- ---- the marks of one sheet
+
+marked_if : (b : Bool) (mark : Mark) → (b ≡ true → IsMarked mark) → IfSome (if b then Some mark else None) IsMarked
+marked_if true mark holds = holds refl
+marked_if false mark holds = tt
+
+mark_holds : (number : ℕ) (lane : LaneText) (place : ℕ × ℕ) → IfSome (mark_at number lane place) IsMarked
+mark_holds number lane place =
+    marked_if (is_mark place.1) (record { lane = number; place = place.0; name = place.1; kind = drawn_kind lane.wave place.0 }) (λ is. is)
+
+marks_hold : (lanes : List LaneText) → All IsMarked (marks_of lanes)
+marks_hold lanes =
+    all_flat IsMarked lane_marks (λ lane. all_filtered IsMarked (mark_at lane.0 lane.1) (mark_holds lane.0 lane.1) (enumerate_from 0 (node_of lane.1))) (enumerate_from 0 lanes)
+
+read_marks_hold : (lanes : List LaneText) (marks : List Mark) → read_marks lanes ≡ Ok marks → All IsMarked marks
+unfolding read_marks
+read_marks_hold lanes marks is =
+    let (some, first, rest) = result_then (unless (position has_bad_node lanes) (λ n. BadNode n) lanes) _ marks is in
+    let same : marks_of some ≡ marks =
+    unless_gave (first_repeated nat_eq (λ (mark : Mark). mark.name) [] (marks_of some)) (λ (mark : Mark). DoubleMark mark.name) (marks_of some) marks rest in
+    subst (All IsMarked) same (marks_hold some)
+
+abbrev pub IsGiven : Contents → Result Contents SheetFault → Type 0
+IsGiven found result = Ok found ≡ result
+
+given : (found sheet : Contents) → IsGiven found (Ok sheet) → found.marks ≡ sheet.marks
+given found sheet is = let same : found ≡ sheet = cc is in ap (λ (c : Contents). c.marks) same
+
+-- the marks of a sheet that was read are named so
+pub sheet_holds : (drawing : Drawing) (sheet : Contents) → sheet_of drawing ≡ Ok sheet → HasMarks sheet
+unfolding sheet_of
+sheet_holds drawing sheet is =
+    let (marks, is_marks, rest) = result_then (read_marks drawing.lanes) _ sheet is in
+    let (pins, is_pins, more) = result_then (read_pins drawing.lanes) _ sheet rest in
+    let (links, is_links, last) = result_then (links_of marks drawing.edges) _ sheet more in
+    let same : marks ≡ sheet.marks = given _ sheet last in
+    subst (All IsMarked) same (read_marks_hold drawing.lanes marks is_marks)
+
+-- ---- sheets by their names
+
+abbrev pub Entry : Type 0
+Entry = List ℕ × Contents
+
+abbrev pub HoldsMarks : Entry → Type 0
+HoldsMarks entry = HasMarks entry.1
+
+abbrev pub AreMarked : NamedSheets → Type 0
+AreMarked sheets = All HoldsMarks sheets
+
+entered : (b : Bool) (e : Entry) (es more : NamedSheets) (sheet : Contents) → HasMarks sheet → AreMarked (e ∷ es) → AreMarked more
+    → AreMarked (if b then (e.0, sheet) ∷ es else e ∷ more)
+entered true e es more sheet holds all others = All-cons HoldsMarks (e.0, sheet) es holds (All-tail HoldsMarks e es all)
+entered false e es more sheet holds all others = All-cons HoldsMarks e more (All-head HoldsMarks e es all) others
+
+-- one more sheet
+pub with_sheet_holds : (sheets : NamedSheets) (name : List ℕ) (sheet : Contents) → AreMarked sheets → HasMarks sheet → AreMarked (with_sheet sheets name sheet)
+with_sheet_holds [] name sheet all holds = All-cons HoldsMarks (name, sheet) [] holds (All-nil HoldsMarks)
+with_sheet_holds (e ∷ es) name sheet all holds =
+    entered (pointwise nat_eq name e.0) e es (with_sheet es name sheet) sheet holds all (with_sheet_holds es name sheet (All-tail HoldsMarks e es all) holds)
+
+found : (b : Bool) (e : Entry) (o : Option Contents) → HasMarks e.1 → IfSome o HasMarks → IfSome (cond b (Some e.1) o) HasMarks
+found true e o here others = here
+found false e o here others = others
+
+among_holds : (sheets : NamedSheets) (name : List ℕ) → AreMarked sheets → IfSome (sheet_among sheets name) HasMarks
+among_holds [] name all = tt
+among_holds (e ∷ es) name all = found (pointwise nat_eq name e.0) e (sheet_among es name) (All-head HoldsMarks e es all) (among_holds es name (All-tail HoldsMarks e es all))
+
+-- the sheets of parts
+pub sheets_hold : (sheets : NamedSheets) (parts : List Part) → AreMarked sheets → All HasMarks (sheets_on sheets parts)
+sheets_hold sheets parts all = all_filtered HasMarks (λ part. sheet_among sheets part.sheet) (λ part. among_holds sheets part.sheet all) parts
