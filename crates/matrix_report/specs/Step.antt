@@ -1,0 +1,16 @@
+-- A matrix as it is stored, seen as the entries of pairs.
+use Rattle.std.specs.Prelude.{ℕ, ℤ, List, map, Option}
+use Rattle.itv_base.specs.declared.names.EventId.{EventId}
+use Rattle.minplus.specs.Matrix.{number_of}
+use Rattle.matrix_report.specs.Matrix.{Entries}
+
+-- the entries of a stored row
+abbrev pub numbers_of : List ℤ → List (Option ℤ)
+numbers_of row = map number_of row
+
+abbrev pub entries_of : List (List ℤ) → Entries
+entries_of rows = map numbers_of rows
+
+-- the event with a number
+abbrev pub event_of : ℕ → EventId
+event_of number = record { 0 = number }

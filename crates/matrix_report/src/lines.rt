@@ -1,0 +1,145 @@
+//! The lines of a matrix, each gathered before it is put.
+
+ghost use Rattle.std.specs.Prelude.{◌≡◌, ◌<◌, ◌∷◌, [], codes, length, map, slice_index_or};
+ghost use Rattle.std.specs.List.{flat_map};
+ghost use Rattle.itv_base.specs.Numerals.{end_text};
+ghost use Rattle.itv_base.specs.Outside.{Puts};
+ghost use Rattle.line_words.specs.Lines.{ended, spaced};
+ghost use Rattle.minplus.specs.Matrix.{IsSquare, entry_of};
+ghost use Rattle.slack_report.specs.Entry.{event, events};
+ghost use Rattle.slack_report.specs.Text.{entry_text, report_text};
+ghost use Rattle.unroll.specs.Drawn.{name_of};
+ghost use Rattle.matrix_report.specs.Matrix.{events_from, row_text};
+ghost use Rattle.matrix_report.specs.Step.{entries_of, event_of, numbers_of};
+
+use itoa::Buffer;
+use itv_base::{EventId, PutFailed, Sink, end_text};
+use line_words::{LineBuffer, put_spaced};
+use minplus::Matrix;
+use slack_report::{Item, write_item};
+use unroll::Unrolled;
+
+// ---- events
+
+// The line of an event.
+fn put_event<K: Sink>(
+    drawn: &Unrolled,
+    number: u32,
+    buffer: &mut LineBuffer,
+    sink: &mut K,
+) -> Result<(), PutFailed>
+    requires { number < drawn.now.net.events }
+    ensures { Puts (K.told sink.old) (K.told sink.new)
+        (entry_text (event number (name_of drawn.now (event_of number)))) result }
+{
+    let name = drawn.name(EventId(number));
+    write_item(&Item::Event { number, name }, buffer, sink)
+}
+
+// The lines of all events.
+fn put_names<K: Sink>(
+    drawn: &Unrolled,
+    buffer: &mut LineBuffer,
+    sink: &mut K,
+) -> Result<(), PutFailed>
+    ensures { Puts (K.told sink.old) (K.told sink.new) (report_text (events_from 0 drawn.now.names)) result }
+{
+    for number in 0..drawn.network().events() {
+        put_event(drawn, number, buffer, sink)?;
+    }
+    Ok(())
+}
+
+/// How many events there are, and their names.
+pub fn put_events<K: Sink>(
+    drawn: &Unrolled,
+    buffer: &mut LineBuffer,
+    sink: &mut K,
+) -> Result<(), PutFailed>
+    ensures { Puts (K.told sink.old) (K.told sink.new)
+        (report_text (events (length drawn.now.names) ∷ events_from 0 drawn.now.names)) result }
+{
+    let count = drawn.network().events();
+    write_item(&Item::Events { count }, buffer, sink)?;
+    put_names(drawn, buffer, sink)
+}
+
+// ---- rows
+
+// A space and the entry of a pair of events.
+fn put_entry<K: Sink>(matrix: &Matrix, from: u32, to: u32, sink: &mut K) -> Result<(), PutFailed>
+    requires from { from < length matrix.now }
+    requires to { to < length (slice_index_or matrix.now from []) }
+    ensures { Puts (K.told sink.old) (K.told sink.new)
+        (spaced (end_text (entry_of matrix.now (event_of from) (event_of to)))) result }
+{
+    let mut digits = Buffer::new();
+    let entry = matrix.at(EventId(from), EventId(to));
+    put_spaced(end_text(entry, &mut digits).as_bytes(), sink)
+}
+
+// A space and an entry, for each event.
+fn put_entries<K: Sink>(
+    matrix: &Matrix,
+    from: u32,
+    count: u32,
+    sink: &mut K,
+) -> Result<(), PutFailed>
+    requires from { from < length matrix.now }
+    requires count { count ≡ length (slice_index_or matrix.now from []) }
+    ensures { Puts (K.told sink.old) (K.told sink.new)
+        (flat_map spaced (map end_text (numbers_of (slice_index_or matrix.now from [])))) result }
+{
+    for to in 0..count {
+        put_entry(matrix, from, to, sink)?;
+    }
+    Ok(())
+}
+
+// The line of a row, piece by piece.
+fn put_row<K: Sink>(matrix: &Matrix, from: u32, count: u32, sink: &mut K) -> Result<(), PutFailed>
+    requires from { from < length matrix.now }
+    requires count { count ≡ length (slice_index_or matrix.now from []) }
+    ensures { Puts (K.told sink.old) (K.told sink.new)
+        (row_text (numbers_of (slice_index_or matrix.now from []))) result }
+{
+    sink.put(b"row")?;
+    put_entries(matrix, from, count, sink)?;
+    sink.put(b"\n")
+}
+
+// The line of a row, by one put where it fits the buffer.
+fn write_row<K: Sink>(
+    matrix: &Matrix,
+    from: u32,
+    count: u32,
+    buffer: &mut LineBuffer,
+    sink: &mut K,
+) -> Result<(), PutFailed>
+    requires from { from < length matrix.now }
+    requires count { count ≡ length (slice_index_or matrix.now from []) }
+    ensures { Puts (K.told sink.old) (K.told sink.new)
+        (row_text (numbers_of (slice_index_or matrix.now from []))) result }
+{
+    buffer.clear();
+    match put_row(matrix, from, count, buffer) {
+        Ok(()) => buffer.put_into(sink),
+        Err(PutFailed) => put_row(matrix, from, count, sink),
+    }
+}
+
+/// The rows of a matrix over a number of events.
+pub fn put_rows<K: Sink>(
+    matrix: &Matrix,
+    count: u32,
+    buffer: &mut LineBuffer,
+    sink: &mut K,
+) -> Result<(), PutFailed>
+    requires square { IsSquare count matrix.now }
+    ensures { Puts (K.told sink.old) (K.told sink.new) (flat_map row_text (entries_of matrix.now)) result }
+{
+    for from in 0..count {
+        write_row(matrix, from, count, buffer, sink)?;
+    }
+    Ok(())
+}
