@@ -1,5 +1,5 @@
 -- A matrix as it is stored, and its text line by line.
-use Rattle.std.proofs.Common.{◌≡◌, ◌+◌, ◌<◌, ℕ, zero, suc, ℤ, List, [], ◌∷◌, ◌++◌, length, get_or, drop, map, Option, None, Ok, Err, refl, sym, subst, ap, ◌∙◌, add-one, drop-cons, unwrap_or}
+use Rattle.std.proofs.Common.{◌≡◌, ◌+◌, ◌<◌, ℕ, zero, suc, ℤ, List, [], ◌∷◌, ◌++◌, length, get_or, drop, map, None, Ok, Err, refl, sym, subst, ap, ◌∙◌, add-one, drop-cons, unwrap_or}
 use Rattle.std.specs.List.{flat_map}
 use Rattle.std.proofs.lemmas.List.{length-map}
 use Rattle.std.proofs.lemmas.Option.{slice_get-get_or}
@@ -7,7 +7,6 @@ use Rattle.itv_base.specs.Numerals.{end_text}
 use Rattle.itv_base.specs.declared.names.EventId.{EventId}
 use Rattle.itv_base.specs.Outside.{CutShort, SinkTold, grown}
 use Rattle.job_answer.specs.Works.{Works}
-use Rattle.job_answer.specs.declared.answer.Answer.{Answer}
 use Rattle.job_answer.specs.declared.answer.Answer.TheVariants.{AllPass, Inconsistent}
 use Rattle.job_answer.specs.declared.unanswered.Unanswered.TheVariants.{PutFailed}
 use Rattle.event_graph.specs.Network.{Net}

@@ -1,10 +1,10 @@
 //! The lines of a matrix, each gathered before it is put.
 
-ghost use Rattle.std.specs.Prelude.{◌≡◌, ◌<◌, ◌∷◌, [], codes, length, map, slice_index_or};
+ghost use Rattle.std.specs.Prelude.{◌≡◌, ◌<◌, ◌∷◌, [], length, map, slice_index_or};
 ghost use Rattle.std.specs.List.{flat_map};
 ghost use Rattle.itv_base.specs.Numerals.{end_text};
 ghost use Rattle.itv_base.specs.Outside.{Puts};
-ghost use Rattle.line_words.specs.Lines.{ended, spaced};
+ghost use Rattle.line_words.specs.Lines.{spaced};
 ghost use Rattle.minplus.specs.Matrix.{IsSquare, entry_of};
 ghost use Rattle.slack_report.specs.Entry.{event, events};
 ghost use Rattle.slack_report.specs.Text.{entry_text, report_text};

@@ -1,6 +1,6 @@
 //! A sink that keeps nothing.
 
-ghost use Rattle.std.specs.Prelude.{◌≡◌, None};
+ghost use Rattle.std.specs.Prelude.{None};
 
 use itv_base::{PutFailed, Sink};
 

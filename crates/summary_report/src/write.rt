@@ -1,8 +1,7 @@
 //! Writing a summary.
 
-ghost use Rattle.std.specs.Prelude.{◌≡◌, ◌≢◌, ◌≤◌, ◌∷◌, ◌++◌, [], length, map, IfOk};
+ghost use Rattle.std.specs.Prelude.{◌≡◌, ◌≢◌, ◌≤◌, ◌∷◌, [], IfOk};
 ghost use Rattle.std.specs.List.{flat_map};
-ghost use Rattle.itv_base.specs.Numerals.{number_text};
 ghost use Rattle.itv_base.specs.Outside.{Puts};
 ghost use Rattle.itv_base.specs.declared.limits.TheConstants.{MAX_BUDGET};
 ghost use Rattle.job_answer.specs.Works.{Works};
