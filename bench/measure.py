@@ -1,0 +1,138 @@
+#!/usr/bin/env python3
+"""Measures `itv` beside an unproved Rust program of the same rule, and beside z3, cbc and glpsol where they are installed.
+
+    bench/measure.py PATH_OF_THE_BUILT_PROGRAM [searches|bounds|all]
+
+Builds bench/peer with the machine's cargo. Each time is the least of three runs of the whole program, in seconds."""
+import os
+import shutil
+import subprocess
+import sys
+import tempfile
+import time
+
+import networks
+
+HERE = os.path.dirname(os.path.abspath(__file__))
+LIMIT = 60
+
+
+def seconds(command, folder, stdin=None, runs=3):
+    best, out = None, b""
+    for _ in range(runs):
+        begin = time.perf_counter()
+        try:
+            done = subprocess.run(command, cwd=folder, input=stdin, capture_output=True, timeout=LIMIT)
+        except subprocess.TimeoutExpired:
+            return None, b""
+        took = time.perf_counter() - begin
+        best, out = took if best is None else min(best, took), done.stdout
+    return best, out
+
+
+def bounds_told(text):
+    return [line for line in text.decode().splitlines() if line.startswith(("max ", "min ", "finding incons"))]
+
+
+def bound_if(text):
+    return [line.replace(" found", "") for line in bounds_told(text)]
+
+
+def lp(net, sign):
+    """One mixed-integer program for the greatest separation of the first row (sign 1) or the least (-1)."""
+    a, b = net.rows[0]
+    if sign < 0:
+        a, b = b, a
+    big = 10_000_000
+    out, binaries = [f"Maximize\n obj: t{b} - t{a}\nSubject To"], []
+    out.append(f" zero: t{a} = 0")
+    for n, (kind, target, causes) in enumerate(net.constraints):
+        choice = []
+        for c, (event, low, high) in enumerate(causes):
+            always_low = kind == "lin" or kind == "late" or len(causes) == 1
+            always_high = kind == "lin" or kind == "early" or len(causes) == 1
+            x = f"x{n}_{c}"
+            if low is not None:
+                if always_low:
+                    out.append(f" t{target} - t{event} >= {low}")
+                else:
+                    out.append(f" t{target} - t{event} - {big} {x} >= {low - big}")
+                    choice.append(x)
+            if high is not None:
+                if always_high:
+                    out.append(f" t{target} - t{event} <= {high}")
+                else:
+                    out.append(f" t{target} - t{event} + {big} {x} <= {high + big}")
+                    choice.append(x)
+        if choice and len(causes) > 1:
+            out.append(" " + " + ".join(choice) + " >= 1")
+            binaries += choice
+    out.append("Bounds")
+    out += [f" -{big} <= t{e} <= {big}" for e in range(net.events) if e != a]
+    if binaries:
+        out.append("Binaries\n " + " ".join(binaries))
+    out.append("End")
+    return "\n".join(out) + "\n"
+
+
+def smt(net, sign):
+    a, b = net.rows[0]
+    if sign < 0:
+        a, b = b, a
+    out = [f"(declare-const t{e} Int)" for e in range(net.events)] + [f"(assert (= t{a} 0))"]
+    part = lambda event, target, low, high: [f"(>= (- t{target} t{event}) {low if low >= 0 else f'(- {-low})'})" if low is not None else "true",
+                                             f"(<= (- t{target} t{event}) {high if high >= 0 else f'(- {-high})'})" if high is not None else "true"]
+    for kind, target, causes in net.constraints:
+        sides = [part(event, target, low, high) for event, low, high in causes]
+        if kind == "lin":
+            out += [f"(assert {side})" for side in sides[0]]
+        else:
+            every, some = (0, 1) if kind == "late" else (1, 0)
+            out += [f"(assert {side[every]})" for side in sides]
+            out.append(f"(assert (or {' '.join(side[some] for side in sides)}))")
+    out += [f"(maximize (- t{b} t{a}))", "(check-sat)", "(get-objectives)"]
+    return "\n".join(out) + "\n"
+
+
+def peers(net, folder):
+    told = {}
+    for name, suffix, make, command in (
+            ("z3", "smt2", smt, lambda f: ["z3", f]),
+            ("cbc", "lp", lp, lambda f: ["cbc", f, "solve"]),
+            ("glpsol", "lp", lp, lambda f: ["glpsol", "--lp", f])):
+        if not shutil.which(name):
+            continue
+        total = 0.0
+        for sign in (1, -1):
+            path = os.path.join(folder, f"peer{sign}.{suffix}")
+            with open(path, "w") as f:
+                f.write(make(net, sign))
+            took, _ = seconds(command(path), folder, runs=1)
+            total = None if took is None or total is None else total + took
+        told[name] = total
+    return told
+
+
+def main():
+    program = os.path.abspath(sys.argv[1])
+    which = sys.argv[2] if len(sys.argv) > 2 else "all"
+    subprocess.run(["cargo", "build", "--release", "--offline", "--quiet"], cwd=os.path.join(HERE, "peer"), check=True)
+    peer = os.path.join(HERE, "peer", "target", "release", "peer")
+    nets = (networks.searches() if which != "bounds" else []) + (networks.bounds() if which != "searches" else [])
+    show = lambda t: "more than 60" if t is None else f"{t:.3f}"
+    for net in nets:
+        with tempfile.TemporaryDirectory() as folder:
+            for name, text in net.files().items():
+                with open(os.path.join(folder, name), "w") as f:
+                    f.write(text)
+            took, report = seconds([program, "main.json"], folder)
+            took_peer, told = seconds([peer], folder, net.lines().encode())
+            same = "settled" if bounds_told(report) == bounds_told(told) else "differs or left open"
+            words = [f"{net.name}: itv {show(took)}, peer {show(took_peer)}, {same}"]
+            if net.name in [n.name for n in networks.searches()]:
+                words += [f"{name} {show(t)}" for name, t in peers(net, folder).items()]
+            print(", ".join(words), flush=True)
+
+
+if __name__ == "__main__":
+    main()

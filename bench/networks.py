@@ -1,0 +1,164 @@
+"""Networks to measure with: each as files that `itv` reads and as lines that the other program reads."""
+import json
+import random
+import string
+
+MARKS = string.ascii_letters + string.digits
+
+
+class Network:
+    def __init__(self, name, events):
+        self.name, self.events, self.constraints, self.rows = name, events, [], []
+
+    def lin(self, a, b, low, high):
+        self.constraints.append(("lin", b, [(a, low, high)]))
+
+    def late(self, target, causes):
+        self.constraints.append(("late", target, causes))
+
+    def early(self, target, causes):
+        self.constraints.append(("early", target, causes))
+
+    def lines(self):
+        end = lambda x: "*" if x is None else str(x)
+        out = [f"events {self.events}"]
+        for kind, target, causes in self.constraints:
+            if kind == "lin":
+                a, low, high = causes[0]
+                out.append(f"lin {a} {target} {end(low)} {end(high)}")
+            else:
+                words = " ".join(f"{a} {end(low)} {end(high)}" for a, low, high in causes)
+                out.append(f"{kind} {target} {len(causes)} {words}")
+        out += [f"row {a} {b}" for a, b in self.rows]
+        return "\n".join(out) + "\n"
+
+    def files(self):
+        """A netlist whose parts have up to 62 marks and no rules of their own: all rules are wires."""
+        files, parts, name = {}, [], []
+        for first in range(0, self.events, len(MARKS)):
+            marks = MARKS[: min(len(MARKS), self.events - first)]
+            part = f"P{first // len(MARKS)}"
+            sheet = f"marks{len(marks)}.json"
+            parts.append({"name": part, "sheet": sheet})
+            name += [f"{part}.{m}" for m in marks]
+            files[sheet] = json.dumps({"signal": [{"name": m, "wave": "01", "node": "." + m} for m in marks]})
+        end = lambda x: "*" if x is None else str(x)
+        wires = []
+        for number, (kind, target, causes) in enumerate(self.constraints):
+            tag = "" if kind == "lin" else ":t" + letters(number)
+            wires += [f"{name[a]} {name[target]} @{kind}{tag} [{end(low)},{end(high)}]" for a, low, high in causes]
+        wires += [f"{name[a]} {name[b]} @ask" for a, b in self.rows]
+        files["main.json"] = json.dumps({"itv": 1, "cycles": 1, "parts": parts, "nets": [], "edges": wires})
+        return files
+
+
+def letters(n):
+    word = ""
+    while True:
+        word = chr(97 + n % 26) + word
+        n //= 26
+        if n == 0:
+            return word
+
+
+def latest_pairs(events):
+    """A chain in which each event is the later of two ways from what came before: from its neighbour, and from the first event."""
+    net = Network(f"chain of latest pairs, {events} events", events)
+    for k in range(1, events):
+        net.late(k, [(k - 1, 0, 10), (0, 0, 5)])
+    net.rows.append((0, events - 1))
+    return net
+
+
+def layered(events, kinds, seed):
+    """Layers of ten events, each the latest or the earliest of three of the layer before."""
+    rng = random.Random(seed)
+    net = Network(f"layers, {'both kinds' if len(kinds) > 1 else 'latest'}, {events} events", events)
+    for k in range(1, min(10, events)):
+        net.lin(0, k, 0, rng.randrange(100, 2000))
+    for k in range(10, events):
+        layer = (k // 10 - 1) * 10
+        causes = [(layer + c, low, low + rng.randrange(1, 900)) for c in rng.sample(range(10), 3) for low in [rng.randrange(0, 500)]]
+        getattr(net, rng.choice(kinds))(k, causes)
+    net.rows.append((0, events - 1))
+    return net
+
+
+def backward_chain(events, rows):
+    """A chain whose rules stand in the worst order, the last one first."""
+    net = Network(f"chain, worst order, {events} events, {rows} rows", events)
+    for k in range(events - 2, -1, -1):
+        net.lin(k, k + 1, 10, 20)
+    net.rows = [(0, events - 1 - k) for k in range(rows)]
+    return net
+
+
+def dense_linear(events, rules, rows, seed):
+    rng = random.Random(seed)
+    net = Network(f"linear, {events} events, {rules} rules, {rows} rows", events)
+    at = [rng.randrange(0, 1_000_000) for _ in range(events)]
+    for _ in range(rules):
+        a, b = rng.sample(range(events), 2)
+        d = at[b] - at[a]
+        net.lin(a, b, d - rng.randrange(0, 50_000), d + rng.randrange(0, 50_000))
+    net.rows = [tuple(rng.sample(range(events), 2)) for _ in range(rows)]
+    return net
+
+
+def bus(size):
+    """The generated bus of a size, as its files."""
+    lane = lambda name, wave, node: {"name": name, "wave": wave, "node": node}
+    master = {"signal": [lane("clk", "p", "c"), lane("req", "01", ".r")],
+              "edge": ["c->c @lin+1 [100000,100000]", "c->r @lin [1000,8000]"]}
+    slave = {"signal": [lane("clk", "p", "c"), lane("req", "01", ".q"), lane("ack", "01", ".a")],
+             "edge": ["q->a @late [2000,9000]", "c->a @late [3000,7000]", "c->a @ask"]}
+    merge = {"signal": [lane("clk", "p", "c"), lane("done", "01", ".d")], "edge": ["d->c @req+1 [5000,*]"]}
+    slaves = [f"S{k}" for k in range(size)]
+    main = {"itv": 1, "cycles": 2,
+            "parts": [{"name": "M", "sheet": "master.json"}]
+            + [{"name": s, "sheet": "slave.json"} for s in slaves] + [{"name": "Z", "sheet": "merge.json"}],
+            "nets": [{"pins": ["M.clk"] + [f"{s}.clk" for s in slaves] + ["Z.clk"], "delay": [100, 300]},
+                     {"pins": ["M.req"] + [f"{s}.req" for s in slaves], "delay": [100, 400]}],
+            "edges": [f"{s}.a Z.d @late [0,1000]" for s in slaves]}
+    return {"main.json": json.dumps(main), "master.json": json.dumps(master),
+            "slave.json": json.dumps(slave), "merge.json": json.dumps(merge)}
+
+
+def bus_network(size):
+    """The same bus as its network: 2 cycles, marks of M (c, r), of each slave (c, q, a), of Z (c, d)."""
+    per = 3 * size + 4
+    net = Network(f"bus, size {size}", 2 * per)
+    net.files = lambda: bus(size)
+    for cycle in range(2):
+        at = lambda mark: cycle * per + mark
+        slave = lambda s, mark: at(2 + 3 * s + mark)
+        zc, zd = at(per - 2), at(per - 1)
+        if cycle:
+            net.lin(at(0) - per, at(0), 100000, 100000)
+        net.lin(at(0), at(1), 1000, 8000)
+        for s in range(size):
+            net.late(slave(s, 2), [(slave(s, 1), 2000, 9000), (slave(s, 0), 3000, 7000)])
+        for s in range(size):
+            net.lin(at(0), slave(s, 0), 100, 300)
+        net.lin(at(0), zc, 100, 300)
+        for s in range(size):
+            net.lin(at(1), slave(s, 1), 100, 400)
+        net.late(zd, [(slave(s, 2), 0, 1000) for s in range(size)])
+        for s in range(size):
+            net.rows.append((slave(s, 0), slave(s, 2)))
+        if cycle:
+            net.rows.append((zd - per, zc))
+    return net
+
+
+def searches():
+    nets = [latest_pairs(n) for n in (25, 93, 1000)]
+    nets += [bus_network(n) for n in (16, 64)]
+    for events in (40, 100, 300):
+        nets.append(layered(events, ["late"], events))
+        nets.append(layered(events, ["late", "early"], events + 1))
+    return nets
+
+
+def bounds():
+    return [backward_chain(4096, 64), dense_linear(93, 60_000, 4096, 1), dense_linear(4000, 16_000, 64, 2)]
