@@ -1,6 +1,6 @@
 //! Lines of a proof, with the finding or the bound that stands behind them.
 
-ghost use Rattle.std.specs.Prelude.{◌≡◌, ◌+◌, ◌<◌, ◌≤◌, ◌^◌, ◌-◌, neg_ℤ, pos, List, [], Option, length, drop};
+ghost use Rattle.std.specs.Prelude.{◌≡◌, ◌+◌, ◌<◌, ◌≤◌, ◌^◌, ◌-◌, neg_ℤ, pos, List, [], Option, false, length, drop};
 ghost use Rattle.std.specs.Int.{int_min};
 ghost use Rattle.branch.specs.Work.{IsMadeFor};
 ghost use Rattle.cert_checker.specs.Checking.{goal_view};

@@ -100,7 +100,10 @@ pub fn walk(
     let mut stage = Stage::Heading;
     let mut start = 0;
     while start < items.len() {
-        (stage, start) = step(drawn, checker, work, items, start, &stage)?;
+        match step(drawn, checker, work, items, start, &stage) {
+            Ok(next) => (stage, start) = next,
+            Err(number) => return Err(number),
+        }
     }
     if is_done(&stage) { Ok(()) } else { Err(start) }
 }
