@@ -1,5 +1,5 @@
 -- Steps of a walk one after another.
-use Rattle.std.proofs.Common.{◌≡◌, ◌+◌, ◌≤◌, ◌<◌, ℕ, zero, suc, false, List, [], ◌∷◌, length, drop, Some, None, slice_get, inl, inr, refl, sym, subst, arith, append-nil}
+use Rattle.std.proofs.Common.{◌≡◌, ◌+◌, ◌≤◌, ◌<◌, ℕ, zero, suc, false, List, [], ◌∷◌, length, drop, Some, None, slice_get, inl, inr, refl, sym, ◌∙◌, subst, arith, append-nil}
 use Rattle.std.proofs.Math.ListN.{drop_of_length-le}
 use Rattle.std.proofs.lemmas.Option.{slice_get_within}
 use Rattle.event_graph.specs.Network.{Net}
@@ -10,6 +10,10 @@ use Rattle.slack_report.specs.Right.Drawn.{Drawn}
 use Rattle.slack_report.specs.Right.Following.{Reads}
 use Rattle.right_report.specs.Checked.{checked}
 use Rattle.right_report.specs.Wrong.{IsFirstWrong, IsRefused}
+use Rattle.branch.specs.Work.{IsMadeFor, View}
+use Rattle.cert_checker.specs.Checking.{Checking}
+use Rattle.unroll.specs.Drawn.{Drawn as Unrolled}
+use Rattle.unroll.specs.Reported.{reported}
 use Rattle.report_check.specs.declared.stage.Stage.{Stage}
 use Rattle.report_check.specs.Step.Stages.{Decides, Fits, at_of, is_proof}
 use Rattle.report_check.specs.Step.Walks.{IsWrongFrom, Leads, StepsOn}
@@ -79,3 +83,24 @@ wrong_within drawn here (line ∷ lines) number (inr w) =
     let rest : w.1 ≤ length lines = wrong_within drawn w.0 lines w.1 w.3 in
     let e : number ≡ w.1 + 1 = w.4 in
     omega arith
+
+-- ---- a whole walk
+
+-- the lines so far lead from the heading to a stage
+pub record IsWalking (drawn : Unrolled) (lines : List Entry) (stage : Stage) (start : ℕ) (checker : Checking) (work : View) : Type 0 where
+  pub leads : Leads (reported drawn) lines at_heading 0 (at_of (reported drawn) stage) start
+  pub fits : Fits (reported drawn) stage
+  pub within : start ≤ length lines
+  pub room : checker.room ≡ length drawn.net.constraints
+  pub made : IsMadeFor drawn.net work
+
+pub walking_more : (drawn : Unrolled) (lines : List Entry) (stage next : Stage) (start behind : ℕ) (checker now : Checking) (work later : View)
+    → IsWalking drawn lines stage start checker work → StepsOn (reported drawn) lines (at_of (reported drawn) stage) start next behind → now.room ≡ checker.room → IsMadeFor drawn.net later
+    → IsWalking drawn lines next behind now later
+walking_more drawn lines stage next start behind checker now work later w step room made = record {
+  leads = leads_then (reported drawn) lines at_heading (at_of (reported drawn) stage) (at_of (reported drawn) next) 0 start behind w.leads step.leads;
+  fits = step.fits;
+  within = step.within;
+  room = room ∙ w.room;
+  made = made;
+}

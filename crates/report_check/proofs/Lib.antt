@@ -4,3 +4,4 @@ pub mod Taking
 pub mod Rooting
 pub mod Reaching
 pub mod Placing
+pub mod Judging

@@ -6,14 +6,21 @@ use Rattle.itv_base.specs.Range.{IsEnd}
 use Rattle.itv_base.specs.declared.limits.TheConstants.{END_LIMIT, MAX_EVENTS}
 use Rattle.itv_base.specs.declared.names.EdgeName.{EdgeName}
 use Rattle.itv_base.specs.declared.names.EventId.{EventId}
-use Rattle.itv_base.specs.declared.names.Side.{Side}
+use Rattle.itv_base.specs.declared.names.Side.{Side as EdgeSide}
 use Rattle.itv_base.specs.declared.names.Side.TheVariants.{Lower, Upper}
 use Rattle.event_graph.specs.declared.cause.Cause.{Cause}
 use Rattle.event_graph.specs.Edges.{edge, side_edge}
 use Rattle.event_graph.specs.Network.{AreEnds, Constraint, HasEnds, IsNet, Net, cause_at}
 use Rattle.event_graph.specs.Proof.{Bound, Case, ClosesByPath, Loop, Path, ProofGoal, ProofLine, Split, cases_of, path_sum, weight_of}
 use Rattle.event_graph.specs.Proof as proofs
+use Rattle.right_report.specs.Shown.{goal_of}
+use Rattle.unroll.specs.declared.row.Row.{Row}
+use Rattle.unroll.specs.Reported.{row_told}
+use Rattle.report_check.specs.declared.stage.Side.{Side}
+use Rattle.report_check.specs.declared.stage.Side.TheVariants as sides
+use Rattle.requirements.specs.declared.bound.Bound as given
 use Rattle.report_check.specs.Step.Groups.{ReadsAlike}
+use Rattle.report_check.specs.Step.Stages.{side_told}
 
 high_weight : (from to : EventId) (o : Option ℤ) → IsEnd o → weight_of (option_map (λ high. record { from = from; to = to; weight = high }) o) ≤ℤ END_LIMIT
 high_weight from to None end = omega (arith, ints)
@@ -23,7 +30,7 @@ low_weight : (from to : EventId) (o : Option ℤ) → IsEnd o → weight_of (opt
 low_weight from to None end = omega (arith, ints)
 low_weight from to (Some low) end = let least : neg_ℤ END_LIMIT ≤ℤ low = end.0 in omega (arith, ints)
 
-side_weight : (side : Side) (target : EventId) (c : Cause) → AreEnds c.range → weight_of (side_edge side target c) ≤ℤ END_LIMIT
+side_weight : (side : EdgeSide) (target : EventId) (c : Cause) → AreEnds c.range → weight_of (side_edge side target c) ≤ℤ END_LIMIT
 side_weight Upper target c ends = high_weight c.event target c.range.high ends.1
 side_weight Lower target c ends = low_weight target c.event c.range.low ends.0
 
@@ -88,3 +95,10 @@ least_alike net is from to value cases left lines = (
 
 pub same_alike : (net : Net) (goal : ProofGoal) → ReadsAlike net goal goal
 same_alike net goal cases left lines = (λ h. h, λ h. h)
+
+-- what lines before a least bound are to show
+pub least_goal : (net : Net) → IsNet net → (row : Row) (side : Side) (most : given.Bound) (value minus : ℤ) → side ≡ sides.LeastBy most
+    → minus ≡ int_min (neg_ℤ value) (pos (2 ^ 63 - 1)) → ReadsAlike net (goal_of (row_told row) (side_told side) value) (Bound row.to row.from minus)
+least_goal net is row sides.Greatest most value minus on same = absurd (cc on)
+least_goal net is row (sides.LeastBy other) most value minus on same =
+    subst (λ (x : ℤ). ReadsAlike net (Bound row.to row.from (neg_ℤ value)) (Bound row.to row.from x)) (sym same) (least_alike net is row.to row.from (neg_ℤ value))

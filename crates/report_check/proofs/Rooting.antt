@@ -1,5 +1,5 @@
 -- Root bounds.
-use Rattle.std.proofs.Common.{◌≡◌, ◌↔◌, ◌<◌, ◌≤ℤ◌, ◌<ℤ◌, ℕ, ℤ, neg_ℤ, pos, List, [], All, length, Option, Some, None, option_and_then, option_map, slice_get, refl, sym, ap, subst, ◌∙◌, arith}
+use Rattle.std.proofs.Common.{◌≡◌, ◌↔◌, ◌<◌, ◌≤ℤ◌, ◌<ℤ◌, ℕ, ℤ, neg_ℤ, pos, Bool, IsTrue, List, [], All, length, Option, Some, None, option_and_then, option_map, slice_get, refl, sym, ap, subst, ◌∙◌, arith}
 use Rattle.std.proofs.Math.IntN.{neg_ℤ-neg_ℤ}
 use Rattle.std.proofs.lemmas.Int.{ints}
 use Rattle.itv_base.specs.declared.names.EdgeName.{EdgeName}
@@ -13,7 +13,13 @@ use Rattle.event_graph.proofs.EdgesMet.{All-found}
 use Rattle.branch.specs.Answers.{IsRoot}
 use Rattle.branch.specs.declared.answer.Root.{Root}
 use Rattle.branch.specs.declared.answer.Root.TheVariants as roots
+use Rattle.requirements.specs.declared.bound.Bound.{Bound}
+use Rattle.slack_report.specs.Right.Drawn as told
+use Rattle.slack_report.specs.Right.Facts.{IsLimit}
+use Rattle.report_check.specs.declared.stage.Side.{Side}
+use Rattle.report_check.specs.declared.stage.Side.TheVariants.{Greatest, LeastBy}
 use Rattle.report_check.specs.Step.Bounds.{SomeMeet, reversed_root}
+use Rattle.report_check.specs.Step.Stages.{side_told}
 
 -- ---- networks without events
 
@@ -94,3 +100,20 @@ reversed_is (roots.Bound upper) limit = (
   λ e. ap (λ o. roots.Bound o) (sym (twice upper) ∙ ap (option_map neg_ℤ) (same_root (option_map neg_ℤ upper) limit e)),
   λ e. ap (λ o. roots.Bound o) (ap (option_map neg_ℤ) (same_root upper (option_map neg_ℤ limit) e) ∙ twice limit),
 )
+
+-- ---- limits
+
+pub limit_greatest : (net : Net) (r : told.Row) (side : Side) (root : Root) (limit : Option ℤ) (test : Bool) → side ≡ Greatest → IsRoot net r.from r.to root
+    → (IsTrue test ↔ (root ≡ roots.Bound limit)) → (IsTrue test ↔ IsLimit net r (side_told side) limit)
+limit_greatest net r Greatest root limit test is rooted tells =
+    let bounded = root_is net r.from r.to root limit rooted in
+    (λ t. bounded.0 (tells.0 t), λ h. tells.1 (bounded.1 h))
+limit_greatest net r (LeastBy most) root limit test is rooted tells = absurd (cc is)
+
+pub limit_least : (net : Net) (r : told.Row) (side : Side) (most : Bound) (root : Root) (limit : Option ℤ) (test : Bool) → side ≡ LeastBy most → IsRoot net r.to r.from root
+    → (IsTrue test ↔ (reversed_root root ≡ roots.Bound limit)) → (IsTrue test ↔ IsLimit net r (side_told side) limit)
+limit_least net r Greatest most root limit test is rooted tells = absurd (cc is)
+limit_least net r (LeastBy other) most root limit test is rooted tells =
+    let bounded = root_is net r.to r.from root (option_map neg_ℤ limit) rooted in
+    let turned = reversed_is root limit in
+    (λ t. bounded.0 (turned.0 (tells.0 t)), λ h. tells.1 (turned.1 (bounded.1 h)))

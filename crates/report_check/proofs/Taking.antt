@@ -1,5 +1,5 @@
 -- A checker that takes the lines of a proof in a report.
-use Rattle.std.proofs.Common.{◌≡◌, ◌+◌, ◌≤◌, ◌<◌, ℕ, Bool, false, IsTrue, List, [], ◌∷◌, ◌++◌, length, drop, Option, Some, None, slice_get, refl, sym, ap, subst, ◌∙◌, arith, append-nil, append_assoc, length-append}
+use Rattle.std.proofs.Common.{◌≡◌, ◌+◌, ◌≤◌, ◌<◌, ℕ, Bool, true, false, IsTrue, List, [], ◌∷◌, ◌++◌, length, drop, Option, Some, None, slice_get, refl, sym, ap, subst, ◌∙◌, arith, append-nil, append_assoc, length-append}
 use Rattle.std.proofs.Math.ListN.{drop_of_length-le}
 use Rattle.event_graph.specs.Network.{Net}
 use Rattle.event_graph.specs.Proof.{Case, ProofGoal, ProofLine}
@@ -12,6 +12,22 @@ use Rattle.sheet.proofs.Lists.{drop-read}
 use Rattle.slack_report.specs.Entry.{Entry, proof}
 use Rattle.report_check.specs.Step.Groups.{AreTaken, IsOneRefused, proof_front}
 use Rattle.report_check.specs.Step.Stages.{is_proof}
+
+-- ---- the lines of a proof that stand from a number on
+
+front_one : (line : Entry) (rest : List Entry) → is_proof line ≡ true → length (proof_front (line ∷ rest)) ≡ length (proof_front rest) + 1
+front_one (proof line) rest is = omega arith
+front_one line rest is = absurd (cc is)
+
+pub front_more : (lines : List Entry) (number : ℕ) (line : Entry) → slice_get lines number ≡ Some line → is_proof line ≡ true
+    → number + length (proof_front (drop number lines)) ≡ (number + 1) + length (proof_front (drop (number + 1) lines))
+front_more lines number line is one =
+    let more : length (proof_front (drop number lines)) ≡ length (proof_front (drop (number + 1) lines)) + 1 =
+    ap (λ xs. length (proof_front xs)) (drop-read lines number line is) ∙ front_one line (drop (number + 1) lines) one in
+    omega arith
+
+pub front_stops : (lines : List Entry) (number : ℕ) → proof_front (drop number lines) ≡ [] → number + length (proof_front (drop number lines)) ≡ number
+front_stops lines number none = let empty : length (proof_front (drop number lines)) ≡ 0 = ap length none in omega arith
 
 -- the lines from one number to another are taken
 pub record IsTaking (net : Net) (goal : ProofGoal) (lines : List Entry) (start number room : ℕ) (checker : Checking) : Type 0 where

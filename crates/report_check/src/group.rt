@@ -50,6 +50,7 @@ fn minus(value: i64) -> i64
 fn goal_of(net: &Network, row: &Row, side: Side, value: i64) -> Goal
     ensures goal { ReadsAlike net.now (goal_of (row_told row.now) (side_told side) value) (goal_view result) }
 {
+    let _events = net.events();
     match side {
         Side::Greatest => Goal::Bound {
             from: row.from,
@@ -166,8 +167,11 @@ fn judge_finding(
     ensures made { IsMadeFor drawn.now.net work.new }
 {
     match item {
-        Item::Finding(word) if proves_finding(drawn.network(), work, *word, whole) => {
-            Some(behind_finding(*word))
+        Item::Finding(word) => {
+            if proves_finding(drawn.network(), work, *word, whole) {
+                return Some(behind_finding(*word));
+            }
+            None
         }
         _ => None,
     }

@@ -1,12 +1,14 @@
 //! Where a line leads that is none of a proof, or that it may not follow.
 
-ghost use Rattle.std.specs.Prelude.{◌≡◌, ◌<◌, ◌≤◌, ◌^◌, All, Some, length, slice_get};
+ghost use Rattle.std.specs.Prelude.{◌≡◌, ◌↔◌, ◌<◌, ◌≤◌, ◌^◌, All, IsTrue, Some, length, slice_get};
 ghost use Rattle.event_graph.specs.Times.{IsTime};
 ghost use Rattle.requirements.specs.Bounds.{HasTimes};
+ghost use Rattle.itv_base.specs.Names.{name_view};
+ghost use Rattle.slack_report.specs.Entry.{event, row as row_line};
 ghost use Rattle.slack_report.specs.Items.{item_view};
 ghost use Rattle.slack_report.specs.Right.At.{at_end, at_raise, behind_times};
 ghost use Rattle.slack_report.specs.Right.Drawn.{Drawn};
-ghost use Rattle.unroll.specs.Drawn.{IsRowOf};
+ghost use Rattle.unroll.specs.Drawn.{IsRowOf, name_of};
 ghost use Rattle.unroll.specs.Reported.{reported};
 ghost use Rattle.report_check.specs.Step.Stages.{AreBounded, Decides, Fits, IsLineStage, IsSide, IsTelling, at_of, side_told, telling_of};
 
@@ -15,7 +17,7 @@ use crate::stage::{
     Course, Side, Stage, Telling, behind_past, behind_verdict, bounded,
 };
 use crate::times::{are_known, are_times, attains, breaks, can_rise};
-use itv_base::{EventId, Range};
+use itv_base::{EventId, EventName, Range};
 use requirements::{BothBounds, Bound, judge as verdict_of, slack as slack_of};
 use slack_report::{EndWord, FindingWord, Item};
 use unroll::{Row, Unrolled};
@@ -47,18 +49,28 @@ fn judge_events(drawn: &Unrolled, item: &Item<'_>) -> Option<Stage<'static>>
     }
 }
 
+// Whether a line names an event.
+fn is_event(item: &Item<'_>, number: u32, name: EventName<'_>) -> bool
+    ensures event { IsTrue result ↔ (item_view item.now ≡ event number (name_view name.entry)) }
+{
+    match item {
+        Item::Event {
+            number: told,
+            name: told_name,
+        } => *told == number && same_name(*told_name, name),
+        _ => false,
+    }
+}
+
 fn judge_event(drawn: &Unrolled, number: u32, item: &Item<'_>) -> Option<Stage<'static>>
     requires there { number < drawn.now.net.events }
     ensures decides { Decides (reported drawn.now) (at_of (reported drawn.now) (Stage.Event number)) (item_view item.now) result }
 {
-    match item {
-        Item::Event { number: told, name }
-            if *told == number && same_name(*name, drawn.name(EventId(number))) =>
-        {
-            Some(Stage::Event(number + 1))
-        }
-        _ => None,
+    let _events = drawn.network().events();
+    if is_event(item, number, drawn.name(EventId(number))) {
+        return Some(Stage::Event(number + 1));
     }
+    None
 }
 
 fn judge_known(drawn: &Unrolled, item: &Item<'_>) -> Option<Stage<'static>>
@@ -93,7 +105,29 @@ fn judge_end(drawn: &Unrolled, word: EndWord, item: &Item<'_>) -> Option<Stage<'
     }
 }
 
-// Whether the line of a row is that of a row of the network.
+// Whether a line tells what is asked of a row.
+fn is_row(item: &Item<'_>, number: u64, drawn: &Unrolled, row: &Row) -> bool
+    requires between { IsRowOf drawn.now.net row.now }
+    ensures row { IsTrue result ↔ (item_view item.now
+        ≡ row_line number row.now.kind (name_of drawn.now row.now.from) (name_of drawn.now row.now.to)) }
+    ensures small { IsTrue result → number < 2 ^ 32 }
+{
+    match item {
+        Item::Row {
+            number: told,
+            kind,
+            from,
+            to,
+        } => {
+            u64::from(*told) == number
+                && same_kind(kind, &row.kind)
+                && same_name(*from, drawn.name(row.from))
+                && same_name(*to, drawn.name(row.to))
+        }
+        _ => false,
+    }
+}
+
 fn judge_row_line(
     drawn: &Unrolled,
     course: Course,
@@ -105,28 +139,17 @@ fn judge_row_line(
     requires between { IsRowOf drawn.now.net row.now }
     ensures decides { Decides (reported drawn.now) (at_of (reported drawn.now) (Stage.Row course number)) (item_view item.now) result }
 {
-    match item {
-        Item::Row {
-            number: told,
-            kind,
-            from,
-            to,
-        } if u64::from(*told) == number
-            && same_kind(kind, &row.kind)
-            && same_name(*from, drawn.name(row.from))
-            && same_name(*to, drawn.name(row.to)) =>
-        {
-            Some(Stage::Bound {
-                told: Telling {
-                    course,
-                    number,
-                    row: *row,
-                },
-                side: Side::Greatest,
-            })
-        }
-        _ => None,
+    if is_row(item, number, drawn, row) {
+        return Some(Stage::Bound {
+            told: Telling {
+                course,
+                number,
+                row: *row,
+            },
+            side: Side::Greatest,
+        });
     }
+    None
 }
 
 fn judge_row(
