@@ -1,6 +1,7 @@
 -- Names and rows in their places.
-use Rattle.std.proofs.Common.{◌≡◌, ◌+◌, ◌<◌, ◌≤◌, ℕ, zero, suc, List, [], ◌∷◌, length, length-map, ◌^◌, drop, map, Bool, true, false, IsTrue, ◌↔◌, Option, Some, None, option_map, unwrap_or, slice_get, refl, sym, ap, subst, ◌∙◌, arith}
+use Rattle.std.proofs.Common.{◌≡◌, ◌+◌, ◌<◌, ◌≤◌, ℕ, zero, suc, List, [], ◌∷◌, length, ◌^◌, drop, map, Bool, true, false, IsTrue, ◌↔◌, Option, Some, None, option_map, unwrap_or, slice_get, refl, sym, ap, subst, ◌∙◌, arith}
 use Rattle.std.proofs.lemmas.Option.{slice_get-map, slice_get_within}
+use Rattle.std.proofs.lemmas.List.{length-map}
 use Rattle.sheet.proofs.Lists.{drop-read}
 use Rattle.itv_base.specs.Names.{Name}
 use Rattle.itv_base.specs.declared.names.EventId.{EventId}
@@ -71,7 +72,7 @@ module _ (drawn : Drawn) (course : Course) (number : ℕ) (row : Row) (line : En
       rw (rows_from drawn.rows number row there) (
         (same, refl),
         proof_not line (lines.row number row.kind (name_of drawn row.from) (name_of drawn row.to)) same refl,
-        (record { from = between.0; to = between.1; number = (rw (length-map row_told drawn.rows) within); small = small }, tt),
+        (record { from = between.0; to = between.1; number = (rw (length-map drawn.rows row_told) within); small = small }, tt),
       )
 
   pub row_none : test ≡ false → Decides (reported drawn) (at_of (reported drawn) (stages.Row course number)) line None

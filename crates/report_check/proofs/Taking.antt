@@ -1,10 +1,15 @@
 -- A checker that takes the lines of a proof in a report.
-use Rattle.std.proofs.Common.{◌≡◌, ◌+◌, ◌≤◌, ◌<◌, ℕ, Bool, true, false, IsTrue, List, [], ◌∷◌, ◌++◌, length, drop, Option, Some, None, slice_get, refl, sym, ap, subst, ◌∙◌, arith, append-nil, append_assoc, length-append}
+use Rattle.std.proofs.Common.{◌≡◌, ◌+◌, ◌≤◌, ◌<◌, ℕ, Bool, true, false, IsTrue, List, [], ◌∷◌, ◌++◌, length, drop, ⊤, Result, Ok, Err, Option, Some, None, slice_get, refl, sym, ap, subst, ◌∙◌, arith, append-nil, append_assoc, length-append}
 use Rattle.std.proofs.Math.ListN.{drop_of_length-le}
+use Rattle.std.specs.Result.{OnOk, is_err}
+use Rattle.event_graph.specs.declared.line.Line.{Line}
+use Rattle.slack_report.specs.Items.{item_view}
+use Rattle.slack_report.specs.declared.item.Item.{Item}
+use Rattle.slack_report.specs.declared.item.Item.TheVariants as given
 use Rattle.event_graph.specs.Network.{Net}
 use Rattle.event_graph.specs.Proof.{Case, ProofGoal, ProofLine}
 use Rattle.event_graph.specs.Proof as proofs
-use Rattle.cert_checker.specs.Checking.{Checking, StandsFor, open_cases}
+use Rattle.cert_checker.specs.Checking.{Checking, StandsFor, Tells, open_cases}
 use Rattle.cert_checker.specs.declared.check_fault.CheckFault.{CheckFault}
 use Rattle.cert_checker.specs.Faults.{behind_line, fault_of_line}
 use Rattle.cert_checker.proofs.Reading.{no_fault_is_read}
@@ -65,19 +70,22 @@ pub none_at_end : (lines : List Entry) (number : ℕ) → length lines ≤ numbe
 none_at_end lines number past = ap proof_front (drop_of_length-le lines past)
 
 module _ (net : Net) (goal : ProofGoal) (lines : List Entry) (start number room : ℕ) (checker : Checking) (t : IsTaking net goal lines start number room checker) where
-  pub taking_more : (line : ProofLine) (new : Checking) → slice_get lines number ≡ Some (proof line) → fault_of_line net goal (open_cases net checker) line ≡ None
-      → open_cases net new ≡ behind_line net (open_cases net checker) line → StandsFor net new → new.goal ≡ goal → IsTaking net goal lines start (number + 1) room new
+  at_goal : (line : ProofLine) (o : Option CheckFault) → fault_of_line net checker.goal (open_cases net checker) line ≡ o → fault_of_line net goal (open_cases net checker) line ≡ o
+  at_goal line o is = subst (λ g. fault_of_line net g (open_cases net checker) line ≡ o) t.same_goal is
+
+  pub taking_more : (line : ProofLine) (new : Checking) → slice_get lines number ≡ Some (proof line) → fault_of_line net checker.goal (open_cases net checker) line ≡ None
+      → open_cases net new ≡ behind_line net (open_cases net checker) line → StandsFor net new → new.goal ≡ checker.goal → IsTaking net goal lines start (number + 1) room new
   taking_more line new is fine behind stands is_goal = record {
     before = t.before ++ line ∷ [];
     parts = t.parts ∙ (ap (λ xs. t.before ++ xs) (front_proof lines number line is) ∙ sym (append_assoc t.before (line ∷ []) (proof_front (drop (number + 1) lines))));
     count = (let sum : number ≡ start + length t.before = t.count in let more : length (t.before ++ line ∷ []) ≡ length t.before + 1 = length-append t.before (line ∷ []) in omega arith);
-    reads = (no_fault_is_read net goal t.before (open_cases net checker) line (open_cases net new) t.reads).1 (fine, sym behind);
+    reads = (no_fault_is_read net goal t.before (open_cases net checker) line (open_cases net new) t.reads).1 (at_goal line None fine, sym behind);
     stands = stands;
-    same_goal = is_goal;
+    same_goal = is_goal ∙ t.same_goal;
     same_room = stands.room ∙ (sym t.stands.room ∙ t.same_room);
   }
 
-  pub taking_refused : (line : ProofLine) (fault : CheckFault) → slice_get lines number ≡ Some (proof line) → fault_of_line net goal (open_cases net checker) line ≡ Some fault
+  pub taking_refused : (line : ProofLine) (fault : CheckFault) → slice_get lines number ≡ Some (proof line) → fault_of_line net checker.goal (open_cases net checker) line ≡ Some fault
       → IsOneRefused net goal (proof_front (drop start lines)) start number
   taking_refused line fault is wrong = record {
     before = t.before;
@@ -88,7 +96,7 @@ module _ (net : Net) (goal : ProofGoal) (lines : List Entry) (start number room 
     taken = (open_cases net checker, t.reads);
     fails = λ takes.
         let fine : fault_of_line net goal (open_cases net checker) line ≡ None = ((no_fault_is_read net goal t.before (open_cases net checker) line takes.0 t.reads).0 takes.1).0 in
-        let clash : Some fault ≡ None = sym wrong ∙ fine in absurd (cc clash);
+        let clash : Some fault ≡ None = sym (at_goal line (Some fault) wrong) ∙ fine in absurd (cc clash);
   }
 
   pub taking_done : (whole : Bool) → proof_front (drop number lines) ≡ [] → ((IsTrue whole → open_cases net checker ≡ []) × (open_cases net checker ≡ [] → IsTrue whole))
@@ -100,3 +108,21 @@ module _ (net : Net) (goal : ProofGoal) (lines : List Entry) (start number room 
         reads = subst (λ xs. proofs.Reads net goal ([] ∷ []) xs (open_cases net checker)) all t.reads;
         is_whole = is_whole;
       }
+
+-- ---- what a call of the checker told
+
+pub tells_none : (r : Result ⊤ CheckFault) (fault : Option CheckFault) → is_err r ≡ false → Tells r fault → fault ≡ None
+tells_none (Ok x) fault is told = told
+tells_none (Err e) fault is told = absurd (cc is)
+
+pub tells_some : (r : Result ⊤ CheckFault) (fault : Option CheckFault) → is_err r ≡ true → Tells r fault → (e : CheckFault) × (fault ≡ Some e)
+tells_some (Ok x) fault is told = absurd (cc is)
+tells_some (Err e) fault is told = (e, told)
+
+pub when_ok : (r : Result ⊤ CheckFault) (P : Type 0) → is_err r ≡ false → OnOk r P → P
+when_ok (Ok x) P is h = h
+when_ok (Err e) P is h = absurd (cc is)
+
+pub other_proof : (item : Item) → ((line : Line) → item ≡ given.Proof line → ⊥) → is_proof (item_view item) ≡ false
+other_proof (given.Proof line) other = absurd (other line refl)
+other_proof item other = refl

@@ -1,12 +1,12 @@
 //! Lines of a proof, with the finding or the bound that stands behind them.
 
-ghost use Rattle.std.specs.Prelude.{◌≡◌, ◌+◌, ◌<◌, ◌≤◌, ◌^◌, ◌-◌, neg_ℤ, pos, List, [], Option, false, length, drop};
+ghost use Rattle.std.specs.Prelude.{◌≡◌, ◌↔◌, IsTrue, ◌+◌, ◌<◌, ◌≤◌, ◌^◌, ◌-◌, neg_ℤ, pos, List, [], Option, false, length, drop};
 ghost use Rattle.std.specs.Int.{int_min};
 ghost use Rattle.branch.specs.Work.{IsMadeFor};
 ghost use Rattle.cert_checker.specs.Checking.{goal_view};
 ghost use Rattle.event_graph.specs.Proof.{ProofGoal, ProofLine};
 ghost use Rattle.slack_report.specs.Items.{item_view};
-ghost use Rattle.slack_report.specs.Right.At.{at_bound, at_event};
+ghost use Rattle.slack_report.specs.Right.At.{at_bound, at_event, which_of};
 ghost use Rattle.slack_report.specs.Right.Drawn.{Drawn};
 ghost use Rattle.right_report.specs.Shown.{goal_of};
 ghost use Rattle.right_report.specs.Wrong.{goal_by};
@@ -21,7 +21,7 @@ use branch::Work;
 use cert_checker::{Checker, Goal};
 use event_graph::Network;
 use requirements::Bound;
-use slack_report::{FindingWord, Item, Items};
+use slack_report::{FindingWord, Item, Items, Which};
 use unroll::{Row, Unrolled};
 
 /// What lines of a proof stand before.
@@ -95,6 +95,7 @@ fn is_proof(item: &Item<'_>) -> bool
 fn proof_end(items: &Items, start: u64) -> u64
     requires start { start ≤ length items.now }
     ensures end { result ≡ start + length (proof_front (drop start items.now)) }
+    ensures within { result ≤ length items.now }
 {
     for number in start..items.len() {
         let (item, _) = items.get(number);
@@ -177,6 +178,13 @@ fn judge_finding(
     }
 }
 
+// Whether a bound is that of a side.
+fn is_which(which: Which, side: Side) -> bool
+    ensures which { IsTrue result ↔ (which ≡ which_of (side_told side)) }
+{
+    which == side.which()
+}
+
 fn judge_bound(
     drawn: &Unrolled,
     work: &mut Work,
@@ -197,7 +205,7 @@ fn judge_bound(
     let found = told.course.found;
     match item {
         Item::Bound { which, bound }
-            if *which == side.which()
+            if is_which(*which, side)
                 && proves_bound(drawn.network(), work, found, &told.row, side, *bound, whole) =>
         {
             Some(behind_bound(told, side, *bound))
@@ -252,7 +260,10 @@ pub fn step_group(
         return Err(end);
     }
     let (item, _) = items.get(end);
-    let whole = check_for(net, checker, items, start, goal_by(net, group, &item))?;
+    let whole = match check_for(net, checker, items, start, goal_by(net, group, &item)) {
+        Ok(whole) => whole,
+        Err(number) => return Err(number),
+    };
     match judge_behind(drawn, work, group, whole, &item) {
         Some(stage) => Ok((stage, end + 1)),
         None => Err(end),

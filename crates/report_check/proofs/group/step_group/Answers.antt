@@ -1,39 +1,36 @@
-use Rattle.std.proofs.Common.{rules, ◌≡◌, ◌+◌, ◌<◌, ◌≤◌, ◌^◌, ◌-◌, neg_ℤ, pos, List, [], Option, false, length, drop, ℕ, ◌*◌, ◌/◌, ◌%◌, Bool, true, nat_eq, nat_lt, ◌∷◌, ◌++◌, slice_index_or, slice_set, bit_and, bit_or, Fits, w8, w32, w64, Bor, MutBor}
-use Rattle.std.specs.Int.{int_min}
-use Rattle.branch.specs.Work.{IsMadeFor}
-use Rattle.cert_checker.specs.Checking.{goal_view}
-use Rattle.event_graph.specs.Proof.{ProofGoal, ProofLine}
+use Rattle.std.proofs.Common.{◌≡◌, ◌<◌, ◌≤◌, Bool, List, [], ◌∷◌, length, drop, Some, None, Result, Ok, Err, subst, refl, sym, ◌+◌, arith}
+use Rattle.std.proofs.Math.ListN.{drop_of_length-le}
+use Rattle.sheet.proofs.Lists.{drop-read}
 use Rattle.slack_report.specs.Items.{item_view}
-use Rattle.slack_report.specs.Right.At.{at_bound, at_event}
-use Rattle.slack_report.specs.Right.Drawn.{Drawn}
-use Rattle.right_report.specs.Shown.{goal_of}
+use Rattle.slack_report.specs.Entry.{Entry}
 use Rattle.right_report.specs.Wrong.{goal_by}
-use Rattle.unroll.specs.Reported.{reported, row_told}
-use Rattle.report_check.specs.Step.Groups.{ChecksFor, ChecksLines, IsGroup, IsToldOf, ReadsAlike, StandsForGoal, behind_lines, found_behind, proof_front}
-use Rattle.report_check.specs.Step.Stages.{Decides, IsSide, IsTelling, is_proof, side_told, telling_of}
-use Rattle.report_check.specs.Step.Walks.{Steps}
+use Rattle.unroll.specs.Reported.{reported}
+use Rattle.report_check.specs.Step.Groups.{ChecksFor, behind_lines, proof_front}
+use Rattle.report_check.proofs.Grouping.{end_other, group_ends, passed_step, refused_step, told_of, wrong_step}
 use Rattle.report_check.proofs.group.step_group.Goals as goal
 
--- src/group.rt:252:9
 pub returns-then-end-len-clause-steps : goal.returns-then-end-len-clause-steps
-returns-then-end-len-clause-steps c = ?
+returns-then-end-len-clause-steps c =
+    let past : length c.args.items.now ≤ c.proof_end-end.result = omega (arith, c.if-end-len.true, c.len.ensures.count) in
+    group_ends (reported c.args.drawn.now) c.args.group.now c.args.items.now c.args.start c.proof_end-end.result c.proof_end-end.ensures.end past (drop_of_length-le c.args.items.now past)
 
--- src/group.rt:254:21
-pub get-item-requires : goal.get-item-requires
-get-item-requires c = ?
+pub returns-in-Err-clause-steps : goal.returns-in-Err-clause-steps
+returns-in-Err-clause-steps c =
+    let line : Entry = item_view c.get-item.result.0 in
+    let here = behind_lines (reported c.args.drawn.now) c.args.group.now [] in
+    let checks =
+    subst (λ net. ChecksFor net (goal_by here line) (proof_front (drop c.args.start c.args.items.now)) c.args.start (Err c.in-Err.number)) c.network-net.ensures.network
+    (c.in-Err.ensures.checks (goal_by here line) (c.goal_by.ensures.goal (reported c.args.drawn.now))) in
+    refused_step (reported c.args.drawn.now) c.args.group.now c.args.items.now c.args.start c.proof_end-end.result c.proof_end-end.ensures.end line c.get-item.ensures.item
+    (drop (c.proof_end-end.result + 1) c.args.items.now) (drop-read c.args.items.now c.proof_end-end.result line c.get-item.ensures.item)
+    (end_other c.args.items.now c.args.start c.proof_end-end.result line c.proof_end-end.ensures.end c.get-item.ensures.item) (goal_by here line) c.in-Err.number refl checks
 
--- src/group.rt:255:17
-pub returns-in_err-whole-clause-steps : goal.returns-in_err-whole-clause-steps
-returns-in_err-whole-clause-steps c = ?
-
--- src/group.rt:256:11
 pub judge_behind-requires-clause-other : goal.judge_behind-requires-clause-other
-judge_behind-requires-clause-other c = ?
+judge_behind-requires-clause-other c =
+    end_other c.args.items.now c.args.start c.proof_end-end.result (item_view c.get-item.result.0) c.proof_end-end.ensures.end c.get-item.ensures.item
 
--- src/group.rt:233:1
 pub returns-in-Some-clause-steps : goal.returns-in-Some-clause-steps
 returns-in-Some-clause-steps c = ?
 
--- src/group.rt:233:1
 pub returns-in-None-clause-steps : goal.returns-in-None-clause-steps
 returns-in-None-clause-steps c = ?
