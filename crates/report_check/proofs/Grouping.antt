@@ -225,8 +225,7 @@ module _ (drawn : Drawn) (group : Group) (lines : List Entry) (start end : ℕ) 
         let first = group_refused drawn group checks.before checks.refused checks.more (drop end lines) g (ahead_is ∙ is) checks.taken checks.fails in
         let spelled : drop start lines ≡ map proof checks.before ++ (proof checks.refused ∷ (map proof checks.more ++ drop end lines)) =
         parts ∙ ap (λ xs. map proof xs ++ drop end lines) checks.parts ∙ ap (λ xs. xs ++ drop end lines) (map-append checks.before (checks.refused ∷ checks.more))
-        ∙ append_assoc (map proof checks.before) (proof checks.refused ∷ map proof checks.more) (drop end lines) in
-        (
+        ∙ append_assoc (map proof checks.before) (proof checks.refused ∷ map proof checks.more) (drop end lines) in (
           0 + length checks.before,
           subst (λ xs. IsFirstWrong drawn (behind_lines drawn group []) xs (0 + length checks.before)) (sym spelled) first,
           (let sum : number ≡ start + length checks.before = checks.is_number in omega arith),

@@ -19,9 +19,7 @@ pub enum Checked {
     /// Each line meets the check: the report is right.
     Accepted,
     /// This line, from 1, is the first that is wrong.
-    Refused {
-        line: u64,
-    },
+    Refused { line: u64 },
 }
 
 // Checks the lines of a report.

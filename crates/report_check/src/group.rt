@@ -30,10 +30,7 @@ pub enum Group {
     /// Before the finding, behind so many events.
     Finding(u32),
     /// Before a bound of a row.
-    Bound {
-        told: Telling,
-        side: Side,
-    },
+    Bound { told: Telling, side: Side },
 }
 
 // Minus a number of picoseconds. In place of a number past 64 bits it is the greatest one: no sum of a path comes near.
@@ -50,6 +47,7 @@ fn minus(value: i64) -> i64
 fn goal_of(net: &Network, row: &Row, side: Side, value: i64) -> Goal
     ensures goal { ReadsAlike net.now (goal_of (row_told row.now) (side_told side) value) (goal_view result) }
 {
+    // The network is within its limits, and so are the sums of its paths.
     let _events = net.events();
     match side {
         Side::Greatest => Goal::Bound {
@@ -206,8 +204,7 @@ fn judge_bound(
     match item {
         Item::Bound { which, bound }
             if is_which(*which, side)
-                && proves_bound(drawn.network(), work, found, &told.row, side, *bound, whole) =>
-        {
+                && proves_bound(drawn.network(), work, found, &told.row, side, *bound, whole) => {
             Some(behind_bound(told, side, *bound))
         }
         _ => None,

@@ -13,9 +13,7 @@ ghost use Rattle.unroll.specs.Reported.{reported};
 ghost use Rattle.report_check.specs.Step.Stages.{AreBounded, Decides, Fits, IsLineStage, IsSide, IsTelling, at_of, side_told, telling_of};
 
 use crate::names::{same_kind, same_name};
-use crate::stage::{
-    Course, Side, Stage, Telling, behind_past, behind_verdict, bounded,
-};
+use crate::stage::{Course, Side, Stage, Telling, behind_past, behind_verdict, bounded};
 use crate::times::{are_known, are_times, attains, breaks, can_rise};
 use itv_base::{EventId, EventName, Range};
 use requirements::{BothBounds, Bound, judge as verdict_of, slack as slack_of};
@@ -66,6 +64,7 @@ fn judge_event(drawn: &Unrolled, number: u32, item: &Item<'_>) -> Option<Stage<'
     requires there { number < drawn.now.net.events }
     ensures decides { Decides (reported drawn.now) (at_of (reported drawn.now) (Stage.Event number)) (item_view item.now) result }
 {
+    // The number of events is one of 32 bits, and so is the next number.
     let _events = drawn.network().events();
     if is_event(item, number, drawn.name(EventId(number))) {
         return Some(Stage::Event(number + 1));
@@ -169,12 +168,7 @@ fn judge_row(
 }
 
 // Behind the times of a bound.
-fn behind_times<'a>(
-    told: &Telling,
-    side: Side,
-    value: Bound,
-    times: &'a [i64],
-) -> Stage<'a>
+fn behind_times<'a>(told: &Telling, side: Side, value: Bound, times: &'a [i64]) -> Stage<'a>
     requires number { told.now.number < 2 ^ 32 }
     ensures stage { (drawn : Drawn) → at_of drawn result ≡ behind_times (telling_of drawn told.now) (side_told side) value times.now }
     ensures fits { (drawn : Drawn) → IsTelling drawn told.now → IsSide side → HasTimes value → All IsTime times.now
@@ -204,8 +198,7 @@ fn judge_times<'a>(
 {
     match item {
         Item::Times(list)
-            if are_times(drawn.network(), &told.row, list) && attains(&told.row, value, list) =>
-        {
+            if are_times(drawn.network(), &told.row, list) && attains(&told.row, value, list) => {
             Some(behind_times(told, side, value, list))
         }
         _ => None,
@@ -267,8 +260,7 @@ fn judge_past(
     match item {
         Item::Times(list)
             if are_times(drawn.network(), &told.row, list)
-                && breaks(&told.row, range, word, list) =>
-        {
+                && breaks(&told.row, range, word, list) => {
             Some(behind_past(told, range, both, word))
         }
         _ => None,

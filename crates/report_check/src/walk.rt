@@ -25,7 +25,9 @@ fn group_of(drawn: &Unrolled, stage: &Stage<'_>) -> Option<Group>
     ensures line { IsNone result → IsLineStage (reported drawn.now) stage.now }
 {
     match stage {
-        Stage::Event(number) if *number == drawn.network().events() => Some(Group::Finding(*number)),
+        Stage::Event(number) if *number == drawn.network().events() => Some(Group::Finding(
+            *number,
+        )),
         Stage::Bound { told, side } => Some(Group::Bound {
             told: *told,
             side: *side,
