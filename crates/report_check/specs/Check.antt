@@ -1,5 +1,5 @@
 -- What the check of a report answers and writes.
-use Rattle.std.specs.Prelude.{◌≡◌, ℕ, ⊥, List, ◌++◌, codes}
+use Rattle.std.specs.Prelude.{◌≡◌, ℕ, List, ◌++◌, codes}
 use Rattle.std.specs.Prelude.{decimal}
 use Rattle.job_answer.specs.declared.answer.Answer.{Answer}
 use Rattle.job_answer.specs.declared.answer.Answer.TheVariants.{AllPass, SomeFail, Inconsistent, Undecided, CheckRefused}
@@ -31,3 +31,8 @@ AnswersCheck drawn bytes CheckRefused text = (line : ℕ) × IsRefusedText drawn
 -- what it may have begun to write
 abbrev pub BeginsCheck : Drawn → List ℕ → List ℕ → Type 0
 BeginsCheck drawn bytes text = (answer : Answer) × AnswersCheck drawn bytes answer text
+
+-- the line that tells what becomes of a report
+abbrev pub checked_text : Checked → List ℕ
+checked_text Accepted = accepted_text
+checked_text (Refused line) = refused_text line

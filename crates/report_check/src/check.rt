@@ -1,10 +1,15 @@
 //! Checking a report.
 
-ghost use Rattle.std.specs.Prelude.{IfOk};
+ghost use Rattle.std.specs.Prelude.{◌<◌, ◌^◌, IfOk, length};
 ghost use Rattle.unroll.specs.Reported.{reported};
 ghost use Rattle.report_check.specs.Check.{IsCheckOf};
+ghost use Rattle.report_check.specs.Step.Walks.{ChecksItems};
 
+use crate::walk::walk;
+use branch::Work;
+use cert_checker::Checker;
 use itv_base::NoMemory;
+use slack_report::{Items, ReportFault, read_report};
 use std::alloc::Global;
 use unroll::Unrolled;
 
@@ -14,14 +19,30 @@ pub enum Checked {
     /// Each line meets the check: the report is right.
     Accepted,
     /// This line, from 1, is the first that is wrong.
-    Refused {
-        line: u64,
-    },
+    Refused { line: u64 },
+}
+
+// Checks the lines of a report.
+fn check_items(alloc: Global, drawn: &Unrolled, items: &Items) -> Result<Checked, NoMemory>
+    requires few { length items.now < 2 ^ 63 }
+    ensures check { IfOk result (ChecksItems (reported drawn.now) items.now) }
+{
+    let net = drawn.network();
+    let mut checker = Checker::new(alloc, net)?;
+    let mut work = Work::new(alloc, net)?;
+    match walk(drawn, &mut checker, &mut work, items) {
+        Ok(()) => Ok(Checked::Accepted),
+        Err(number) => Ok(Checked::Refused { line: number + 1 }),
+    }
 }
 
 /// Checks a text as a report of a drawn network.
 pub fn check_report(alloc: Global, drawn: &Unrolled, bytes: &[u8]) -> Result<Checked, NoMemory>
     ensures check { IfOk result (IsCheckOf (reported drawn.now) bytes.now) }
 {
-    loop {}
+    match read_report(alloc, bytes) {
+        Ok(report) => check_items(alloc, drawn, report.items()),
+        Err(ReportFault::Line(line)) => Ok(Checked::Refused { line }),
+        Err(ReportFault::NoMemory) => Err(NoMemory),
+    }
 }

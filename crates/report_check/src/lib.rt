@@ -4,7 +4,14 @@
 #![tactic(auto)]
 
 mod answer;
+mod bounds;
 mod check;
+mod group;
+mod judge;
+mod names;
+mod stage;
+mod times;
+mod walk;
 
 pub use answer::answer_check;
 pub use check::{Checked, check_report};

@@ -1,0 +1,88 @@
+-- What findings and bounds decide behind lines of a proof.
+use Rattle.std.proofs.Common.{◌≡◌, ◌↔◌, ℕ, Bool, true, false, IsTrue, List, [], ◌∷◌, Option, Some, None, inl, inr, refl, sym, ap, subst, ◌∙◌}
+use Rattle.event_graph.specs.Network.{Net}
+use Rattle.event_graph.specs.Proof.{Nothing, ProofGoal, ProofLine}
+use Rattle.requirements.specs.declared.bound.Bound.{Bound}
+use Rattle.requirements.specs.declared.bound.Bound.TheVariants as bounds
+use Rattle.slack_report.specs.declared.words.FindingWord.{FindingWord}
+use Rattle.slack_report.specs.declared.words.FindingWord.TheVariants as findings
+use Rattle.slack_report.specs.declared.words.Which.{Which}
+use Rattle.slack_report.specs.Entry.{Entry, bound, finding, proof}
+use Rattle.slack_report.specs.Right.At as places
+use Rattle.slack_report.specs.Right.At.{At, at_bound, at_event, behind_bound, behind_finding, which_of}
+use Rattle.slack_report.specs.Right.Drawn.{Drawn, Row}
+use Rattle.slack_report.specs.Right.Following.{MayBound, MayFind, MayFollow}
+use Rattle.right_report.specs.Checked.{IsWithinTimes, ProvesBound, ProvesFinding, checked}
+use Rattle.right_report.specs.Wrong.{goal_by}
+use Rattle.report_check.specs.declared.stage.Side.{Side}
+use Rattle.report_check.specs.declared.stage.Stage.{Stage}
+use Rattle.report_check.specs.declared.stage.Telling.{Telling}
+use Rattle.report_check.specs.Step.Bounds.{goal_for}
+use Rattle.report_check.specs.Step.Groups.{IsToldOf, found_behind}
+use Rattle.report_check.specs.Step.Stages.{Decides, Fits, at_of, is_proof, side_told, telling_of}
+
+-- ---- the finding
+
+find_follows : (drawn : Drawn) (number : ℕ) (lines : List ProofLine) (line : Entry) (next : At) → MayFind (checked drawn.net) lines line next
+    → MayFollow (checked drawn.net) drawn (found_behind number lines) line next
+find_follows drawn number [] line next h = h
+find_follows drawn number (first ∷ lines) line next h = h
+
+follows_find : (drawn : Drawn) (number : ℕ) (lines : List ProofLine) (line : Entry) (next : At) → MayFollow (checked drawn.net) drawn (found_behind number lines) line next
+    → MayFind (checked drawn.net) lines line next
+follows_find drawn number [] line next h = h
+follows_find drawn number (first ∷ lines) line next h = h
+
+finding_told : (net : Net) (number : ℕ) (lines : List ProofLine) (line : Entry) (word : FindingWord) (whole : Bool) → line ≡ finding word
+    → IsToldOf net (goal_by (at_event number []) line) lines whole → word ≡ findings.Inconsistent → IsToldOf net (Some Nothing) lines whole
+finding_told net number lines line findings.Consistent whole is told e = absurd (cc e)
+finding_told net number lines line findings.Inconsistent whole is told e = subst (λ x. IsToldOf net (goal_by (at_event number []) x) lines whole) is told
+finding_told net number lines line findings.Unsettled whole is told e = absurd (cc e)
+
+same_finding : (a b : FindingWord) → finding a ≡ finding b → a ≡ b
+same_finding a b e = cc
+
+module _ (drawn : Drawn) (net : Net) (number : ℕ) (lines : List ProofLine) (line : Entry) (word : FindingWord) (whole test : Bool) (on : net ≡ drawn.net) (is : line ≡ finding word)
+    (proves : (word ≡ findings.Inconsistent → IsToldOf net (Some Nothing) lines whole) → (IsTrue test ↔ ProvesFinding net lines word))
+    (told : IsToldOf drawn.net (goal_by (at_event number []) line) lines whole) where
+  tells : IsTrue test ↔ ProvesFinding drawn.net lines word
+  tells =
+      let on_net : IsToldOf net (goal_by (at_event number []) line) lines whole = subst (λ n. IsToldOf n (goal_by (at_event number []) line) lines whole) (sym on) told in
+      subst (λ n. IsTrue test ↔ ProvesFinding n lines word) on (proves (finding_told net number lines line word whole is on_net))
+
+  pub finding_some : (stage : Stage) → test ≡ true → at_of drawn stage ≡ behind_finding word → Fits drawn stage → Decides drawn (found_behind number lines) line (Some stage)
+  finding_some stage holds behind fits = (
+    find_follows drawn number lines line (at_of drawn stage) (inr (word, is, tells.0 holds, behind)),
+    ap is_proof is,
+    fits,
+  )
+
+  pub finding_none : test ≡ false → Decides drawn (found_behind number lines) line None
+  finding_none fails = λ next h. refused next (follows_find drawn number lines line next h)
+    where
+      refused : (next : At) → MayFind (checked drawn.net) lines line next → ⊥
+      refused next (inl h) = let clash : finding word ≡ proof h.0 = sym is ∙ h.1 in absurd (cc clash)
+      refused next (inr h) =
+          let same : h.0 ≡ word = same_finding h.0 word (sym h.1 ∙ is) in
+          let clash : true ≡ false = sym (tells.1 (subst (ProvesFinding drawn.net lines) same h.2)) ∙ fails in
+          absurd (cc clash)
+
+-- ---- a bound
+
+goal_is : (told : places.Telling) (side : places.Side) (which : Which) (value : Bound) → goal_by (at_bound told side []) (bound which value) ≡ goal_for told.row side value
+goal_is told side which (bounds.Closed value) = refl
+goal_is told side which bounds.Unbounded = refl
+goal_is told side which (bounds.Within limit attained) = refl
+
+module _ (drawn : Drawn) (net : Net) (told : places.Telling) (side : places.Side) (lines : List ProofLine) (line : Entry) (which : Which) (value : Bound) (whole test : Bool)
+    (on : net ≡ drawn.net) (is : line ≡ bound which value)
+    (proves : IsToldOf net (goal_for told.row side value) lines whole → (IsTrue test ↔ (IsWithinTimes value × ProvesBound net told.course.found told.row side lines value)))
+    (tells_whole : IsToldOf drawn.net (goal_by (at_bound told side []) line) lines whole) where
+  pub bound_some : (stage : Stage) → which ≡ which_of side → test ≡ true → at_of drawn stage ≡ behind_bound told side value → Fits drawn stage
+      → Decides drawn (at_bound told side lines) line (Some stage)
+  bound_some stage same holds behind fits =
+      let goal : goal_by (at_bound told side []) line ≡ goal_for told.row side value = ap (goal_by (at_bound told side [])) is ∙ goal_is told side which value in
+      let wanted : IsToldOf net (goal_for told.row side value) lines whole =
+      subst (λ n. IsToldOf n (goal_for told.row side value) lines whole) (sym on) (subst (λ o. IsToldOf drawn.net o lines whole) goal tells_whole) in
+      let fine = subst (λ n. IsWithinTimes value × ProvesBound n told.course.found told.row side lines value) on ((proves wanted).0 holds) in
+      (inr (value, is ∙ ap (λ w. bound w value) same, fine, behind), ap is_proof is, fits)

@@ -1,0 +1,79 @@
+-- Names and rows in their places.
+use Rattle.std.proofs.Common.{◌≡◌, ◌+◌, ◌<◌, ◌≤◌, ℕ, zero, suc, List, [], ◌∷◌, length, ◌^◌, drop, map, Bool, true, false, IsTrue, ◌↔◌, Option, Some, None, option_map, unwrap_or, slice_get, refl, sym, ap, subst, ◌∙◌, arith}
+use Rattle.std.proofs.lemmas.Option.{slice_get-map, slice_get_within}
+use Rattle.std.proofs.lemmas.List.{length-map}
+use Rattle.sheet.proofs.Lists.{drop-read}
+use Rattle.itv_base.specs.Names.{Name}
+use Rattle.itv_base.specs.declared.names.EventId.{EventId}
+use Rattle.slack_report.specs.Right.Drawn as told
+use Rattle.unroll.specs.declared.row.Row.{Row}
+use Rattle.unroll.specs.Drawn.{Drawn, IsRowOf, name_of, nameless}
+use Rattle.unroll.specs.Reported.{reported, row_told}
+use Rattle.slack_report.specs.Entry as lines
+use Rattle.slack_report.specs.Entry.{Entry}
+use Rattle.slack_report.specs.Right.At.{at_end, at_last, at_row, end_word}
+use Rattle.slack_report.specs.Right.At as places
+use Rattle.report_check.specs.declared.stage.Course.{Course}
+use Rattle.report_check.specs.declared.stage.Side.TheVariants.{Greatest}
+use Rattle.report_check.specs.declared.stage.Stage.{Stage}
+use Rattle.report_check.specs.declared.stage.Stage.TheVariants as stages
+use Rattle.report_check.specs.declared.stage.Telling.{Telling}
+use Rattle.report_check.specs.Step.Stages.{Decides, IsTelling, at_of, course_told, is_proof}
+
+-- the name of an event that is there
+unwrapped : (o : Option Name) (name : Name) → (n : Name) × (o ≡ Some n) → unwrap_or o nameless ≡ name → o ≡ Some name
+unwrapped None name is same = absurd (cc is.1)
+unwrapped (Some n) name is same = ap (λ x. Some x) same
+
+there : {X : Type 0} (xs : List X) (k : ℕ) → k < length xs → (x : X) × (slice_get xs k ≡ Some x)
+there [] k within = absurd (omega arith)
+there (x ∷ xs) zero within = (x, refl)
+there (x ∷ xs) (suc k) within = there xs k (omega arith)
+
+pub names_from : (names : List Name) (number : ℕ) (name : Name) → number < length names → name ≡ unwrap_or (slice_get names number) nameless
+    → drop number names ≡ name ∷ drop (number + 1) names
+names_from names number name within is = drop-read names number name (unwrapped (slice_get names number) name (there names number within) (sym is))
+
+-- the row of a number as it is told
+pub rows_from : (rows : List Row) (number : ℕ) (row : Row) → slice_get rows number ≡ Some row
+    → drop number (map row_told rows) ≡ row_told row ∷ drop (number + 1) (map row_told rows)
+rows_from rows number row is = drop-read (map row_told rows) number (row_told row) (slice_get-map row_told rows number ∙ ap (option_map row_told) is)
+
+-- ---- what lines decide
+
+proof_not : (line other : Entry) → line ≡ other → is_proof other ≡ false → is_proof line ≡ false
+proof_not line other same is = ap is_proof same ∙ is
+
+module _ (drawn : Drawn) (number : ℕ) (name : Name) (line : Entry) (test : Bool) (there : number < length drawn.names)
+    (is : name ≡ unwrap_or (slice_get drawn.names number) nameless) (tells : IsTrue test ↔ (line ≡ lines.event number name)) where
+  pub event_some : test ≡ true → Decides (reported drawn) (at_of (reported drawn) (stages.Event number)) line (Some (stages.Event (number + 1)))
+  event_some holds =
+      let same : line ≡ lines.event number name = tells.0 holds in
+      rw (names_from drawn.names number name there is) ((same, refl), proof_not line (lines.event number name) same refl, omega arith)
+
+  pub event_none : test ≡ false → Decides (reported drawn) (at_of (reported drawn) (stages.Event number)) line None
+  event_none fails = rw (names_from drawn.names number name there is) (λ next h. let clash : true ≡ false = sym (tells.1 h.0) ∙ fails in absurd (cc clash))
+
+-- behind all rows the end comes
+pub end_decides : (drawn : told.Drawn) (course : Course) (number : ℕ) (left : List told.Row) (line : Entry) (o : Option Stage) → left ≡ []
+    → Decides drawn (at_end (end_word (course_told course))) line o → Decides drawn (at_row (course_told course) number left) line o
+end_decides drawn course number left line None none d = subst (λ xs. Decides drawn (at_row (course_told course) number xs) line None) (sym none) d
+end_decides drawn course number left line (Some stage) none d = subst (λ xs. Decides drawn (at_row (course_told course) number xs) line (Some stage)) (sym none) d
+
+-- ---- rows
+
+module _ (drawn : Drawn) (course : Course) (number : ℕ) (row : Row) (line : Entry) (test : Bool) (there : slice_get drawn.rows number ≡ Some row)
+    (tells : IsTrue test ↔ (line ≡ lines.row number row.kind (name_of drawn row.from) (name_of drawn row.to))) where
+  pub row_some : test ≡ true → IsRowOf drawn.net row → number < 2 ^ 32
+      → Decides (reported drawn) (at_of (reported drawn) (stages.Row course number)) line (Some (stages.Bound (record { course = course; number = number; row = row }) Greatest))
+  row_some holds between small =
+      let same : line ≡ lines.row number row.kind (name_of drawn row.from) (name_of drawn row.to) = tells.0 holds in
+      let within : number < length drawn.rows = slice_get_within drawn.rows number row there in
+      rw (rows_from drawn.rows number row there) (
+        (same, refl),
+        proof_not line (lines.row number row.kind (name_of drawn row.from) (name_of drawn row.to)) same refl,
+        (record { from = between.0; to = between.1; number = (rw (length-map drawn.rows row_told) within); small = small }, tt),
+      )
+
+  pub row_none : test ≡ false → Decides (reported drawn) (at_of (reported drawn) (stages.Row course number)) line None
+  row_none fails = rw (rows_from drawn.rows number row there) (λ next h. let clash : true ≡ false = sym (tells.1 h.0) ∙ fails in absurd (cc clash))

@@ -1,0 +1,5 @@
+-- Words of contracts within this crate.
+pub mod Stages
+pub mod Groups
+pub mod Walks
+pub mod Bounds

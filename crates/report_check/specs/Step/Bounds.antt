@@ -1,0 +1,33 @@
+-- Root bounds, and what a closed bound wants shown.
+use Rattle.std.specs.Prelude.{◌≡◌, ◌<◌, ℤ, neg_ℤ, List, Option, Some, None, option_map}
+use Rattle.event_graph.specs.Network.{Net}
+use Rattle.event_graph.specs.Proof.{ProofGoal}
+use Rattle.event_graph.specs.RootBound.{MeetsAlways}
+use Rattle.branch.specs.declared.answer.Root.{Root}
+use Rattle.branch.specs.declared.answer.Root.TheVariants as roots
+use Rattle.requirements.specs.declared.bound.Bound.{Bound}
+use Rattle.requirements.specs.declared.bound.Bound.TheVariants as bounds
+use Rattle.slack_report.specs.Right.At.{Side}
+use Rattle.slack_report.specs.Right.Drawn as told
+use Rattle.right_report.specs.Shown.{goal_of}
+use Rattle.unroll.specs.declared.row.Row.{Row}
+
+-- some times meet the always-edges
+abbrev pub SomeMeet : Net → Type 0
+SomeMeet net = (list : List ℤ) × MeetsAlways list net
+
+-- a root bound with its number negated
+abbrev pub reversed_root : Root → Root
+reversed_root roots.NoTimes = roots.NoTimes
+reversed_root (roots.Bound upper) = roots.Bound (option_map neg_ℤ upper)
+
+-- the row is between events of the network
+pub record IsBetween (net : Net) (row : Row) : Type 0 where
+  pub from : row.from.0 < net.events
+  pub to : row.to.0 < net.events
+
+-- what lines before a bound are to show: only a closed one is to be shown
+abbrev pub goal_for : told.Row → Side → Bound → Option ProofGoal
+goal_for r side (bounds.Closed value) = Some (goal_of r side value)
+goal_for r side bounds.Unbounded = None
+goal_for r side (bounds.Within limit attained) = None

@@ -1,0 +1,76 @@
+-- The lines of a proof before a finding or a bound, and what a check of them tells.
+use Rattle.std.specs.Prelude.{◌≡◌, ◌+◌, ◌↔◌, ℕ, Bool, IsTrue, List, [], ◌∷◌, ◌++◌, length, Option, Some, None, Result, Ok, Err}
+use Rattle.event_graph.specs.Network.{Net}
+use Rattle.event_graph.specs.Proof.{Case, IsProof, ProofGoal, ProofLine}
+use Rattle.event_graph.specs.Proof as proofs
+use Rattle.cert_checker.specs.declared.goal.Goal.{Goal}
+use Rattle.cert_checker.specs.Checking.{goal_view}
+use Rattle.slack_report.specs.Entry.{Entry, proof}
+use Rattle.slack_report.specs.Right.At.{At, at_bound, at_event, at_finding}
+use Rattle.slack_report.specs.Right.Drawn.{Drawn}
+use Rattle.right_report.specs.Wrong.{Takes, goal_by}
+use Rattle.report_check.specs.Step.Stages.{Decides, Fits, IsSide, IsTelling, side_told, telling_of}
+use Rattle.report_check.specs.declared.stage.Stage.{Stage}
+use Rattle.report_check.specs.declared.group.Group.{Group}
+use Rattle.report_check.specs.declared.group.Group.TheVariants as groups
+
+-- the lines of a proof that some lines begin with
+abbrev pub proof_front : List Entry → List ProofLine
+proof_front [] = []
+proof_front (proof line ∷ rest) = line ∷ proof_front rest
+proof_front (line ∷ rest) = []
+
+-- behind lines of a proof that stand behind the events
+abbrev pub found_behind : ℕ → List ProofLine → At
+found_behind number [] = at_event number []
+found_behind number (line ∷ lines) = at_finding (line ∷ lines)
+
+-- where a report stands behind lines of a proof
+abbrev pub behind_lines : Drawn → Group → List ProofLine → At
+behind_lines drawn (groups.Finding number) lines = found_behind number lines
+behind_lines drawn (groups.Bound told side) lines = at_bound (telling_of drawn told) (side_told side) lines
+
+abbrev pub IsGroup : Drawn → Group → Type 0
+IsGroup drawn (groups.Finding number) = number ≡ length drawn.names
+IsGroup drawn (groups.Bound told side) = IsTelling drawn told × IsSide side
+
+-- reading lines for one goal is reading them for the other
+abbrev pub ReadsAlike : Net → ProofGoal → ProofGoal → Type 0
+ReadsAlike net goal other = (cases left : List Case) (lines : List ProofLine) → proofs.Reads net goal cases lines left ↔ proofs.Reads net other cases lines left
+
+-- what a checker is begun with in place of a goal
+abbrev pub StandsForGoal : Net → Option ProofGoal → Option Goal → Type 0
+StandsForGoal net None None = Unit {0}
+StandsForGoal net None (Some begun) = ⊥
+StandsForGoal net (Some goal) None = ⊥
+StandsForGoal net (Some goal) (Some begun) = ReadsAlike net goal (goal_view begun)
+
+-- all lines are taken, and it is told whether they are a whole proof
+pub record AreTaken (net : Net) (goal : ProofGoal) (lines : List ProofLine) (whole : Bool) : Type 0 where
+  pub cases : List Case
+  pub reads : proofs.Reads net goal ([] ∷ []) lines cases
+  pub is_whole : IsTrue whole ↔ (cases ≡ [])
+
+-- a line, of a number among all lines, is not taken behind those before it
+pub record IsOneRefused (net : Net) (goal : ProofGoal) (lines : List ProofLine) (first number : ℕ) : Type 0 where
+  pub before : List ProofLine
+  pub refused : ProofLine
+  pub more : List ProofLine
+  pub parts : lines ≡ before ++ refused ∷ more
+  pub is_number : number ≡ first + length before
+  pub taken : Takes net goal before
+  pub fails : Takes net goal (before ++ refused ∷ []) → ⊥
+
+abbrev pub ChecksLines : Net → ProofGoal → List ProofLine → ℕ → Result Bool ℕ → Type 0
+ChecksLines net goal lines first (Ok whole) = AreTaken net goal lines whole
+ChecksLines net goal lines first (Err number) = IsOneRefused net goal lines first number
+
+-- lines for what they are to show, where something is; else they are passed over
+abbrev pub ChecksFor : Net → Option ProofGoal → List ProofLine → ℕ → Result Bool ℕ → Type 0
+ChecksFor net None lines first result = (whole : Bool) × (result ≡ Ok whole)
+ChecksFor net (Some goal) lines first result = ChecksLines net goal lines first result
+
+-- it is told whether lines prove what the line behind them wants shown
+abbrev pub IsToldOf : Net → Option ProofGoal → List ProofLine → Bool → Type 0
+IsToldOf net None lines whole = Unit {0}
+IsToldOf net (Some goal) lines whole = IsTrue whole ↔ IsProof net goal lines

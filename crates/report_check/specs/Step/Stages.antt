@@ -1,0 +1,98 @@
+-- The stages of a check as the places where a report stands, and what a line decides there.
+use Rattle.std.specs.Prelude.{◌≡◌, ◌<◌, ◌≤◌, ◌+◌, ◌^◌, Bool, true, false, List, [], All, length, drop, Option, Some, None}
+use Rattle.event_graph.specs.Times.{IsTime}
+use Rattle.requirements.specs.Bounds.{HasTimes}
+use Rattle.requirements.specs.declared.bound.BothBounds.{BothBounds}
+use Rattle.slack_report.specs.Entry.{Entry, proof}
+use Rattle.slack_report.specs.Right.At as places
+use Rattle.slack_report.specs.Right.At.{At, at_heading, at_budget, at_events, at_event, at_known, at_rows, at_row, at_bound, at_times, at_raise, at_verdict, at_past, at_slack, at_end, at_last}
+use Rattle.slack_report.specs.Right.Drawn.{Drawn}
+use Rattle.slack_report.specs.Right.Following.{MayFollow}
+use Rattle.right_report.specs.Checked.{checked}
+use Rattle.unroll.specs.Reported.{row_told}
+use Rattle.report_check.specs.declared.stage.Course.{Course}
+use Rattle.report_check.specs.declared.stage.Side.{Side}
+use Rattle.report_check.specs.declared.stage.Side.TheVariants.{Greatest, LeastBy}
+use Rattle.report_check.specs.declared.stage.Stage.{Stage}
+use Rattle.report_check.specs.declared.stage.Stage.TheVariants as stages
+use Rattle.report_check.specs.declared.stage.Telling.{Telling}
+
+-- ---- the place of a stage
+
+abbrev pub course_told : Course → places.Course
+course_told course = record { found = course.found; fails = course.fails; within = course.within }
+
+abbrev pub side_told : Side → places.Side
+side_told Greatest = places.greatest
+side_told (LeastBy most) = places.least_by most
+
+abbrev pub telling_of : Drawn → Telling → places.Telling
+telling_of drawn told = record { course = course_told told.course; number = told.number; row = row_told told.row; later = drop (told.number + 1) drawn.rows }
+
+abbrev pub at_of : Drawn → Stage → At
+at_of drawn stages.Heading = at_heading
+at_of drawn stages.Budget = at_budget
+at_of drawn stages.Events = at_events
+at_of drawn (stages.Event number) = at_event number (drop number drawn.names)
+at_of drawn stages.Known = at_known
+at_of drawn (stages.Rows word) = at_rows word
+at_of drawn (stages.Row course number) = at_row (course_told course) number (drop number drawn.rows)
+at_of drawn (stages.Bound told side) = at_bound (telling_of drawn told) (side_told side) []
+at_of drawn (stages.Times told side value) = at_times (telling_of drawn told) (side_told side) value
+at_of drawn (stages.Raise told side times) = at_raise (telling_of drawn told) (side_told side) times.now
+at_of drawn (stages.Verdict told range both) = at_verdict (telling_of drawn told) range both.least both.greatest
+at_of drawn (stages.Past told range both) = at_past (telling_of drawn told) range both.least both.greatest
+at_of drawn (stages.Slack course number range both) = at_slack (course_told course) number (drop number drawn.rows) range both.least both.greatest
+at_of drawn (stages.End word) = at_end word
+at_of drawn stages.Done = at_last
+
+-- ---- what a stage keeps
+
+-- the row is one of the network's
+pub record IsTelling (drawn : Drawn) (told : Telling) : Type 0 where
+  pub from : told.row.from.0 < drawn.net.events
+  pub to : told.row.to.0 < drawn.net.events
+  pub number : told.number < length drawn.rows
+  pub small : told.number < 2 ^ 32
+
+abbrev pub IsSide : Side → Type 0
+IsSide Greatest = Unit {0}
+IsSide (LeastBy most) = HasTimes most
+
+abbrev pub AreBounded : BothBounds → Type 0
+AreBounded both = HasTimes both.least × HasTimes both.greatest
+
+-- numbers of events and rows are there, and the numbers of bounds are below 2^61 in absolute value
+abbrev pub Fits : Drawn → Stage → Type 0
+Fits drawn stages.Heading = Unit {0}
+Fits drawn stages.Budget = Unit {0}
+Fits drawn stages.Events = Unit {0}
+Fits drawn (stages.Event number) = number ≤ length drawn.names
+Fits drawn stages.Known = Unit {0}
+Fits drawn (stages.Rows word) = Unit {0}
+Fits drawn (stages.Row course number) = number ≤ length drawn.rows
+Fits drawn (stages.Bound told side) = IsTelling drawn told × IsSide side
+Fits drawn (stages.Times told side value) = IsTelling drawn told × IsSide side × HasTimes value
+Fits drawn (stages.Raise told side times) = IsTelling drawn told × IsSide side × All IsTime times.now × (length times.now ≡ drawn.net.events)
+Fits drawn (stages.Verdict told range both) = IsTelling drawn told × AreBounded both
+Fits drawn (stages.Past told range both) = IsTelling drawn told × AreBounded both
+Fits drawn (stages.Slack course number range both) = (number ≤ length drawn.rows) × AreBounded both
+Fits drawn (stages.End word) = Unit {0}
+Fits drawn stages.Done = Unit {0}
+
+-- ---- what a line decides
+
+abbrev pub is_proof : Entry → Bool
+is_proof (proof line) = true
+is_proof other = false
+
+-- a line that is none of a proof leads from a place to that of a stage, or may not follow
+abbrev pub Decides : Drawn → At → Entry → Option Stage → Type 0
+Decides drawn here line None = (next : At) → MayFollow (checked drawn.net) drawn here line next → ⊥
+Decides drawn here line (Some stage) = MayFollow (checked drawn.net) drawn here line (at_of drawn stage) × (is_proof line ≡ false) × Fits drawn stage
+
+-- no line of a proof may stand at the stage
+abbrev pub IsLineStage : Drawn → Stage → Type 0
+IsLineStage drawn (stages.Event number) = number < drawn.net.events
+IsLineStage drawn (stages.Bound told side) = ⊥
+IsLineStage drawn other = Unit {0}

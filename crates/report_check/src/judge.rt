@@ -1,0 +1,319 @@
+//! Where a line leads that is none of a proof, or that it may not follow.
+
+ghost use Rattle.std.specs.Prelude.{◌≡◌, ◌↔◌, ◌<◌, ◌≤◌, ◌^◌, All, IsTrue, Some, length, slice_get};
+ghost use Rattle.event_graph.specs.Times.{IsTime};
+ghost use Rattle.requirements.specs.Bounds.{HasTimes};
+ghost use Rattle.itv_base.specs.Names.{name_view};
+ghost use Rattle.slack_report.specs.Entry.{event, row as row_line};
+ghost use Rattle.slack_report.specs.Items.{item_view};
+ghost use Rattle.slack_report.specs.Right.At.{at_end, at_raise, behind_times};
+ghost use Rattle.slack_report.specs.Right.Drawn.{Drawn};
+ghost use Rattle.unroll.specs.Drawn.{IsRowOf, name_of};
+ghost use Rattle.unroll.specs.Reported.{reported};
+ghost use Rattle.report_check.specs.Step.Stages.{AreBounded, Decides, Fits, IsLineStage, IsSide, IsTelling, at_of, side_told, telling_of};
+
+use crate::names::{same_kind, same_name};
+use crate::stage::{Course, Side, Stage, Telling, behind_past, behind_verdict, bounded};
+use crate::times::{are_known, are_times, attains, breaks, can_rise};
+use itv_base::{EventId, EventName, Range};
+use requirements::{BothBounds, Bound, judge as verdict_of, slack as slack_of};
+use slack_report::{EndWord, FindingWord, Item};
+use unroll::{Row, Unrolled};
+
+fn judge_heading(drawn: &Unrolled, item: &Item<'_>) -> Option<Stage<'static>>
+    ensures decides { Decides (reported drawn.now) (at_of (reported drawn.now) Stage.Heading) (item_view item.now) result }
+{
+    match item {
+        Item::Heading => Some(Stage::Budget),
+        _ => None,
+    }
+}
+
+fn judge_budget(drawn: &Unrolled, item: &Item<'_>) -> Option<Stage<'static>>
+    ensures decides { Decides (reported drawn.now) (at_of (reported drawn.now) Stage.Budget) (item_view item.now) result }
+{
+    match item {
+        Item::Budget { .. } => Some(Stage::Events),
+        _ => None,
+    }
+}
+
+fn judge_events(drawn: &Unrolled, item: &Item<'_>) -> Option<Stage<'static>>
+    ensures decides { Decides (reported drawn.now) (at_of (reported drawn.now) Stage.Events) (item_view item.now) result }
+{
+    match item {
+        Item::Events { count } if *count == drawn.network().events() => Some(Stage::Event(0)),
+        _ => None,
+    }
+}
+
+// Whether a line names an event.
+fn is_event(item: &Item<'_>, number: u32, name: EventName<'_>) -> bool
+    ensures event { IsTrue result ↔ (item_view item.now ≡ event number (name_view name.entry)) }
+{
+    match item {
+        Item::Event {
+            number: told,
+            name: told_name,
+        } => *told == number && same_name(*told_name, name),
+        _ => false,
+    }
+}
+
+fn judge_event(drawn: &Unrolled, number: u32, item: &Item<'_>) -> Option<Stage<'static>>
+    requires there { number < drawn.now.net.events }
+    ensures decides { Decides (reported drawn.now) (at_of (reported drawn.now) (Stage.Event number)) (item_view item.now) result }
+{
+    // The number of events is one of 32 bits, and so is the next number.
+    let _events = drawn.network().events();
+    if is_event(item, number, drawn.name(EventId(number))) {
+        return Some(Stage::Event(number + 1));
+    }
+    None
+}
+
+fn judge_known(drawn: &Unrolled, item: &Item<'_>) -> Option<Stage<'static>>
+    ensures decides { Decides (reported drawn.now) (at_of (reported drawn.now) Stage.Known) (item_view item.now) result }
+{
+    match item {
+        Item::Times(list) if are_known(drawn.network(), list) => {
+            Some(Stage::Rows(FindingWord::Consistent))
+        }
+        _ => None,
+    }
+}
+
+fn judge_rows(drawn: &Unrolled, word: FindingWord, item: &Item<'_>) -> Option<Stage<'static>>
+    ensures decides { Decides (reported drawn.now) (at_of (reported drawn.now) (Stage.Rows word)) (item_view item.now) result }
+{
+    match item {
+        Item::Rows { count } if u64::from(*count) == drawn.rows().len() => Some(Stage::Row {
+            course: Course::new(word),
+            number: 0,
+        }),
+        _ => None,
+    }
+}
+
+fn judge_end(drawn: &Unrolled, word: EndWord, item: &Item<'_>) -> Option<Stage<'static>>
+    ensures decides { Decides (reported drawn.now) (at_end word) (item_view item.now) result }
+{
+    match item {
+        Item::End(told) if *told == word => Some(Stage::Done),
+        _ => None,
+    }
+}
+
+// Whether a line tells what is asked of a row.
+fn is_row(item: &Item<'_>, number: u64, drawn: &Unrolled, row: &Row) -> bool
+    requires between { IsRowOf drawn.now.net row.now }
+    ensures row { IsTrue result ↔ (item_view item.now
+        ≡ row_line number row.now.kind (name_of drawn.now row.now.from) (name_of drawn.now row.now.to)) }
+    ensures small { IsTrue result → number < 2 ^ 32 }
+{
+    match item {
+        Item::Row {
+            number: told,
+            kind,
+            from,
+            to,
+        } => {
+            u64::from(*told) == number
+                && same_kind(kind, &row.kind)
+                && same_name(*from, drawn.name(row.from))
+                && same_name(*to, drawn.name(row.to))
+        }
+        _ => false,
+    }
+}
+
+fn judge_row_line(
+    drawn: &Unrolled,
+    course: Course,
+    number: u64,
+    row: &Row,
+    item: &Item<'_>,
+) -> Option<Stage<'static>>
+    requires row { slice_get drawn.now.rows number ≡ Some row.now }
+    requires between { IsRowOf drawn.now.net row.now }
+    ensures decides { Decides (reported drawn.now) (at_of (reported drawn.now) (Stage.Row course number)) (item_view item.now) result }
+{
+    if is_row(item, number, drawn, row) {
+        return Some(Stage::Bound {
+            told: Telling {
+                course,
+                number,
+                row: *row,
+            },
+            side: Side::Greatest,
+        });
+    }
+    None
+}
+
+fn judge_row(
+    drawn: &Unrolled,
+    course: Course,
+    number: u64,
+    item: &Item<'_>,
+) -> Option<Stage<'static>>
+    requires within { number ≤ length drawn.now.rows }
+    ensures decides { Decides (reported drawn.now) (at_of (reported drawn.now) (Stage.Row course number)) (item_view item.now) result }
+{
+    let rows = drawn.rows();
+    if number == rows.len() {
+        return judge_end(drawn, course.end_word(), item);
+    }
+    judge_row_line(drawn, course, number, rows.get(number), item)
+}
+
+// Behind the times of a bound.
+fn behind_times<'a>(told: &Telling, side: Side, value: Bound, times: &'a [i64]) -> Stage<'a>
+    requires number { told.now.number < 2 ^ 32 }
+    ensures stage { (drawn : Drawn) → at_of drawn result ≡ behind_times (telling_of drawn told.now) (side_told side) value times.now }
+    ensures fits { (drawn : Drawn) → IsTelling drawn told.now → IsSide side → HasTimes value → All IsTime times.now
+        → length times.now ≡ drawn.net.events → Fits drawn result }
+{
+    match value {
+        Bound::Unbounded => Stage::Raise {
+            told: *told,
+            side,
+            times,
+        },
+        _ => bounded(told, side, value),
+    }
+}
+
+fn judge_times<'a>(
+    drawn: &Unrolled,
+    told: &Telling,
+    side: Side,
+    value: Bound,
+    item: &Item<'a>,
+) -> Option<Stage<'a>>
+    requires telling { IsTelling (reported drawn.now) told.now }
+    requires side { IsSide side }
+    requires times { HasTimes value }
+    ensures decides { Decides (reported drawn.now) (at_of (reported drawn.now) (Stage.Times told.now side value)) (item_view item.now) result }
+{
+    match item {
+        Item::Times(list)
+            if are_times(drawn.network(), &told.row, list) && attains(&told.row, value, list) => {
+            Some(behind_times(told, side, value, list))
+        }
+        _ => None,
+    }
+}
+
+fn judge_raise(
+    drawn: &Unrolled,
+    told: &Telling,
+    side: Side,
+    times: &[i64],
+    item: &Item<'_>,
+) -> Option<Stage<'static>>
+    requires telling { IsTelling (reported drawn.now) told.now }
+    requires side { IsSide side }
+    requires times { All IsTime times.now }
+    requires count { length times.now ≡ drawn.now.net.events }
+    ensures decides { Decides (reported drawn.now) (at_raise (telling_of (reported drawn.now) told.now) (side_told side) times.now) (item_view item.now) result }
+{
+    match item {
+        Item::Raise(set) if can_rise(drawn.network(), &told.row, side, times, set) => {
+            Some(bounded(told, side, Bound::Unbounded))
+        }
+        _ => None,
+    }
+}
+
+fn judge_verdict(
+    drawn: &Unrolled,
+    told: &Telling,
+    range: Range,
+    both: &BothBounds,
+    item: &Item<'_>,
+) -> Option<Stage<'static>>
+    requires telling { IsTelling (reported drawn.now) told.now }
+    requires bounds { AreBounded both.now }
+    ensures decides { Decides (reported drawn.now) (at_of (reported drawn.now) (Stage.Verdict told.now range both.now)) (item_view item.now) result }
+{
+    match item {
+        Item::Verdict(word) if *word == verdict_of(range, both) => {
+            Some(behind_verdict(told, range, both, *word))
+        }
+        _ => None,
+    }
+}
+
+fn judge_past(
+    drawn: &Unrolled,
+    told: &Telling,
+    range: Range,
+    both: &BothBounds,
+    item: &Item<'_>,
+) -> Option<Stage<'static>>
+    requires telling { IsTelling (reported drawn.now) told.now }
+    requires bounds { AreBounded both.now }
+    ensures decides { Decides (reported drawn.now) (at_of (reported drawn.now) (Stage.Past told.now range both.now)) (item_view item.now) result }
+{
+    let word = verdict_of(range, both);
+    match item {
+        Item::Times(list)
+            if are_times(drawn.network(), &told.row, list)
+                && breaks(&told.row, range, word, list) => {
+            Some(behind_past(told, range, both, word))
+        }
+        _ => None,
+    }
+}
+
+fn judge_slack(
+    drawn: &Unrolled,
+    course: Course,
+    number: u64,
+    range: Range,
+    both: &BothBounds,
+    item: &Item<'_>,
+) -> Option<Stage<'static>>
+    requires number { number ≤ length drawn.now.rows }
+    requires bounds { AreBounded both.now }
+    ensures decides { Decides (reported drawn.now) (at_of (reported drawn.now) (Stage.Slack course number range both.now)) (item_view item.now) result }
+{
+    match item {
+        Item::Slack(value) if *value == slack_of(range, both) => {
+            Some(Stage::Row { course, number })
+        }
+        _ => None,
+    }
+}
+
+/// Where a line leads at a stage that is before no line of a proof, or none where the line may not follow.
+pub fn judge<'a>(drawn: &Unrolled, stage: &Stage<'a>, item: &Item<'a>) -> Option<Stage<'a>>
+    requires line { IsLineStage (reported drawn.now) stage.now }
+    requires fits { Fits (reported drawn.now) stage.now }
+    ensures decides { Decides (reported drawn.now) (at_of (reported drawn.now) stage.now) (item_view item.now) result }
+{
+    match stage {
+        Stage::Heading => judge_heading(drawn, item),
+        Stage::Budget => judge_budget(drawn, item),
+        Stage::Events => judge_events(drawn, item),
+        Stage::Event(number) => judge_event(drawn, *number, item),
+        Stage::Known => judge_known(drawn, item),
+        Stage::Rows(word) => judge_rows(drawn, *word, item),
+        Stage::Row { course, number } => judge_row(drawn, *course, *number, item),
+        // Lines of a proof may stand before a bound.
+        Stage::Bound { .. } => unreachable!(),
+        Stage::Times { told, side, value } => judge_times(drawn, told, *side, *value, item),
+        Stage::Raise { told, side, times } => judge_raise(drawn, told, *side, times, item),
+        Stage::Verdict { told, range, both } => judge_verdict(drawn, told, *range, both, item),
+        Stage::Past { told, range, both } => judge_past(drawn, told, *range, both, item),
+        Stage::Slack {
+            course,
+            number,
+            range,
+            both,
+        } => judge_slack(drawn, *course, *number, *range, both, item),
+        Stage::End(word) => judge_end(drawn, *word, item),
+        Stage::Done => None,
+    }
+}

@@ -1,0 +1,269 @@
+//! Where a check stands between two lines of a report, with what the lines to come are held to.
+
+ghost use Rattle.std.specs.Prelude.{◌≡◌, ◌<◌, ◌^◌, length};
+ghost use Rattle.requirements.specs.Bounds.{HasTimes};
+ghost use Rattle.slack_report.specs.Right.At.{behind_bound, behind_finding, behind_past, behind_verdict, bounded, course_of, end_word, is_fail, is_within, which_of, with_bounds, with_verdict};
+ghost use Rattle.slack_report.specs.Right.Drawn.{Drawn};
+ghost use Rattle.report_check.specs.Step.Stages.{AreBounded, Fits, IsSide, IsTelling, at_of, course_told, side_told, telling_of};
+
+use itv_base::Range;
+use requirements::{BothBounds, Bound, Verdict};
+use sheet::RowKind;
+use slack_report::{EndWord, FindingWord, Which};
+use unroll::Row;
+
+/// What the word at the end goes by: the finding, whether some verdict was a fail, and whether some bound was left open.
+#[derive(Clone, Copy, Debug, PartialEq, Eq)]
+pub struct Course {
+    pub found: FindingWord,
+    pub fails: bool,
+    pub within: bool,
+}
+
+/// Which bound of a row comes: the greatest, or the least behind the greatest.
+#[derive(Clone, Copy, Debug, PartialEq, Eq)]
+pub enum Side {
+    Greatest,
+    LeastBy(Bound),
+}
+
+/// A row that is being told, with its number from 0, behind what came before.
+#[derive(Clone, Copy, Debug, PartialEq, Eq)]
+pub struct Telling {
+    pub course: Course,
+    pub number: u64,
+    pub row: Row,
+}
+
+/// Where a check stands: before the line that the stage is named for. Lines of a proof are taken together with the finding or the
+/// bound behind them, so that no stage stands among them.
+#[derive(Clone, Copy, Debug)]
+pub enum Stage<'a> {
+    Heading,
+    Budget,
+    Events,
+    /// Before the event of a number from 0; behind all events before the finding.
+    Event(u32),
+    /// Before the times of a consistent finding.
+    Known,
+    Rows(FindingWord),
+    /// Before the row of a number from 0; behind all rows before the end.
+    Row {
+        course: Course,
+        number: u64,
+    },
+    Bound {
+        told: Telling,
+        side: Side,
+    },
+    /// Before the times of a bound.
+    Times {
+        told: Telling,
+        side: Side,
+        value: Bound,
+    },
+    /// Before the set of events that can be raised from these times.
+    Raise {
+        told: Telling,
+        side: Side,
+        times: &'a [i64],
+    },
+    Verdict {
+        told: Telling,
+        range: Range,
+        both: BothBounds,
+    },
+    /// Before the times that break a requirement.
+    Past {
+        told: Telling,
+        range: Range,
+        both: BothBounds,
+    },
+    /// Before the slack of a row, behind which the row of a number comes.
+    Slack {
+        course: Course,
+        number: u64,
+        range: Range,
+        both: BothBounds,
+    },
+    End(EndWord),
+    /// Behind the last line.
+    Done,
+}
+
+impl Course {
+    /// Behind a finding.
+    pub fn new(found: FindingWord) -> Course
+        ensures course { course_told result ≡ course_of found }
+    {
+        Course {
+            found,
+            fails: false,
+            within: false,
+        }
+    }
+
+    fn with_bounds(self, both: &BothBounds) -> Course
+        ensures course { course_told result ≡ with_bounds (course_told self) both.now.least both.now.greatest }
+    {
+        let within = self.within || is_within(both.least) || is_within(both.greatest);
+        Course { within, ..self }
+    }
+
+    fn with_verdict(self, word: Verdict) -> Course
+        ensures course { course_told result ≡ with_verdict (course_told self) word }
+    {
+        Course {
+            fails: self.fails || is_fail(word),
+            ..self
+        }
+    }
+
+    /// The word at the end.
+    pub fn end_word(self) -> EndWord
+        ensures word { result ≡ end_word (course_told self) }
+    {
+        if self.fails {
+            return EndWord::Fail;
+        }
+        match self.found {
+            FindingWord::Consistent if self.within => EndWord::Undecided,
+            FindingWord::Consistent => EndWord::Pass,
+            FindingWord::Inconsistent => EndWord::Inconsistent,
+            FindingWord::Unsettled => EndWord::Undecided,
+        }
+    }
+}
+
+fn is_within(value: Bound) -> bool
+    ensures within { result ≡ is_within value }
+{
+    match value {
+        Bound::Closed(_) | Bound::Unbounded => false,
+        Bound::Within { .. } => true,
+    }
+}
+
+fn is_fail(word: Verdict) -> bool
+    ensures fail { result ≡ is_fail word }
+{
+    match word {
+        Verdict::FailHigh | Verdict::FailLow => true,
+        Verdict::Pass | Verdict::Undecided => false,
+    }
+}
+
+impl Side {
+    /// Which bound it is.
+    pub fn which(self) -> Which
+        ensures which { result ≡ which_of (side_told self) }
+    {
+        match self {
+            Side::Greatest => Which::Max,
+            Side::LeastBy(_) => Which::Min,
+        }
+    }
+}
+
+/// Behind a finding.
+pub fn behind_finding(word: FindingWord) -> Stage<'static>
+    ensures stage { (drawn : Drawn) → at_of drawn result ≡ behind_finding word }
+    ensures fits { (drawn : Drawn) → Fits drawn result }
+{
+    match word {
+        FindingWord::Consistent => Stage::Known,
+        FindingWord::Inconsistent => Stage::End(EndWord::Inconsistent),
+        FindingWord::Unsettled => Stage::Rows(FindingWord::Unsettled),
+    }
+}
+
+// Behind both bounds of a row.
+fn behind_both(told: &Telling, both: &BothBounds) -> Stage<'static>
+    requires number { told.now.number < 2 ^ 32 }
+    ensures stage { (drawn : Drawn) → at_of drawn result ≡ bounded (telling_of drawn told.now) (side_told (Side.LeastBy both.now.greatest)) both.now.least }
+    ensures fits { (drawn : Drawn) → IsTelling drawn told.now → AreBounded both.now → Fits drawn result }
+{
+    match &told.row.kind {
+        RowKind::Ask => Stage::Row {
+            course: told.course.with_bounds(both),
+            number: told.number + 1,
+        },
+        RowKind::Req(range) => Stage::Verdict {
+            told: *told,
+            range: *range,
+            both: *both,
+        },
+    }
+}
+
+/// Behind a bound and its lines.
+pub fn bounded(told: &Telling, side: Side, value: Bound) -> Stage<'static>
+    requires number { told.now.number < 2 ^ 32 }
+    ensures stage { (drawn : Drawn) → at_of drawn result ≡ bounded (telling_of drawn told.now) (side_told side) value }
+    ensures fits { (drawn : Drawn) → IsTelling drawn told.now → IsSide side → HasTimes value → Fits drawn result }
+{
+    match side {
+        Side::Greatest => Stage::Bound {
+            told: *told,
+            side: Side::LeastBy(value),
+        },
+        Side::LeastBy(greatest) => behind_both(
+            told,
+            &BothBounds {
+                least: value,
+                greatest,
+            },
+        ),
+    }
+}
+
+/// Behind the line of a bound.
+pub fn behind_bound(told: &Telling, side: Side, value: Bound) -> Stage<'static>
+    requires number { told.now.number < 2 ^ 32 }
+    ensures stage { (drawn : Drawn) → at_of drawn result ≡ behind_bound (telling_of drawn told.now) (side_told side) value }
+    ensures fits { (drawn : Drawn) → IsTelling drawn told.now → IsSide side → HasTimes value → Fits drawn result }
+{
+    match value {
+        Bound::Within { attained: None, .. } => bounded(told, side, value),
+        _ => Stage::Times {
+            told: *told,
+            side,
+            value,
+        },
+    }
+}
+
+/// Behind a verdict and the times that break the requirement.
+pub fn behind_past(told: &Telling, range: Range, both: &BothBounds, word: Verdict) -> Stage<'static>
+    requires number { told.now.number < 2 ^ 32 }
+    ensures stage { (drawn : Drawn) → at_of drawn result ≡ behind_past (telling_of drawn told.now) range both.now.least both.now.greatest word }
+    ensures fits { (drawn : Drawn) → IsTelling drawn told.now → AreBounded both.now → Fits drawn result }
+{
+    Stage::Slack {
+        course: told.course.with_bounds(both).with_verdict(word),
+        number: told.number + 1,
+        range,
+        both: *both,
+    }
+}
+
+/// Behind a verdict.
+pub fn behind_verdict(
+    told: &Telling,
+    range: Range,
+    both: &BothBounds,
+    word: Verdict,
+) -> Stage<'static>
+    requires number { told.now.number < 2 ^ 32 }
+    ensures stage { (drawn : Drawn) → at_of drawn result ≡ behind_verdict (telling_of drawn told.now) range both.now.least both.now.greatest word }
+    ensures fits { (drawn : Drawn) → IsTelling drawn told.now → AreBounded both.now → Fits drawn result }
+{
+    if is_fail(word) {
+        return Stage::Past {
+            told: *told,
+            range,
+            both: *both,
+        };
+    }
+    behind_past(told, range, both, word)
+}

@@ -1,0 +1,120 @@
+//! Whether times and sets of events are such as a report may tell.
+
+ghost use Rattle.std.specs.Prelude.{◌≡◌, ◌<◌, ◌↔◌, ◌-ℤ◌, IsTrue, All, length};
+ghost use Rattle.event_graph.specs.Satisfying.{Satisfies};
+ghost use Rattle.event_graph.specs.Times.{IsTime, separation, time_of};
+ghost use Rattle.slack_report.specs.Right.Facts.{AreTimes, Attains, Breaks, CanRise};
+ghost use Rattle.right_report.specs.Checked.{checked};
+ghost use Rattle.unroll.specs.Reported.{row_told};
+ghost use Rattle.report_check.specs.Step.Stages.{side_told};
+
+use crate::stage::Side;
+use cert_checker::check_ray;
+use event_graph::Network;
+use itv_base::{EventId, Range};
+use requirements::{Bound, Verdict};
+use unroll::Row;
+
+/// Whether a number of picoseconds is below 2^61 in absolute value.
+pub fn is_time(time: i64) -> bool
+    ensures time { IsTrue result ↔ IsTime time }
+{
+    -(1 << 61) < time && time < 1 << 61
+}
+
+fn are_within(times: &[i64]) -> bool
+    ensures times { IsTrue result ↔ All IsTime times.now }
+{
+    times.iter().all(|time| is_time(*time))
+}
+
+// Whether times are below 2^61 in absolute value and satisfy the network.
+fn satisfy(net: &Network, times: &[i64]) -> bool
+    ensures satisfied { IsTrue result ↔ (All IsTime times.now × Satisfies times.now net.now) }
+{
+    times.len() == net.events() as usize && are_within(times) && net.broken(times).is_none()
+}
+
+// The time of an event, or 0 where there is none.
+fn time_of(times: &[i64], event: EventId) -> i64
+    ensures time { result ≡ time_of times.now event }
+{
+    match times.get(event.0 as usize) {
+        None => 0,
+        Some(time) => *time,
+    }
+}
+
+/// Whether times satisfy the network with event 0 at 0, as behind a consistent finding.
+pub fn are_known(net: &Network, times: &[i64]) -> bool
+    ensures known { IsTrue result ↔ (checked net.now).known times.now }
+{
+    satisfy(net, times) && time_of(times, EventId(0)) == 0
+}
+
+/// Whether times satisfy the network with the from-event of a row at 0.
+pub fn are_times(net: &Network, row: &Row, times: &[i64]) -> bool
+    ensures times { IsTrue result ↔ (All IsTime times.now × AreTimes net.now (row_told row.now) times.now) }
+{
+    satisfy(net, times) && time_of(times, row.from) == 0
+}
+
+// How much later one time is than another.
+fn difference(from: i64, to: i64) -> i64
+    requires from { IsTime from }
+    requires to { IsTime to }
+    ensures value { result ≡ to -ℤ from }
+{
+    to - from
+}
+
+fn separation(times: &[i64], from: EventId, to: EventId) -> i64
+    requires times { All IsTime times.now }
+    ensures value { result ≡ separation times.now from to }
+{
+    difference(time_of(times, from), time_of(times, to))
+}
+
+/// Whether times have the separation that a bound of a row tells.
+pub fn attains(row: &Row, value: Bound, times: &[i64]) -> bool
+    requires times { All IsTime times.now }
+    ensures attains { IsTrue result ↔ Attains (row_told row.now) value times.now }
+{
+    let told = separation(times, row.from, row.to);
+    match value {
+        Bound::Closed(value) => told == value,
+        Bound::Unbounded => true,
+        Bound::Within { attained, .. } => attained.is_none_or(|value| told == value),
+    }
+}
+
+/// Whether times break the end of a range that a verdict names.
+pub fn breaks(row: &Row, range: Range, word: Verdict, times: &[i64]) -> bool
+    requires times { All IsTime times.now }
+    ensures breaks { IsTrue result ↔ Breaks (row_told row.now) range word times.now }
+{
+    let told = separation(times, row.from, row.to);
+    match word {
+        Verdict::FailHigh => range.high().is_some_and(|high| high < told),
+        Verdict::FailLow => range.low().is_some_and(|low| told < low),
+        Verdict::Pass | Verdict::Undecided => false,
+    }
+}
+
+/// Whether a set of events can be raised from times without end, and a separation of a row with it: the greatest with the
+/// to-event, and the least with the from-event.
+pub fn can_rise(net: &Network, row: &Row, side: Side, times: &[i64], set: &[bool]) -> bool
+    requires times { All IsTime times.now }
+    requires count { length times.now ≡ net.now.events }
+    requires from { row.now.from.0 < net.now.events }
+    requires to { row.now.to.0 < net.now.events }
+    ensures rise { IsTrue result ↔ CanRise net.now (row_told row.now) (side_told side) times.now set.now }
+{
+    if set.len() != net.events() as usize {
+        return false;
+    }
+    match side {
+        Side::Greatest => check_ray(net, times, set, row.from, row.to),
+        Side::LeastBy(_) => check_ray(net, times, set, row.to, row.from),
+    }
+}
