@@ -2,9 +2,6 @@ pub use Rattle.itv_base.specs.Outside
 pub use Rattle.itv_base.specs.Names
 pub mod Run
 pub mod Status
-pub mod Opened
-pub mod Refusal
-pub mod Lone
-pub mod Right
-pub mod Report
+pub mod Job
+pub mod Bounds
 pub mod Step
