@@ -1,6 +1,8 @@
 -- The jobs: what each reads, what it answers, and what it may have begun to write.
-use Rattle.std.specs.Prelude.{ℕ, nat_lt, if◌then◌else◌, List, Option, Some, None, codes}
+use Rattle.std.specs.Prelude.{ℕ, nat_lt, if◌then◌else◌, Bool, true, false, List, codes}
 use Rattle.itv_base.specs.declared.limits.TheConstants.{MAX_MATRIX_EVENTS, REPORT_LIMIT}
+use Rattle.itv_base.specs.Outside.{Files}
+use Rattle.design_gen.specs.Files.{AreFiles, design_files}
 use Rattle.job_answer.specs.declared.answer.Answer.{Answer}
 use Rattle.unroll.specs.Drawn.{Drawn}
 use Rattle.unroll.specs.Reported.{reported}
@@ -40,12 +42,19 @@ opening (generated size budget) = do
   drawn ← design_at (codes "bus.json")
   gives (ready.Generated drawn size budget)
 
--- the size of the design whose files are made for a task, where it reads those and not the files of the shelf
-abbrev pub made_size : Task → Option ℕ
-made_size (bounds design budget cert) = None
-made_size (matrix design) = None
-made_size (check design report) = None
-made_size (generated size budget) = Some size
+-- whether the files of a task are made for it, and not those of the shelf
+abbrev pub is_made : Task → Bool
+is_made (bounds design budget cert) = false
+is_made (matrix design) = false
+is_made (check design report) = false
+is_made (generated size budget) = true
+
+-- these files are made for a task
+abbrev pub AreMade : Task → Files → Type 0
+AreMade (bounds design budget cert) files = ⊥
+AreMade (matrix design) files = ⊥
+AreMade (check design report) files = ⊥
+AreMade (generated size budget) files = AreFiles files (design_files size)
 
 -- ---- what each answers and writes
 

@@ -1,5 +1,17 @@
 pub use Rattle.itv_base.specs.Outside
 pub use Rattle.itv_base.specs.Names
+pub use Rattle.event_graph.specs.Edges
+pub use Rattle.unroll.specs.Drawn
+pub use Rattle.unroll.specs.Reported
+pub use Rattle.words.specs.Task
+pub use Rattle.reading.specs.Place
+pub use Rattle.reading.specs.Refusal
+pub use Rattle.reading.specs.Opening
+pub use Rattle.reading.specs.Design
+pub use Rattle.bounds_report.specs.Reports
+pub use Rattle.matrix_report.specs.Matrix
+pub use Rattle.report_check.specs.Check
+pub use Rattle.summary_report.specs.Summary
 pub mod Run
 pub mod Status
 pub mod Job

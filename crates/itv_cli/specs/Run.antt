@@ -1,19 +1,18 @@
 -- What the end of a run says: where it comes from, and what was written. The claim is `Means`; what stands above it are its words, and what
 -- stands below follows from it. Nothing here speaks of a job: what each reads and answers stands in `Job`.
-use Rattle.std.specs.Prelude.{◌≡◌, ◌<◌, ◌⊎◌, ℕ, List, [], Option, Some, None, IfSome, codes, false, true}
+use Rattle.std.specs.Prelude.{◌≡◌, ◌<◌, ◌⊎◌, ℕ, Bool, false, true, List, [], Option, Some, None, IfSome, codes}
 use Rattle.itv_base.specs.Outside.{Files, ShelfTold, SinkTold, Rose, grown, CutShort}
-use Rattle.design_gen.specs.Files.{AreFiles, design_files}
 use Rattle.job_answer.specs.declared.answer.Answer.{Answer}
 use Rattle.job_answer.specs.declared.answer.Answer.TheVariants as answers
 use Rattle.reading.specs.declared.place.Place.{Place}
 use Rattle.reading.specs.declared.refusal.Refusal.{Refusal}
-use Rattle.reading.specs.Opening.{Opening, End, Ends, ready, refused, unread, told_end}
+use Rattle.reading.specs.Opening.{End, Ends, ready, refused, unread, told_end}
 use Rattle.reading.specs.Refusal.{refusal_text, unread_text}
 use Rattle.words.specs.Task.{Task, taken, task, help, bad_words}
 use Rattle.itv_cli.specs.declared.outcome.Outcome.{Outcome}
 use Rattle.itv_cli.specs.declared.outcome.Outcome.TheVariants.{AllPass, Help, SomeFail, Inconsistent, Undecided, Refused, ReadFault, WriteFault, NoMemory, BadWords, CheckRefused}
 use Rattle.itv_cli.specs.declared.ready.Ready.{Ready}
-use Rattle.itv_cli.specs.Job.{Answers, Begins, made_size, opening}
+use Rattle.itv_cli.specs.Job.{Answers, AreMade, Begins, is_made, opening}
 
 -- a run: its words, and what the shelf and the sink tell before and after it
 pub record Call : Type 0 where
@@ -37,27 +36,28 @@ call_of words shelf shelf' sink sink' = record { words = words; shelf_before = s
 
 -- ---- what was read
 
--- A reading came to an end over the files of the design of a size, which were made for it. They lie on a shelf of which a fetch fails only for a
--- file that is not there.
-pub record EndsMade (size : ℕ) (o : Opening Ready) (end : End Ready) : Type 0 where
+-- The reading for a task came to an end over files that were made for it. They lie on a shelf of which a fetch fails only for a file that is not
+-- there.
+pub record EndsMade (asked : Task) (end : End Ready) : Type 0 where
   pub before : ShelfTold
   pub after : ShelfTold
   pub files : Files
-  pub made : AreFiles files (design_files size)
+  pub made : AreMade asked files
   pub told : before.files ≡ Some files
   pub faithful : before.is_faithful ≡ true
-  pub ends : Ends before after o end
+  pub ends : Ends before after (opening asked) end
 
--- A reading came to an end: over the files of the shelf, or over those of the design of a size, and then the shelf tells what it told before.
-abbrev pub EndsOver : Option ℕ → ShelfTold → ShelfTold → Opening Ready → End Ready → Type 0
-EndsOver None old new o end = Ends old new o end
-EndsOver (Some size) old new o end = EndsMade size o end × (new ≡ old)
+-- The reading for a task came to an end: over the files of the shelf, or over files that were made for it, and then the shelf tells what it told
+-- before.
+abbrev pub EndsOver : Bool → ShelfTold → ShelfTold → Task → End Ready → Type 0
+EndsOver false old new asked end = Ends old new (opening asked) end
+EndsOver true old new asked end = EndsMade asked end × (new ≡ old)
 
 -- the words ask for a task, and the reading for it came to an end
 pub record CameTo (call : Call) (end : End Ready) : Type 0 where
   pub asked : Task
   pub words : taken call.words ≡ task asked
-  pub ends : EndsOver (made_size asked) call.shelf_before call.shelf_after (opening asked) end
+  pub ends : EndsOver (is_made asked) call.shelf_before call.shelf_after asked end
 
 -- no fetch of the run failed, and what the shelf tells is as before
 abbrev pub IsKept : Call → Type 0
@@ -169,15 +169,15 @@ EndsBy (ready given) outcome = (answer : Answer) × (text : List ℕ) × Answers
 EndsBy (refused place why) outcome = outcome ≡ Refused
 EndsBy (unread place name) outcome = outcome ≡ ReadFault
 
--- the end is the one for the files, where they are told, or for files of the design of a size
-abbrev pub FilesDecide : Option ℕ → Option Files → Opening Ready → Outcome → Type 0
-FilesDecide None told o outcome = IfSome told (λ files. EndsBy (told_end files o) outcome)
-FilesDecide (Some size) told o outcome = (files : Files) × AreFiles files (design_files size) × EndsBy (told_end files o) outcome
+-- the end is the one for the files of the shelf, where they are told, or for files that were made for a task
+abbrev pub FilesDecide : Bool → Option Files → Task → Outcome → Type 0
+FilesDecide false told asked outcome = IfSome told (λ files. EndsBy (told_end files (opening asked)) outcome)
+FilesDecide true told asked outcome = (files : Files) × AreMade asked files × EndsBy (told_end files (opening asked)) outcome
 
 -- where the words ask for a task and no fault rose, the end is the one for its files, or memory was not found
 abbrev pub Completes : Call → Outcome → Type 0
 Completes call outcome =
-    (asked : Task) → taken call.words ≡ task asked → HasNoFault call → (outcome ≡ NoMemory) ⊎ FilesDecide (made_size asked) call.shelf_before.files (opening asked) outcome
+    (asked : Task) → taken call.words ≡ task asked → HasNoFault call → (outcome ≡ NoMemory) ⊎ FilesDecide (is_made asked) call.shelf_before.files asked outcome
 
 -- where the words ask for no task and no put failed, the end is the one for them, or memory was not found
 abbrev pub RefusesWords : Call → Outcome → Type 0

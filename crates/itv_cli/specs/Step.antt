@@ -7,14 +7,14 @@ use Rattle.job_answer.specs.declared.unanswered.Unanswered.{Unanswered}
 use Rattle.job_answer.specs.declared.unanswered.Unanswered.TheVariants as unanswered
 use Rattle.reading.specs.declared.stop.Stop.{Stop}
 use Rattle.reading.specs.declared.stop.Stop.TheVariants.{Refused, ReadFault, NoMemory}
-use Rattle.reading.specs.Opening.{Opening, ready, refused, unread}
+use Rattle.reading.specs.Opening.{ready, refused, unread}
 use Rattle.reading.specs.Refusal.{refusal_text, unread_text}
 use Rattle.words.specs.Task.{IsBudget, Task}
 use Rattle.itv_cli.specs.declared.outcome.Outcome.{Outcome}
 use Rattle.itv_cli.specs.declared.outcome.Outcome.TheVariants as ends
 use Rattle.itv_cli.specs.declared.ready.Ready.{Ready}
 use Rattle.itv_cli.specs.declared.ready.Ready.TheVariants as given
-use Rattle.itv_cli.specs.Job.{made_size, opening}
+use Rattle.itv_cli.specs.Job.{is_made}
 use Rattle.itv_cli.specs.Run.{EndsMade, EndsOver, outcome_of}
 
 -- what a job may be given
@@ -24,18 +24,18 @@ IsAllowed (given.Matrix drawn) = drawn.net.events ≤ MAX_MATRIX_EVENTS
 IsAllowed (given.Check drawn report) = Unit {0}
 IsAllowed (given.Generated drawn size budget) = IsBudget budget
 
--- what a reading answers over files that are made for it; want of memory says nothing
-abbrev pub OpensMade : ℕ → Opening Ready → Result Ready Stop → Type 0
-OpensMade size o (Ok x) = EndsMade size o (ready x)
-OpensMade size o (Err (Refused place why)) = EndsMade size o (refused place why)
-OpensMade size o (Err (ReadFault place)) = (name : List ℕ) × EndsMade size o (unread place name)
-OpensMade size o (Err NoMemory) = Unit {0}
+-- what the reading for a task answers over files that are made for it; want of memory says nothing
+abbrev pub OpensMade : Task → Result Ready Stop → Type 0
+OpensMade asked (Ok x) = EndsMade asked (ready x)
+OpensMade asked (Err (Refused place why)) = EndsMade asked (refused place why)
+OpensMade asked (Err (ReadFault place)) = (name : List ℕ) × EndsMade asked (unread place name)
+OpensMade asked (Err NoMemory) = Unit {0}
 
 -- what the reading for a task answers, over the files of the shelf or over files that are made for it
 abbrev pub OpensFor : ShelfTold → ShelfTold → Task → Result Ready Stop → Type 0
-OpensFor old new asked (Ok x) = EndsOver (made_size asked) old new (opening asked) (ready x)
-OpensFor old new asked (Err (Refused place why)) = EndsOver (made_size asked) old new (opening asked) (refused place why)
-OpensFor old new asked (Err (ReadFault place)) = (name : List ℕ) × EndsOver (made_size asked) old new (opening asked) (unread place name)
+OpensFor old new asked (Ok x) = EndsOver (is_made asked) old new asked (ready x)
+OpensFor old new asked (Err (Refused place why)) = EndsOver (is_made asked) old new asked (refused place why)
+OpensFor old new asked (Err (ReadFault place)) = (name : List ℕ) × EndsOver (is_made asked) old new asked (unread place name)
 OpensFor old new asked (Err NoMemory) = new ≡ old
 
 -- the end after the last put

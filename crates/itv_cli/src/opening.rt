@@ -110,7 +110,7 @@ fn open_check<H: Shelf>(
 fn open_generated(alloc: Global, size: u32, budget: u64) -> Result<Ready, Stop>
     requires size { IsSize size }
     requires budget { IsBudget budget }
-    ensures opens { OpensMade size (opening (said.generated size budget)) result }
+    ensures opens { OpensMade (said.generated size budget) result }
     ensures allowed { IfOk result IsAllowed }
 {
     let mut made = match make(alloc, size) {

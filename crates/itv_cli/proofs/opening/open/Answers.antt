@@ -19,4 +19,4 @@ returns-in-Check-clause-opens g c =
 
 pub returns-in-Generated-clause-opens : goal.returns-in-Generated-clause-opens
 returns-in-Generated-clause-opens g c =
-    rw c.in-Generated.is (opens_made (g.H.Shelf.told c.args.shelf.now) (generated c.in-Generated.size c.in-Generated.budget) c.in-Generated.size c.open_generated.result refl c.open_generated.ensures.opens)
+    rw c.in-Generated.is (opens_made (g.H.Shelf.told c.args.shelf.now) (generated c.in-Generated.size c.in-Generated.budget) c.open_generated.result refl c.open_generated.ensures.opens)
