@@ -1,26 +1,47 @@
 -- What callers of `run` know of files and a sink in memory, from its clauses alone.
-use Rattle.std.specs.Prelude.{◌≡◌, ℕ, List, Some, IsSomeAnd}
-use Rattle.itv_base.specs.Outside.{Files, file_of}
-use Rattle.itv_cli.specs.declared.refusal.Refusal.{Refusal}
-use Rattle.itv_cli.specs.Opened.{taken, opened, draws, refused}
-use Rattle.itv_cli.specs.Refusal.{refusal_text}
-use Rattle.itv_cli.specs.Report.{Line, report_text}
-use Rattle.itv_cli.specs.Right.{Drawn, IsReport}
+use Rattle.std.specs.Prelude.{◌≡◌, ℕ, false, List}
+use Rattle.itv_base.specs.Outside.{Files}
+use Rattle.job_answer.specs.declared.answer.Answer.{Answer}
+use Rattle.slack_report.specs.Entry.{Entry}
+use Rattle.slack_report.specs.Text.{report_text}
+use Rattle.slack_report.specs.Right.Facts.{IsRightReport}
+use Rattle.unroll.specs.Drawn.{Drawn}
+use Rattle.unroll.specs.Reported.{reported}
+use Rattle.reading.specs.declared.place.Place.{Place}
+use Rattle.reading.specs.declared.refusal.Refusal.{Refusal}
+use Rattle.reading.specs.Design.{design_at}
+use Rattle.reading.specs.Opening.{ready, refused, told_end}
+use Rattle.reading.specs.Refusal.{refusal_text}
+use Rattle.itv_cli.specs.Task.{Task, taken, task}
+use Rattle.itv_cli.specs.Job.{Answers, is_made, opening}
+use Rattle.itv_cli.specs.declared.ready.Ready.{Ready}
 
--- the words name a file that draws a network, and the bytes are the text of a right report of it
-pub record IsRightReport (files : Files) (given : List (List ℕ)) (bytes : List ℕ) : Type 0 where
-  pub name : List ℕ
-  pub words : taken given ≡ Some name
+-- what the design of a file draws, over some files
+abbrev pub Draws : Files → List ℕ → Drawn → Type 0
+Draws files design drawn = told_end files (design_at design) ≡ ready drawn
+
+-- the design of a file draws a network, and the bytes are the text of a right report of it
+pub record IsRightReportOf (files : Files) (design bytes : List ℕ) : Type 0 where
   pub drawn : Drawn
-  pub file : IsSomeAnd (file_of files name) (λ file. opened file ≡ draws drawn)
-  pub lines : List Line
-  pub right : IsReport drawn lines
+  pub draws : Draws files design drawn
+  pub lines : List Entry
+  pub is_right : IsRightReport (reported drawn) lines
   pub text : bytes ≡ report_text lines
 
--- the words name a file that is refused, and the bytes are the line of its first refusal
-pub record IsRightRefusal (files : Files) (given : List (List ℕ)) (bytes : List ℕ) : Type 0 where
-  pub name : List ℕ
-  pub words : taken given ≡ Some name
+-- the words ask for a task that reads these files
+pub record Asks (given : List (List ℕ)) (asked : Task) : Type 0 where
+  pub words : taken given ≡ task asked
+  pub own : is_made asked ≡ false
+
+-- the files of a task are all had, and the bytes are what its job writes with an answer
+pub record IsAnswerOf (files : Files) (asked : Task) (answer : Answer) (bytes : List ℕ) : Type 0 where
+  pub given : Ready
+  pub reads : told_end files (opening asked) ≡ ready given
+  pub answers : Answers given answer bytes
+
+-- the files of a task are refused, and the bytes are the line of the first refusal
+pub record IsRefusalOf (files : Files) (asked : Task) (bytes : List ℕ) : Type 0 where
+  pub place : Place
   pub why : Refusal
-  pub file : IsSomeAnd (file_of files name) (λ file. opened file ≡ refused why)
-  pub text : bytes ≡ refusal_text why
+  pub reads : told_end files (opening asked) ≡ refused place why
+  pub text : bytes ≡ refusal_text place why

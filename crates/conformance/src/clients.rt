@@ -1,25 +1,33 @@
 //! Callers of `run` over files and a sink in memory, proved from its clauses alone. Each says what one of the clauses gives, so
 //! that a weaker clause leaves its caller without a proof.
 
-ghost use Rattle.std.specs.Prelude.{◌≡◌, ◌<◌, ◌⊎◌, ℕ, List, Some, None, IfOk, IfSome};
-ghost use Rattle.itv_base.specs.Outside.{Rose, file_of};
-ghost use Rattle.itv_cli.specs.Opened.{taken, opened};
-ghost use Rattle.itv_cli.specs.Run.{outcome_of};
-ghost use Rattle.conformance.specs.Clients.{IsRightReport, IsRightRefusal};
+ghost use Rattle.std.specs.Prelude.{◌≡◌, ◌<◌, ◌⊎◌, ℕ, Bool, List, IfOk, IfSome};
+ghost use Rattle.event_graph.specs.Edges.{cause_choices};
+ghost use Rattle.itv_base.specs.Outside.{Rose};
+ghost use Rattle.job_answer.specs.declared.answer.Answer.TheVariants as answers;
+ghost use Rattle.reading.specs.Opening.{told_end};
+ghost use Rattle.unroll.specs.Drawn.{Drawn};
+ghost use Rattle.itv_cli.specs.Task.{Task, bad_words, bounds, help, taken, task};
+ghost use Rattle.itv_cli.specs.Job.{opening};
+ghost use Rattle.itv_cli.specs.Run.{EndsBy};
+ghost use Rattle.conformance.specs.Clients.{Asks, Draws, IsAnswerOf, IsRefusalOf, IsRightReportOf};
 
 use itv_base::{NoMemory, ShelfMem, SinkMem, Texts};
 use itv_cli::{Outcome, run};
 use std::alloc::Global;
 
-/// The bytes that a run writes, where it passes: the text of a right report.
+/// The bytes that a run writes, where it passes: what its job writes then, which for job bounds is the text of a right report.
 pub fn report_of(
     alloc: Global,
     words: &Texts,
     shelf: &mut ShelfMem,
     room: u32,
 ) -> Result<Option<Vec<u8>>, NoMemory>
-    ensures right { IfOk result (λ report.
-        IfSome report (λ bytes. IsRightReport shelf.old.files words.now bytes.items)) }
+    ensures answer { IfOk result (λ report. IfSome report (λ bytes.
+        (asked : Task) → Asks words.now asked → IsAnswerOf shelf.old.files asked answers.AllPass bytes.items)) }
+    ensures right { IfOk result (λ report. IfSome report (λ bytes.
+        (design : List ℕ) (budget : ℕ) (cert : Bool) → taken words.now ≡ task (bounds design budget cert)
+        → IsRightReportOf shelf.old.files design bytes.items)) }
 {
     let mut sink = SinkMem::new(alloc, room)?;
     match run(alloc, words, shelf, &mut sink) {
@@ -28,15 +36,15 @@ pub fn report_of(
     }
 }
 
-/// The bytes that a run writes, where its design is refused: the line of the first refusal.
+/// The bytes that a run writes, where its files are refused: the line of the first refusal.
 pub fn refusal_of(
     alloc: Global,
     words: &Texts,
     shelf: &mut ShelfMem,
     room: u32,
 ) -> Result<Option<Vec<u8>>, NoMemory>
-    ensures right { IfOk result (λ refusal.
-        IfSome refusal (λ bytes. IsRightRefusal shelf.old.files words.now bytes.items)) }
+    ensures right { IfOk result (λ refusal. IfSome refusal (λ bytes.
+        (asked : Task) → Asks words.now asked → IsRefusalOf shelf.old.files asked bytes.items)) }
 {
     let mut sink = SinkMem::new(alloc, room)?;
     match run(alloc, words, shelf, &mut sink) {
@@ -53,20 +61,32 @@ pub fn run_twice(
     first: &mut SinkMem,
     second: &mut SinkMem,
 ) -> (Outcome, Outcome)
-    ensures same { result.0 ≡ Outcome.AllPass → result.1 ≡ Outcome.Refused → ⊥ }
+    ensures same { (asked : Task) → Asks words.now asked → result.0 ≡ Outcome.AllPass → result.1 ≡ Outcome.Refused → ⊥ }
 {
     let once = run(alloc, words, shelf, first);
     let again = run(alloc, words, shelf, second);
     (once, again)
 }
 
-/// A run where nothing fails ends as the file of its design says, or memory was not found.
+/// A run where nothing fails ends as its files say, or memory was not found.
 pub fn end_of(alloc: Global, words: &Texts, shelf: &mut ShelfMem, sink: &mut SinkMem) -> Outcome
-    ensures ends { (name bytes : List ℕ) → taken words.now ≡ Some name → file_of shelf.old.files name ≡ Some bytes
+    ensures ends { (asked : Task) → Asks words.now asked
         → ¬ (Rose shelf.old.faults shelf.new.faults) → ¬ (Rose sink.old.faults sink.new.faults)
-        → (result ≡ Outcome.NoMemory) ⊎ (result ≡ outcome_of (opened bytes)) }
-    ensures words { taken words.now ≡ None → ¬ (Rose sink.old.faults sink.new.faults) → result ≡ Outcome.BadWords }
+        → (result ≡ Outcome.NoMemory) ⊎ EndsBy (told_end shelf.old.files (opening asked)) result }
+    ensures bad_words { taken words.now ≡ bad_words → ¬ (Rose sink.old.faults sink.new.faults)
+        → (result ≡ Outcome.NoMemory) ⊎ (result ≡ Outcome.BadWords) }
+    ensures help { taken words.now ≡ help → ¬ (Rose sink.old.faults sink.new.faults)
+        → (result ≡ Outcome.NoMemory) ⊎ (result ≡ Outcome.Help) }
     ensures faults { sink.old.faults < sink.new.faults → result ≡ Outcome.WriteFault }
+{
+    run(alloc, words, shelf, sink)
+}
+
+/// A run of job bounds: it ends undecided only where its budget is below the number of cause choices.
+pub fn bounds_of(alloc: Global, words: &Texts, shelf: &mut ShelfMem, sink: &mut SinkMem) -> Outcome
+    ensures decides { (design : List ℕ) (budget : ℕ) (cert : Bool) (drawn : Drawn)
+        → taken words.now ≡ task (bounds design budget cert) → Draws shelf.old.files design drawn
+        → result ≡ Outcome.Undecided → budget < cause_choices drawn.net.constraints }
 {
     run(alloc, words, shelf, sink)
 }

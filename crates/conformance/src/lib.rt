@@ -5,7 +5,7 @@
 
 mod clients;
 
-pub use clients::{end_of, refusal_of, report_of, run_twice};
+pub use clients::{bounds_of, end_of, refusal_of, report_of, run_twice};
 
 #[cfg(test)]
 mod tests;

@@ -1,15 +1,30 @@
 -- How a run ends, and what its end says.
-use Rattle.std.proofs.Common.{◌≡◌, ◌<◌, inl, inr, List, ℕ, Option, Some, None, Result, Ok, Err, refl, sym, ap, arith, IsSomeAnd}
+use Rattle.std.proofs.Common.{◌≡◌, ◌<◌, ◌∙◌, ◌⊎◌, inl, inr, Bool, true, false, List, ℕ, Option, Some, None, IfSome, IsNone, Result, Ok, Err, refl, sym, ap, subst, arith}
 use Rattle.std.specs.Bool.{⊤}
-use Rattle.itv_base.specs.Outside.{Files, ShelfTold, SinkTold, file_of, Puts}
+use Rattle.itv_base.specs.Outside.{Files, ShelfTold, SinkTold, Puts, IsMissing, Rose, file_of}
+use Rattle.job_answer.specs.Works.{Works}
+use Rattle.job_answer.specs.declared.answer.Answer.{Answer}
+use Rattle.job_answer.specs.declared.answer.Answer.TheVariants as answers
+use Rattle.job_answer.specs.declared.unanswered.Unanswered.{Unanswered}
+use Rattle.job_answer.specs.declared.unanswered.Unanswered.TheVariants as unanswered
+use Rattle.reading.specs.declared.place.Place.{Place}
+use Rattle.reading.specs.declared.refusal.Refusal.{Refusal}
+use Rattle.reading.specs.declared.stop.Stop.{Stop}
+use Rattle.reading.specs.declared.stop.Stop.TheVariants as stops
+use Rattle.reading.specs.Opening.{End, ready, refused, unread, told_end}
+use Rattle.reading.specs.Refusal.{refusal_text, unread_text}
+use Rattle.reading.proofs.Opens.{told_ready, told_refused, told_unread}
+use Rattle.words.specs.Task as said
+use Rattle.words.specs.Task.{Task, taken, task, help, bad_words}
 use Rattle.itv_cli.specs.declared.outcome.Outcome.{Outcome}
 use Rattle.itv_cli.specs.declared.outcome.Outcome.TheVariants.{AllPass, Help, SomeFail, Inconsistent, Undecided, Refused, ReadFault, WriteFault, NoMemory, BadWords, CheckRefused}
-use Rattle.itv_cli.specs.Report.{report_text}
-use Rattle.itv_cli.specs.Right.{Drawn}
-use Rattle.itv_cli.specs.Opened.{taken, Opened, draws, refused, opened, FileStands}
-use Rattle.itv_cli.specs.Run.{Call, Wrote, Wanted, IsKept, Means, EndsBy, outcome_of, Completes, RefusesWords, ShowsFaults}
-use Rattle.itv_cli.specs.Run.Wanted.{report}
-use Rattle.itv_cli.specs.Step.Ending.{Tells, Reports, end_after}
+use Rattle.itv_cli.specs.declared.ready.Ready.{Ready}
+use Rattle.itv_cli.specs.Job.{Answers, Begins, is_made, opening}
+use Rattle.itv_cli.specs.Run.{Call, CameTo, EndsMade, EndsOver, EndsBy, FilesDecide, HasAnswered, IsKept, Means, Wanted, Wrote, Completes, RefusesWords, ShowsFaults, outcome_of}
+use Rattle.itv_cli.specs.Run.Wanted.{at_end}
+use Rattle.itv_cli.specs.Step.{OpensFor, Stops, Tells, answered, end_after}
+
+-- ---- what each end says
 
 -- what a run tells after a put of a text
 pub tells : {E : Type 0} (old new : SinkTold) (text : List ℕ) (end result : Outcome) (put : Result ⊤ E)
@@ -23,68 +38,151 @@ pub told : (call : Call) (text : List ℕ) (end result : Outcome) → Tells call
 told call text end result (inl p) wanted means = rw p.0 (means p.1)
 told call text end result (inr p) wanted means = rw p.0 (record { text = text; wanted = wanted; cut = p.1 })
 
--- the end of a run that reported a design
-pub reported : (call : Call) (name : List ℕ) (drawn : Drawn) (result : Outcome) → Reports call.sink_before call.sink_after drawn result
-    → taken call.words ≡ Some name → FileStands call.shelf_before.files name (draws drawn) → IsKept call → Means call result
-reported call name drawn result (inl p) is stands kept =
-    rw p.0 (record { words = rw is refl; sink = p.1; shelf = kept })
-reported call name drawn result (inr (lines, begins, whole, inl p)) is stands kept =
-    rw p.0 (record { name = name; words = is; drawn = drawn; file = stands; lines = lines; right = whole p.0; wrote = p.1; shelf = kept })
-reported call name drawn result (inr (lines, begins, whole, inr p)) is stands kept =
-    rw p.0 (record { text = report_text lines; wanted = report name drawn lines is stands kept begins refl; cut = p.1 })
+means_answer : (call : Call) (answer : Answer) → HasAnswered call answer → Means call (outcome_of answer)
+means_answer call answers.AllPass h = h
+means_answer call answers.SomeFail h = h
+means_answer call answers.Inconsistent h = h
+means_answer call answers.Undecided h = h
+means_answer call answers.CheckRefused h = h
+
+-- what a reading that gave something leaves of the shelf
+kept_by : (made : Bool) (old new : ShelfTold) (asked : Task) (given : Ready) → EndsOver made old new asked (ready given) → new ≡ old
+kept_by false old new asked given h = h.1
+kept_by true old new asked given h = h.1
+
+kept_refused : (made : Bool) (old new : ShelfTold) (asked : Task) (place : Place) (why : Refusal) → EndsOver made old new asked (refused place why) → new ≡ old
+kept_refused false old new asked place why h = h.1
+kept_refused true old new asked place why h = h.1
+
+kept_ready : (call : Call) (given : Ready) → CameTo call (ready given) → IsKept call
+kept_ready call given c = kept_by (is_made c.asked) call.shelf_before call.shelf_after c.asked given c.ends
+
+-- all was read, and the job has done its work
+pub worked : (call : Call) (given : Ready) (r : Result Answer Unanswered) → CameTo call (ready given) → Works (Answers given) (Begins given) call.sink_before call.sink_after r → Means call (answered r)
+worked call given (Ok answer) came w = means_answer call answer (record { given = given; came = came; text = w.0; answers = w.1; wrote = w.2 })
+worked call given (Err unanswered.PutFailed) came w = record { text = w.0; wanted = at_end (ready given) came w.1; cut = w.2 }
+worked call given (Err unanswered.NoMemory) came w = record { sink = w; shelf = kept_ready call given came }
+
+-- the reading gave nothing
+pub unworked : (call : Call) (asked : Task) (stop : Stop) (result : Outcome) → taken call.words ≡ task asked → OpensFor call.shelf_before call.shelf_after asked (Err stop)
+    → Stops call.sink_before call.sink_after stop result → Means call result
+unworked call asked (stops.Refused place why) result is o s =
+    told call (refusal_text place why) Refused result s (at_end (refused place why) (record { asked = asked; words = is; ends = o }) refl)
+    (λ wrote. record { place = place; why = why; came = record { asked = asked; words = is; ends = o }; wrote = wrote })
+unworked call asked (stops.ReadFault place) result is o s =
+    told call (unread_text place) ReadFault result s (at_end (unread place o.0) (record { asked = asked; words = is; ends = o.1 }) refl)
+    (λ wrote. record { place = place; name = o.0; came = record { asked = asked; words = is; ends = o.1 }; wrote = wrote })
+unworked call asked stops.NoMemory result is o s = rw s.0 (record { sink = s.1; shelf = o })
 
 -- ---- which end comes, from what the ends say
 
-ends_by : (bytes : Option (List ℕ)) (found : Opened) → IsSomeAnd bytes (λ file. opened file ≡ found) → EndsBy bytes (outcome_of found)
-ends_by None found p = p
-ends_by (Some bytes) found p = ap outcome_of (sym p)
+task_is : (a b : Task) → task a ≡ task b → a ≡ b
+task_is a b e = cc
 
--- a file that the shelf tells ends the run by what it opens to
-file_ends : (call : Call) (files : Files) (name other : List ℕ) (found : Opened) → call.shelf_before.files ≡ Some files → taken call.words ≡ Some name → taken call.words ≡ Some other
-    → FileStands call.shelf_before.files other found → EndsBy (file_of files name) (outcome_of found)
-file_ends call files name other found told is also stands =
-    let same : other ≡ name = cc (also, is) in
-    ends_by (file_of files name) found (rw (told, same) at stands)
+same_task : (call : Call) (asked other : Task) → taken call.words ≡ task asked → taken call.words ≡ task other → other ≡ asked
+same_task call asked other is also = task_is other asked (sym also ∙ is)
+
+when_some : {X : Type 0} (o : Option X) (P : X → Type 0) → ((x : X) → o ≡ Some x → P x) → IfSome o P
+when_some None P h = tt
+when_some (Some x) P h = h x refl
+
+-- the files of a reading that gave something decide
+decide_ready : (made : Bool) (old new : ShelfTold) (asked : Task) (given : Ready) (outcome : Outcome) → EndsOver made old new asked (ready given) → EndsBy (ready given) outcome
+    → FilesDecide made old.files asked outcome
+decide_ready false old new asked given outcome h by =
+    when_some old.files (λ files. EndsBy (told_end files (opening asked)) outcome) (λ files e. subst (λ end. EndsBy end outcome) (sym (told_ready old files (opening asked) given e h.0)) by)
+decide_ready true old new asked given outcome h by =
+    (h.0.files, h.0.made, subst (λ end. EndsBy end outcome) (sym (told_ready h.0.before h.0.files (opening asked) given h.0.told h.0.ends.0)) by)
+
+decide_refused : (made : Bool) (old new : ShelfTold) (asked : Task) (place : Place) (why : Refusal) → EndsOver made old new asked (refused place why) → FilesDecide made old.files asked Refused
+decide_refused false old new asked place why h =
+    when_some old.files (λ files. EndsBy (told_end files (opening asked)) Refused) (λ files e. subst (λ end. EndsBy end Refused) (sym (told_refused old files (opening asked) place why e h.0)) refl)
+decide_refused true old new asked place why h =
+    (h.0.files, h.0.made, subst (λ end. EndsBy end Refused) (sym (told_refused h.0.before h.0.files (opening asked) place why h.0.told h.0.ends.0)) refl)
+
+missing_in : (told : Option Files) (files : Files) (name : List ℕ) → told ≡ Some files → IsMissing told name → IsNone (file_of files name)
+missing_in told files name e h = rw e at h
+
+decide_unread : (made : Bool) (old new : ShelfTold) (asked : Task) (place : Place) (name : List ℕ) → ¬ (Rose old.faults new.faults) → EndsOver made old new asked (unread place name)
+    → FilesDecide made old.files asked ReadFault
+decide_unread false old new asked place name quiet h = absurd (quiet h.1.rose)
+decide_unread true old new asked place name quiet h =
+    (h.0.files, h.0.made, subst (λ end. EndsBy end ReadFault) (sym (told_unread h.0.before h.0.files (opening asked) place name h.0.told (missing_in h.0.before.files h.0.files name h.0.told (h.0.ends.1.missing h.0.faithful)) h.0.ends.0)) refl)
+
+abbrev Decides : Call → Task → Outcome → Type 0
+Decides call asked outcome = FilesDecide (is_made asked) call.shelf_before.files asked outcome
+
+by_answer : (call : Call) (asked : Task) (answer : Answer) → taken call.words ≡ task asked → HasAnswered call answer → Decides call asked (outcome_of answer)
+by_answer call asked answer is h =
+    subst (λ t. Decides call t (outcome_of answer)) (same_task call asked h.came.asked is h.came.words)
+    (decide_ready (is_made h.came.asked) call.shelf_before call.shelf_after h.came.asked h.given (outcome_of answer) h.came.ends (answer, h.text, h.answers, refl))
 
 pub completes : (call : Call) (result : Outcome) → Means call result → Completes call result
-completes call AllPass m files name told is quiet = inr (file_ends call files name m.name (draws m.drawn) told is m.words m.file)
-completes call Help m files name told is quiet = absurd m
-completes call SomeFail m files name told is quiet = absurd m
-completes call Inconsistent m files name told is quiet = absurd m
-completes call Undecided m files name told is quiet = absurd m
-completes call Refused m files name told is quiet = inr (file_ends call files name m.name (refused m.why) told is m.words m.file)
-completes call ReadFault m files name told is quiet = absurd (quiet.shelf m.failed.rose)
-completes call WriteFault m files name told is quiet = absurd (quiet.sink m.cut.rose)
-completes call NoMemory m files name told is quiet = inl refl
-completes call BadWords m files name told is quiet = absurd (cc (m.words, is))
-completes call CheckRefused m files name told is quiet = absurd m
+completes call AllPass m asked is quiet = inr (by_answer call asked answers.AllPass is m)
+completes call Help m asked is quiet = absurd (cc (m.words, is))
+completes call SomeFail m asked is quiet = inr (by_answer call asked answers.SomeFail is m)
+completes call Inconsistent m asked is quiet = inr (by_answer call asked answers.Inconsistent is m)
+completes call Undecided m asked is quiet = inr (by_answer call asked answers.Undecided is m)
+completes call Refused m asked is quiet =
+    inr (subst (λ t. Decides call t Refused) (same_task call asked m.came.asked is m.came.words)
+    (decide_refused (is_made m.came.asked) call.shelf_before call.shelf_after m.came.asked m.place m.why m.came.ends))
+completes call ReadFault m asked is quiet =
+    inr (subst (λ t. Decides call t ReadFault) (same_task call asked m.came.asked is m.came.words)
+    (decide_unread (is_made m.came.asked) call.shelf_before call.shelf_after m.came.asked m.place m.name quiet.shelf m.came.ends))
+completes call WriteFault m asked is quiet = absurd (quiet.sink m.cut.rose)
+completes call NoMemory m asked is quiet = inl refl
+completes call BadWords m asked is quiet = absurd (cc (m.words, is))
+completes call CheckRefused m asked is quiet = inr (by_answer call asked answers.CheckRefused is m)
+
+-- words that ask for a task are neither bad nor a wish for help
+came_no_bad : (call : Call) (end : End Ready) → CameTo call end → taken call.words ≡ bad_words → ⊥
+came_no_bad call end c is = cc (c.words, is)
+
+came_no_help : (call : Call) (end : End Ready) → CameTo call end → taken call.words ≡ help → ⊥
+came_no_help call end c is = cc (c.words, is)
+
+refuses_none : (call : Call) (end : End Ready) (result : Outcome) → CameTo call end → RefusesWords call result
+refuses_none call end result c quiet = (λ is. absurd (came_no_bad call end c is), λ is. absurd (came_no_help call end c is))
 
 pub refuses_words : (call : Call) (result : Outcome) → Means call result → RefusesWords call result
-refuses_words call AllPass m none quiet = absurd (cc (m.words, none))
-refuses_words call Help m none quiet = absurd m
-refuses_words call SomeFail m none quiet = absurd m
-refuses_words call Inconsistent m none quiet = absurd m
-refuses_words call Undecided m none quiet = absurd m
-refuses_words call Refused m none quiet = absurd (cc (m.words, none))
-refuses_words call ReadFault m none quiet = absurd (cc (m.words, none))
-refuses_words call WriteFault m none quiet = absurd (quiet m.cut.rose)
-refuses_words call NoMemory m none quiet = absurd (cc (rw none at m.words))
-refuses_words call BadWords m none quiet = refl
-refuses_words call CheckRefused m none quiet = absurd m
+refuses_words call AllPass m = refuses_none call (ready m.given) AllPass m.came
+refuses_words call Help m = λ quiet. (λ is. absurd (cc (m.words, is)), λ is. inr refl)
+refuses_words call SomeFail m = refuses_none call (ready m.given) SomeFail m.came
+refuses_words call Inconsistent m = refuses_none call (ready m.given) Inconsistent m.came
+refuses_words call Undecided m = refuses_none call (ready m.given) Undecided m.came
+refuses_words call Refused m = refuses_none call (refused m.place m.why) Refused m.came
+refuses_words call ReadFault m = refuses_none call (unread m.place m.name) ReadFault m.came
+refuses_words call WriteFault m = λ quiet. absurd (quiet m.cut.rose)
+refuses_words call NoMemory m = λ quiet. (λ is. inl refl, λ is. inl refl)
+refuses_words call BadWords m = λ quiet. (λ is. inr refl, λ is. absurd (cc (m.words, is)))
+refuses_words call CheckRefused m = refuses_none call (ready m.given) CheckRefused m.came
 
 -- a count that stayed as it was did not grow
 still : (before now : ℕ) → now ≡ before → before < now → ⊥
 still before now e h = omega (arith, e, h)
 
+quiet_sink : (call : Call) (text : List ℕ) → Wrote call text → call.sink_before.faults < call.sink_after.faults → ⊥
+quiet_sink call text wrote h = still _ _ (ap (λ (t : SinkTold). t.faults) wrote) h
+
+quiet_shelf : (call : Call) → IsKept call → call.shelf_before.faults < call.shelf_after.faults → ⊥
+quiet_shelf call kept h = still _ _ (ap (λ (t : ShelfTold). t.faults) kept) h
+
+shows_none : (call : Call) (text : List ℕ) (result : Outcome) → Wrote call text → IsKept call → ShowsFaults call result
+shows_none call text result wrote kept = (λ h. absurd (quiet_sink call text wrote h), λ h. absurd (quiet_shelf call kept h))
+
+shows_answer : (call : Call) (answer : Answer) (result : Outcome) → HasAnswered call answer → ShowsFaults call result
+shows_answer call answer result m = shows_none call m.text result m.wrote (kept_ready call m.given m.came)
+
 pub shows_faults : (call : Call) (result : Outcome) → Means call result → ShowsFaults call result
-shows_faults call AllPass m = (λ h. absurd (still _ _ (ap (λ (t : SinkTold). t.faults) m.wrote) h), λ h. absurd (still _ _ (ap (λ (t : ShelfTold). t.faults) m.shelf) h))
-shows_faults call Help m = absurd m
-shows_faults call SomeFail m = absurd m
-shows_faults call Inconsistent m = absurd m
-shows_faults call Undecided m = absurd m
-shows_faults call Refused m = (λ h. absurd (still _ _ (ap (λ (t : SinkTold). t.faults) m.wrote) h), λ h. absurd (still _ _ (ap (λ (t : ShelfTold). t.faults) m.shelf) h))
-shows_faults call ReadFault m = (λ h. absurd (still _ _ (ap (λ (t : SinkTold). t.faults) m.wrote) h), λ h. inl refl)
+shows_faults call AllPass m = shows_answer call answers.AllPass AllPass m
+shows_faults call Help m = shows_none call m.text Help m.wrote m.shelf
+shows_faults call SomeFail m = shows_answer call answers.SomeFail SomeFail m
+shows_faults call Inconsistent m = shows_answer call answers.Inconsistent Inconsistent m
+shows_faults call Undecided m = shows_answer call answers.Undecided Undecided m
+shows_faults call Refused m =
+    shows_none call (refusal_text m.place m.why) Refused m.wrote (kept_refused (is_made m.came.asked) call.shelf_before call.shelf_after m.came.asked m.place m.why m.came.ends)
+shows_faults call ReadFault m = (λ h. absurd (quiet_sink call (unread_text m.place) m.wrote h), λ h. inl refl)
 shows_faults call WriteFault m = (λ h. refl, λ h. inr refl)
-shows_faults call NoMemory m = (λ h. absurd (still _ _ (ap (λ (t : SinkTold). t.faults) m.sink) h), λ h. absurd (still _ _ (ap (λ (t : ShelfTold). t.faults) m.shelf) h))
-shows_faults call BadWords m = (λ h. absurd (still _ _ (ap (λ (t : SinkTold). t.faults) m.wrote) h), λ h. absurd (still _ _ (ap (λ (t : ShelfTold). t.faults) m.shelf) h))
-shows_faults call CheckRefused m = absurd m
+shows_faults call NoMemory m = (λ h. absurd (still _ _ (ap (λ (t : SinkTold). t.faults) m.sink) h), λ h. absurd (quiet_shelf call m.shelf h))
+shows_faults call BadWords m = shows_none call _ BadWords m.wrote m.shelf
+shows_faults call CheckRefused m = shows_answer call answers.CheckRefused CheckRefused m

@@ -1,8 +1,6 @@
 mod Ending
-mod Opening
-mod LoneLemmas
-mod ListTexts
-mod Reporting
-mod Forward
-mod Solving
+mod Deciding
+mod Fetching
+mod Steps
+mod Working
 mod Statuses

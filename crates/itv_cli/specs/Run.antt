@@ -1,14 +1,18 @@
 -- What the end of a run says: where it comes from, and what was written. The claim is `Means`; what stands above it are its words, and what
--- stands below follows from it.
-use Rattle.std.specs.Prelude.{◌≡◌, ◌<◌, ◌⊎◌, List, Option, Some, None, IsSome, codes, ℕ, [], false}
-use Rattle.itv_base.specs.Outside.{Files, ShelfTold, SinkTold, file_of, Rose, FailedFor, grown, CutShort}
+-- stands below follows from it. Nothing here speaks of a job: what each reads and answers stands in `Job`.
+use Rattle.std.specs.Prelude.{◌≡◌, ◌<◌, ◌⊎◌, ℕ, Bool, false, true, List, [], Option, Some, None, IfSome, codes}
+use Rattle.itv_base.specs.Outside.{Files, ShelfTold, SinkTold, Rose, grown, CutShort}
+use Rattle.job_answer.specs.declared.answer.Answer.{Answer}
+use Rattle.job_answer.specs.declared.answer.Answer.TheVariants as answers
+use Rattle.reading.specs.declared.place.Place.{Place}
+use Rattle.reading.specs.declared.refusal.Refusal.{Refusal}
+use Rattle.reading.specs.Opening.{End, Ends, ready, refused, unread, told_end}
+use Rattle.reading.specs.Refusal.{refusal_text, unread_text}
+use Rattle.words.specs.Task.{Task, taken, task, help, bad_words}
 use Rattle.itv_cli.specs.declared.outcome.Outcome.{Outcome}
 use Rattle.itv_cli.specs.declared.outcome.Outcome.TheVariants.{AllPass, Help, SomeFail, Inconsistent, Undecided, Refused, ReadFault, WriteFault, NoMemory, BadWords, CheckRefused}
-use Rattle.itv_cli.specs.declared.refusal.Refusal.{Refusal}
-use Rattle.itv_cli.specs.Report.{Line, report_text}
-use Rattle.itv_cli.specs.Right.{Drawn, IsReport, BeginsReport}
-use Rattle.itv_cli.specs.Refusal.{refusal_text}
-use Rattle.itv_cli.specs.Opened.{taken, Opened, refused, draws, opened, FileStands}
+use Rattle.itv_cli.specs.declared.ready.Ready.{Ready}
+use Rattle.itv_cli.specs.Job.{Answers, AreMade, Begins, is_made, opening}
 
 -- a run: its words, and what the shelf and the sink tell before and after it
 pub record Call : Type 0 where
@@ -30,51 +34,76 @@ nothing_written = record { written = None; faults = 0 }
 abbrev pub call_of : List (List ℕ) → ShelfTold → ShelfTold → SinkTold → SinkTold → Call
 call_of words shelf shelf' sink sink' = record { words = words; shelf_before = shelf; shelf_after = shelf'; sink_before = sink; sink_after = sink' }
 
+-- ---- what was read
+
+-- The reading for a task came to an end over files that were made for it. They lie on a shelf of which a fetch fails only for a file that is not
+-- there.
+pub record EndsMade (asked : Task) (end : End Ready) : Type 0 where
+  pub before : ShelfTold
+  pub after : ShelfTold
+  pub files : Files
+  pub made : AreMade asked files
+  pub told : before.files ≡ Some files
+  pub faithful : before.is_faithful ≡ true
+  pub ends : Ends before after (opening asked) end
+
+-- The reading for a task came to an end: over the files of the shelf, or over files that were made for it, and then the shelf tells what it told
+-- before.
+abbrev pub EndsOver : Bool → ShelfTold → ShelfTold → Task → End Ready → Type 0
+EndsOver false old new asked end = Ends old new (opening asked) end
+EndsOver true old new asked end = EndsMade asked end × (new ≡ old)
+
+-- the words ask for a task, and the reading for it came to an end
+pub record CameTo (call : Call) (end : End Ready) : Type 0 where
+  pub asked : Task
+  pub words : taken call.words ≡ task asked
+  pub ends : EndsOver (is_made asked) call.shelf_before call.shelf_after asked end
+
+-- no fetch of the run failed, and what the shelf tells is as before
+abbrev pub IsKept : Call → Type 0
+IsKept call = call.shelf_after ≡ call.shelf_before
+
 -- ---- what was written
 
 -- no put of the run failed, and just this was written
 abbrev pub Wrote : Call → List ℕ → Type 0
 Wrote call text = call.sink_after ≡ grown call.sink_before text
 
--- no fetch of the run failed, and what the shelf tells is as before
-abbrev pub IsKept : Call → Type 0
-IsKept call = call.shelf_after ≡ call.shelf_before
+-- what a run was to write at an end of its reading
+abbrev pub ToWrite : End Ready → List ℕ → Type 0
+ToWrite (ready given) text = Begins given text
+ToWrite (refused place why) text = text ≡ refusal_text place why
+ToWrite (unread place name) text = text ≡ unread_text place
 
--- a text that the run was to write
+-- a text that the run was to write; of the text of help nothing is said
 pub data Wanted (call : Call) (text : List ℕ) : Type 0 where
-  bad_words : taken call.words ≡ None → IsKept call → text ≡ codes "bad words\n" → Wanted call text
-  unread : (name : List ℕ) → taken call.words ≡ Some name → FailedFor name call.shelf_before call.shelf_after → text ≡ codes "cannot read file 0\n" → Wanted call text
-  refusal : (name : List ℕ) (why : Refusal) → taken call.words ≡ Some name → FileStands call.shelf_before.files name (refused why) → IsKept call → text ≡ refusal_text why → Wanted call text
-  report : (name : List ℕ) (drawn : Drawn) (lines : List Line) → taken call.words ≡ Some name → FileStands call.shelf_before.files name (draws drawn) → IsKept call → BeginsReport drawn lines → text ≡ report_text lines → Wanted call text
+  for_help : taken call.words ≡ help → IsKept call → Wanted call text
+  for_bad_words : taken call.words ≡ bad_words → IsKept call → text ≡ codes "bad words\n" → Wanted call text
+  at_end : (end : End Ready) → CameTo call end → ToWrite end text → Wanted call text
 
 -- ---- the ends
 
--- the file draws a network, and the text of a right report was written
-pub record HasPassed (call : Call) : Type 0 where
-  pub name : List ℕ
-  pub words : taken call.words ≡ Some name
-  pub drawn : Drawn
-  pub file : FileStands call.shelf_before.files name (draws drawn)
-  pub lines : List Line
-  pub right : IsReport drawn lines
-  pub wrote : Wrote call (report_text lines)
-  pub shelf : IsKept call
+-- all was read, and what the job answers was written
+pub record HasAnswered (call : Call) (answer : Answer) : Type 0 where
+  pub given : Ready
+  pub came : CameTo call (ready given)
+  pub text : List ℕ
+  pub answers : Answers given answer text
+  pub wrote : Wrote call text
 
--- the file is refused, and the line of its first refusal was written
+-- the files are refused, and the line of the first refusal was written
 pub record IsRefused (call : Call) : Type 0 where
-  pub name : List ℕ
-  pub words : taken call.words ≡ Some name
+  pub place : Place
   pub why : Refusal
-  pub file : FileStands call.shelf_before.files name (refused why)
-  pub wrote : Wrote call (refusal_text why)
-  pub shelf : IsKept call
+  pub came : CameTo call (refused place why)
+  pub wrote : Wrote call (refusal_text place why)
 
--- the fetch of the design failed in this run, and a line that says so was written
+-- the fetch of a file failed in this run, and the line that names its place was written
 pub record HasReadFault (call : Call) : Type 0 where
+  pub place : Place
   pub name : List ℕ
-  pub words : taken call.words ≡ Some name
-  pub failed : FailedFor name call.shelf_before call.shelf_after
-  pub wrote : Wrote call (codes "cannot read file 0\n")
+  pub came : CameTo call (unread place name)
+  pub wrote : Wrote call (unread_text place)
 
 -- a put failed in this run, and a front of what was to be written was
 pub record HasWriteFault (call : Call) : Type 0 where
@@ -82,33 +111,39 @@ pub record HasWriteFault (call : Call) : Type 0 where
   pub wanted : Wanted call text
   pub cut : CutShort call.sink_before call.sink_after text
 
--- the words were taken, and memory was not found before the first put
+-- memory was not found, before the first put
 pub record IsUntouched (call : Call) : Type 0 where
-  pub words : IsSome (taken call.words)
   pub sink : call.sink_after ≡ call.sink_before
   pub shelf : IsKept call
 
--- the words are not one that doesn't begin with `-`, and a line that says so was written
+-- the words are refused, and a line that says so was written
 pub record HasBadWords (call : Call) : Type 0 where
-  pub words : taken call.words ≡ None
+  pub words : taken call.words ≡ bad_words
   pub wrote : Wrote call (codes "bad words\n")
+  pub shelf : IsKept call
+
+-- the words ask for help, and some text was written
+pub record HasHelped (call : Call) : Type 0 where
+  pub words : taken call.words ≡ help
+  pub text : List ℕ
+  pub wrote : Wrote call text
   pub shelf : IsKept call
 
 -- what each end says of a run
 abbrev pub Means : Call → Outcome → Type 0
-Means call AllPass = HasPassed call
-Means call Help = ⊥
-Means call SomeFail = ⊥
-Means call Inconsistent = ⊥
-Means call Undecided = ⊥
+Means call AllPass = HasAnswered call answers.AllPass
+Means call Help = HasHelped call
+Means call SomeFail = HasAnswered call answers.SomeFail
+Means call Inconsistent = HasAnswered call answers.Inconsistent
+Means call Undecided = HasAnswered call answers.Undecided
 Means call Refused = IsRefused call
 Means call ReadFault = HasReadFault call
 Means call WriteFault = HasWriteFault call
 Means call NoMemory = IsUntouched call
 Means call BadWords = HasBadWords call
-Means call CheckRefused = ⊥
+Means call CheckRefused = HasAnswered call answers.CheckRefused
 
--- What an end says of a run on some words over files and an output of which nothing is told: of the counts of faults, the name that failed
+-- What an end says of a run over files and an output of which nothing is told before it: which counts of faults rose, which name failed
 -- last, and that some text or design was as it says.
 abbrev pub MeansOutside : List (List ℕ) → Outcome → Type 0
 MeansOutside words outcome = (shelf : ShelfTold) × (sink : SinkTold) × Means (call_of words nothing_failed shelf nothing_written sink) outcome
@@ -120,24 +155,35 @@ pub record HasNoFault (call : Call) : Type 0 where
   pub shelf : ¬ (Rose call.shelf_before.faults call.shelf_after.faults)
   pub sink : ¬ (Rose call.sink_before.faults call.sink_after.faults)
 
--- the end for a file
-abbrev pub outcome_of : Opened → Outcome
-outcome_of (refused why) = Refused
-outcome_of (draws drawn) = AllPass
+-- the end for an answer
+abbrev pub outcome_of : Answer → Outcome
+outcome_of answers.AllPass = AllPass
+outcome_of answers.SomeFail = SomeFail
+outcome_of answers.Inconsistent = Inconsistent
+outcome_of answers.Undecided = Undecided
+outcome_of answers.CheckRefused = CheckRefused
 
--- the file is there, and this is the end for it
-abbrev pub EndsBy : Option (List ℕ) → Outcome → Type 0
-EndsBy None outcome = ⊥
-EndsBy (Some bytes) outcome = outcome ≡ outcome_of (opened bytes)
+-- the end for an end of the reading
+abbrev pub EndsBy : End Ready → Outcome → Type 0
+EndsBy (ready given) outcome = (answer : Answer) × (text : List ℕ) × Answers given answer text × (outcome ≡ outcome_of answer)
+EndsBy (refused place why) outcome = outcome ≡ Refused
+EndsBy (unread place name) outcome = outcome ≡ ReadFault
 
--- where the words are taken, the files are told and no fault rose, the end is the one for the file, or memory was not found
+-- the end is the one for the files of the shelf, where they are told, or for files that were made for a task
+abbrev pub FilesDecide : Bool → Option Files → Task → Outcome → Type 0
+FilesDecide false told asked outcome = IfSome told (λ files. EndsBy (told_end files (opening asked)) outcome)
+FilesDecide true told asked outcome = (files : Files) × AreMade asked files × EndsBy (told_end files (opening asked)) outcome
+
+-- where the words ask for a task and no fault rose, the end is the one for its files, or memory was not found
 abbrev pub Completes : Call → Outcome → Type 0
 Completes call outcome =
-    (files : Files) (name : List ℕ) → call.shelf_before.files ≡ Some files → taken call.words ≡ Some name → HasNoFault call → (outcome ≡ NoMemory) ⊎ EndsBy (file_of files name) outcome
+    (asked : Task) → taken call.words ≡ task asked → HasNoFault call → (outcome ≡ NoMemory) ⊎ FilesDecide (is_made asked) call.shelf_before.files asked outcome
 
--- where the words are not taken and no put failed, that is the end
+-- where the words ask for no task and no put failed, the end is the one for them, or memory was not found
 abbrev pub RefusesWords : Call → Outcome → Type 0
-RefusesWords call outcome = taken call.words ≡ None → ¬ (Rose call.sink_before.faults call.sink_after.faults) → outcome ≡ BadWords
+RefusesWords call outcome =
+    ¬ (Rose call.sink_before.faults call.sink_after.faults)
+    → (taken call.words ≡ bad_words → (outcome ≡ NoMemory) ⊎ (outcome ≡ BadWords)) × (taken call.words ≡ help → (outcome ≡ NoMemory) ⊎ (outcome ≡ Help))
 
 -- a count that grew in the run shows in its end
 abbrev pub ShowsFaults : Call → Outcome → Type 0

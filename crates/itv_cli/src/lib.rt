@@ -1,18 +1,15 @@
-//! The program's work: from the words, the files and a sink to the bytes of a report.
-//! The modules read a design, search its network and write what was found.
-//! The one contract is that of `run`: where it ends with a report, the report is right.
+//! The program's work: from the words, the files and a sink to what a job writes, and to the end of the run.
+//! A job reads a design and answers. It is a case of [`ready::Ready`], what its reading asks for in `opening.rt`, and what it
+//! writes in `job.rt`; the run knows no job.
+//! The one contract is that of `run`: what is true where a run ends with an outcome.
 #![tactic(auto)]
 
-mod asked;
-mod lines;
-mod lone;
+mod job;
+mod opening;
 mod outcome;
-mod refusal;
-mod report;
-mod search;
+mod ready;
 mod system;
 mod top;
-mod words;
 
 pub use outcome::Outcome;
 pub use system::{program, run_outside, status_of, words_of};

@@ -5,27 +5,28 @@ ghost use Rattle.std.specs.Prelude.{◌≡◌};
 /// How a run ends. What each end says, and when it comes, is in the clauses of `run`.
 #[derive(Clone, Copy, Debug, PartialEq, Eq)]
 pub enum Outcome {
-    /// A report was written, and nothing that it says is bad news.
+    /// What the job wrote has no bad news: every requirement passes and every bound is settled, there is a matrix, or the report
+    /// is accepted.
     AllPass,
-    /// The words ask for help. No words do yet.
+    /// The words ask for help, and the text of help was written.
     Help,
-    /// Some requirement is broken. No requirement is judged yet.
+    /// Some requirement is broken.
     SomeFail,
-    /// No times satisfy the network. Such networks are refused yet.
+    /// No times satisfy the network, or for a matrix its always-edges.
     Inconsistent,
-    /// The budget ended a search. There is no budget yet.
+    /// The budget ended a search, and no requirement is known to be broken.
     Undecided,
-    /// The design is refused, and the line that says why was written.
+    /// The files are refused, and the line of the first refusal was written.
     Refused,
-    /// A file could not be read.
+    /// A file could not be read, and a line that names its place was written.
     ReadFault,
     /// The output could not be written.
     WriteFault,
     /// Memory was wanted and not found, before anything was written.
     NoMemory,
-    /// The words are not one design.
+    /// The words are refused, or lack what their job needs.
     BadWords,
-    /// A report that was to be checked is refused. No report is checked yet.
+    /// The report that was to be checked is refused, and the number of its first wrong line was written.
     CheckRefused,
 }
 

@@ -1,0 +1,25 @@
+-- What a job reads that reads a design and goes on.
+use Rattle.std.proofs.Common.{◌≡◌, ◌≤◌, ℕ, nat_lt, Bool, true, false, cond, if◌then◌else◌, List, Result, Ok, Err, IsErrAnd, refl, sym, subst}
+use Rattle.itv_base.specs.Outside.{ShelfTold}
+use Rattle.unroll.specs.Drawn.{Drawn}
+use Rattle.reading.specs.declared.stop.Stop.{Stop}
+use Rattle.reading.specs.Design.{design_at}
+use Rattle.reading.specs.Opening.{Opening, gives, ◌>>=◌}
+use Rattle.reading.specs.Step.{Opens}
+use Rattle.reading.proofs.Opens.{opens_then, opens_up}
+use Rattle.itv_cli.specs.declared.ready.Ready.{Ready}
+
+-- the design was not had
+pub design_up : (name : List ℕ) (f : Drawn → Opening Ready) (old new : ShelfTold) (s : Stop) (r : Result Ready Stop) → IsErrAnd r (λ e. e ≡ s) → Opens (λ (d : Drawn). d) old new (design_at name) (Err s)
+    → Opens (λ given. given) old new (design_at name >>= f) r
+design_up name f old new s r is h = opens_up (λ d. d) (λ given. given) (design_at name) f old new s r is h
+
+-- it was, and the rest is read
+pub design_then : (name : List ℕ) (f : Drawn → Opening Ready) (old mid new : ShelfTold) (drawn : Drawn) (r : Result Ready Stop) → Opens (λ (d : Drawn). d) old mid (design_at name) (Ok drawn)
+    → Opens (λ given. given) mid new (f drawn) r → Opens (λ given. given) old new (design_at name >>= f) r
+design_then name f old mid new drawn r h next = opens_then (λ d. d) (λ given. given) (design_at name) f old mid new drawn r h next
+
+-- and that is all
+pub design_ready : (name : List ℕ) (f : Drawn → Ready) (old new : ShelfTold) (drawn : Drawn) → Opens (λ (d : Drawn). d) old new (design_at name) (Ok drawn)
+    → Opens (λ given. given) old new (design_at name >>= (λ d. gives (f d))) (Ok (f drawn))
+design_ready name f old new drawn h = design_then name (λ d. gives (f d)) old new new drawn (Ok (f drawn)) h (refl, refl)

@@ -1,0 +1,22 @@
+use Rattle.std.proofs.Common.{refl}
+use Rattle.words.specs.Task.{bounds, matrix, check, generated}
+use Rattle.itv_cli.proofs.Fetching.{opens_made, opens_shelf}
+use Rattle.itv_cli.proofs.opening.open.Goals as goal
+
+pub returns-in-Bounds-clause-opens : goal.returns-in-Bounds-clause-opens
+returns-in-Bounds-clause-opens g c =
+    rw c.in-Bounds.is
+    (opens_shelf (g.H.Shelf.told c.args.shelf.now) (g.H.Shelf.told c.open_bounds.new.shelf) (bounds c.in-Bounds.design.now c.in-Bounds.budget c.in-Bounds.cert) c.open_bounds.result refl c.open_bounds.ensures.opens)
+
+pub returns-in-Matrix-clause-opens : goal.returns-in-Matrix-clause-opens
+returns-in-Matrix-clause-opens g c =
+    rw c.in-Matrix.is (opens_shelf (g.H.Shelf.told c.args.shelf.now) (g.H.Shelf.told c.open_matrix.new.shelf) (matrix c.in-Matrix.design.now) c.open_matrix.result refl c.open_matrix.ensures.opens)
+
+pub returns-in-Check-clause-opens : goal.returns-in-Check-clause-opens
+returns-in-Check-clause-opens g c =
+    rw c.in-Check.is
+    (opens_shelf (g.H.Shelf.told c.args.shelf.now) (g.H.Shelf.told c.open_check.new.shelf) (check c.in-Check.design.now c.in-Check.report.now) c.open_check.result refl c.open_check.ensures.opens)
+
+pub returns-in-Generated-clause-opens : goal.returns-in-Generated-clause-opens
+returns-in-Generated-clause-opens g c =
+    rw c.in-Generated.is (opens_made (g.H.Shelf.told c.args.shelf.now) (generated c.in-Generated.size c.in-Generated.budget) c.open_generated.result refl c.open_generated.ensures.opens)

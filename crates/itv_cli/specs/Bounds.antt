@@ -1,0 +1,20 @@
+-- What job bounds answers, and when its budget may leave a search open.
+use Rattle.std.specs.Prelude.{◌≡◌, ◌<◌, ℕ, Bool, List}
+use Rattle.event_graph.specs.Edges.{cause_choices}
+use Rattle.job_answer.specs.declared.answer.Answer.{Answer}
+use Rattle.job_answer.specs.declared.answer.Answer.TheVariants.{Undecided}
+use Rattle.unroll.specs.Drawn.{Drawn}
+use Rattle.unroll.specs.Reported.{reported}
+use Rattle.bounds_report.specs.Reports.{Reports}
+use Rattle.bounds_report.specs.declared.summary.Summary.{Summary}
+
+-- an answer is undecided only where the budget of a search is below the number of cause choices
+abbrev pub DecidesWithin : Drawn → ℕ → Answer → Type 0
+DecidesWithin drawn budget answer = answer ≡ Undecided → budget < cause_choices drawn.net.constraints
+
+-- what job bounds answers and writes: a report, what this comes to, and that it is undecided only where the budget is too low
+pub record AnswersBounds (drawn : Drawn) (budget : ℕ) (cert : Bool) (answer : Answer) (text : List ℕ) : Type 0 where
+  pub summary : Summary
+  pub reports : Reports (reported drawn) budget cert summary text
+  pub is_answer : answer ≡ summary.answer
+  pub decides : DecidesWithin drawn budget answer
