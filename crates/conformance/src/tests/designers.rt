@@ -1,11 +1,11 @@
 //! Drawings as designers write them for WaveDrom.
 
-use super::all_pass;
+use super::all_answered;
 use std::test::Fail;
 
 #[test]
 fn drawings_for_wavedrom_are_read(rt: HostRuntime) -> Result<(), Fail> {
-    all_pass(
+    all_answered(
         &rt,
         rt.alloc(),
         &[
@@ -22,7 +22,7 @@ fn drawings_for_wavedrom_are_read(rt: HostRuntime) -> Result<(), Fail> {
                 r#"{"signal":[["bus",{"name":"A","wave":"0.1","node":"a.b","phase":0.5},{}],{"node":"...c"}],
                 "edge":["a~>q see note","a->b @ask"],"config":{"hscale":2}}"#,
                 "abc",
-                "row a b\nmax unbounded\ntimes 0 0 0\nraise 1 2\n",
+                "ask a b\nmax unbounded\ntimes ?\nraise 1 2\nmin 0\ntimes ?\n",
             ),
             // Arrows of all shapes, of which one has a delay. Events that nothing bounds from b stand at 120 with d; each lane's second
             // event is not before its first, and d is 120 after b.
@@ -36,7 +36,7 @@ fn drawings_for_wavedrom_are_read(rt: HostRuntime) -> Result<(), Fail> {
                 "edge":["a~b t1","c-~a t2","c-~>d time 3","d~-e","e~>f","f->g","g-~>h","h~>i some text","h~->j",
                     "b-|->d @lin [0,120] tPD","b->d @ask how late"]}"#,
                 "ajbichdgef",
-                "row b d\nmax 120\ntimes 120 120 0 120 120 120 120 120 120 120\n",
+                "ask b d\nmax 120\ntimes ?\nmin 0\ntimes ?\n",
             ),
             // Groups in groups, spacers, gaps, a head, a foot, a period and a phase. From the clock to the acknowledgement 1000 and 5000
             // add up; back, the write is not after the acknowledgement, and the clock has no latest time after the write.
@@ -53,7 +53,7 @@ fn drawings_for_wavedrom_are_read(rt: HostRuntime) -> Result<(), Fail> {
                 "edge":["w-~>k @lin [0,5000] tACK","c~>w @lin [*,1000] tCO","c->k @ask cycle","k->c @ask"],
                 "foot":{"text":["tspan","foot"],"tock":9},"config":{"hscale":1,"skin":"narrow"}}"#,
                 "cwak",
-                "row c k\nmax 6000\ntimes 0 1000 6000 6000\nrow k c\nmax unbounded\ntimes 0 0 0 0\nraise 0 2\n",
+                "ask c k\nmax 6000\ntimes ?\nmin unbounded\ntimes ?\nraise 0 2\nask k c\nmax unbounded\ntimes ?\nraise 0 2\nmin -6000\ntimes ?\n",
             ),
         ],
     )

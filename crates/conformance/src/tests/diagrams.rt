@@ -1,4 +1,4 @@
-//! Trees that are no diagram, or that are a netlist.
+//! Trees that are no diagram.
 
 use super::all_refused;
 use std::test::Fail;
@@ -48,26 +48,6 @@ fn the_first_fault_of_a_tree_is_told(rt: HostRuntime) -> Result<(), Fail> {
             ),
             // of a key that is written twice the last value counts
             (r#"{"signal":[],"signal":7}"#, "refused file 0 NoSignal\n"),
-        ],
-    )
-}
-
-#[test]
-fn a_file_with_the_key_of_netlists_is_refused(rt: HostRuntime) -> Result<(), Fail> {
-    all_refused(
-        &rt,
-        rt.alloc(),
-        &[
-            (r#"{"itv":1}"#, "refused file 0 NotYet\n"),
-            (r#"{"itv":null,"signal":[]}"#, "refused file 0 NotYet\n"),
-            (
-                r#"{"signal":7,"edge":7,"itv":2}"#,
-                "refused file 0 NotYet\n",
-            ),
-            (
-                r#"{"itv":1,"cycles":1,"parts":[{"name":"U1","sheet":"cpu.json"}]}"#,
-                "refused file 0 NotYet\n",
-            ),
         ],
     )
 }

@@ -80,7 +80,7 @@ fn trees_are_at_most_127_deep(rt: HostRuntime) -> Result<(), Fail> {
             125,
             (
                 Outcome::AllPass,
-                "itv report 0\nevents 1\nevent 0 U.a@0\nrows 0\nend pass\n",
+                "itv report 1\nbudget 100000\nevents 1\nevent 0 U.a@0\nfinding consistent\ntimes 0\nrows 0\nend pass\n",
             ),
         ),
         (126, NOT_JSON),

@@ -1,14 +1,14 @@
 //! Edges and their labels, through whole sheets.
 
-use super::{all_refused, edges_end};
+use super::edges_end;
 use itv_cli::Outcome;
-use itv_cli::Outcome::{AllPass, Refused};
+use itv_cli::Outcome::{AllPass, Inconsistent, Refused};
 use std::alloc::Global;
 use std::process::Abort;
 use std::test::Fail;
 
-// The answers of a row from `a` to `b` that nothing bounds, and whose events may come at one time.
-const OPEN: &str = "max unbounded\ntimes 0 0\nraise 1\n";
+// A row from `a` to `b` that nothing bounds.
+const OPEN: &str = "ask a b\nmax unbounded\ntimes ?\nraise 1\nmin unbounded\ntimes ?\nraise 0\n";
 
 // Each label on the edge before `a->b @ask`.
 fn labels_end(rt: &impl Abort, alloc: Global, table: &[(&str, Outcome, &str)]) -> Result<(), Fail> {
@@ -25,25 +25,53 @@ fn labels_of_rules_mean_their_ranges(rt: HostRuntime) -> Result<(), Fail> {
         &rt,
         rt.alloc(),
         &[
-            ("@lin [0,250]", AllPass, "max 250\ntimes 0 250\n"),
-            ("@lin [-5,7] with a note", AllPass, "max 7\ntimes 0 7\n"),
-            ("@lin [-5,7] ", AllPass, "max 7\ntimes 0 7\n"),
-            ("@lin [0,1]  µs", AllPass, "max 1\ntimes 0 1\n"),
-            ("@lin:rd [0,8]", AllPass, "max 8\ntimes 0 8\n"),
+            (
+                "@lin [0,250]",
+                AllPass,
+                "ask a b\nmax 250\ntimes 0 250\nmin 0\ntimes 0 0\n",
+            ),
+            (
+                "@lin [-5,7] with a note",
+                AllPass,
+                "ask a b\nmax 7\ntimes 0 7\nmin -5\ntimes 0 -5\n",
+            ),
+            (
+                "@lin [-5,7] ",
+                AllPass,
+                "ask a b\nmax 7\ntimes 0 7\nmin -5\ntimes 0 -5\n",
+            ),
+            (
+                "@lin [0,1]  µs",
+                AllPass,
+                "ask a b\nmax 1\ntimes 0 1\nmin 0\ntimes 0 0\n",
+            ),
+            (
+                "@lin:rd [0,8]",
+                AllPass,
+                "ask a b\nmax 8\ntimes 0 8\nmin 0\ntimes 0 0\n",
+            ),
             (
                 "@lin:abcDEF_0123456789 [0,8]",
                 Refused,
                 "refused file 0 Label 0 BadLabel",
             ),
-            ("@lin:abcDEF_012345678 [0,8]", AllPass, "max 8\ntimes 0 8\n"),
+            (
+                "@lin:abcDEF_012345678 [0,8]",
+                AllPass,
+                "ask a b\nmax 8\ntimes 0 8\nmin 0\ntimes 0 0\n",
+            ),
             ("@lin [*,*]", AllPass, OPEN),
-            ("@lin [0,*]", AllPass, OPEN),
+            (
+                "@lin [0,*]",
+                AllPass,
+                "ask a b\nmax unbounded\ntimes ?\nraise 1\nmin 0\ntimes 0 0\n",
+            ),
             ("@lin+1 [0,1]", AllPass, OPEN),
             ("@lin+64:_ [0,1] note", AllPass, OPEN),
             (
                 "@lin [-1000000000000,1000000000000]",
                 AllPass,
-                "max 1000000000000\ntimes 0 1000000000000\n",
+                "ask a b\nmax 1000000000000\ntimes 0 1000000000000\nmin -1000000000000\ntimes 0 -1000000000000\n",
             ),
         ],
     )
@@ -244,53 +272,91 @@ fn the_first_faulty_edge_is_told(rt: HostRuntime) -> Result<(), Fail> {
                 Refused,
                 "refused file 0 NoMark 0 q",
             ),
-            // before what can't be answered yet
-            (
-                r#""a->b @late [0,1]","a->q @ask""#,
-                Refused,
-                "refused file 0 NoMark 1 q",
-            ),
         ],
     )
 }
 
+// Each kind of rule with one cause is its range, and a cycle before the first one has no events.
 #[test]
-fn what_cannot_be_answered_yet_is_refused(rt: HostRuntime) -> Result<(), Fail> {
-    edges_end(
+fn rules_of_all_kinds_are_answered(rt: HostRuntime) -> Result<(), Fail> {
+    labels_end(
         &rt,
         rt.alloc(),
         &[
             (
-                r#""a->b @lin [1,250]","a->b @ask""#,
-                Refused,
-                "refused design NotYet",
+                "@lin [1,250]",
+                AllPass,
+                "ask a b\nmax 250\ntimes 0 250\nmin 1\ntimes 0 1\n",
             ),
-            (r#""a->b @lin [-250,-1]""#, Refused, "refused design NotYet"),
-            (r#""a->b @lin [*,-1]""#, Refused, "refused design NotYet"),
-            (r#""a->b @lin [1,*]""#, Refused, "refused design NotYet"),
             (
-                r#""a->b @lin [1000000000000,1000000000000]""#,
-                Refused,
-                "refused design NotYet",
+                "@lin [-250,-1]",
+                AllPass,
+                "ask a b\nmax -1\ntimes 0 -1\nmin -250\ntimes 0 -250\n",
             ),
-            (r#""a->b @lin+1 [1,2]""#, Refused, "refused design NotYet"),
             (
-                r#""a->b @late+1:rd [500,700] tAA""#,
-                Refused,
-                "refused design NotYet",
+                "@lin [*,-1]",
+                AllPass,
+                "ask a b\nmax -1\ntimes 0 -1\nmin unbounded\ntimes ?\nraise 0\n",
             ),
-            (r#""a->b @late [0,1]""#, Refused, "refused design NotYet"),
-            (r#""a->b @early [0,1]""#, Refused, "refused design NotYet"),
-            (r#""a->b @req [-5,*]""#, Refused, "refused design NotYet"),
-            (r#""a->b @req+1 [0,1]""#, Refused, "refused design NotYet"),
+            (
+                "@lin [1,*]",
+                AllPass,
+                "ask a b\nmax unbounded\ntimes ?\nraise 1\nmin 1\ntimes 0 1\n",
+            ),
+            (
+                "@lin [1000000000000,1000000000000]",
+                AllPass,
+                "ask a b\nmax 1000000000000\ntimes 0 1000000000000\nmin 1000000000000\ntimes 0 1000000000000\n",
+            ),
+            ("@lin+1 [1,2]", AllPass, OPEN),
+            (
+                "@late [0,1]",
+                AllPass,
+                "ask a b\nmax 1\ntimes 0 1\nmin 0\ntimes 0 0\n",
+            ),
+            (
+                "@late:x [3,7] note",
+                AllPass,
+                "ask a b\nmax 7\ntimes 0 7\nmin 3\ntimes 0 3\n",
+            ),
+            (
+                "@early [0,1]",
+                AllPass,
+                "ask a b\nmax 1\ntimes 0 1\nmin 0\ntimes 0 0\n",
+            ),
+            (
+                "@early [-7,-3]",
+                AllPass,
+                "ask a b\nmax -3\ntimes 0 -3\nmin -7\ntimes 0 -7\n",
+            ),
+            (
+                "@late [*,5]",
+                AllPass,
+                "ask a b\nmax 5\ntimes 0 5\nmin unbounded\ntimes ?\nraise 0\n",
+            ),
+            (
+                "@early [5,*]",
+                AllPass,
+                "ask a b\nmax unbounded\ntimes ?\nraise 1\nmin 5\ntimes 0 5\n",
+            ),
+            ("@late+1:rd [500,700] tAA", AllPass, OPEN),
         ],
     )?;
-    all_refused(
+    edges_end(
         &rt,
         rt.alloc(),
-        &[(
-            r#"{"signal":[{"name":"D","node":"a"},{"name":"Q","node":"b"}],"edge":["a->b @lin [1,250]","a->b @ask"]}"#,
-            "refused design NotYet\n",
-        )],
+        &[
+            (r#""a->b @req+1 [0,1]","a->b @lin [0,3]""#, AllPass, ""),
+            (
+                r#""a->b @lin [0,3]","a->b @req [0,3]""#,
+                AllPass,
+                "req a b [0,3]\nmax 3\ntimes 0 3\nmin 0\ntimes 0 0\nverdict pass\nslack 0 0\n",
+            ),
+            (
+                r#""a->b @lin [1,2]","b->a @lin [1,2]","a->b @ask""#,
+                Inconsistent,
+                "",
+            ),
+        ],
     )
 }

@@ -1,11 +1,15 @@
-//! How much a sheet may hold.
+//! How much a design may hold: each limit is taken, and the next number is refused.
 
-use super::{ROOM, all_refused, bytes_end, shelf_with, words_of};
-use itv_base::SinkMem;
+use super::{all_answered, all_refused, events_of, run_ends, shelf_of, shelf_with, words_of};
+use itv_base::{ShelfMem, SinkMem};
 use itv_cli::{Outcome, run};
 use std::alloc::Global;
+use std::process::Abort;
 use std::str;
 use std::test::Fail;
+
+// Room for the greatest report that is written here.
+const WIDE: u32 = 32_000_000;
 
 // A file on the marks `a` and `b` with an edge as often as is said, and other edges behind it.
 fn file_of(alloc: Global, edge: &str, count: u32, others: &str) -> Result<String, Fail> {
@@ -20,30 +24,53 @@ fn file_of(alloc: Global, edge: &str, count: u32, others: &str) -> Result<String
     Ok(file)
 }
 
-// Latest and earliest rules can't be answered yet, so a group that is not too large is refused as such.
+// The run on a file ends with a report.
+fn is_answered(rt: &impl Abort, alloc: Global, file: &str) -> Result<(), Fail> {
+    let mut shelf = shelf_with(alloc, "sheet.json", file.as_bytes())?;
+    ends_with_report(rt, alloc, &mut shelf, "sheet.json")
+}
+
+// The run on a design ends with a report that passes.
+fn ends_with_report(
+    rt: &impl Abort,
+    alloc: Global,
+    shelf: &mut ShelfMem,
+    design: &str,
+) -> Result<(), Fail> {
+    let mut sink = SinkMem::new(alloc, WIDE)?;
+    let outcome = run(alloc, &words_of(alloc, &[design])?, shelf, &mut sink);
+    assert_eq!(rt; outcome, Outcome::AllPass);
+    assert!(rt; sink.bytes().starts_with(b"itv report 1\n"));
+    assert!(rt; sink.bytes().ends_with(b"\nend pass\n"));
+    Ok(())
+}
+
+// The 64th cause is taken and the 65th refused, in edges counted from 0. Groups of other kinds, tags and targets don't count.
 #[test]
 fn a_rule_has_at_most_64_causes(rt: HostRuntime) -> Result<(), Fail> {
     let alloc = rt.alloc();
     let note = r#""a~>b""#;
     let late = r#""a->b @late [0,1]""#;
     let early = r#""a->b @early:x [0,1]""#;
-    let table = [
-        (late, 64, note, "refused design NotYet\n"),
-        (early, 64, note, "refused design NotYet\n"),
+    for (edge, others) in [
+        (late, note),
+        (early, note),
+        (
+            late,
+            r#""b->a @late [0,1]","a->b @late:x [0,1]","a->b @early [0,1]""#,
+        ),
+    ] {
+        let file = file_of(alloc, edge, 64, others)?;
+        is_answered(&rt, alloc, file.as_str())?;
+    }
+    for (edge, count, others, line) in [
         (late, 65, note, "refused file 0 TooManyCauses 64\n"),
         (early, 65, note, "refused file 0 TooManyCauses 64\n"),
-        // the edge is told, and other groups of the target don't count
         (
             late,
             64,
             r#""a~>b","b->b @late [0,1]""#,
             "refused file 0 TooManyCauses 65\n",
-        ),
-        (
-            late,
-            64,
-            r#""b->a @late [0,1]","a->b @late:x [0,1]","a->b @early [0,1]""#,
-            "refused design NotYet\n",
         ),
         (
             late,
@@ -64,8 +91,7 @@ fn a_rule_has_at_most_64_causes(rt: HostRuntime) -> Result<(), Fail> {
             r#""ab @ask","a->b @late [0,1]""#,
             "refused file 0 BadEdge 64\n",
         ),
-    ];
-    for (edge, count, others, line) in table {
+    ] {
         let file = file_of(alloc, edge, count, others)?;
         all_refused(&rt, alloc, &[(file.as_str(), line)])?;
     }
@@ -73,38 +99,145 @@ fn a_rule_has_at_most_64_causes(rt: HostRuntime) -> Result<(), Fail> {
 }
 
 #[test]
-fn a_sheet_has_at_most_65536_rules(rt: HostRuntime) -> Result<(), Fail> {
+fn a_design_has_at_most_65536_constraints(rt: HostRuntime) -> Result<(), Fail> {
     let alloc = rt.alloc();
     let rule = r#""a->b @lin [0,1]""#;
-    let report = "itv report 0
-events 2
-event 0 U.a@0
-event 1 U.b@0
-rows 1
-row 0 ask U.a@0 U.b@0
-max 1
-times 0 1
-end pass
-";
     let most = file_of(alloc, rule, 65_536, r#""a->b @ask""#)?;
-    bytes_end(&rt, alloc, most.as_bytes(), (Outcome::AllPass, report))?;
+    let rows = "ask a b\nmax 1\ntimes 0 1\nmin 0\ntimes 0 0\n";
+    all_answered(&rt, alloc, &[(most.as_str(), "ab", rows)])?;
     let more = file_of(alloc, rule, 65_537, r#""a->b @ask""#)?;
-    all_refused(&rt, alloc, &[(more.as_str(), "refused design NotYet\n")])
+    let line = "refused design TooMany Constraints 65537\n";
+    all_refused(&rt, alloc, &[(more.as_str(), line)])
 }
 
 #[test]
-fn a_sheet_has_at_most_4096_rows(rt: HostRuntime) -> Result<(), Fail> {
+fn a_design_has_at_most_4096_rows(rt: HostRuntime) -> Result<(), Fail> {
     let alloc = rt.alloc();
     let row = r#""a->b @ask""#;
     let most = file_of(alloc, row, 4_096, r#""a->b @lin [0,1]""#)?;
-    let words = words_of(alloc, &["sheet.json"])?;
-    let mut shelf = shelf_with(alloc, "sheet.json", most.as_bytes())?;
-    let mut sink = SinkMem::new(alloc, ROOM)?;
-    let outcome = run(alloc, &words, &mut shelf, &mut sink);
-    assert_eq!(rt; outcome, Outcome::AllPass);
-    let report = str::from_utf8(sink.bytes())?;
-    assert!(rt; report.contains("\nrows 4096\n"));
-    assert!(rt; report.ends_with("\nrow 4095 ask U.a@0 U.b@0\nmax 1\ntimes 0 1\nend pass\n"));
+    is_answered(&rt, alloc, most.as_str())?;
     let more = file_of(alloc, row, 4_097, r#""a->b @lin [0,1]""#)?;
-    all_refused(&rt, alloc, &[(more.as_str(), "refused design NotYet\n")])
+    let line = "refused design TooMany Rows 4097\n";
+    all_refused(&rt, alloc, &[(more.as_str(), line)])?;
+    // two limits: constraints are looked at before rows, and both before cells
+    let both = file_of(
+        alloc,
+        r#""a->b @ask","a->b @lin [0,1]""#,
+        65_537,
+        r#""a~>b""#,
+    )?;
+    let line = "refused design TooMany Constraints 65537\n";
+    all_refused(&rt, alloc, &[(both.as_str(), line)])
+}
+
+// A sheet, the number of its cycles, and the line of the refusal, or none where the design is taken.
+type Cycled<'a> = (&'a str, u32, Option<&'a str>);
+
+// A sheet over cycles ends with a report, or is refused by a line.
+fn cycles_end(rt: &impl Abort, alloc: Global, entry: Cycled<'_>) -> Result<(), Fail> {
+    let (sheet, cycles, refusal) = entry;
+    let design = format!(in alloc;
+        r#"{{"itv":1,"cycles":{cycles},"parts":[{{"name":"U1","sheet":"s.json"}}]}}"#
+    )?;
+    let mut shelf = shelf_of(alloc, &[("n.json", design.as_str()), ("s.json", sheet)])?;
+    match refusal {
+        Some(line) => run_ends(rt, alloc, &["n.json"], &mut shelf, (Outcome::Refused, line)),
+        None => ends_with_report(rt, alloc, &mut shelf, "n.json"),
+    }
+}
+
+// 16 marks over 256 cycles are 4,096 events, and 17 over 241 are 4,097. 4 marks over 250 cycles are 1,000 events; with 4 rows in
+// each cycle they are 1,000,000 cells, and with 5 rows 1,250,000. A latest rule whose causes stand one cycle before is there in 255
+// cycles: with one of 256 these are 511 rules with two causes, and 4,096 * 512 cells; with two of 256 they are 4,096 * 513.
+#[test]
+fn cycles_multiply_what_a_sheet_holds(rt: HostRuntime) -> Result<(), Fail> {
+    let alloc = rt.alloc();
+    let wide = r#"{"signal":[{"node":"abcdefghijklmnop"}]}"#;
+    let wider = r#"{"signal":[{"node":"abcdefghijklmnopq"}]}"#;
+    let four =
+        r#"{"signal":[{"node":"abcd"}],"edge":["a->b @ask","b->c @ask","c->d @ask","d->a @ask"]}"#;
+    let five = r#"{"signal":[{"node":"abcd"}],
+        "edge":["a->b @ask","b->c @ask","c->d @ask","d->a @ask","a->a @ask"]}"#;
+    let shifted =
+        r#"{"signal":[{"node":"abcdefghijklmnop"}],"edge":["a->c @late [0,9]","b->c @late [0,9]",
+        "a->d @late+1 [0,9]","b->d @late+1 [0,9]"]}"#;
+    let unshifted =
+        r#"{"signal":[{"node":"abcdefghijklmnop"}],"edge":["a->c @late [0,9]","b->c @late [0,9]",
+        "a->d @late [0,9]","b->d @late [0,9]"]}"#;
+    let cells = "refused design TooMany Cells 1250000\n";
+    let search = "refused design TooMany SearchCells 2101248\n";
+    for entry in [
+        (wide, 256, None),
+        (wider, 241, Some("refused design TooMany Events 4097\n")),
+        (four, 250, None),
+        (five, 250, Some(cells)),
+        (shifted, 256, None),
+        (unshifted, 256, Some(search)),
+        (wide, 257, Some("refused file 0 Cycles\n")),
+        (wide, 0, Some("refused file 0 Cycles\n")),
+    ] {
+        cycles_end(&rt, alloc, entry)?;
+    }
+    Ok(())
+}
+
+// A netlist of parts, each with a sheet of its own name up to a number of names, and one mark on each sheet.
+fn parts_of(alloc: Global, parts: u32, sheets: u32) -> Result<ShelfMem, Fail> {
+    let mut shelf = ShelfMem::new(alloc)?;
+    let mut list = String::new(alloc);
+    for number in 0..parts {
+        let comma = if number == 0 { "" } else { "," };
+        let sheet = number.checked_rem(sheets).unwrap_or(0);
+        let part = format!(in alloc; r#"{comma}{{"name":"U{number}","sheet":"s{sheet}"}}"#)?;
+        list.push_str(part.as_str())?;
+    }
+    for number in 0..sheets {
+        let name = format!(in alloc; "s{number}")?;
+        shelf.add(alloc, name.as_str(), br#"{"signal":[{"node":"a"}]}"#)?;
+    }
+    let design = format!(in alloc; r#"{{"itv":1,"cycles":1,"parts":[{list}]}}"#)?;
+    shelf.add(alloc, "n.json", design.as_bytes())?;
+    Ok(shelf)
+}
+
+// All sheets are there, so no earlier refusal comes.
+#[test]
+fn a_netlist_has_at_most_256_parts_and_64_sheets(rt: HostRuntime) -> Result<(), Fail> {
+    let alloc = rt.alloc();
+    for (parts, sheets) in [(256, 1), (256, 64), (64, 64)] {
+        ends_with_report(&rt, alloc, &mut parts_of(alloc, parts, sheets)?, "n.json")?;
+    }
+    for (parts, sheets, line) in [
+        (257, 1, "refused file 0 TooManyParts 257\n"),
+        (65, 65, "refused file 0 TooManySheets 65\n"),
+        (256, 256, "refused file 0 TooManySheets 256\n"),
+        (300, 300, "refused file 0 TooManyParts 300\n"),
+    ] {
+        let mut shelf = parts_of(alloc, parts, sheets)?;
+        run_ends(
+            &rt,
+            alloc,
+            &["n.json"],
+            &mut shelf,
+            (Outcome::Refused, line),
+        )?;
+    }
+    Ok(())
+}
+
+// The events of one part with 2 marks in 256 cycles stand cycle by cycle.
+#[test]
+fn the_last_cycle_is_255(rt: HostRuntime) -> Result<(), Fail> {
+    let alloc = rt.alloc();
+    let design = r#"{"itv":1,"cycles":256,"parts":[{"name":"A","sheet":"s"}]}"#;
+    let files = [("n", design), ("s", r#"{"signal":[{"node":"xy"}]}"#)];
+    let mut shelf = shelf_of(alloc, &files)?;
+    let mut sink = SinkMem::new(alloc, WIDE)?;
+    let outcome = run(alloc, &words_of(alloc, &["n"])?, &mut shelf, &mut sink);
+    let events = events_of(alloc, "A.x A.y", 256)?;
+    assert_eq!(rt; outcome, Outcome::AllPass);
+    let text = str::from_utf8(sink.bytes())?;
+    assert!(rt; text.contains(events.as_str()));
+    assert!(rt; text.contains("\nevent 511 A.y@255\nfinding consistent\n"));
+    Ok(())
 }

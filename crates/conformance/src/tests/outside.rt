@@ -1,6 +1,6 @@
 //! Real files and standard output.
 
-use super::{FIRST, FIRST_REPORT, words_of};
+use super::{FIRST, FIRST_REPORT, is_like, words_of};
 use itv_base::{FetchFault, Shelf, ShelfDir, SinkMem, SinkOut};
 use itv_cli::{Outcome, run};
 use std::test::Fail;
@@ -72,7 +72,7 @@ fn a_run_reads_real_files(rt: HostRuntime) -> Result<(), Fail> {
     ] {
         let mut sink = SinkMem::new(alloc, 1_000)?;
         let outcome = run(alloc, &words_of(alloc, &[name])?, &mut shelf, &mut sink);
-        assert_eq!(rt; str::from_utf8(sink.bytes())?, text, "of {name}");
+        assert!(rt; is_like(str::from_utf8(sink.bytes())?, text), "of {name}");
         assert_eq!(rt; outcome, end, "of {name}");
     }
     fs::remove_file(&rt, "conformance_longest.json")?;
@@ -86,6 +86,6 @@ fn standard_output_takes_a_line(rt: HostRuntime) -> Result<(), Fail> {
     let mut shelf = ShelfDir::new(alloc, rt.clone()?)?;
     let mut sink = SinkOut::new(rt.clone()?);
     let outcome = run(alloc, &words_of(alloc, &["--help"])?, &mut shelf, &mut sink);
-    assert_eq!(rt; outcome, Outcome::BadWords);
+    assert_eq!(rt; outcome, Outcome::Help);
     Ok(())
 }

@@ -1,6 +1,6 @@
 //! Drawings that are no sheet, and what the lanes of a sheet say.
 
-use super::{all_pass, all_refused};
+use super::{all_answered, all_refused};
 use std::test::Fail;
 
 #[test]
@@ -65,7 +65,7 @@ fn the_first_fault_of_the_lanes_is_told(rt: HostRuntime) -> Result<(), Fail> {
 
 #[test]
 fn lanes_of_one_name_may_stand_without_marks(rt: HostRuntime) -> Result<(), Fail> {
-    all_pass(
+    all_answered(
         &rt,
         rt.alloc(),
         &[(
@@ -102,11 +102,11 @@ fn marks_of_a_named_wave_come_in_order(rt: HostRuntime) -> Result<(), Fail> {
     ];
     for (lane, is_ordered) in lanes {
         let answer = match is_ordered {
-            true => "row b a\nmax 0\ntimes 0 0\n",
-            false => "row b a\nmax unbounded\ntimes 0 0\nraise 0\n",
+            true => "ask b a\nmax 0\ntimes 0 0\nmin unbounded\ntimes ?\nraise 1\n",
+            false => "ask b a\nmax unbounded\ntimes ?\nraise 0\nmin unbounded\ntimes ?\nraise 1\n",
         };
         let file = format!(in alloc; r#"{{"signal":[{lane}],"edge":["b->a @ask"]}}"#)?;
-        all_pass(&rt, alloc, &[(file.as_str(), "ab", answer)])?;
+        all_answered(&rt, alloc, &[(file.as_str(), "ab", answer)])?;
     }
     Ok(())
 }
@@ -123,10 +123,14 @@ fn waves_of_all_kinds_are_taken(rt: HostRuntime) -> Result<(), Fail> {
         let file = format!(in alloc;
             r#"{{"signal":[{{"name":"A","wave":"{wave}","node":"c"}}],"edge":["c->c @ask"]}}"#
         )?;
-        all_pass(
+        all_answered(
             &rt,
             alloc,
-            &[(file.as_str(), "c", "row c c\nmax 0\ntimes 0\n")],
+            &[(
+                file.as_str(),
+                "c",
+                "ask c c\nmax 0\ntimes 0\nmin 0\ntimes 0\n",
+            )],
         )?;
     }
     Ok(())

@@ -1,32 +1,155 @@
-//! The words that `run` takes.
+//! The words that `run` takes, by what they give over a shelf on which `sheet.json` is the first file of the worked rows.
 
-use super::{FIRST, FIRST_REPORT, run_ends, shelf_with};
-use itv_cli::Outcome;
+use super::{FIRST, FIRST_PROVED, FIRST_REPORT, ROOM, run_ends, shelf_of, words_of};
+use itv_base::SinkMem;
+use itv_cli::{Outcome, run};
+use std::str;
 use std::test::Fail;
 
+const BAD: (Outcome, &str) = (Outcome::BadWords, "bad words\n");
+
+const UNREAD: (Outcome, &str) = (Outcome::ReadFault, "cannot read file 0\n");
+
+const PASSES: (Outcome, &str) = (Outcome::AllPass, FIRST_REPORT);
+
+const PROVED: (Outcome, &str) = (
+    Outcome::AllPass,
+    "itv report 1\nbudget 100000\nevents 2\nevent 0 U.a@0\nevent 1 U.b@0\nfinding consistent\ntimes ?\nrows 1\n\
+    row 0 ask U.a@0 U.b@0\npath 0.0u\nmax 250\ntimes 0 250\npath 0.0l\nmin 0\ntimes 0 0\nend pass\n",
+);
+
+const ACCEPTED: (Outcome, &str) = (Outcome::AllPass, "report accepted\n");
+
+const MATRIX: (Outcome, &str) = (
+    Outcome::AllPass,
+    "itv matrix 1\nevents 2\nevent 0 U.a@0\nevent 1 U.b@0\nrow 0 250\nrow 0 0\n",
+);
+
+const GENERATED: (Outcome, &str) = (
+    Outcome::AllPass,
+    "self 1\nevents 14\nconstraints 20\nrows 3\npass 1\nfail 0\nundecided 0\nend pass\n",
+);
+
+// A list of words, how its run ends and what it writes.
+type Entry<'a> = (&'a [&'a str], (Outcome, &'a str));
+
+// What each job wants, and what it passes over.
+const JOBS: [Entry<'static>; 19] = [
+    (&["sheet.json"], PASSES),
+    (&["--job", "bounds", "sheet.json"], PASSES),
+    (&["sheet.json", "--job=bounds"], PASSES),
+    (&["--cert", "sheet.json"], PROVED),
+    (&["sheet.json", "--cert"], PROVED),
+    (&["--report", "none", "--size=9", "sheet.json"], PASSES),
+    (&["--job", "matrix", "sheet.json"], MATRIX),
+    (
+        &["--job=matrix", "--cert", "--budget=1", "sheet.json"],
+        MATRIX,
+    ),
+    (&["--job=check", "--report=report", "sheet.json"], ACCEPTED),
+    (
+        &["sheet.json", "--report", "report", "--job", "check"],
+        ACCEPTED,
+    ),
+    (&["--job", "self", "--size", "1"], GENERATED),
+    (
+        &["--job=self", "--size=1", "--report=x", "sheet.json"],
+        GENERATED,
+    ),
+    (&[], BAD),
+    (&["--job", "bounds"], BAD),
+    (&["--job=matrix"], BAD),
+    (&["--job", "check", "sheet.json"], BAD),
+    (&["--job", "check", "--report", "report"], BAD),
+    (&["--job", "self", "sheet.json"], BAD),
+    (&["--job", "nope", "sheet.json"], BAD),
+];
+
+// Numbers, options that stand twice, values that are missing or in excess, and names that are none.
+const OPTIONS: [Entry<'static>; 23] = [
+    (&["--budget", "100000", "sheet.json"], PASSES),
+    (&["--budget", "0", "sheet.json"], BAD),
+    (&["--budget=1000000001", "sheet.json"], BAD),
+    (&["--budget=99999999999999999999999", "sheet.json"], BAD),
+    (&["--budget", "0100000", "sheet.json"], PASSES),
+    (&["--budget", "+100000", "sheet.json"], PASSES),
+    (&["--budget", "-5", "sheet.json"], BAD),
+    (&["--budget", "1e3", "sheet.json"], BAD),
+    (&["--budget=", "sheet.json"], BAD),
+    (&["--budget"], BAD),
+    (&["--size", "0", "sheet.json"], BAD),
+    (&["--job=self", "--size=65"], BAD),
+    (&["--job=self", "--size=0"], BAD),
+    (&["--size", "64", "sheet.json"], PASSES),
+    (&["--cert", "--cert", "sheet.json"], BAD),
+    (&["--cert=true", "sheet.json"], BAD),
+    (&["--job=bounds", "--job=bounds", "sheet.json"], BAD),
+    (&["--job=", "sheet.json"], BAD),
+    (&["--job"], BAD),
+    (&["--jo", "bounds", "sheet.json"], BAD),
+    (&["--Job", "bounds", "sheet.json"], BAD),
+    (&["-x"], BAD),
+    (&["--version"], BAD),
+];
+
+// Designs: one, with any name that is no option.
+const DESIGNS: [Entry<'static>; 10] = [
+    (&["sheet.json", "sheet.json"], BAD),
+    (&["sheet.json", ""], BAD),
+    (&["--", "sheet.json"], PASSES),
+    (&["--", "--help"], PASSES),
+    (&["--"], BAD),
+    (&[""], UNREAD),
+    (&["-"], UNREAD),
+    (&[" -x"], UNREAD),
+    (&["sheet.json "], UNREAD),
+    (&["help"], UNREAD),
+];
+
 #[test]
-fn the_words_are_one_name_of_a_file(rt: HostRuntime) -> Result<(), Fail> {
-    let bad = (Outcome::BadWords, "bad words\n");
-    let absent = (Outcome::ReadFault, "cannot read file 0\n");
-    let table: [(&[&str], (Outcome, &str)); 13] = [
-        (&[], bad),
-        (&["sheet.json", "sheet.json"], bad),
-        (&["sheet.json", ""], bad),
-        (&["--", "sheet.json"], bad),
-        (&["-x"], bad),
-        (&["--help"], bad),
-        (&["-"], bad),
-        (&["--"], bad),
-        (&["-sheet.json"], bad),
-        (&[""], absent),
-        (&[" -x"], absent),
-        (&["sheet.json "], absent),
-        (&["sheet.json"], (Outcome::AllPass, FIRST_REPORT)),
+fn words_are_taken_for_what_they_say(rt: HostRuntime) -> Result<(), Fail> {
+    for table in [&JOBS[..], &OPTIONS[..], &DESIGNS[..]] {
+        for (words, wanted) in table {
+            let files = [
+                ("sheet.json", FIRST),
+                ("--help", FIRST),
+                ("report", FIRST_PROVED),
+            ];
+            let mut shelf = shelf_of(rt.alloc(), &files)?;
+            run_ends(&rt, rt.alloc(), words, &mut shelf, *wanted)?;
+        }
+    }
+    Ok(())
+}
+
+// The words are read from left to right: the first fault or wish for help decides. Of the help text only its line of use is looked at.
+#[test]
+fn help_is_given_unless_a_fault_stands_before_it(rt: HostRuntime) -> Result<(), Fail> {
+    let alloc = rt.alloc();
+    let table: [&[&str]; 6] = [
+        &["--help"],
+        &["-h"],
+        &["sheet.json", "--help"],
+        &["--job", "nope", "--help"],
+        &["--help", "--bogus"],
+        &["--help", "a", "b"],
     ];
-    for (words, wanted) in table {
-        let mut shelf = shelf_with(rt.alloc(), "sheet.json", FIRST.as_bytes())?;
-        shelf.add(rt.alloc(), "-sheet.json", FIRST.as_bytes())?;
-        run_ends(&rt, rt.alloc(), words, &mut shelf, wanted)?;
+    for words in table {
+        let mut shelf = shelf_of(alloc, &[])?;
+        let mut sink = SinkMem::new(alloc, ROOM)?;
+        let outcome = run(alloc, &words_of(alloc, words)?, &mut shelf, &mut sink);
+        assert_eq!(rt; outcome, Outcome::Help, "of {words:?}");
+        let text = str::from_utf8(sink.bytes())?;
+        assert!(rt; text.contains("Usage: itv [OPTIONS] [DESIGN]"), "{text}");
+    }
+    let faults: [&[&str]; 3] = [
+        &["--bogus", "--help"],
+        &["--budget", "0", "--help"],
+        &["--budget", "--help"],
+    ];
+    for words in faults {
+        let mut shelf = shelf_of(alloc, &[])?;
+        run_ends(&rt, alloc, words, &mut shelf, BAD)?;
     }
     Ok(())
 }
