@@ -1,5 +1,5 @@
 -- Lines of a proof before a finding or a bound.
-use Rattle.std.proofs.Common.{◌≡◌, ◌+◌, ◌<◌, ◌≤◌, ℕ, zero, suc, Bool, true, false, IsTrue, List, [], ◌∷◌, ◌++◌, length, drop, map, Option, Some, None, IsSomeAnd, Result, Ok, Err, slice_get, inl, inr, refl, sym, ap, subst, ◌∙◌, arith, append-nil, append_assoc}
+use Rattle.std.proofs.Common.{◌≡◌, ◌+◌, ◌<◌, ◌≤◌, ℕ, zero, suc, Bool, false, List, [], ◌∷◌, ◌++◌, length, drop, map, Option, Some, None, IsSomeAnd, Ok, Err, slice_get, inl, inr, refl, sym, ap, subst, ◌∙◌, arith, append-nil, append_assoc}
 use Rattle.std.proofs.Math.Seq.{drop-nil}
 use Rattle.event_graph.specs.Network.{Net}
 use Rattle.event_graph.specs.Proof.{Case, IsProof, Loop, Path, ProofGoal, ProofLine, Split, cases_of}
@@ -15,7 +15,7 @@ use Rattle.right_report.specs.Wrong.{IsFine, IsFirstWrong, IsRefused, Takes, goa
 use Rattle.report_check.specs.declared.group.Group.{Group}
 use Rattle.report_check.specs.declared.group.Group.TheVariants as groups
 use Rattle.report_check.specs.declared.stage.Stage.{Stage}
-use Rattle.report_check.specs.Step.Groups.{AreTaken, ChecksFor, IsOneRefused, IsToldOf, behind_lines, proof_front}
+use Rattle.report_check.specs.Step.Groups.{ChecksFor, IsToldOf, behind_lines, proof_front}
 use Rattle.report_check.specs.Step.Stages.{Decides, at_of, is_proof}
 use Rattle.report_check.specs.Step.Walks.{IsWrongFrom, Leads, StepsOn}
 use Rattle.report_check.proofs.Leading.{end_wrong, leads_then, line_leads, line_wrong}

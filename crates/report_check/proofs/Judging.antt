@@ -1,7 +1,7 @@
 -- What findings and bounds decide behind lines of a proof.
-use Rattle.std.proofs.Common.{◌≡◌, ◌↔◌, ℕ, Bool, true, false, IsTrue, List, [], ◌∷◌, Option, Some, None, inl, inr, refl, sym, ap, subst, ◌∙◌}
+use Rattle.std.proofs.Common.{◌≡◌, ◌↔◌, ℕ, Bool, true, false, IsTrue, List, [], ◌∷◌, Some, None, inl, inr, refl, sym, ap, subst, ◌∙◌}
 use Rattle.event_graph.specs.Network.{Net}
-use Rattle.event_graph.specs.Proof.{Nothing, ProofGoal, ProofLine}
+use Rattle.event_graph.specs.Proof.{Nothing, ProofLine}
 use Rattle.requirements.specs.declared.bound.Bound.{Bound}
 use Rattle.requirements.specs.declared.bound.Bound.TheVariants as bounds
 use Rattle.slack_report.specs.declared.words.FindingWord.{FindingWord}
@@ -10,16 +10,14 @@ use Rattle.slack_report.specs.declared.words.Which.{Which}
 use Rattle.slack_report.specs.Entry.{Entry, bound, finding, proof}
 use Rattle.slack_report.specs.Right.At as places
 use Rattle.slack_report.specs.Right.At.{At, at_bound, at_event, behind_bound, behind_finding, which_of}
-use Rattle.slack_report.specs.Right.Drawn.{Drawn, Row}
-use Rattle.slack_report.specs.Right.Following.{MayBound, MayFind, MayFollow}
+use Rattle.slack_report.specs.Right.Drawn.{Drawn}
+use Rattle.slack_report.specs.Right.Following.{MayFind, MayFollow}
 use Rattle.right_report.specs.Checked.{IsWithinTimes, ProvesBound, ProvesFinding, checked}
 use Rattle.right_report.specs.Wrong.{goal_by}
-use Rattle.report_check.specs.declared.stage.Side.{Side}
 use Rattle.report_check.specs.declared.stage.Stage.{Stage}
-use Rattle.report_check.specs.declared.stage.Telling.{Telling}
 use Rattle.report_check.specs.Step.Bounds.{goal_for}
 use Rattle.report_check.specs.Step.Groups.{IsToldOf, found_behind}
-use Rattle.report_check.specs.Step.Stages.{Decides, Fits, at_of, is_proof, side_told, telling_of}
+use Rattle.report_check.specs.Step.Stages.{Decides, Fits, at_of, is_proof}
 
 -- ---- the finding
 

@@ -1,24 +1,21 @@
 -- Names and rows in their places.
-use Rattle.std.proofs.Common.{◌≡◌, ◌+◌, ◌<◌, ◌≤◌, ℕ, zero, suc, List, [], ◌∷◌, length, ◌^◌, drop, map, Bool, true, false, IsTrue, ◌↔◌, Option, Some, None, option_map, unwrap_or, slice_get, refl, sym, ap, subst, ◌∙◌, arith}
+use Rattle.std.proofs.Common.{◌≡◌, ◌+◌, ◌<◌, ℕ, zero, suc, List, [], ◌∷◌, length, ◌^◌, drop, map, Bool, true, false, IsTrue, ◌↔◌, Option, Some, None, option_map, unwrap_or, slice_get, refl, sym, ap, subst, ◌∙◌, arith}
 use Rattle.std.proofs.lemmas.Option.{slice_get-map, slice_get_within}
 use Rattle.std.proofs.lemmas.List.{length-map}
 use Rattle.sheet.proofs.Lists.{drop-read}
 use Rattle.itv_base.specs.Names.{Name}
-use Rattle.itv_base.specs.declared.names.EventId.{EventId}
 use Rattle.slack_report.specs.Right.Drawn as told
 use Rattle.unroll.specs.declared.row.Row.{Row}
 use Rattle.unroll.specs.Drawn.{Drawn, IsRowOf, name_of, nameless}
 use Rattle.unroll.specs.Reported.{reported, row_told}
 use Rattle.slack_report.specs.Entry as lines
 use Rattle.slack_report.specs.Entry.{Entry}
-use Rattle.slack_report.specs.Right.At.{at_end, at_last, at_row, end_word}
-use Rattle.slack_report.specs.Right.At as places
+use Rattle.slack_report.specs.Right.At.{at_end, at_row, end_word}
 use Rattle.report_check.specs.declared.stage.Course.{Course}
 use Rattle.report_check.specs.declared.stage.Side.TheVariants.{Greatest}
 use Rattle.report_check.specs.declared.stage.Stage.{Stage}
 use Rattle.report_check.specs.declared.stage.Stage.TheVariants as stages
-use Rattle.report_check.specs.declared.stage.Telling.{Telling}
-use Rattle.report_check.specs.Step.Stages.{Decides, IsTelling, at_of, course_told, is_proof}
+use Rattle.report_check.specs.Step.Stages.{Decides, at_of, course_told, is_proof}
 
 -- the name of an event that is there
 unwrapped : (o : Option Name) (name : Name) → (n : Name) × (o ≡ Some n) → unwrap_or o nameless ≡ name → o ≡ Some name

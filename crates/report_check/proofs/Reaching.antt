@@ -1,5 +1,5 @@
 -- No sum of a path comes near the ends of 64 bits.
-use Rattle.std.proofs.Common.{◌≡◌, ◌↔◌, ◌+◌, ◌*◌, ◌^◌, ◌≤◌, ◌-◌, ◌≤ℤ◌, ◌<ℤ◌, ◌+ℤ◌, ℕ, ℤ, pos, neg_ℤ, List, [], ◌∷◌, ◌++◌, length, Option, Some, None, option_map, option_and_then, slice_get, refl, sym, ap, subst, ◌∙◌, arith}
+use Rattle.std.proofs.Common.{◌≡◌, ◌*◌, ◌^◌, ◌≤◌, ◌-◌, ◌≤ℤ◌, ℤ, pos, neg_ℤ, List, [], ◌∷◌, ◌++◌, length, Option, Some, None, option_map, option_and_then, slice_get, refl, sym, ap, subst, ◌∙◌, arith}
 use Rattle.std.specs.Int.{int_min}
 use Rattle.std.proofs.lemmas.Int.{ints}
 use Rattle.itv_base.specs.Range.{IsEnd}
@@ -10,7 +10,7 @@ use Rattle.itv_base.specs.declared.names.Side.{Side as EdgeSide}
 use Rattle.itv_base.specs.declared.names.Side.TheVariants.{Lower, Upper}
 use Rattle.event_graph.specs.declared.cause.Cause.{Cause}
 use Rattle.event_graph.specs.Edges.{edge, side_edge}
-use Rattle.event_graph.specs.Network.{AreEnds, Constraint, HasEnds, IsNet, Net, cause_at}
+use Rattle.event_graph.specs.Network.{AreEnds, Constraint, HasEnds, IsNet, Net}
 use Rattle.event_graph.specs.Proof.{Bound, Case, ClosesByPath, Loop, Path, ProofGoal, ProofLine, Split, cases_of, path_sum, weight_of}
 use Rattle.event_graph.specs.Proof as proofs
 use Rattle.right_report.specs.Shown.{goal_of}

@@ -1,13 +1,13 @@
 -- Root bounds.
-use Rattle.std.proofs.Common.{◌≡◌, ◌↔◌, ◌<◌, ◌≤ℤ◌, ◌<ℤ◌, ℕ, ℤ, neg_ℤ, pos, Bool, IsTrue, List, [], All, length, Option, Some, None, option_and_then, option_map, slice_get, refl, sym, ap, subst, ◌∙◌, arith}
+use Rattle.std.proofs.Common.{◌≡◌, ◌↔◌, ◌<◌, ◌≤ℤ◌, ◌<ℤ◌, ℤ, neg_ℤ, pos, Bool, IsTrue, [], Option, Some, None, option_and_then, option_map, slice_get, refl, sym, ap, subst, ◌∙◌, arith}
 use Rattle.std.proofs.Math.IntN.{neg_ℤ-neg_ℤ}
 use Rattle.std.proofs.lemmas.Int.{ints}
 use Rattle.itv_base.specs.declared.names.EdgeName.{EdgeName}
 use Rattle.itv_base.specs.declared.names.EventId.{EventId}
 use Rattle.event_graph.specs.declared.edge.Edge.{Edge}
-use Rattle.event_graph.specs.Edges.{IsAlways, Meets, edge, side_edge}
+use Rattle.event_graph.specs.Edges.{edge, side_edge}
 use Rattle.event_graph.specs.Network.{Constraint, IsConstraint, IsNet, Net}
-use Rattle.event_graph.specs.RootBound.{IsRootBound, MeetsAlways}
+use Rattle.event_graph.specs.RootBound.{IsRootBound}
 use Rattle.event_graph.specs.Times.{separation}
 use Rattle.event_graph.proofs.EdgesMet.{All-found}
 use Rattle.branch.specs.Answers.{IsRoot}

@@ -14,45 +14,6 @@ use job_answer::{Answer, Unanswered};
 use std::alloc::Global;
 use unroll::Unrolled;
 
-// Writes the number of the first wrong line.
-fn put_refused<K: Sink>(line: u64, sink: &mut K) -> Result<(), PutFailed>
-    ensures puts { Puts (K.told sink.old) (K.told sink.new) (refused_text line) result }
-{
-    let mut digits = Buffer::new();
-    let number = number_text(line, &mut digits).as_bytes();
-    put_all(sink, &[b"report refused at line ", number, b"\n"])
-}
-
-// Writes what becomes of a report.
-fn put_checked<K: Sink>(checked: Checked, sink: &mut K) -> Result<(), PutFailed>
-    ensures puts { Puts (K.told sink.old) (K.told sink.new) (checked_text checked) result }
-{
-    match checked {
-        Checked::Accepted => sink.put(b"report accepted\n"),
-        Checked::Refused { line } => put_refused(line, sink),
-    }
-}
-
-// What the job answers.
-fn answer_of(checked: Checked) -> Answer
-    ensures answer { (drawn : Drawn) (bytes : List ℕ) → IsCheckOf drawn bytes checked → AnswersCheck drawn bytes result (checked_text checked) }
-{
-    match checked {
-        Checked::Accepted => Answer::AllPass,
-        Checked::Refused { .. } => Answer::CheckRefused,
-    }
-}
-
-fn tell<K: Sink>(checked: Checked, sink: &mut K) -> Result<Answer, Unanswered>
-    ensures works { (drawn : Drawn) (bytes : List ℕ) → IsCheckOf drawn bytes checked
-        → Works (AnswersCheck drawn bytes) (BeginsCheck drawn bytes) (K.told sink.old) (K.told sink.new) result }
-{
-    match put_checked(checked, sink) {
-        Ok(()) => Ok(answer_of(checked)),
-        Err(PutFailed) => Err(Unanswered::PutFailed),
-    }
-}
-
 /// Checks a text as a report of a drawn network, and writes a line that tells what becomes of it. All memory is taken before the
 /// first put.
 pub fn answer_check<K: Sink>(
@@ -68,4 +29,43 @@ pub fn answer_check<K: Sink>(
         Ok(checked) => tell(checked, sink),
         Err(NoMemory) => Err(Unanswered::NoMemory),
     }
+}
+
+fn tell<K: Sink>(checked: Checked, sink: &mut K) -> Result<Answer, Unanswered>
+    ensures works { (drawn : Drawn) (bytes : List ℕ) → IsCheckOf drawn bytes checked
+        → Works (AnswersCheck drawn bytes) (BeginsCheck drawn bytes) (K.told sink.old) (K.told sink.new) result }
+{
+    match put_checked(checked, sink) {
+        Ok(()) => Ok(answer_of(checked)),
+        Err(PutFailed) => Err(Unanswered::PutFailed),
+    }
+}
+
+// What the job answers.
+fn answer_of(checked: Checked) -> Answer
+    ensures answer { (drawn : Drawn) (bytes : List ℕ) → IsCheckOf drawn bytes checked → AnswersCheck drawn bytes result (checked_text checked) }
+{
+    match checked {
+        Checked::Accepted => Answer::AllPass,
+        Checked::Refused { .. } => Answer::CheckRefused,
+    }
+}
+
+// Writes what becomes of a report.
+fn put_checked<K: Sink>(checked: Checked, sink: &mut K) -> Result<(), PutFailed>
+    ensures puts { Puts (K.told sink.old) (K.told sink.new) (checked_text checked) result }
+{
+    match checked {
+        Checked::Accepted => sink.put(b"report accepted\n"),
+        Checked::Refused { line } => put_refused(line, sink),
+    }
+}
+
+// Writes the number of the first wrong line.
+fn put_refused<K: Sink>(line: u64, sink: &mut K) -> Result<(), PutFailed>
+    ensures puts { Puts (K.told sink.old) (K.told sink.new) (refused_text line) result }
+{
+    let mut digits = Buffer::new();
+    let number = number_text(line, &mut digits).as_bytes();
+    put_all(sink, &[b"report refused at line ", number, b"\n"])
 }

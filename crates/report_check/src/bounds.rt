@@ -23,13 +23,17 @@ use requirements::Bound;
 use slack_report::FindingWord;
 use unroll::Row;
 
-// Whether a root bound is there.
-fn is_bound(root: Root) -> bool
-    ensures bound { IsTrue result ↔ (root ≡ Root.NoTimes → ⊥) }
+/// Whether a finding may stand behind lines, of which it is told whether they prove that no times satisfy.
+pub fn proves_finding(net: &Network, work: &mut Work, word: FindingWord, whole: bool) -> bool
+    requires made { IsMadeFor net.now work.old }
+    ensures proves { (lines : List ProofLine) → (word ≡ FindingWord.Inconsistent → IsToldOf net.now (Some Nothing) lines whole)
+        → (IsTrue result ↔ ProvesFinding net.now lines word) }
+    ensures made { IsMadeFor net.now work.new }
 {
-    match root {
-        Root::NoTimes => false,
-        Root::Bound(_) => true,
+    match word {
+        FindingWord::Consistent => true,
+        FindingWord::Inconsistent => whole,
+        FindingWord::Unsettled => some_meet(net, work),
     }
 }
 
@@ -46,77 +50,14 @@ fn some_meet(net: &Network, work: &mut Work) -> bool
     is_bound(root_bound(work, net, EventId(0), EventId(0)))
 }
 
-/// Whether a finding may stand behind lines, of which it is told whether they prove that no times satisfy.
-pub fn proves_finding(net: &Network, work: &mut Work, word: FindingWord, whole: bool) -> bool
-    requires made { IsMadeFor net.now work.old }
-    ensures proves { (lines : List ProofLine) → (word ≡ FindingWord.Inconsistent → IsToldOf net.now (Some Nothing) lines whole)
-        → (IsTrue result ↔ ProvesFinding net.now lines word) }
-    ensures made { IsMadeFor net.now work.new }
-{
-    match word {
-        FindingWord::Consistent => true,
-        FindingWord::Inconsistent => whole,
-        FindingWord::Unsettled => some_meet(net, work),
-    }
-}
-
-// Whether the number that was attained is there, or not, as the finding has it.
-fn has_attained(found: FindingWord, attained: Option<i64>) -> bool
-    ensures attained { IsTrue result ↔ HasAttained found attained }
-{
-    match found {
-        FindingWord::Consistent => attained.is_some(),
-        FindingWord::Inconsistent => false,
-        FindingWord::Unsettled => attained.is_none(),
-    }
-}
-
-// Minus a number of picoseconds.
-fn negated(value: i64) -> i64
-    requires { IsTime value }
-    ensures value { result ≡ neg_ℤ value }
-    ensures within { IsTime result }
-{
-    -value
-}
-
-// A root bound with its number negated.
-fn reversed_root(root: Root) -> Root
-    requires within { IsRootTime root }
-    ensures root { result ≡ reversed_root root }
-    ensures within { IsRootTime result }
-{
-    match root {
-        Root::NoTimes => Root::NoTimes,
-        Root::Bound(upper) => Root::Bound(upper.map(negated)),
-    }
-}
-
-// Whether a limit is a root bound.
-fn is_root(root: Root, limit: Option<i64>) -> bool
-    requires within { IsRootTime root }
-    ensures root { IsTrue result ↔ (root ≡ Root.Bound limit) }
-    ensures within { IsTrue result → IfSome limit IsTime }
+// Whether a root bound is there.
+fn is_bound(root: Root) -> bool
+    ensures bound { IsTrue result ↔ (root ≡ Root.NoTimes → ⊥) }
 {
     match root {
         Root::NoTimes => false,
-        Root::Bound(upper) => upper == limit,
+        Root::Bound(_) => true,
     }
-}
-
-// Whether a limit is the root bound of a row on a side.
-fn is_limit(net: &Network, work: &mut Work, row: &Row, side: Side, limit: Option<i64>) -> bool
-    requires made { IsMadeFor net.now work.old }
-    requires between { IsBetween net.now row.now }
-    ensures limit { IsTrue result ↔ IsLimit net.now (row_told row.now) (side_told side) limit }
-    ensures within { IsTrue result → IfSome limit IsTime }
-    ensures made { IsMadeFor net.now work.new }
-{
-    let root = match side {
-        Side::Greatest => root_bound(work, net, row.from, row.to),
-        Side::LeastBy(_) => reversed_root(root_bound(work, net, row.to, row.from)),
-    };
-    is_root(root, limit)
 }
 
 /// Whether a bound of a row may stand behind a finding and behind lines, of which it is told whether they prove it.
@@ -144,5 +85,64 @@ pub fn proves_bound(
                 && has_attained(found, attained)
                 && is_limit(net, work, row, side, limit)
         }
+    }
+}
+
+// Whether the number that was attained is there, or not, as the finding has it.
+fn has_attained(found: FindingWord, attained: Option<i64>) -> bool
+    ensures attained { IsTrue result ↔ HasAttained found attained }
+{
+    match found {
+        FindingWord::Consistent => attained.is_some(),
+        FindingWord::Inconsistent => false,
+        FindingWord::Unsettled => attained.is_none(),
+    }
+}
+
+// Whether a limit is the root bound of a row on a side.
+fn is_limit(net: &Network, work: &mut Work, row: &Row, side: Side, limit: Option<i64>) -> bool
+    requires made { IsMadeFor net.now work.old }
+    requires between { IsBetween net.now row.now }
+    ensures limit { IsTrue result ↔ IsLimit net.now (row_told row.now) (side_told side) limit }
+    ensures within { IsTrue result → IfSome limit IsTime }
+    ensures made { IsMadeFor net.now work.new }
+{
+    let root = match side {
+        Side::Greatest => root_bound(work, net, row.from, row.to),
+        Side::LeastBy(_) => reversed_root(root_bound(work, net, row.to, row.from)),
+    };
+    is_root(root, limit)
+}
+
+// A root bound with its number negated.
+fn reversed_root(root: Root) -> Root
+    requires within { IsRootTime root }
+    ensures root { result ≡ reversed_root root }
+    ensures within { IsRootTime result }
+{
+    match root {
+        Root::NoTimes => Root::NoTimes,
+        Root::Bound(upper) => Root::Bound(upper.map(negated)),
+    }
+}
+
+// Minus a number of picoseconds.
+fn negated(value: i64) -> i64
+    requires { IsTime value }
+    ensures value { result ≡ neg_ℤ value }
+    ensures within { IsTime result }
+{
+    -value
+}
+
+// Whether a limit is a root bound.
+fn is_root(root: Root, limit: Option<i64>) -> bool
+    requires within { IsRootTime root }
+    ensures root { IsTrue result ↔ (root ≡ Root.Bound limit) }
+    ensures within { IsTrue result → IfSome limit IsTime }
+{
+    match root {
+        Root::NoTimes => false,
+        Root::Bound(upper) => upper == limit,
     }
 }

@@ -22,6 +22,17 @@ pub enum Checked {
     Refused { line: u64 },
 }
 
+/// Checks a text as a report of a drawn network.
+pub fn check_report(alloc: Global, drawn: &Unrolled, bytes: &[u8]) -> Result<Checked, NoMemory>
+    ensures check { IfOk result (IsCheckOf (reported drawn.now) bytes.now) }
+{
+    match read_report(alloc, bytes) {
+        Ok(report) => check_items(alloc, drawn, report.items()),
+        Err(ReportFault::Line(line)) => Ok(Checked::Refused { line }),
+        Err(ReportFault::NoMemory) => Err(NoMemory),
+    }
+}
+
 // Checks the lines of a report.
 fn check_items(alloc: Global, drawn: &Unrolled, items: &Items) -> Result<Checked, NoMemory>
     requires few { length items.now < 2 ^ 63 }
@@ -33,16 +44,5 @@ fn check_items(alloc: Global, drawn: &Unrolled, items: &Items) -> Result<Checked
     match walk(drawn, &mut checker, &mut work, items) {
         Ok(()) => Ok(Checked::Accepted),
         Err(number) => Ok(Checked::Refused { line: number + 1 }),
-    }
-}
-
-/// Checks a text as a report of a drawn network.
-pub fn check_report(alloc: Global, drawn: &Unrolled, bytes: &[u8]) -> Result<Checked, NoMemory>
-    ensures check { IfOk result (IsCheckOf (reported drawn.now) bytes.now) }
-{
-    match read_report(alloc, bytes) {
-        Ok(report) => check_items(alloc, drawn, report.items()),
-        Err(ReportFault::Line(line)) => Ok(Checked::Refused { line }),
-        Err(ReportFault::NoMemory) => Err(NoMemory),
     }
 }

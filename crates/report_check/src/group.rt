@@ -33,206 +33,6 @@ pub enum Group {
     Bound { told: Telling, side: Side },
 }
 
-// Minus a number of picoseconds. In place of a number past 64 bits it is the greatest one: no sum of a path comes near.
-fn minus(value: i64) -> i64
-    ensures value { result ≡ int_min (neg_ℤ value) (pos (2 ^ 63 - 1)) }
-{
-    match value.checked_neg() {
-        Some(negative) => negative,
-        None => i64::MAX,
-    }
-}
-
-// What lines before a closed bound are to show.
-fn goal_of(net: &Network, row: &Row, side: Side, value: i64) -> Goal
-    ensures goal { ReadsAlike net.now (goal_of (row_told row.now) (side_told side) value) (goal_view result) }
-{
-    // The network is within its limits, and so are the sums of its paths.
-    let _events = net.events();
-    match side {
-        Side::Greatest => Goal::Bound {
-            from: row.from,
-            to: row.to,
-            value,
-        },
-        Side::LeastBy(_) => Goal::Bound {
-            from: row.to,
-            to: row.from,
-            value: minus(value),
-        },
-    }
-}
-
-// What lines are to show by the line behind them, if something is.
-fn goal_by(net: &Network, group: &Group, item: &Item<'_>) -> Option<Goal>
-    ensures goal { (drawn : Drawn) → StandsForGoal net.now (goal_by (behind_lines drawn group.now []) (item_view item.now)) result }
-{
-    match (group, item) {
-        (Group::Finding(_), Item::Finding(FindingWord::Inconsistent)) => Some(Goal::Nothing),
-        (
-            Group::Bound { told, side },
-            Item::Bound {
-                bound: Bound::Closed(value),
-                ..
-            },
-        ) => Some(goal_of(net, &told.row, *side, *value)),
-        _ => None,
-    }
-}
-
-fn is_proof(item: &Item<'_>) -> bool
-    ensures proof { result ≡ is_proof (item_view item.now) }
-{
-    match item {
-        Item::Proof(_) => true,
-        _ => false,
-    }
-}
-
-// The number of the first line, from one on, that is none of a proof.
-fn proof_end(items: &Items, start: u64) -> u64
-    requires start { start ≤ length items.now }
-    ensures end { result ≡ start + length (proof_front (drop start items.now)) }
-    ensures within { result ≤ length items.now }
-{
-    for number in start..items.len() {
-        let (item, _) = items.get(number);
-        if !is_proof(&item) {
-            return number;
-        }
-    }
-    items.len()
-}
-
-// Takes the lines of a proof from a line on, and tells whether they are whole, or the number of the first that is refused.
-fn check_lines(
-    net: &Network,
-    checker: &mut Checker,
-    items: &Items,
-    start: u64,
-    goal: Goal,
-) -> Result<bool, u64>
-    requires start { start ≤ length items.now }
-    requires room { checker.old.room ≡ length net.now.constraints }
-    ensures checks { ChecksLines net.now (goal_view goal) (proof_front (drop start items.now)) start result }
-    ensures room { checker.new.room ≡ checker.old.room }
-{
-    checker.begin(net, goal);
-    for number in start..items.len() {
-        let (item, _) = items.get(number);
-        match item {
-            Item::Proof(line) => {
-                if checker.take(net, &line).is_err() {
-                    return Err(number);
-                }
-            }
-            _ => return Ok(checker.is_done()),
-        }
-    }
-    Ok(checker.is_done())
-}
-
-// Takes them for what they are to show, if something is.
-fn check_for(
-    net: &Network,
-    checker: &mut Checker,
-    items: &Items,
-    start: u64,
-    goal: Option<Goal>,
-) -> Result<bool, u64>
-    requires start { start ≤ length items.now }
-    requires room { checker.old.room ≡ length net.now.constraints }
-    ensures checks { (wanted : Option ProofGoal) → StandsForGoal net.now wanted goal
-        → ChecksFor net.now wanted (proof_front (drop start items.now)) start result }
-    ensures room { checker.new.room ≡ checker.old.room }
-{
-    match goal {
-        None => Ok(false),
-        Some(goal) => check_lines(net, checker, items, start, goal),
-    }
-}
-
-fn judge_finding(
-    drawn: &Unrolled,
-    work: &mut Work,
-    number: u32,
-    whole: bool,
-    item: &Item<'_>,
-) -> Option<Stage<'static>>
-    requires made { IsMadeFor drawn.now.net work.old }
-    requires other { is_proof (item_view item.now) ≡ false }
-    ensures decides { (lines : List ProofLine) → IsToldOf drawn.now.net (goal_by (at_event number []) (item_view item.now)) lines whole
-        → Decides (reported drawn.now) (found_behind number lines) (item_view item.now) result }
-    ensures made { IsMadeFor drawn.now.net work.new }
-{
-    match item {
-        Item::Finding(word) => {
-            if proves_finding(drawn.network(), work, *word, whole) {
-                return Some(behind_finding(*word));
-            }
-            None
-        }
-        _ => None,
-    }
-}
-
-// Whether a bound is that of a side.
-fn is_which(which: Which, side: Side) -> bool
-    ensures which { IsTrue result ↔ (which ≡ which_of (side_told side)) }
-{
-    which == side.which()
-}
-
-fn judge_bound(
-    drawn: &Unrolled,
-    work: &mut Work,
-    told: &Telling,
-    side: Side,
-    whole: bool,
-    item: &Item<'_>,
-) -> Option<Stage<'static>>
-    requires made { IsMadeFor drawn.now.net work.old }
-    requires telling { IsTelling (reported drawn.now) told.now }
-    requires side { IsSide side }
-    requires other { is_proof (item_view item.now) ≡ false }
-    ensures decides { (lines : List ProofLine)
-        → IsToldOf drawn.now.net (goal_by (at_bound (telling_of (reported drawn.now) told.now) (side_told side) []) (item_view item.now)) lines whole
-        → Decides (reported drawn.now) (at_bound (telling_of (reported drawn.now) told.now) (side_told side) lines) (item_view item.now) result }
-    ensures made { IsMadeFor drawn.now.net work.new }
-{
-    let found = told.course.found;
-    match item {
-        Item::Bound { which, bound }
-            if is_which(*which, side)
-                && proves_bound(drawn.network(), work, found, &told.row, side, *bound, whole) => {
-            Some(behind_bound(told, side, *bound))
-        }
-        _ => None,
-    }
-}
-
-// Where the line behind lines of a proof leads, of which it is told whether they prove what it wants shown.
-fn judge_behind(
-    drawn: &Unrolled,
-    work: &mut Work,
-    group: &Group,
-    whole: bool,
-    item: &Item<'_>,
-) -> Option<Stage<'static>>
-    requires made { IsMadeFor drawn.now.net work.old }
-    requires group { IsGroup (reported drawn.now) group.now }
-    requires other { is_proof (item_view item.now) ≡ false }
-    ensures decides { (lines : List ProofLine)
-        → IsToldOf drawn.now.net (goal_by (behind_lines (reported drawn.now) group.now []) (item_view item.now)) lines whole
-        → Decides (reported drawn.now) (behind_lines (reported drawn.now) group.now lines) (item_view item.now) result }
-    ensures made { IsMadeFor drawn.now.net work.new }
-{
-    match group {
-        Group::Finding(number) => judge_finding(drawn, work, *number, whole, item),
-        Group::Bound { told, side } => judge_bound(drawn, work, told, *side, whole, item),
-    }
-}
-
 /// A step over lines of a proof from a line on, and over the finding or the bound behind them: the stage behind it with the number of
 /// its line, or the number of the first wrong line.
 pub fn step_group(
@@ -265,4 +65,204 @@ pub fn step_group(
         Some(stage) => Ok((stage, end + 1)),
         None => Err(end),
     }
+}
+
+// The number of the first line, from one on, that is none of a proof.
+fn proof_end(items: &Items, start: u64) -> u64
+    requires start { start ≤ length items.now }
+    ensures end { result ≡ start + length (proof_front (drop start items.now)) }
+    ensures within { result ≤ length items.now }
+{
+    for number in start..items.len() {
+        let (item, _) = items.get(number);
+        if !is_proof(&item) {
+            return number;
+        }
+    }
+    items.len()
+}
+
+fn is_proof(item: &Item<'_>) -> bool
+    ensures proof { result ≡ is_proof (item_view item.now) }
+{
+    match item {
+        Item::Proof(_) => true,
+        _ => false,
+    }
+}
+
+// What lines are to show by the line behind them, if something is.
+fn goal_by(net: &Network, group: &Group, item: &Item<'_>) -> Option<Goal>
+    ensures goal { (drawn : Drawn) → StandsForGoal net.now (goal_by (behind_lines drawn group.now []) (item_view item.now)) result }
+{
+    match (group, item) {
+        (Group::Finding(_), Item::Finding(FindingWord::Inconsistent)) => Some(Goal::Nothing),
+        (
+            Group::Bound { told, side },
+            Item::Bound {
+                bound: Bound::Closed(value),
+                ..
+            },
+        ) => Some(goal_of(net, &told.row, *side, *value)),
+        _ => None,
+    }
+}
+
+// What lines before a closed bound are to show.
+fn goal_of(net: &Network, row: &Row, side: Side, value: i64) -> Goal
+    ensures goal { ReadsAlike net.now (goal_of (row_told row.now) (side_told side) value) (goal_view result) }
+{
+    // The network is within its limits, and so are the sums of its paths.
+    let _events = net.events();
+    match side {
+        Side::Greatest => Goal::Bound {
+            from: row.from,
+            to: row.to,
+            value,
+        },
+        Side::LeastBy(_) => Goal::Bound {
+            from: row.to,
+            to: row.from,
+            value: minus(value),
+        },
+    }
+}
+
+// Minus a number of picoseconds. In place of a number past 64 bits it is the greatest one: no sum of a path comes near.
+fn minus(value: i64) -> i64
+    ensures value { result ≡ int_min (neg_ℤ value) (pos (2 ^ 63 - 1)) }
+{
+    match value.checked_neg() {
+        Some(negative) => negative,
+        None => i64::MAX,
+    }
+}
+
+// Takes the lines of a proof from a line on for what they are to show, if something is.
+fn check_for(
+    net: &Network,
+    checker: &mut Checker,
+    items: &Items,
+    start: u64,
+    goal: Option<Goal>,
+) -> Result<bool, u64>
+    requires start { start ≤ length items.now }
+    requires room { checker.old.room ≡ length net.now.constraints }
+    ensures checks { (wanted : Option ProofGoal) → StandsForGoal net.now wanted goal
+        → ChecksFor net.now wanted (proof_front (drop start items.now)) start result }
+    ensures room { checker.new.room ≡ checker.old.room }
+{
+    match goal {
+        None => Ok(false),
+        Some(goal) => check_lines(net, checker, items, start, goal),
+    }
+}
+
+// Takes the lines of a proof from a line on, and tells whether they are whole, or the number of the first that is refused.
+fn check_lines(
+    net: &Network,
+    checker: &mut Checker,
+    items: &Items,
+    start: u64,
+    goal: Goal,
+) -> Result<bool, u64>
+    requires start { start ≤ length items.now }
+    requires room { checker.old.room ≡ length net.now.constraints }
+    ensures checks { ChecksLines net.now (goal_view goal) (proof_front (drop start items.now)) start result }
+    ensures room { checker.new.room ≡ checker.old.room }
+{
+    checker.begin(net, goal);
+    for number in start..items.len() {
+        let (item, _) = items.get(number);
+        match item {
+            Item::Proof(line) => {
+                if checker.take(net, &line).is_err() {
+                    return Err(number);
+                }
+            }
+            _ => return Ok(checker.is_done()),
+        }
+    }
+    Ok(checker.is_done())
+}
+
+// Where the line behind lines of a proof leads, of which it is told whether they prove what it wants shown.
+fn judge_behind(
+    drawn: &Unrolled,
+    work: &mut Work,
+    group: &Group,
+    whole: bool,
+    item: &Item<'_>,
+) -> Option<Stage<'static>>
+    requires made { IsMadeFor drawn.now.net work.old }
+    requires group { IsGroup (reported drawn.now) group.now }
+    requires other { is_proof (item_view item.now) ≡ false }
+    ensures decides { (lines : List ProofLine)
+        → IsToldOf drawn.now.net (goal_by (behind_lines (reported drawn.now) group.now []) (item_view item.now)) lines whole
+        → Decides (reported drawn.now) (behind_lines (reported drawn.now) group.now lines) (item_view item.now) result }
+    ensures made { IsMadeFor drawn.now.net work.new }
+{
+    match group {
+        Group::Finding(number) => judge_finding(drawn, work, *number, whole, item),
+        Group::Bound { told, side } => judge_bound(drawn, work, told, *side, whole, item),
+    }
+}
+
+fn judge_finding(
+    drawn: &Unrolled,
+    work: &mut Work,
+    number: u32,
+    whole: bool,
+    item: &Item<'_>,
+) -> Option<Stage<'static>>
+    requires made { IsMadeFor drawn.now.net work.old }
+    requires other { is_proof (item_view item.now) ≡ false }
+    ensures decides { (lines : List ProofLine) → IsToldOf drawn.now.net (goal_by (at_event number []) (item_view item.now)) lines whole
+        → Decides (reported drawn.now) (found_behind number lines) (item_view item.now) result }
+    ensures made { IsMadeFor drawn.now.net work.new }
+{
+    match item {
+        Item::Finding(word) => {
+            if proves_finding(drawn.network(), work, *word, whole) {
+                return Some(behind_finding(*word));
+            }
+            None
+        }
+        _ => None,
+    }
+}
+
+fn judge_bound(
+    drawn: &Unrolled,
+    work: &mut Work,
+    told: &Telling,
+    side: Side,
+    whole: bool,
+    item: &Item<'_>,
+) -> Option<Stage<'static>>
+    requires made { IsMadeFor drawn.now.net work.old }
+    requires telling { IsTelling (reported drawn.now) told.now }
+    requires side { IsSide side }
+    requires other { is_proof (item_view item.now) ≡ false }
+    ensures decides { (lines : List ProofLine)
+        → IsToldOf drawn.now.net (goal_by (at_bound (telling_of (reported drawn.now) told.now) (side_told side) []) (item_view item.now)) lines whole
+        → Decides (reported drawn.now) (at_bound (telling_of (reported drawn.now) told.now) (side_told side) lines) (item_view item.now) result }
+    ensures made { IsMadeFor drawn.now.net work.new }
+{
+    let found = told.course.found;
+    match item {
+        Item::Bound { which, bound }
+            if is_which(*which, side)
+                && proves_bound(drawn.network(), work, found, &told.row, side, *bound, whole) => {
+            Some(behind_bound(told, side, *bound))
+        }
+        _ => None,
+    }
+}
+
+// Whether a bound is that of a side.
+fn is_which(which: Which, side: Side) -> bool
+    ensures which { IsTrue result ↔ (which ≡ which_of (side_told side)) }
+{
+    which == side.which()
 }

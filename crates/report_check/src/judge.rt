@@ -20,6 +20,37 @@ use requirements::{BothBounds, Bound, judge as verdict_of, slack as slack_of};
 use slack_report::{EndWord, FindingWord, Item};
 use unroll::{Row, Unrolled};
 
+/// Where a line leads at a stage that is before no line of a proof, or none where the line may not follow.
+pub fn judge<'a>(drawn: &Unrolled, stage: &Stage<'a>, item: &Item<'a>) -> Option<Stage<'a>>
+    requires line { IsLineStage (reported drawn.now) stage.now }
+    requires fits { Fits (reported drawn.now) stage.now }
+    ensures decides { Decides (reported drawn.now) (at_of (reported drawn.now) stage.now) (item_view item.now) result }
+{
+    match stage {
+        Stage::Heading => judge_heading(drawn, item),
+        Stage::Budget => judge_budget(drawn, item),
+        Stage::Events => judge_events(drawn, item),
+        Stage::Event(number) => judge_event(drawn, *number, item),
+        Stage::Known => judge_known(drawn, item),
+        Stage::Rows(word) => judge_rows(drawn, *word, item),
+        Stage::Row { course, number } => judge_row(drawn, *course, *number, item),
+        // Lines of a proof may stand before a bound.
+        Stage::Bound { .. } => unreachable!(),
+        Stage::Times { told, side, value } => judge_times(drawn, told, *side, *value, item),
+        Stage::Raise { told, side, times } => judge_raise(drawn, told, *side, times, item),
+        Stage::Verdict { told, range, both } => judge_verdict(drawn, told, *range, both, item),
+        Stage::Past { told, range, both } => judge_past(drawn, told, *range, both, item),
+        Stage::Slack {
+            course,
+            number,
+            range,
+            both,
+        } => judge_slack(drawn, *course, *number, *range, both, item),
+        Stage::End(word) => judge_end(drawn, *word, item),
+        Stage::Done => None,
+    }
+}
+
 fn judge_heading(drawn: &Unrolled, item: &Item<'_>) -> Option<Stage<'static>>
     ensures decides { Decides (reported drawn.now) (at_of (reported drawn.now) Stage.Heading) (item_view item.now) result }
 {
@@ -47,6 +78,18 @@ fn judge_events(drawn: &Unrolled, item: &Item<'_>) -> Option<Stage<'static>>
     }
 }
 
+fn judge_event(drawn: &Unrolled, number: u32, item: &Item<'_>) -> Option<Stage<'static>>
+    requires there { number < drawn.now.net.events }
+    ensures decides { Decides (reported drawn.now) (at_of (reported drawn.now) (Stage.Event number)) (item_view item.now) result }
+{
+    // The number of events is one of 32 bits, and so is the next number.
+    let _events = drawn.network().events();
+    if is_event(item, number, drawn.name(EventId(number))) {
+        return Some(Stage::Event(number + 1));
+    }
+    None
+}
+
 // Whether a line names an event.
 fn is_event(item: &Item<'_>, number: u32, name: EventName<'_>) -> bool
     ensures event { IsTrue result ↔ (item_view item.now ≡ event number (name_view name.entry)) }
@@ -58,18 +101,6 @@ fn is_event(item: &Item<'_>, number: u32, name: EventName<'_>) -> bool
         } => *told == number && same_name(*told_name, name),
         _ => false,
     }
-}
-
-fn judge_event(drawn: &Unrolled, number: u32, item: &Item<'_>) -> Option<Stage<'static>>
-    requires there { number < drawn.now.net.events }
-    ensures decides { Decides (reported drawn.now) (at_of (reported drawn.now) (Stage.Event number)) (item_view item.now) result }
-{
-    // The number of events is one of 32 bits, and so is the next number.
-    let _events = drawn.network().events();
-    if is_event(item, number, drawn.name(EventId(number))) {
-        return Some(Stage::Event(number + 1));
-    }
-    None
 }
 
 fn judge_known(drawn: &Unrolled, item: &Item<'_>) -> Option<Stage<'static>>
@@ -95,36 +126,20 @@ fn judge_rows(drawn: &Unrolled, word: FindingWord, item: &Item<'_>) -> Option<St
     }
 }
 
-fn judge_end(drawn: &Unrolled, word: EndWord, item: &Item<'_>) -> Option<Stage<'static>>
-    ensures decides { Decides (reported drawn.now) (at_end word) (item_view item.now) result }
+fn judge_row(
+    drawn: &Unrolled,
+    course: Course,
+    number: u64,
+    item: &Item<'_>,
+) -> Option<Stage<'static>>
+    requires within { number ≤ length drawn.now.rows }
+    ensures decides { Decides (reported drawn.now) (at_of (reported drawn.now) (Stage.Row course number)) (item_view item.now) result }
 {
-    match item {
-        Item::End(told) if *told == word => Some(Stage::Done),
-        _ => None,
+    let rows = drawn.rows();
+    if number == rows.len() {
+        return judge_end(drawn, course.end_word(), item);
     }
-}
-
-// Whether a line tells what is asked of a row.
-fn is_row(item: &Item<'_>, number: u64, drawn: &Unrolled, row: &Row) -> bool
-    requires between { IsRowOf drawn.now.net row.now }
-    ensures row { IsTrue result ↔ (item_view item.now
-        ≡ row_line number row.now.kind (name_of drawn.now row.now.from) (name_of drawn.now row.now.to)) }
-    ensures small { IsTrue result → number < 2 ^ 32 }
-{
-    match item {
-        Item::Row {
-            number: told,
-            kind,
-            from,
-            to,
-        } => {
-            u64::from(*told) == number
-                && same_kind(kind, &row.kind)
-                && same_name(*from, drawn.name(row.from))
-                && same_name(*to, drawn.name(row.to))
-        }
-        _ => false,
-    }
+    judge_row_line(drawn, course, number, rows.get(number), item)
 }
 
 fn judge_row_line(
@@ -151,36 +166,35 @@ fn judge_row_line(
     None
 }
 
-fn judge_row(
-    drawn: &Unrolled,
-    course: Course,
-    number: u64,
-    item: &Item<'_>,
-) -> Option<Stage<'static>>
-    requires within { number ≤ length drawn.now.rows }
-    ensures decides { Decides (reported drawn.now) (at_of (reported drawn.now) (Stage.Row course number)) (item_view item.now) result }
+// Whether a line tells what is asked of a row.
+fn is_row(item: &Item<'_>, number: u64, drawn: &Unrolled, row: &Row) -> bool
+    requires between { IsRowOf drawn.now.net row.now }
+    ensures row { IsTrue result ↔ (item_view item.now
+        ≡ row_line number row.now.kind (name_of drawn.now row.now.from) (name_of drawn.now row.now.to)) }
+    ensures small { IsTrue result → number < 2 ^ 32 }
 {
-    let rows = drawn.rows();
-    if number == rows.len() {
-        return judge_end(drawn, course.end_word(), item);
+    match item {
+        Item::Row {
+            number: told,
+            kind,
+            from,
+            to,
+        } => {
+            u64::from(*told) == number
+                && same_kind(kind, &row.kind)
+                && same_name(*from, drawn.name(row.from))
+                && same_name(*to, drawn.name(row.to))
+        }
+        _ => false,
     }
-    judge_row_line(drawn, course, number, rows.get(number), item)
 }
 
-// Behind the times of a bound.
-fn behind_times<'a>(told: &Telling, side: Side, value: Bound, times: &'a [i64]) -> Stage<'a>
-    requires number { told.now.number < 2 ^ 32 }
-    ensures stage { (drawn : Drawn) → at_of drawn result ≡ behind_times (telling_of drawn told.now) (side_told side) value times.now }
-    ensures fits { (drawn : Drawn) → IsTelling drawn told.now → IsSide side → HasTimes value → All IsTime times.now
-        → length times.now ≡ drawn.net.events → Fits drawn result }
+fn judge_end(drawn: &Unrolled, word: EndWord, item: &Item<'_>) -> Option<Stage<'static>>
+    ensures decides { Decides (reported drawn.now) (at_end word) (item_view item.now) result }
 {
-    match value {
-        Bound::Unbounded => Stage::Raise {
-            told: *told,
-            side,
-            times,
-        },
-        _ => bounded(told, side, value),
+    match item {
+        Item::End(told) if *told == word => Some(Stage::Done),
+        _ => None,
     }
 }
 
@@ -202,6 +216,23 @@ fn judge_times<'a>(
             Some(behind_times(told, side, value, list))
         }
         _ => None,
+    }
+}
+
+// Behind the times of a bound.
+fn behind_times<'a>(told: &Telling, side: Side, value: Bound, times: &'a [i64]) -> Stage<'a>
+    requires number { told.now.number < 2 ^ 32 }
+    ensures stage { (drawn : Drawn) → at_of drawn result ≡ behind_times (telling_of drawn told.now) (side_told side) value times.now }
+    ensures fits { (drawn : Drawn) → IsTelling drawn told.now → IsSide side → HasTimes value → All IsTime times.now
+        → length times.now ≡ drawn.net.events → Fits drawn result }
+{
+    match value {
+        Bound::Unbounded => Stage::Raise {
+            told: *told,
+            side,
+            times,
+        },
+        _ => bounded(told, side, value),
     }
 }
 
@@ -284,36 +315,5 @@ fn judge_slack(
             Some(Stage::Row { course, number })
         }
         _ => None,
-    }
-}
-
-/// Where a line leads at a stage that is before no line of a proof, or none where the line may not follow.
-pub fn judge<'a>(drawn: &Unrolled, stage: &Stage<'a>, item: &Item<'a>) -> Option<Stage<'a>>
-    requires line { IsLineStage (reported drawn.now) stage.now }
-    requires fits { Fits (reported drawn.now) stage.now }
-    ensures decides { Decides (reported drawn.now) (at_of (reported drawn.now) stage.now) (item_view item.now) result }
-{
-    match stage {
-        Stage::Heading => judge_heading(drawn, item),
-        Stage::Budget => judge_budget(drawn, item),
-        Stage::Events => judge_events(drawn, item),
-        Stage::Event(number) => judge_event(drawn, *number, item),
-        Stage::Known => judge_known(drawn, item),
-        Stage::Rows(word) => judge_rows(drawn, *word, item),
-        Stage::Row { course, number } => judge_row(drawn, *course, *number, item),
-        // Lines of a proof may stand before a bound.
-        Stage::Bound { .. } => unreachable!(),
-        Stage::Times { told, side, value } => judge_times(drawn, told, *side, *value, item),
-        Stage::Raise { told, side, times } => judge_raise(drawn, told, *side, times, item),
-        Stage::Verdict { told, range, both } => judge_verdict(drawn, told, *range, both, item),
-        Stage::Past { told, range, both } => judge_past(drawn, told, *range, both, item),
-        Stage::Slack {
-            course,
-            number,
-            range,
-            both,
-        } => judge_slack(drawn, *course, *number, *range, both, item),
-        Stage::End(word) => judge_end(drawn, *word, item),
-        Stage::Done => None,
     }
 }

@@ -17,6 +17,52 @@ use cert_checker::Checker;
 use slack_report::Items;
 use unroll::Unrolled;
 
+/// Walks over all lines of a report of a drawn network, and tells the number from 0 of the first wrong one, if there is one.
+pub fn walk(
+    drawn: &Unrolled,
+    checker: &mut Checker,
+    work: &mut Work,
+    items: &Items,
+) -> Result<(), u64>
+    requires room { checker.old.room ≡ length drawn.now.net.constraints }
+    requires made { IsMadeFor drawn.now.net work.old }
+    ensures walks { Walks (reported drawn.now) items.now at_heading result }
+    ensures within { IfErr result (λ number. number ≤ length items.now) }
+{
+    let mut stage = Stage::Heading;
+    let mut start = 0;
+    while start < items.len() {
+        match step(drawn, checker, work, items, start, &stage) {
+            Ok(next) => (stage, start) = next,
+            Err(number) => return Err(number),
+        }
+    }
+    if is_done(&stage) { Ok(()) } else { Err(start) }
+}
+
+// A step from a stage at a line: the stage behind it with the number of its line, or the number of the first wrong line.
+fn step<'a>(
+    drawn: &Unrolled,
+    checker: &mut Checker,
+    work: &mut Work,
+    items: &'a Items,
+    start: u64,
+    stage: &Stage<'a>,
+) -> Result<(Stage<'a>, u64), u64>
+    requires start { start < length items.now }
+    requires fits { Fits (reported drawn.now) stage.now }
+    requires room { checker.old.room ≡ length drawn.now.net.constraints }
+    requires made { IsMadeFor drawn.now.net work.old }
+    ensures steps { Steps (reported drawn.now) items.now (at_of (reported drawn.now) stage.now) start result }
+    ensures room { checker.new.room ≡ checker.old.room }
+    ensures made { IsMadeFor drawn.now.net work.new }
+{
+    match group_of(drawn, stage) {
+        Some(group) => step_group(drawn, checker, work, items, start, &group),
+        None => step_line(drawn, items, start, stage),
+    }
+}
+
 // What lines of a proof stand before at a stage, if some may.
 fn group_of(drawn: &Unrolled, stage: &Stage<'_>) -> Option<Group>
     requires fits { Fits (reported drawn.now) stage.now }
@@ -55,29 +101,6 @@ fn step_line<'a>(
     }
 }
 
-// A step from a stage at a line: the stage behind it with the number of its line, or the number of the first wrong line.
-fn step<'a>(
-    drawn: &Unrolled,
-    checker: &mut Checker,
-    work: &mut Work,
-    items: &'a Items,
-    start: u64,
-    stage: &Stage<'a>,
-) -> Result<(Stage<'a>, u64), u64>
-    requires start { start < length items.now }
-    requires fits { Fits (reported drawn.now) stage.now }
-    requires room { checker.old.room ≡ length drawn.now.net.constraints }
-    requires made { IsMadeFor drawn.now.net work.old }
-    ensures steps { Steps (reported drawn.now) items.now (at_of (reported drawn.now) stage.now) start result }
-    ensures room { checker.new.room ≡ checker.old.room }
-    ensures made { IsMadeFor drawn.now.net work.new }
-{
-    match group_of(drawn, stage) {
-        Some(group) => step_group(drawn, checker, work, items, start, &group),
-        None => step_line(drawn, items, start, stage),
-    }
-}
-
 fn is_done(stage: &Stage<'_>) -> bool
     ensures done { (drawn : Drawn) → (IsTrue result ↔ (at_of drawn stage.now ≡ at_last)) }
 {
@@ -85,27 +108,4 @@ fn is_done(stage: &Stage<'_>) -> bool
         Stage::Done => true,
         _ => false,
     }
-}
-
-/// Walks over all lines of a report of a drawn network, and tells the number from 0 of the first wrong one, if there is one.
-pub fn walk(
-    drawn: &Unrolled,
-    checker: &mut Checker,
-    work: &mut Work,
-    items: &Items,
-) -> Result<(), u64>
-    requires room { checker.old.room ≡ length drawn.now.net.constraints }
-    requires made { IsMadeFor drawn.now.net work.old }
-    ensures walks { Walks (reported drawn.now) items.now at_heading result }
-    ensures within { IfErr result (λ number. number ≤ length items.now) }
-{
-    let mut stage = Stage::Heading;
-    let mut start = 0;
-    while start < items.len() {
-        match step(drawn, checker, work, items, start, &stage) {
-            Ok(next) => (stage, start) = next,
-            Err(number) => return Err(number),
-        }
-    }
-    if is_done(&stage) { Ok(()) } else { Err(start) }
 }

@@ -1,5 +1,5 @@
 -- Root bounds, and what a closed bound wants shown.
-use Rattle.std.specs.Prelude.{◌≡◌, ◌<◌, ℤ, neg_ℤ, List, Option, Some, None, option_map}
+use Rattle.std.specs.Prelude.{◌<◌, ℤ, neg_ℤ, List, Option, Some, None, option_map}
 use Rattle.event_graph.specs.Network.{Net}
 use Rattle.event_graph.specs.Proof.{ProofGoal}
 use Rattle.event_graph.specs.RootBound.{MeetsAlways}

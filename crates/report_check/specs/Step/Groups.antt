@@ -8,9 +8,8 @@ use Rattle.cert_checker.specs.Checking.{goal_view}
 use Rattle.slack_report.specs.Entry.{Entry, proof}
 use Rattle.slack_report.specs.Right.At.{At, at_bound, at_event, at_finding}
 use Rattle.slack_report.specs.Right.Drawn.{Drawn}
-use Rattle.right_report.specs.Wrong.{Takes, goal_by}
-use Rattle.report_check.specs.Step.Stages.{Decides, Fits, IsSide, IsTelling, side_told, telling_of}
-use Rattle.report_check.specs.declared.stage.Stage.{Stage}
+use Rattle.right_report.specs.Wrong.{Takes}
+use Rattle.report_check.specs.Step.Stages.{IsSide, IsTelling, side_told, telling_of}
 use Rattle.report_check.specs.declared.group.Group.{Group}
 use Rattle.report_check.specs.declared.group.Group.TheVariants as groups
 

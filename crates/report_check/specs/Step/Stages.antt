@@ -1,5 +1,5 @@
 -- The stages of a check as the places where a report stands, and what a line decides there.
-use Rattle.std.specs.Prelude.{◌≡◌, ◌<◌, ◌≤◌, ◌+◌, ◌^◌, Bool, true, false, List, [], All, length, drop, Option, Some, None}
+use Rattle.std.specs.Prelude.{◌≡◌, ◌<◌, ◌≤◌, ◌+◌, ◌^◌, Bool, true, false, [], All, length, drop, Option, Some, None}
 use Rattle.event_graph.specs.Times.{IsTime}
 use Rattle.requirements.specs.Bounds.{HasTimes}
 use Rattle.requirements.specs.declared.bound.BothBounds.{BothBounds}

@@ -1,4 +1,4 @@
-use Rattle.std.proofs.Common.{◌≡◌, ℕ, List, ◌++◌, subst, sym, arith, ◌∙◌}
+use Rattle.std.proofs.Common.{◌≡◌, ℕ, List, ◌++◌, subst, arith, ◌∙◌}
 use Rattle.std.specs.Prelude.{codes, decimal}
 use Rattle.itv_base.specs.Outside.{Puts}
 use Rattle.itv_base.proofs.Printed.{number_text-decimal}

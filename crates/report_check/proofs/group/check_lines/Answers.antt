@@ -1,7 +1,7 @@
 use Rattle.std.proofs.Common.{Some, ap, sym, ◌∙◌}
 use Rattle.slack_report.specs.Items.{item_view}
 use Rattle.event_graph.specs.Lines.{lent_line}
-use Rattle.cert_checker.specs.Checking.{goal_view, open_cases}
+use Rattle.cert_checker.specs.Checking.{goal_view}
 use Rattle.report_check.proofs.Taking.{none_at_other, other_proof, taking_done, taking_more, taking_refused, tells_none, tells_some, when_ok}
 use Rattle.report_check.proofs.group.check_lines.Goals as goal
 

@@ -1,4 +1,4 @@
-use Rattle.std.proofs.Common.{◌≡◌, ◌^◌, ◌-◌, ℤ, neg_ℤ, pos, of_z, to_z, w64, FitsSigned, arith, ap, ◌∙◌}
+use Rattle.std.proofs.Common.{◌≡◌, ◌^◌, ◌-◌, ℤ, neg_ℤ, pos, of_z, to_z, w64, arith, ap, ◌∙◌}
 use Rattle.std.specs.Int.{int_min}
 use Rattle.std.proofs.lemmas.Int.{ints, to_z-of_z}
 use Rattle.report_check.proofs.Reaching.{least_goal}

@@ -1,4 +1,4 @@
-use Rattle.std.proofs.Common.{◌≡◌, ◌<◌, ◌≤◌, Bool, List, [], ◌∷◌, length, drop, Some, None, Result, Ok, Err, subst, refl, sym, ◌+◌, arith}
+use Rattle.std.proofs.Common.{◌<◌, ◌≤◌, List, [], length, drop, Ok, Err, subst, refl, ◌+◌, arith}
 use Rattle.std.proofs.Math.ListN.{drop_of_length-le}
 use Rattle.sheet.proofs.Lists.{drop-read}
 use Rattle.slack_report.specs.Items.{item_view}

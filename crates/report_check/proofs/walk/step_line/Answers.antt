@@ -1,4 +1,3 @@
-use Rattle.std.proofs.Common.{Some, subst}
 use Rattle.slack_report.specs.Items.{item_view}
 use Rattle.unroll.specs.Reported.{reported}
 use Rattle.report_check.specs.Step.Stages.{at_of}
