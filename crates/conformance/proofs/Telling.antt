@@ -9,7 +9,7 @@ use Rattle.itv_base.specs.Outside.{Files, Rose, ShelfTold, SinkTold, file_of, gr
 use Rattle.job_answer.specs.declared.answer.Answer.{Answer}
 use Rattle.job_answer.specs.declared.answer.Answer.TheVariants as answers
 use Rattle.slack_report.specs.Right.At.{at_heading, at_last}
-use Rattle.slack_report.specs.Right.Facts.{IsRightReport, right}
+use Rattle.slack_report.specs.Right.Facts.{right}
 use Rattle.slack_report.specs.Right.Following.{Implies}
 use Rattle.slack_report.proofs.RightOrder.{reads_weaker}
 use Rattle.unroll.specs.Drawn.{Drawn}

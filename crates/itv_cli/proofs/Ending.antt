@@ -1,5 +1,5 @@
 -- How a run ends, and what its end says.
-use Rattle.std.proofs.Common.{◌≡◌, ◌<◌, ◌∙◌, ◌⊎◌, inl, inr, Bool, true, false, List, ℕ, Option, Some, None, IfSome, IsNone, Result, Ok, Err, refl, sym, ap, subst, arith}
+use Rattle.std.proofs.Common.{◌≡◌, ◌<◌, ◌∙◌, inl, inr, Bool, true, false, List, ℕ, Option, Some, None, IfSome, IsNone, Result, Ok, Err, refl, sym, ap, subst, arith}
 use Rattle.std.specs.Bool.{⊤}
 use Rattle.itv_base.specs.Outside.{Files, ShelfTold, SinkTold, Puts, IsMissing, Rose, file_of}
 use Rattle.job_answer.specs.Works.{Works}
@@ -14,13 +14,12 @@ use Rattle.reading.specs.declared.stop.Stop.TheVariants as stops
 use Rattle.reading.specs.Opening.{End, ready, refused, unread, told_end}
 use Rattle.reading.specs.Refusal.{refusal_text, unread_text}
 use Rattle.reading.proofs.Opens.{told_ready, told_refused, told_unread}
-use Rattle.words.specs.Task as said
 use Rattle.words.specs.Task.{Task, taken, task, help, bad_words}
 use Rattle.itv_cli.specs.declared.outcome.Outcome.{Outcome}
 use Rattle.itv_cli.specs.declared.outcome.Outcome.TheVariants.{AllPass, Help, SomeFail, Inconsistent, Undecided, Refused, ReadFault, WriteFault, NoMemory, BadWords, CheckRefused}
 use Rattle.itv_cli.specs.declared.ready.Ready.{Ready}
 use Rattle.itv_cli.specs.Job.{Answers, Begins, is_made, opening}
-use Rattle.itv_cli.specs.Run.{Call, CameTo, EndsMade, EndsOver, EndsBy, FilesDecide, HasAnswered, IsKept, Means, Wanted, Wrote, Completes, RefusesWords, ShowsFaults, outcome_of}
+use Rattle.itv_cli.specs.Run.{Call, CameTo, EndsOver, EndsBy, FilesDecide, HasAnswered, IsKept, Means, Wanted, Wrote, Completes, RefusesWords, ShowsFaults, outcome_of}
 use Rattle.itv_cli.specs.Run.Wanted.{at_end}
 use Rattle.itv_cli.specs.Step.{OpensFor, Stops, Tells, answered, end_after}
 

@@ -3,8 +3,6 @@ use Rattle.std.proofs.Common.{◌≡◌, ℕ, ◌==◌, true, false, List, [], l
 use Rattle.itv_base.specs.Memory.{MemShelf, shelf_told}
 use Rattle.itv_base.specs.Outside.{ShelfTold}
 use Rattle.design_gen.specs.Files.{IsDesign}
-use Rattle.reading.specs.declared.place.Place.{Place}
-use Rattle.reading.specs.declared.refusal.Refusal.{Refusal}
 use Rattle.reading.specs.declared.stop.Stop.{Stop}
 use Rattle.reading.specs.declared.stop.Stop.TheVariants.{Refused, ReadFault, NoMemory}
 use Rattle.reading.specs.Opening.{End, Ends, ready, refused, unread}

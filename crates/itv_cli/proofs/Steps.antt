@@ -1,5 +1,5 @@
 -- What a job reads that reads a design and goes on.
-use Rattle.std.proofs.Common.{◌≡◌, ◌≤◌, ℕ, nat_lt, Bool, true, false, cond, if◌then◌else◌, List, Result, Ok, Err, IsErrAnd, refl, sym, subst}
+use Rattle.std.proofs.Common.{◌≡◌, ℕ, List, Result, Ok, Err, IsErrAnd, refl}
 use Rattle.itv_base.specs.Outside.{ShelfTold}
 use Rattle.unroll.specs.Drawn.{Drawn}
 use Rattle.reading.specs.declared.stop.Stop.{Stop}

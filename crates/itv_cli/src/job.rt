@@ -19,11 +19,7 @@ use summary_report::write_summary;
 use unroll::Unrolled;
 
 /// Does the job for which all is read, and writes what it answers. All memory is taken before the first put.
-pub fn answer<K: Sink>(
-    alloc: Global,
-    given: &Ready,
-    sink: &mut K,
-) -> Result<Answer, Unanswered>
+pub fn answer<K: Sink>(alloc: Global, given: &Ready, sink: &mut K) -> Result<Answer, Unanswered>
     requires allowed { IsAllowed given.now }
     ensures works { Works (Answers given.now) (Begins given.now) (K.told sink.old) (K.told sink.new) result }
 {

@@ -122,12 +122,7 @@ fn open_generated(alloc: Global, size: u32, budget: u64) -> Result<Ready, Stop>
 }
 
 // What job self reads on a shelf.
-fn open_made<H: Shelf>(
-    alloc: Global,
-    size: u32,
-    budget: u64,
-    made: &mut H,
-) -> Result<Ready, Stop>
+fn open_made<H: Shelf>(alloc: Global, size: u32, budget: u64, made: &mut H) -> Result<Ready, Stop>
     requires budget { IsBudget budget }
     ensures opens { Opens (λ given. given) (H.told made.old) (H.told made.new)
         (opening (said.generated size budget)) result }

@@ -52,7 +52,12 @@ fn run_once<H: Shelf, K: Sink>(alloc: Global, words: &Texts, shelf: &mut H, sink
 }
 
 // The run of a task, for words that ask for it.
-fn run_task<H: Shelf, K: Sink>(alloc: Global, task: Task<'_>, shelf: &mut H, sink: &mut K) -> Outcome
+fn run_task<H: Shelf, K: Sink>(
+    alloc: Global,
+    task: Task<'_>,
+    shelf: &mut H,
+    sink: &mut K,
+) -> Outcome
     requires limits { IsWithinLimits (task_view task) }
     ensures { (words : List (List ℕ)) → taken words ≡ said.task (task_view task.entry)
         → Means (call_of words (H.told shelf.old) (H.told shelf.new) (K.told sink.old) (K.told sink.new)) result }

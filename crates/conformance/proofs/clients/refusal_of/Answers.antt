@@ -1,4 +1,4 @@
-use Rattle.std.proofs.Common.{◌≡◌, ◌∙◌, refl, sym, ap}
+use Rattle.std.proofs.Common.{◌∙◌, refl, sym, ap}
 use Rattle.itv_base.specs.Memory.{MemSink, shelf_told, sink_told}
 use Rattle.reading.specs.Refusal.{refusal_text}
 use Rattle.itv_cli.specs.Run.{Call, IsRefused, call_of}

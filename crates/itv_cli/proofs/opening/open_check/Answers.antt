@@ -1,4 +1,4 @@
-use Rattle.std.proofs.Common.{List, ℕ, Err, Ok, refl}
+use Rattle.std.proofs.Common.{List, ℕ, Ok, refl}
 use Rattle.itv_base.specs.declared.limits.TheConstants.{REPORT_LIMIT}
 use Rattle.unroll.specs.Drawn.{Drawn}
 use Rattle.reading.specs.declared.place.Place.TheVariants.{Report}
@@ -23,11 +23,11 @@ returns-in_err-report-clause-opens g c =
     design_then c.args.design.now (with_report c.args.report.now) (g.H.Shelf.told c.args.shelf.now) (g.H.Shelf.told c.open_design.new.shelf) (g.H.Shelf.told c.fetch_file.new.shelf) c.in_ok-drawn.drawn c.from_residual-in_err-report.result
     c.in_ok-drawn.ensures.opens
     (opens_up (λ (bytes : List ℕ). bytes) (λ (given : Ready). given) (file_at Report c.args.report.now REPORT_LIMIT) (λ bytes. gives (Check c.in_ok-drawn.drawn bytes)) (g.H.Shelf.told c.open_design.new.shelf) (g.H.Shelf.told c.fetch_file.new.shelf)
-      c.in_err-report.field-0.0 c.from_residual-in_err-report.result c.from_residual-in_err-report.ensures.1 c.in_err-report.ensures.opens)
+    c.in_err-report.field-0.0 c.from_residual-in_err-report.result c.from_residual-in_err-report.ensures.1 c.in_err-report.ensures.opens)
 
 pub returns-clause-opens : goal.returns-clause-opens
 returns-clause-opens g c =
     design_then c.args.design.now (with_report c.args.report.now) (g.H.Shelf.told c.args.shelf.now) (g.H.Shelf.told c.open_design.new.shelf) (g.H.Shelf.told c.fetch_file.new.shelf) c.in_ok-drawn.drawn
     (Ok (Check c.in_ok-drawn.drawn c.in_ok-report.report)) c.in_ok-drawn.ensures.opens
     (opens_then (λ (bytes : List ℕ). bytes) (λ (given : Ready). given) (file_at Report c.args.report.now REPORT_LIMIT) (λ bytes. gives (Check c.in_ok-drawn.drawn bytes)) (g.H.Shelf.told c.open_design.new.shelf) (g.H.Shelf.told c.fetch_file.new.shelf)
-      (g.H.Shelf.told c.fetch_file.new.shelf) c.in_ok-report.report (Ok (Check c.in_ok-drawn.drawn c.in_ok-report.report)) c.in_ok-report.ensures.opens (refl, refl))
+    (g.H.Shelf.told c.fetch_file.new.shelf) c.in_ok-report.report (Ok (Check c.in_ok-drawn.drawn c.in_ok-report.report)) c.in_ok-report.ensures.opens (refl, refl))
