@@ -233,7 +233,7 @@ fn report_of(alloc: Global, names: &str, cycles: u32, rows: &str) -> Result<Stri
     let lines = rows_of(alloc, rows)?;
     let (end, _) = end_of(rows);
     Ok(format!(in alloc;
-        "itv report 1\nbudget 100000\n{events}finding consistent\ntimes ?\n{lines}{end}\n"
+        "itv report 1\nbudget 100000\n{events}finding consistent\ntimes?\n{lines}{end}\n"
     )?)
 }
 

@@ -1,6 +1,6 @@
 //! How much a design may hold: each limit is taken, and the next number is refused.
 
-use super::{all_answered, all_refused, events_of, run_ends, shelf_of, shelf_with, words_of};
+use super::{all_refused, bytes_end, events_of, run_ends, shelf_of, shelf_with, words_of};
 use itv_base::{ShelfMem, SinkMem};
 use itv_cli::{Outcome, run};
 use std::alloc::Global;
@@ -102,9 +102,11 @@ fn a_rule_has_at_most_64_causes(rt: HostRuntime) -> Result<(), Fail> {
 fn a_design_has_at_most_65536_constraints(rt: HostRuntime) -> Result<(), Fail> {
     let alloc = rt.alloc();
     let rule = r#""a->b @lin [0,1]""#;
+    let report =
+        "itv report 1\nbudget 100000\nevents 2\nevent 0 U.a@0\nevent 1 U.b@0\nfinding consistent\ntimes ?\nrows 1\n\
+        row 0 ask U.a@0 U.b@0\nmax 1\ntimes 0 1\nmin 0\ntimes 0 0\nend pass\n";
     let most = file_of(alloc, rule, 65_536, r#""a->b @ask""#)?;
-    let rows = "ask a b\nmax 1\ntimes 0 1\nmin 0\ntimes 0 0\n";
-    all_answered(&rt, alloc, &[(most.as_str(), "ab", rows)])?;
+    bytes_end(&rt, alloc, most.as_bytes(), (Outcome::AllPass, report))?;
     let more = file_of(alloc, rule, 65_537, r#""a->b @ask""#)?;
     let line = "refused design TooMany Constraints 65537\n";
     all_refused(&rt, alloc, &[(more.as_str(), line)])
@@ -146,37 +148,55 @@ fn cycles_end(rt: &impl Abort, alloc: Global, entry: Cycled<'_>) -> Result<(), F
     }
 }
 
-// 16 marks over 256 cycles are 4,096 events, and 17 over 241 are 4,097. 4 marks over 250 cycles are 1,000 events; with 4 rows in
-// each cycle they are 1,000,000 cells, and with 5 rows 1,250,000. A latest rule whose causes stand one cycle before is there in 255
-// cycles: with one of 256 these are 511 rules with two causes, and 4,096 * 512 cells; with two of 256 they are 4,096 * 513.
+const WIDE_SHEET: &str = r#"{"signal":[{"node":"abcdefghijklmnop"}]}"#;
+
+// 16 marks over 256 cycles are 4,096 events.
 #[test]
-fn cycles_multiply_what_a_sheet_holds(rt: HostRuntime) -> Result<(), Fail> {
-    let alloc = rt.alloc();
-    let wide = r#"{"signal":[{"node":"abcdefghijklmnop"}]}"#;
-    let wider = r#"{"signal":[{"node":"abcdefghijklmnopq"}]}"#;
+fn a_design_has_4096_events(rt: HostRuntime) -> Result<(), Fail> {
+    cycles_end(&rt, rt.alloc(), (WIDE_SHEET, 256, None))
+}
+
+// 4 marks over 250 cycles are 1,000 events. With 4 rows in each cycle they are 1,000,000 cells.
+#[test]
+fn a_design_has_1000000_cells(rt: HostRuntime) -> Result<(), Fail> {
     let four =
         r#"{"signal":[{"node":"abcd"}],"edge":["a->b @ask","b->c @ask","c->d @ask","d->a @ask"]}"#;
-    let five = r#"{"signal":[{"node":"abcd"}],
-        "edge":["a->b @ask","b->c @ask","c->d @ask","d->a @ask","a->a @ask"]}"#;
+    cycles_end(&rt, rt.alloc(), (four, 250, None))
+}
+
+// A latest rule whose causes stand one cycle before is there in 255 cycles. With one that is there in all 256 these are 511 rules with
+// two causes, and 4,096 * 512 cells of the search.
+#[test]
+fn a_design_has_2097152_cells_of_the_search(rt: HostRuntime) -> Result<(), Fail> {
     let shifted =
         r#"{"signal":[{"node":"abcdefghijklmnop"}],"edge":["a->c @late [0,9]","b->c @late [0,9]",
         "a->d @late+1 [0,9]","b->d @late+1 [0,9]"]}"#;
+    cycles_end(&rt, rt.alloc(), (shifted, 256, None))
+}
+
+// 17 marks over 241 cycles are 4,097 events; 1,000 events with 5 rows in each of 250 cycles are 1,250,000 cells; and two latest rules of
+// 256 cycles are 512 rules with two causes, and 4,096 * 513 cells of the search.
+#[test]
+fn cycles_multiply_what_a_sheet_holds(rt: HostRuntime) -> Result<(), Fail> {
+    let alloc = rt.alloc();
+    let wider = r#"{"signal":[{"node":"abcdefghijklmnopq"}]}"#;
+    let five = r#"{"signal":[{"node":"abcd"}],
+        "edge":["a->b @ask","b->c @ask","c->d @ask","d->a @ask","a->a @ask"]}"#;
     let unshifted =
         r#"{"signal":[{"node":"abcdefghijklmnop"}],"edge":["a->c @late [0,9]","b->c @late [0,9]",
         "a->d @late [0,9]","b->d @late [0,9]"]}"#;
-    let cells = "refused design TooMany Cells 1250000\n";
-    let search = "refused design TooMany SearchCells 2101248\n";
-    for entry in [
-        (wide, 256, None),
-        (wider, 241, Some("refused design TooMany Events 4097\n")),
-        (four, 250, None),
-        (five, 250, Some(cells)),
-        (shifted, 256, None),
-        (unshifted, 256, Some(search)),
-        (wide, 257, Some("refused file 0 Cycles\n")),
-        (wide, 0, Some("refused file 0 Cycles\n")),
+    for (sheet, cycles, line) in [
+        (wider, 241, "refused design TooMany Events 4097\n"),
+        (five, 250, "refused design TooMany Cells 1250000\n"),
+        (
+            unshifted,
+            256,
+            "refused design TooMany SearchCells 2101248\n",
+        ),
+        (WIDE_SHEET, 257, "refused file 0 Cycles\n"),
+        (WIDE_SHEET, 0, "refused file 0 Cycles\n"),
     ] {
-        cycles_end(&rt, alloc, entry)?;
+        cycles_end(&rt, alloc, (sheet, cycles, Some(line)))?;
     }
     Ok(())
 }
