@@ -1,9 +1,12 @@
 #!/usr/bin/env python3
 """Measures `itv` beside an unproved Rust program of the same rule, and beside z3, cbc and glpsol where they are installed.
 
-    bench/measure.py PATH_OF_THE_BUILT_PROGRAM [searches|bounds|all]
+    bench/measure.py PATH_OF_THE_BUILT_PROGRAM [searches|bounds|readings|all]
 
-Builds bench/peer with the machine's cargo. Each time is the least of three runs of the whole program, in seconds."""
+Builds bench/peer with the machine's cargo. Each time is the least of three runs of the whole program, in seconds. The line of a
+network is a row of a table of docs/speed.md: its name, the seconds of `itv`, those of the Rust program, their ratio, what became of
+the two answers, and for searches the seconds of the solvers. That of a design that is read alone has the seconds of job matrix, which
+reads and draws it and then refuses it for its number of events, and those of a report without a row."""
 import os
 import shutil
 import subprocess
@@ -32,10 +35,6 @@ def seconds(command, folder, stdin=None, runs=3):
 
 def bounds_told(text):
     return [line for line in text.decode().splitlines() if line.startswith(("max ", "min ", "finding incons"))]
-
-
-def bound_if(text):
-    return [line.replace(" found", "") for line in bounds_told(text)]
 
 
 def lp(net, sign):
@@ -113,25 +112,70 @@ def peers(net, folder):
     return told
 
 
+def lay_out(files, folder):
+    for name, text in files.items():
+        with open(os.path.join(folder, name), "w") as file:
+            file.write(text)
+
+
+def show(took):
+    return f"more than {LIMIT}" if took is None else f"{took:.3f}"
+
+
+def row(cells):
+    print("| " + " | ".join(cells) + " |", flush=True)
+
+
+def outcome(report, told):
+    """Whether both programs gave the same bounds, and how many of them their budgets left open."""
+    ours, theirs = bounds_told(report), bounds_told(told)
+    if not ours or not theirs:
+        return "not compared"
+    if ours != theirs:
+        return "DIFFERENT"
+    left_open = sum(" within " in line for line in ours)
+    return f"same, {left_open} of {len(ours)} left open" if left_open else "same"
+
+
+def measure_network(program, peer, net, is_search):
+    with tempfile.TemporaryDirectory() as folder:
+        lay_out(net.files(), folder)
+        took, report = seconds([program, "main.json"], folder)
+        took_peer, told = seconds([peer], folder, net.lines().encode())
+        ratio = "" if took is None or took_peer is None else f"{took / took_peer:.2f}"
+        solvers = [show(peer_took) for peer_took in peers(net, folder).values()] if is_search else []
+        row([net.name, show(took), show(took_peer), ratio, outcome(report, told)] + solvers)
+
+
+def measure_reading(program, name, files):
+    with tempfile.TemporaryDirectory() as folder:
+        lay_out(files, folder)
+        read, refusal = seconds([program, "--job", "matrix", "main.json"], folder)
+        if not refusal.startswith(b"refused design TooMany MatrixEvents "):
+            sys.exit(f"{name}: {refusal[:200]}")
+        reported, report = seconds([program, "main.json"], folder)
+        if not report.endswith(b"end pass\n"):
+            sys.exit(f"{name}: {report[:200]}")
+        row([name, f"{sum(map(len, files.values()))}", show(read), show(reported)])
+
+
 def main():
     program = os.path.abspath(sys.argv[1])
     which = sys.argv[2] if len(sys.argv) > 2 else "all"
     subprocess.run(["cargo", "build", "--release", "--offline", "--quiet"], cwd=os.path.join(HERE, "peer"), check=True)
     peer = os.path.join(HERE, "peer", "target", "release", "peer")
-    nets = (networks.searches() if which != "bounds" else []) + (networks.bounds() if which != "searches" else [])
-    show = lambda t: "more than 60" if t is None else f"{t:.3f}"
-    for net in nets:
-        with tempfile.TemporaryDirectory() as folder:
-            for name, text in net.files().items():
-                with open(os.path.join(folder, name), "w") as f:
-                    f.write(text)
-            took, report = seconds([program, "main.json"], folder)
-            took_peer, told = seconds([peer], folder, net.lines().encode())
-            same = "settled" if bounds_told(report) == bounds_told(told) else "differs or left open"
-            words = [f"{net.name}: itv {show(took)}, peer {show(took_peer)}, {same}"]
-            if net.name in [n.name for n in networks.searches()]:
-                words += [f"{name} {show(t)}" for name, t in peers(net, folder).items()]
-            print(", ".join(words), flush=True)
+    if which in ("searches", "all"):
+        row(["network", "itv", "Rust", "itv / Rust", "bounds"] + [name for name in ("z3", "cbc", "glpsol") if shutil.which(name)])
+        for net in networks.searches():
+            measure_network(program, peer, net, True)
+    if which in ("bounds", "all"):
+        row(["network", "itv", "Rust", "itv / Rust", "bounds"])
+        for net in networks.bounds():
+            measure_network(program, peer, net, False)
+    if which in ("readings", "all"):
+        row(["design", "bytes", "read and drawn", "reported"])
+        for name, files in networks.readings():
+            measure_reading(program, name, files)
 
 
 if __name__ == "__main__":
