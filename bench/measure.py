@@ -8,6 +8,7 @@ network is a row of a table of docs/speed.md: its name, the seconds of `itv`, th
 the two answers, and for searches the seconds of the solvers. That of a design that is read alone has the seconds of job matrix, which
 reads and draws it and then refuses it for its number of events, and those of a report without a row."""
 import os
+import re
 import shutil
 import subprocess
 import sys
@@ -42,7 +43,9 @@ def lp(net, sign):
     a, b = net.rows[0]
     if sign < 0:
         a, b = b, a
-    big = 10_000_000
+    # No way from event to event is longer than this, so that times within it attain each separation; `big` is more than any side can lack.
+    reach = 1 + 2 * sum(max(abs(end) for _, low, high in causes for end in (low, high) if end is not None) for _, _, causes in net.constraints)
+    big = 3 * reach
     out, binaries = [f"Maximize\n obj: t{b} - t{a}\nSubject To"], []
     out.append(f" zero: t{a} = 0")
     for n, (kind, target, causes) in enumerate(net.constraints):
@@ -67,7 +70,7 @@ def lp(net, sign):
             out.append(" " + " + ".join(choice) + " >= 1")
             binaries += choice
     out.append("Bounds")
-    out += [f" -{big} <= t{e} <= {big}" for e in range(net.events) if e != a]
+    out += [f" -{reach} <= t{e} <= {reach}" for e in range(net.events) if e != a]
     if binaries:
         out.append("Binaries\n " + " ".join(binaries))
     out.append("End")
@@ -93,23 +96,33 @@ def smt(net, sign):
     return "\n".join(out) + "\n"
 
 
-def peers(net, folder):
-    told = {}
-    for name, suffix, make, command in (
-            ("z3", "smt2", smt, lambda f: ["z3", f]),
-            ("cbc", "lp", lp, lambda f: ["cbc", f, "solve"]),
-            ("glpsol", "lp", lp, lambda f: ["glpsol", "--lp", f])):
+SOLVERS = (
+    ("z3", "smt2", smt, lambda path: ["z3", path], r"\(objectives\s+\(.* (\(- \d+\)|\d+)\)\s*\)"),
+    ("cbc", "lp", lp, lambda path: ["cbc", path, "solve"], r"Objective value:\s+(\S+)"),
+    ("glpsol", "lp", lp, lambda path: ["glpsol", "--lp", path, "-o", "/dev/stdout"], r"Objective:\s+obj = (\S+)"),
+)
+
+
+def solver_cells(net, folder, told):
+    """For each solver that is there the seconds for both sides of the first row, with a mark where its numbers are others than those told."""
+    wanted = [re.fullmatch(r"(?:max|min) (-?\d+)", line) for line in told[:2]]
+    cells = []
+    for name, suffix, make, command, pattern in SOLVERS:
         if not shutil.which(name):
             continue
-        total = 0.0
-        for sign in (1, -1):
-            path = os.path.join(folder, f"peer{sign}.{suffix}")
-            with open(path, "w") as f:
-                f.write(make(net, sign))
-            took, _ = seconds(command(path), folder, runs=1)
+        total, differs = 0.0, False
+        for sign, number in zip((1, -1), wanted):
+            path = os.path.join(folder, f"side{sign}.{suffix}")
+            with open(path, "w") as file:
+                file.write(make(net, sign))
+            took, out = seconds(command(path), folder, runs=1)
             total = None if took is None or total is None else total + took
-        told[name] = total
-    return told
+            found = re.search(pattern, out.decode())
+            if took is not None and number:
+                # A solver may tell the greatest of a number as the least of its opposite.
+                differs |= found is None or round(abs(float(re.sub(r"[() ]", "", found.group(1))))) != abs(int(number.group(1)))
+        cells.append(show(total) + (" DIFFERENT" if differs else ""))
+    return cells
 
 
 def lay_out(files, folder):
@@ -143,7 +156,7 @@ def measure_network(program, peer, net, is_search):
         took, report = seconds([program, "main.json"], folder)
         took_peer, told = seconds([peer], folder, net.lines().encode())
         ratio = "" if took is None or took_peer is None else f"{took / took_peer:.2f}"
-        solvers = [show(peer_took) for peer_took in peers(net, folder).values()] if is_search else []
+        solvers = solver_cells(net, folder, bounds_told(told)) if is_search else []
         row([net.name, show(took), show(took_peer), ratio, outcome(report, told)] + solvers)
 
 
@@ -165,7 +178,7 @@ def main():
     subprocess.run(["cargo", "build", "--release", "--offline", "--quiet"], cwd=os.path.join(HERE, "peer"), check=True)
     peer = os.path.join(HERE, "peer", "target", "release", "peer")
     if which in ("searches", "all"):
-        row(["network", "itv", "Rust", "itv / Rust", "bounds"] + [name for name in ("z3", "cbc", "glpsol") if shutil.which(name)])
+        row(["network", "itv", "Rust", "itv / Rust", "bounds"] + [name for name, *_ in SOLVERS if shutil.which(name)])
         for net in networks.searches():
             measure_network(program, peer, net, True)
     if which in ("bounds", "all"):
