@@ -1,10 +1,14 @@
 #!/usr/bin/env python3
 """Measures `itv` beside an unproved Rust program of the same rule, and beside z3, cbc and glpsol where they are installed.
 
-    bench/measure.py PATH_OF_THE_BUILT_PROGRAM [searches|bounds|all]
+    bench/measure.py PATH_OF_THE_BUILT_PROGRAM [searches|bounds|readings|all]
 
-Builds bench/peer with the machine's cargo. Each time is the least of three runs of the whole program, in seconds."""
+Builds bench/peer with the machine's cargo. Each time is the least of three runs of the whole program, in seconds. The line of a
+network is a row of a table of docs/speed.md: its name, the seconds of `itv`, those of the Rust program, their ratio, what became of
+the two answers, and for searches the seconds of the solvers. That of a design that is read alone has the seconds of job matrix, which
+reads and draws it and then refuses it for its number of events, and those of a report without a row."""
 import os
+import re
 import shutil
 import subprocess
 import sys
@@ -34,16 +38,14 @@ def bounds_told(text):
     return [line for line in text.decode().splitlines() if line.startswith(("max ", "min ", "finding incons"))]
 
 
-def bound_if(text):
-    return [line.replace(" found", "") for line in bounds_told(text)]
-
-
 def lp(net, sign):
     """One mixed-integer program for the greatest separation of the first row (sign 1) or the least (-1)."""
     a, b = net.rows[0]
     if sign < 0:
         a, b = b, a
-    big = 10_000_000
+    # No way from event to event is longer than this, so that times within it attain each separation; `big` is more than any side can lack.
+    reach = 1 + 2 * sum(max(abs(end) for _, low, high in causes for end in (low, high) if end is not None) for _, _, causes in net.constraints)
+    big = 3 * reach
     out, binaries = [f"Maximize\n obj: t{b} - t{a}\nSubject To"], []
     out.append(f" zero: t{a} = 0")
     for n, (kind, target, causes) in enumerate(net.constraints):
@@ -68,7 +70,7 @@ def lp(net, sign):
             out.append(" " + " + ".join(choice) + " >= 1")
             binaries += choice
     out.append("Bounds")
-    out += [f" -{big} <= t{e} <= {big}" for e in range(net.events) if e != a]
+    out += [f" -{reach} <= t{e} <= {reach}" for e in range(net.events) if e != a]
     if binaries:
         out.append("Binaries\n " + " ".join(binaries))
     out.append("End")
@@ -94,23 +96,80 @@ def smt(net, sign):
     return "\n".join(out) + "\n"
 
 
-def peers(net, folder):
-    told = {}
-    for name, suffix, make, command in (
-            ("z3", "smt2", smt, lambda f: ["z3", f]),
-            ("cbc", "lp", lp, lambda f: ["cbc", f, "solve"]),
-            ("glpsol", "lp", lp, lambda f: ["glpsol", "--lp", f])):
+SOLVERS = (
+    ("z3", "smt2", smt, lambda path: ["z3", path], r"\(objectives\s+\(.* (\(- \d+\)|\d+)\)\s*\)"),
+    ("cbc", "lp", lp, lambda path: ["cbc", path, "solve"], r"Objective value:\s+(\S+)"),
+    ("glpsol", "lp", lp, lambda path: ["glpsol", "--lp", path, "-o", "/dev/stdout"], r"Objective:\s+obj = (\S+)"),
+)
+
+
+def solver_cells(net, folder, told):
+    """For each solver that is there the seconds for both sides of the first row, with a mark where its numbers are others than those told."""
+    wanted = [re.fullmatch(r"(?:max|min) (-?\d+)", line) for line in told[:2]]
+    cells = []
+    for name, suffix, make, command, pattern in SOLVERS:
         if not shutil.which(name):
             continue
-        total = 0.0
-        for sign in (1, -1):
-            path = os.path.join(folder, f"peer{sign}.{suffix}")
-            with open(path, "w") as f:
-                f.write(make(net, sign))
-            took, _ = seconds(command(path), folder, runs=1)
+        total, differs = 0.0, False
+        for sign, number in zip((1, -1), wanted):
+            path = os.path.join(folder, f"side{sign}.{suffix}")
+            with open(path, "w") as file:
+                file.write(make(net, sign))
+            took, out = seconds(command(path), folder, runs=1)
             total = None if took is None or total is None else total + took
-        told[name] = total
-    return told
+            found = re.search(pattern, out.decode())
+            if took is not None and number:
+                # A solver may tell the greatest of a number as the least of its opposite.
+                differs |= found is None or round(abs(float(re.sub(r"[() ]", "", found.group(1))))) != abs(int(number.group(1)))
+        cells.append(show(total) + (" DIFFERENT" if differs else ""))
+    return cells
+
+
+def lay_out(files, folder):
+    for name, text in files.items():
+        with open(os.path.join(folder, name), "w") as file:
+            file.write(text)
+
+
+def show(took):
+    return f"more than {LIMIT}" if took is None else f"{took:.3f}"
+
+
+def row(cells):
+    print("| " + " | ".join(cells) + " |", flush=True)
+
+
+def outcome(report, told):
+    """Whether both programs gave the same bounds, and how many of them their budgets left open."""
+    ours, theirs = bounds_told(report), bounds_told(told)
+    if not ours or not theirs:
+        return "not compared"
+    if ours != theirs:
+        return "DIFFERENT"
+    left_open = sum(" within " in line for line in ours)
+    return f"same, {left_open} of {len(ours)} left open" if left_open else "same"
+
+
+def measure_network(program, peer, net, is_search):
+    with tempfile.TemporaryDirectory() as folder:
+        lay_out(net.files(), folder)
+        took, report = seconds([program, "main.json"], folder)
+        took_peer, told = seconds([peer], folder, net.lines().encode())
+        ratio = "" if took is None or took_peer is None else f"{took / took_peer:.2f}"
+        solvers = solver_cells(net, folder, bounds_told(told)) if is_search else []
+        row([net.name, show(took), show(took_peer), ratio, outcome(report, told)] + solvers)
+
+
+def measure_reading(program, name, files):
+    with tempfile.TemporaryDirectory() as folder:
+        lay_out(files, folder)
+        read, refusal = seconds([program, "--job", "matrix", "main.json"], folder)
+        if not refusal.startswith(b"refused design TooMany MatrixEvents "):
+            sys.exit(f"{name}: {refusal[:200]}")
+        reported, report = seconds([program, "main.json"], folder)
+        if not report.endswith(b"end pass\n"):
+            sys.exit(f"{name}: {report[:200]}")
+        row([name, f"{sum(map(len, files.values()))}", show(read), show(reported)])
 
 
 def main():
@@ -118,20 +177,18 @@ def main():
     which = sys.argv[2] if len(sys.argv) > 2 else "all"
     subprocess.run(["cargo", "build", "--release", "--offline", "--quiet"], cwd=os.path.join(HERE, "peer"), check=True)
     peer = os.path.join(HERE, "peer", "target", "release", "peer")
-    nets = (networks.searches() if which != "bounds" else []) + (networks.bounds() if which != "searches" else [])
-    show = lambda t: "more than 60" if t is None else f"{t:.3f}"
-    for net in nets:
-        with tempfile.TemporaryDirectory() as folder:
-            for name, text in net.files().items():
-                with open(os.path.join(folder, name), "w") as f:
-                    f.write(text)
-            took, report = seconds([program, "main.json"], folder)
-            took_peer, told = seconds([peer], folder, net.lines().encode())
-            same = "settled" if bounds_told(report) == bounds_told(told) else "differs or left open"
-            words = [f"{net.name}: itv {show(took)}, peer {show(took_peer)}, {same}"]
-            if net.name in [n.name for n in networks.searches()]:
-                words += [f"{name} {show(t)}" for name, t in peers(net, folder).items()]
-            print(", ".join(words), flush=True)
+    if which in ("searches", "all"):
+        row(["network", "itv", "Rust", "itv / Rust", "bounds"] + [name for name, *_ in SOLVERS if shutil.which(name)])
+        for net in networks.searches():
+            measure_network(program, peer, net, True)
+    if which in ("bounds", "all"):
+        row(["network", "itv", "Rust", "itv / Rust", "bounds"])
+        for net in networks.bounds():
+            measure_network(program, peer, net, False)
+    if which in ("readings", "all"):
+        row(["design", "bytes", "read and drawn", "reported"])
+        for name, files in networks.readings():
+            measure_reading(program, name, files)
 
 
 if __name__ == "__main__":

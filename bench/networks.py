@@ -162,3 +162,38 @@ def searches():
 
 def bounds():
     return [backward_chain(4096, 64), dense_linear(93, 60_000, 4096, 1), dense_linear(4000, 16_000, 64, 2)]
+
+
+def cycles_of_one_part(cycles):
+    """One part of 16 marks in a row over so many cycles of 100 ns: 16 events and 16 rules a cycle, and no question."""
+    marks = MARKS[:16]
+    sheet = {"signal": [{"name": m, "wave": "01", "node": "." + m} for m in marks],
+             "edge": [f"{a}->{b} @lin [10,2000]" for a, b in zip(marks, marks[1:])] + ["a->a @lin+1 [100000,100000]"]}
+    return {"main.json": json.dumps({"itv": 1, "cycles": cycles, "parts": [{"name": "P", "sheet": "row.json"}], "nets": [], "edges": []}),
+            "row.json": json.dumps(sheet)}
+
+
+def many_parts(parts):
+    """So many parts of one sheet of 16 marks in a row, each joined to the next by a wire."""
+    marks = MARKS[:16]
+    sheet = {"signal": [{"name": m, "wave": "01", "node": "." + m} for m in marks],
+             "edge": [f"{a}->{b} @lin [10,2000]" for a, b in zip(marks, marks[1:])]}
+    main = {"itv": 1, "cycles": 1, "parts": [{"name": f"P{k}", "sheet": "row.json"} for k in range(parts)], "nets": [],
+            "edges": [f"P{k}.{marks[-1]} P{k + 1}.{marks[0]} @lin [0,500]" for k in range(parts - 1)]}
+    return {"main.json": json.dumps(main), "row.json": json.dumps(sheet)}
+
+
+def many_wires(constraints):
+    """So many wires of one netlist between 2,048 marks, each from a mark to one that comes at most 64 marks later."""
+    net = Network("", 2048)
+    for k in range(constraints):
+        a = k % 2047
+        net.lin(a, min(2047, a + 1 + k // 2047 * 2), 0, 100_000)
+    return net.files()
+
+
+def readings():
+    """Designs that are to be read and drawn, without questions: a name and the files of each. All have more events than a matrix may have."""
+    return ([(f"16 marks over {n} cycles", cycles_of_one_part(n)) for n in (128, 256)]
+            + [(f"{n} parts of 16 marks", many_parts(n)) for n in (128, 256)]
+            + [(f"{n} wires between 2048 marks", many_wires(n)) for n in (16_384, 32_768, 65_536)])

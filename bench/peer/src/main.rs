@@ -3,6 +3,8 @@
 //!
 //! `events N`, `lin FROM TO LOW HIGH`, `late TARGET COUNT (EVENT LOW HIGH)..`, `early ..`, `row FROM TO`; `*` is an open end.
 
+use std::collections::hash_map::{Entry, HashMap};
+use std::collections::VecDeque;
 use std::fmt::Write as _;
 use std::io::{self, Read, Write};
 
@@ -120,9 +122,18 @@ impl<'n> Search<'n> {
     fn new(net: &'n Network, budget: u64) -> Option<Search<'n>> {
         let mut arcs = vec![Vec::new(); net.events];
         let mut into = vec![Vec::new(); net.events];
-        let mut add = |from: usize, to: usize, weight: i64| {
-            arcs[from].push(Arc { to, weight });
-            into[to].push(from);
+        let mut places = HashMap::new();
+        let mut add = |from: usize, to: usize, weight: i64| match places.entry((from, to)) {
+            // Of the edges from one event to another only one of least weight counts.
+            Entry::Occupied(place) => {
+                let arc: &mut Arc = &mut arcs[from][*place.get()];
+                arc.weight = arc.weight.min(weight);
+            }
+            Entry::Vacant(place) => {
+                place.insert(arcs[from].len());
+                arcs[from].push(Arc { to, weight });
+                into[to].push(from);
+            }
         };
         for c in &net.constraints {
             let both = !c.can_split();
@@ -157,22 +168,24 @@ impl<'n> Search<'n> {
 
     /// The feasible labels of the always-edges, or false where these close a loop with a negative sum.
     fn settle_first(&mut self) -> bool {
-        for turn in 0..=self.net.events {
-            let mut fell = false;
-            for from in 0..self.net.events {
-                for k in 0..self.arcs[from].len() {
-                    let Arc { to, weight } = self.arcs[from][k];
-                    if self.feasible.value[from] + weight < self.feasible.value[to] {
-                        self.feasible.value[to] = self.feasible.value[from] + weight;
-                        fell = true;
+        let events = self.net.events;
+        let mut queue: VecDeque<usize> = (0..events).collect();
+        let mut falls = vec![0; events];
+        let mut waits = vec![true; events];
+        while let Some(from) = queue.pop_front() {
+            waits[from] = false;
+            for &Arc { to, weight } in &self.arcs[from] {
+                if self.feasible.value[from] + weight < self.feasible.value[to] {
+                    self.feasible.value[to] = self.feasible.value[from] + weight;
+                    falls[to] += 1;
+                    if falls[to] > events {
+                        return false;
+                    }
+                    if !waits[to] {
+                        waits[to] = true;
+                        queue.push_back(to);
                     }
                 }
-            }
-            if !fell {
-                return true;
-            }
-            if turn == self.net.events {
-                return false;
             }
         }
         true
