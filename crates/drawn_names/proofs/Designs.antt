@@ -1,5 +1,5 @@
 -- The names of the events of designs.
-use Rattle.std.proofs.Common.{◌≡◌, ◌<◌, ◌≤◌, ◌+◌, ℕ, zero, suc, Bool, true, false, if◌then◌else◌, List, [], ◌∷◌, ◌++◌, map, All, Option, Some, None, Result, Ok, Err, refl, sym, ap, ◌∙◌, subst, arith}
+use Rattle.std.proofs.Common.{◌≡◌, ◌<◌, ◌≤◌, ◌+◌, ℕ, zero, suc, Bool, true, false, if◌then◌else◌, List, [], ◌∷◌, ◌++◌, length, map, cond, nat_lt, All, Option, Some, None, Result, Ok, Err, refl, sym, ap, ◌∙◌, subst, arith, rules}
 use Rattle.std.specs.Prelude.{IsTrue, ◌&&◌, is_some, is_none, codes}
 use Rattle.std.proofs.lemmas.List.Elements.{All-append, All-cons, All-head, All-map, All-nil, All-tail, All-weaker}
 use Rattle.serde_json.specs.Data.{Data}
@@ -8,7 +8,7 @@ use Rattle.wavejson.specs.Drawing.{diagram_of}
 use Rattle.itv_base.specs.Characters.{is_name}
 use Rattle.itv_base.specs.Names.{Name}
 use Rattle.itv_base.specs.Outside.{ShelfTold}
-use Rattle.itv_base.specs.declared.limits.TheConstants.{MAX_CYCLES}
+use Rattle.itv_base.specs.declared.limits.TheConstants.{MAX_CONSTRAINTS, MAX_CYCLES, MAX_EVENTS, MAX_ROWS}
 use Rattle.sheet.specs.Contents as sheet
 use Rattle.sheet.specs.declared.mark.Mark.{Mark}
 use Rattle.netlist.specs.Contents.{Contents}
@@ -17,7 +17,12 @@ use Rattle.compose.specs.declared.fault.JoinFault.{JoinFault}
 use Rattle.netlist.specs.declared.part.Part.{Part}
 use Rattle.compose.specs.Compose.{composed_on}
 use Rattle.compose.specs.Nets.{joins_of}
-use Rattle.compose.specs.Wires.{wire_links}
+use Rattle.compose.specs.Numbers.{mark_count}
+use Rattle.compose.specs.Wires.{design_row, wire_links}
+use Rattle.sheet.specs.Links.{link_rows}
+use Rattle.sheet.specs.Sheet.{sheet_of}
+use Rattle.sheet.specs.Whole.{IsWhole}
+use Rattle.sheet.proofs.WholeSheets.{sheet_whole}
 use Rattle.compose.specs.Design.{Composed}
 use Rattle.unroll.specs.Cycles.{in_cycles}
 use Rattle.unroll.specs.Drawn.{Drawn, drawn_of, names_in}
@@ -30,9 +35,10 @@ use Rattle.reading.specs.declared.place.Place.TheVariants.{Design, File}
 use Rattle.reading.specs.declared.refusal.Refusal.TheVariants.{Diagram, Joins, Limits, Netlist, Sheet}
 use Rattle.reading.specs.Opening.{Comes, at, ready}
 use Rattle.reading.specs.Design.{NamedSheets, design_at, drawn_at, lone_at, netlist_at, sheet_at, sheet_in, tree_in, sheets_from, sheets_on, tree_drawn, with_sheet}
-use Rattle.drawn_names.specs.Law.{DrawnNamesHaveForm}
+use Rattle.drawn_names.specs.Law.{DrawnNamesHaveForm, DrawnRangesHaveForm, DrawnRowsAreFew}
+use Rattle.drawn_names.proofs.Rows.{DemandsDrawn, DemandsWire, cycles_hold, design_rows_hold, link_rows_hold, rows_hold, wires_hold}
 use Rattle.drawn_names.proofs.Steps.{at_gave, gave, opening_then, result_then}
-use Rattle.drawn_names.proofs.Sheets.{AreMarked, HasMarks, HoldsMarks, IsMarked, sheet_holds, sheets_hold, with_sheet_holds}
+use Rattle.drawn_names.proofs.Sheets.{AreMarked, HasMarks, HoldsMarks, IsFormed, IsMarked, sheet_holds, sheets_hold, with_sheet_holds}
 use Rattle.drawn_names.proofs.Netlists.{IsNamed, IsNamedNetlist, lone_holds, netlist_holds}
 
 -- ---- names in cycles
@@ -52,24 +58,22 @@ names_hold (part ∷ parts) (drawn ∷ sheets) cycle named marked few =
     All-append IsName (map name_of drawn.marks) (names_in parts sheets cycle) here
     (names_hold parts sheets cycle (All-tail IsPartName part parts named) (All-tail HasMarks drawn sheets marked) few)
 
-cycles_names : (each : ℕ → List Name) (n : ℕ) → ((cycle : ℕ) → cycle < n → All IsName (each cycle)) → All IsName (in_cycles each n)
-cycles_names each zero holds = All-nil IsName
-cycles_names each (suc n) holds =
-    All-append IsName (in_cycles each n) (each n) (cycles_names each n (λ cycle less. holds cycle (omega arith))) (holds n (omega arith))
-
--- what names a design's events come from
+-- what the names and the rows of a design come from
 record IsNamedDesign (d : Composed) : Type 0 where
   cycles : d.cycles ≤ MAX_CYCLES
   parts : All IsPartName d.parts
   sheets : All HasMarks d.sheets
+  whole : All IsWhole d.sheets
+  rows : All DemandsWire d.rows
 
 drawn_holds : (d : Composed) → IsNamedDesign d → All IsName (drawn_of d).names
-drawn_holds d named = cycles_names (names_in d.parts d.sheets) d.cycles (λ cycle less. names_hold d.parts d.sheets cycle named.parts named.sheets (omega (arith, less, named.cycles)))
+drawn_holds d named =
+    cycles_hold IsName (names_in d.parts d.sheets) d.cycles (λ cycle less. names_hold d.parts d.sheets cycle named.parts named.sheets (omega (arith, less, named.cycles)))
 
 -- ---- designs
 
-within_holds : (d : Drawn) (o : Option Counted) (drawn : Drawn) → within d o ≡ Ok drawn → d ≡ drawn
-within_holds d None drawn is = cc is
+within_holds : (d : Drawn) (o : Option Counted) (drawn : Drawn) → within d o ≡ Ok drawn → (d ≡ drawn) × (o ≡ None)
+within_holds d None drawn is = (cc is, refl)
 within_holds d (Some passed) drawn is = absurd (cc is)
 
 abbrev pub IsComposed : Composed → Result Composed JoinFault → Type 0
@@ -78,34 +82,47 @@ IsComposed c result = Ok c ≡ result
 ok_field : {X : Type 0} (f : Composed → X) (c d : Composed) → IsComposed c (Ok d) → f c ≡ f d
 ok_field f c d is = let same : c ≡ d = cc is in ap f same
 
-composed_holds : (netlist : Contents) (sheets : List sheet.Contents) (d : Composed) → IsNamedNetlist netlist → All HasMarks sheets → composed_on netlist sheets ≡ Ok d → IsNamedDesign d
+composed_holds : (netlist : Contents) (sheets : List sheet.Contents) (d : Composed) → IsNamedNetlist netlist → All HasMarks sheets → All IsWhole sheets → composed_on netlist sheets ≡ Ok d
+    → IsNamedDesign d
 unfolding composed_on
-composed_holds netlist sheets d named marked is =
+composed_holds netlist sheets d named marked whole is =
     let (joins, are_joins, rest) = result_then (joins_of netlist.parts sheets netlist.nets) _ d is in
     let (links, are_links, last) = result_then (wire_links netlist.parts sheets netlist.wires) _ d rest in
     let cycles : netlist.cycles ≡ d.cycles = ok_field (λ (c : Composed). c.cycles) _ d last in
     let parts : map (λ (part : Part). part.name) netlist.parts ≡ d.parts = ok_field (λ (c : Composed). c.parts) _ d last in
+    let rows : map (design_row sheets) (link_rows links) ≡ d.rows = ok_field (λ (c : Composed). c.rows) _ d last in
     let same : sheets ≡ d.sheets = ok_field (λ (c : Composed). c.sheets) _ d last in
     record {
       cycles = subst (λ n. n ≤ MAX_CYCLES) cycles named.cycles;
       parts = subst (All IsPartName) parts (All-map IsPartName (λ (part : Part). part.name) netlist.parts named.parts);
       sheets = subst (All HasMarks) same marked;
+      whole = subst (All IsWhole) same whole;
+      rows = subst (All DemandsWire) rows (design_rows_hold sheets (link_rows links) (link_rows_hold links (wires_hold netlist.parts sheets links netlist.wires named.wires are_links)));
     }
 
+-- a design was drawn that is named, and passes no limit
+record IsDrawnFrom (drawn : Drawn) : Type 0 where
+  design : Composed
+  named : IsNamedDesign design
+  draws : drawn_of design ≡ drawn
+  passes : first_passed (counts_of (drawn_of design)) ≡ None
+
 drawn_at_holds : (shelf : ShelfTold) (netlist : Contents) (sheets : NamedSheets) (drawn : Drawn) → IsNamedNetlist netlist → AreMarked sheets
-    → Comes shelf (drawn_at netlist sheets) (ready drawn) → All IsName drawn.names
+    → Comes shelf (drawn_at netlist sheets) (ready drawn) → IsDrawnFrom drawn
 unfolding drawn_at unrolled
 drawn_at_holds shelf netlist sheets drawn named marked comes =
     let (d, first, rest) = opening_then shelf (at Design (λ why. Joins why) (composed_on netlist (sheets_on sheets netlist.parts))) _ drawn comes in
     let joined : composed_on netlist (sheets_on sheets netlist.parts) ≡ Ok d = at_gave shelf Design (λ why. Joins why) _ d first in
     let limited : unrolled d ≡ Ok drawn = at_gave shelf Design (λ why. Limits why) _ drawn rest in
-    let same : drawn_of d ≡ drawn = within_holds (drawn_of d) (first_passed (counts_of (drawn_of d))) drawn limited in
-    subst (λ (x : Drawn). All IsName x.names) same (drawn_holds d (composed_holds netlist (sheets_on sheets netlist.parts) d named (sheets_hold sheets netlist.parts marked) joined))
+    let inside = within_holds (drawn_of d) (first_passed (counts_of (drawn_of d))) drawn limited in
+    let both = sheets_hold sheets netlist.parts marked in
+    record { design = d; named = composed_holds netlist (sheets_on sheets netlist.parts) d named both.0 both.1 joined; draws = inside.0; passes = inside.1 }
 
-sheet_at_holds : (shelf : ShelfTold) (place : Place) (tree : Data) (found : sheet.Contents) → Comes shelf (sheet_at place tree) (ready found) → HasMarks found
+sheet_at_holds : (shelf : ShelfTold) (place : Place) (tree : Data) (found : sheet.Contents) → Comes shelf (sheet_at place tree) (ready found) → IsFormed found
 sheet_at_holds shelf place tree found comes =
     let (drawing, first, rest) = opening_then shelf (at place (λ why. Diagram why) (diagram_of tree)) _ found comes in
-    sheet_holds drawing found (at_gave shelf place (λ why. Sheet why) _ found rest)
+    let read : sheet_of drawing ≡ Ok found = at_gave shelf place (λ why. Sheet why) _ found rest in
+    (sheet_holds drawing found read, sheet_whole drawing found read)
 
 sheets_from_hold : (shelf : ShelfTold) (number : ℕ) (sheets all : NamedSheets) (names : List (List ℕ)) → AreMarked sheets → Comes shelf (sheets_from number sheets names) (ready all)
     → AreMarked all
@@ -115,25 +132,59 @@ sheets_from_hold shelf number sheets all (name ∷ names) marked comes =
     let (tree, read, drawn) = opening_then shelf (tree_in (File number) name) _ found first in
     sheets_from_hold shelf (number + 1) (with_sheet sheets name found) all names (with_sheet_holds sheets name found marked (sheet_at_holds shelf (File number) tree found drawn)) rest
 
-lone_at_holds : (shelf : ShelfTold) (name : List ℕ) (tree : Data) (drawn : Drawn) → Comes shelf (lone_at name tree) (ready drawn) → All IsName drawn.names
+lone_at_holds : (shelf : ShelfTold) (name : List ℕ) (tree : Data) (drawn : Drawn) → Comes shelf (lone_at name tree) (ready drawn) → IsDrawnFrom drawn
 lone_at_holds shelf name tree drawn comes =
     let (found, first, rest) = opening_then shelf (sheet_at (File 0) tree) _ drawn comes in
     drawn_at_holds shelf (lone_netlist name) (with_sheet [] name found) drawn (lone_holds name)
     (with_sheet_holds [] name found (All-nil HoldsMarks) (sheet_at_holds shelf (File 0) tree found first)) rest
 
-netlist_at_holds : (shelf : ShelfTold) (tree : Data) (drawn : Drawn) → Comes shelf (netlist_at tree) (ready drawn) → All IsName drawn.names
+netlist_at_holds : (shelf : ShelfTold) (tree : Data) (drawn : Drawn) → Comes shelf (netlist_at tree) (ready drawn) → IsDrawnFrom drawn
 netlist_at_holds shelf tree drawn comes =
     let (netlist, first, rest) = opening_then shelf (at (File 0) (λ why. Netlist why) (netlist_of tree)) _ drawn comes in
     let (sheets, fetched, last) = opening_then shelf (sheets_from 1 [] (sheet_names netlist.parts)) _ drawn rest in
     let read : netlist_of tree ≡ Ok netlist = at_gave shelf (File 0) (λ why. Netlist why) _ netlist first in
     drawn_at_holds shelf netlist sheets drawn (netlist_holds tree netlist read) (sheets_from_hold shelf 1 [] sheets (sheet_names netlist.parts) (All-nil HoldsMarks) fetched) last
 
-either_holds : (shelf : ShelfTold) (b : Bool) (name : List ℕ) (tree : Data) (drawn : Drawn) → Comes shelf (if b then lone_at name tree else netlist_at tree) (ready drawn) → All IsName drawn.names
+either_holds : (shelf : ShelfTold) (b : Bool) (name : List ℕ) (tree : Data) (drawn : Drawn) → Comes shelf (if b then lone_at name tree else netlist_at tree) (ready drawn) → IsDrawnFrom drawn
 either_holds shelf true name tree drawn comes = lone_at_holds shelf name tree drawn comes
 either_holds shelf false name tree drawn comes = netlist_at_holds shelf tree drawn comes
+
+drawn_from : (shelf : ShelfTold) (name : List ℕ) (drawn : Drawn) → Comes shelf (design_at name) (ready drawn) → IsDrawnFrom drawn
+drawn_from shelf name drawn comes =
+    let (tree, first, rest) = opening_then shelf (tree_in (File 0) name) _ drawn comes in
+    either_holds shelf (is_some (as_object tree) && is_none (get (codes "itv") tree)) name tree drawn rest
+
+-- ---- the laws
 
 -- each event of a drawn network has a name of its form
 pub drawn_names_have_form : DrawnNamesHaveForm
 drawn_names_have_form shelf name drawn comes =
-    let (tree, first, rest) = opening_then shelf (tree_in (File 0) name) _ drawn comes in
-    either_holds shelf (is_some (as_object tree) && is_none (get (codes "itv") tree)) name tree drawn rest
+    let from = drawn_from shelf name drawn comes in
+    subst (λ (x : Drawn). All IsName x.names) from.draws (drawn_holds from.design from.named)
+
+-- what each row demands is a range
+pub drawn_ranges_have_form : DrawnRangesHaveForm
+drawn_ranges_have_form shelf name drawn comes =
+    let from = drawn_from shelf name drawn comes in
+    subst (λ (x : Drawn). All DemandsDrawn x.rows) from.draws (rows_hold (mark_count from.design.sheets) from.design from.named.whole from.named.rows)
+
+not_first : {X : Type 0} (b : Bool) (x : X) (o : Option X) → cond b (Some x) o ≡ None → (b ≡ false) × (o ≡ None)
+not_first true x o none = absurd (cc none)
+not_first false x o none = (refl, none)
+
+within_limit : (n : ℕ) → nat_lt MAX_ROWS n ≡ false → n ≤ MAX_ROWS
+within_limit n is = search rules
+
+-- the third limit is that of rows
+few_rows : (drawn : Drawn) → first_passed (counts_of drawn) ≡ None → length drawn.rows ≤ MAX_ROWS
+few_rows drawn none =
+    let events = not_first (nat_lt MAX_EVENTS drawn.net.events) _ _ none in
+    let constraints = not_first (nat_lt MAX_CONSTRAINTS (length drawn.net.constraints)) _ _ events.1 in
+    let rows = not_first (nat_lt MAX_ROWS (length drawn.rows)) _ _ constraints.1 in
+    within_limit (length drawn.rows) rows.0
+
+-- the rows are few
+pub drawn_rows_are_few : DrawnRowsAreFew
+drawn_rows_are_few shelf name drawn comes =
+    let from = drawn_from shelf name drawn comes in
+    subst (λ (x : Drawn). length x.rows ≤ MAX_ROWS) from.draws (few_rows (drawn_of from.design) from.passes)

@@ -13,16 +13,19 @@ use Rattle.netlist.specs.Contents.{Contents}
 use Rattle.netlist.specs.declared.fault.NetlistFault.TheVariants.{NotObject, Version, Cycles, PartsNotList, TooManyParts, DoublePart, TooManySheets}
 use Rattle.netlist.specs.declared.fault.NetlistFault.TheVariants.{Part as PartFault}
 use Rattle.netlist.specs.Netlist.{cycles_from, cycles_of, demand, is_part, list_at, netlist_of, nets_of, part_by, part_of, parts_of, sheet_names, text_at, version_from, wires_of, with_part, lone_netlist, whole_at}
+use Rattle.netlist.proofs.WholeNetlists.{netlist_whole}
+use Rattle.drawn_names.proofs.Rows.{IsWholeIf}
 use Rattle.drawn_names.proofs.Steps.{ok_gave, result_then, walk_keeps}
 
 -- the name of a part has its form
 abbrev pub IsNamed : Part → Type 0
 IsNamed part = IsTrue (is_name part.name)
 
--- few cycles, and parts with such names
+-- few cycles, parts with such names, and whole wires
 pub record IsNamedNetlist (netlist : Contents) : Type 0 where
   pub cycles : netlist.cycles ≤ MAX_CYCLES
   pub parts : All IsNamed netlist.parts
+  pub wires : All IsWholeIf netlist.wires
 
 -- ---- parts
 
@@ -61,31 +64,6 @@ parts_hold tree parts is =
     let same : read ≡ parts = cc end in
     subst (All IsNamed) same all
 
--- ---- cycles
-
-few_both : {n : ℕ} → (nat_le 1 n && nat_le n MAX_CYCLES) ≡ true → n ≤ MAX_CYCLES
-few_both both = search rules
-
-few_if : (b : Bool) (n m : ℕ) → (b ≡ true → n ≤ MAX_CYCLES) → (if b then Some n else None) ≡ Some m → m ≤ MAX_CYCLES
-few_if true n m holds is = let same : n ≡ m = cc is in subst (λ k. k ≤ MAX_CYCLES) same (holds refl)
-few_if false n m holds is = absurd (cc is)
-
-from_holds : (z : ℤ) (m : ℕ) → cycles_from z ≡ Some m → m ≤ MAX_CYCLES
-from_holds (pos n) m is = few_if (nat_le 1 n && nat_le n MAX_CYCLES) n m (λ both. few_both both) is
-from_holds (negsuc n) m is = absurd (cc is)
-
-then_holds : (o : Option ℤ) (m : ℕ) → option_and_then cycles_from o ≡ Some m → m ≤ MAX_CYCLES
-then_holds None m is = absurd (cc is)
-then_holds (Some z) m is = from_holds z m is
-
-cycles_hold : (tree : Data) (cycles : ℕ) → cycles_of tree ≡ Ok cycles → cycles ≤ MAX_CYCLES
-unfolding cycles_of
-cycles_hold tree cycles is =
-    let (found, is_found, rest) = result_then (ok_or (as_object tree) NotObject) _ cycles is in
-    let (version, is_version, last) = result_then (ok_or (option_and_then version_from (whole_at (codes "itv") tree)) Version) _ cycles rest in
-    let read = option_and_then cycles_from (whole_at (codes "cycles") tree) in
-    then_holds (whole_at (codes "cycles") tree) cycles (ok_gave read Cycles cycles last)
-
 -- ---- netlists
 
 -- a netlist that was read
@@ -97,8 +75,9 @@ netlist_holds tree netlist is =
     let (nets, are_nets, others) = result_then (nets_of tree) _ netlist more in
     let (wires, are_wires, last) = result_then (wires_of tree) _ netlist others in
     let same : record { cycles = cycles; parts = parts; nets = nets; wires = wires } ≡ netlist = cc last in
-    subst IsNamedNetlist same (record { cycles = cycles_hold tree cycles is_cycles; parts = parts_hold tree parts are_parts })
+    let whole = netlist_whole tree netlist is in
+    record { cycles = whole.few; parts = subst (λ (n : Contents). All IsNamed n.parts) same (parts_hold tree parts are_parts); wires = whole.whole_wires }
 
 -- and that of a lone sheet
 pub lone_holds : (name : List ℕ) → IsNamedNetlist (lone_netlist name)
-lone_holds name = record { cycles = omega arith; parts = All-cons IsNamed _ [] refl (All-nil IsNamed) }
+lone_holds name = record { cycles = omega arith; parts = All-cons IsNamed _ [] refl (All-nil IsNamed); wires = All-nil IsWholeIf }

@@ -4,7 +4,7 @@ use Rattle.std.specs.Prelude.{IsTrue, IfSome}
 use Rattle.std.specs.List.{cons_option, filter_map, flat_map, enumerate_from}
 use Rattle.std.specs.Map.{lookup}
 use Rattle.std.specs.Cmp.Lexicographic.{pointwise}
-use Rattle.std.proofs.lemmas.List.Elements.{All-append, All-cons, All-head, All-nil, All-tail}
+use Rattle.std.proofs.lemmas.List.Elements.{All-append, All-cons, All-head, All-nil, All-tail, All-weaker}
 use Rattle.itv_base.specs.Characters.{is_mark}
 use Rattle.wavejson.specs.Drawing.{Drawing}
 use Rattle.wavejson.specs.declared.lane_text.LaneText.{LaneText}
@@ -17,6 +17,7 @@ use Rattle.itv_base.specs.Reading.{unless}
 use Rattle.sheet.specs.Lanes.{drawn_kind, first_repeated, has_bad_node, lane_marks, mark_at, marks_of, node_of}
 use Rattle.sheet.specs.Links.{links_of}
 use Rattle.sheet.specs.Sheet.{read_marks, read_pins, sheet_of}
+use Rattle.sheet.specs.Whole.{IsWhole}
 use Rattle.indexmap.specs.IndexMap.{insert_entry}
 use Rattle.reading.specs.Design.{NamedSheets, sheet_among, sheets_on, with_sheet}
 use Rattle.drawn_names.proofs.Steps.{result_then, unless_gave}
@@ -85,31 +86,37 @@ sheet_holds drawing sheet is =
 abbrev pub Entry : Type 0
 Entry = List ℕ × Contents
 
+-- a sheet has such marks, and is whole
+abbrev pub IsFormed : Contents → Type 0
+IsFormed sheet = HasMarks sheet × IsWhole sheet
+
 abbrev pub HoldsMarks : Entry → Type 0
-HoldsMarks entry = HasMarks entry.1
+HoldsMarks entry = IsFormed entry.1
 
 abbrev pub AreMarked : NamedSheets → Type 0
 AreMarked sheets = All HoldsMarks sheets
 
-entered : (b : Bool) (e : Entry) (es more : NamedSheets) (sheet : Contents) → HasMarks sheet → AreMarked (e ∷ es) → AreMarked more
+entered : (b : Bool) (e : Entry) (es more : NamedSheets) (sheet : Contents) → IsFormed sheet → AreMarked (e ∷ es) → AreMarked more
     → AreMarked (if b then (e.0, sheet) ∷ es else e ∷ more)
 entered true e es more sheet holds all others = All-cons HoldsMarks (e.0, sheet) es holds (All-tail HoldsMarks e es all)
 entered false e es more sheet holds all others = All-cons HoldsMarks e more (All-head HoldsMarks e es all) others
 
 -- one more sheet
-pub with_sheet_holds : (sheets : NamedSheets) (name : List ℕ) (sheet : Contents) → AreMarked sheets → HasMarks sheet → AreMarked (with_sheet sheets name sheet)
+pub with_sheet_holds : (sheets : NamedSheets) (name : List ℕ) (sheet : Contents) → AreMarked sheets → IsFormed sheet → AreMarked (with_sheet sheets name sheet)
 with_sheet_holds [] name sheet all holds = All-cons HoldsMarks (name, sheet) [] holds (All-nil HoldsMarks)
 with_sheet_holds (e ∷ es) name sheet all holds =
     entered (pointwise nat_eq name e.0) e es (with_sheet es name sheet) sheet holds all (with_sheet_holds es name sheet (All-tail HoldsMarks e es all) holds)
 
-found : (b : Bool) (e : Entry) (o : Option Contents) → HasMarks e.1 → IfSome o HasMarks → IfSome (cond b (Some e.1) o) HasMarks
+found : (b : Bool) (e : Entry) (o : Option Contents) → IsFormed e.1 → IfSome o IsFormed → IfSome (cond b (Some e.1) o) IsFormed
 found true e o here others = here
 found false e o here others = others
 
-among_holds : (sheets : NamedSheets) (name : List ℕ) → AreMarked sheets → IfSome (sheet_among sheets name) HasMarks
+among_holds : (sheets : NamedSheets) (name : List ℕ) → AreMarked sheets → IfSome (sheet_among sheets name) IsFormed
 among_holds [] name all = tt
 among_holds (e ∷ es) name all = found (pointwise nat_eq name e.0) e (sheet_among es name) (All-head HoldsMarks e es all) (among_holds es name (All-tail HoldsMarks e es all))
 
 -- the sheets of parts
-pub sheets_hold : (sheets : NamedSheets) (parts : List Part) → AreMarked sheets → All HasMarks (sheets_on sheets parts)
-sheets_hold sheets parts all = all_filtered HasMarks (λ part. sheet_among sheets part.sheet) (λ part. among_holds sheets part.sheet all) parts
+pub sheets_hold : (sheets : NamedSheets) (parts : List Part) → AreMarked sheets → All HasMarks (sheets_on sheets parts) × All IsWhole (sheets_on sheets parts)
+sheets_hold sheets parts all =
+    let both : All IsFormed (sheets_on sheets parts) = all_filtered IsFormed (λ part. sheet_among sheets part.sheet) (λ part. among_holds sheets part.sheet all) parts in
+    (All-weaker IsFormed HasMarks (λ sheet is. is.0) (sheets_on sheets parts) both, All-weaker IsFormed IsWhole (λ sheet is. is.1) (sheets_on sheets parts) both)

@@ -1,11 +1,22 @@
--- The names of the events that designs draw.
-use Rattle.std.specs.Prelude.{ℕ, List, All}
+-- What holds of every network that a design draws.
+use Rattle.std.specs.Prelude.{◌≤◌, ℕ, List, length, All}
 use Rattle.itv_base.specs.Outside.{ShelfTold}
+use Rattle.itv_base.specs.declared.limits.TheConstants.{MAX_ROWS}
 use Rattle.unroll.specs.Drawn.{Drawn}
-use Rattle.slack_report.specs.Entry.{IsName}
+use Rattle.unroll.specs.declared.row.Row.{Row}
+use Rattle.slack_report.specs.Entry.{IsKind, IsName}
 use Rattle.reading.specs.Opening.{Comes, ready}
 use Rattle.reading.specs.Design.{design_at}
 
 -- where the reading of a design comes to a drawn network, each of its names is a part's name, a mark and a cycle within the limit
 abbrev pub DrawnNamesHaveForm : Type 0
 DrawnNamesHaveForm = (shelf : ShelfTold) (name : List ℕ) (drawn : Drawn) → Comes shelf (design_at name) (ready drawn) → All IsName drawn.names
+
+-- what each of its rows demands is a range
+abbrev pub DrawnRangesHaveForm : Type 0
+DrawnRangesHaveForm =
+    (shelf : ShelfTold) (name : List ℕ) (drawn : Drawn) → Comes shelf (design_at name) (ready drawn) → All (λ (row : Row). IsKind row.kind) drawn.rows
+
+-- and it has no more rows than the limit
+abbrev pub DrawnRowsAreFew : Type 0
+DrawnRowsAreFew = (shelf : ShelfTold) (name : List ℕ) (drawn : Drawn) → Comes shelf (design_at name) (ready drawn) → length drawn.rows ≤ MAX_ROWS

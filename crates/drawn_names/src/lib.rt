@@ -1,8 +1,7 @@
-//! The names of drawn events have the form that names of reports have.
-//! The contract is one law on what designs draw, over the definitions alone: the text of a report names each event by a part's name,
-//! a mark and a cycle, and reads back.
+//! What holds of every network that a design draws: its names, its ranges and the number of its rows.
+//! The contract is three laws, over the definitions alone: so the lines of a report have texts, and read back.
 #![tactic(auto)]
 
 mod law;
 
-pub use law::drawn_names_have_form;
+pub use law::{drawn_names_have_form, drawn_ranges_have_form, drawn_rows_are_few};
