@@ -1,2 +1,4 @@
 pub mod Telling
 pub mod Shifted
+pub mod Answering
+pub mod Putting

@@ -107,6 +107,14 @@ module _ {facts : Facts} {drawn : Drawn} where
     no_end = end_in-append a.lines b.lines a.no_end ∙ b.no_end;
   }
 
+  -- lines lead to what is the same place
+  pub told_at : {here mid last : At} {old new : SinkTold} {words : List Verdict} → mid ≡ last → Told facts drawn here mid words old new → Told facts drawn here last words old new
+  told_at {here = here} {old = old} {new = new} {words = words} e t = subst (λ (at : At). Told facts drawn here at words old new) e t
+
+  -- or from what is the same place
+  pub told_from : {here mid last : At} {old new : SinkTold} {words : List Verdict} → mid ≡ here → Told facts drawn mid last words old new → Told facts drawn here last words old new
+  told_from {last = last} {old = old} {new = new} {words = words} e t = subst (λ (at : At). Told facts drawn at last words old new) e t
+
   -- lines of a proof are put
   pub told_proof : {here : At} {old new : SinkTold} (last : At) (lines : List ProofLine) → Reads facts drawn here (map proof lines) last → SinkGrew old lines new
       → Told facts drawn here last [] old new

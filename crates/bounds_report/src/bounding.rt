@@ -102,8 +102,9 @@ fn keep(net: &Network, pair: Pair, which: Which, answer: Answer, work: &Work, ke
 {
     let _events = net.events();
     take_times(&mut kept.times, work.times(), pair.from);
-    if answer == Answer::Unbounded {
-        kept.set.copy_from_slice(work.ray());
+    match answer {
+        Answer::Unbounded => kept.set.copy_from_slice(work.ray()),
+        Answer::Closed(_) | Answer::Enclosed { .. } => {}
     }
 }
 
@@ -159,8 +160,8 @@ fn put_bound<K: Sink>(
         sink,
     )?;
     write_item(&Item::Times(&kept.times), buffer, sink)?;
-    if value == Bound::Unbounded {
-        return write_item(&Item::Raise(&kept.set), buffer, sink);
+    match value {
+        Bound::Unbounded => write_item(&Item::Raise(&kept.set), buffer, sink),
+        Bound::Closed(_) | Bound::Within { .. } => Ok(()),
     }
-    Ok(())
 }

@@ -36,8 +36,9 @@ pub fn tell_finding<K: Sink>(
     let found = find_times(&mut desk.work, net, wanted, &mut desk.buffer, sink)?;
     let word = word_of(found);
     write_item(&Item::Finding(word), &mut desk.buffer, sink)?;
-    if word == FindingWord::Consistent {
-        tell_known(net, desk, sink)?;
+    match word {
+        FindingWord::Consistent => tell_known(net, desk, sink)?,
+        FindingWord::Inconsistent | FindingWord::Unsettled => {}
     }
     Ok(word)
 }

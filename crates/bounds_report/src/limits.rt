@@ -36,7 +36,7 @@ pub fn tell_limits<K: Sink>(
     ensures known { OnOk result (work.new.known ≡ work.old.known) }
     ensures greatest { IfOk result (λ both. HasTimes both.greatest × (HasTold both.greatest → ⊥)) }
     ensures least { IfOk result (λ both. HasTimes both.least × (HasTold both.least → ⊥)) }
-    ensures goes { (most : ℕ) (cert : Bool) (drawn : Drawn) (told : Telling) → told.course.found ≡ FindingWord.Unsettled → IsOf told greatest pair Which.Max
+    ensures goes { (most : ℕ) (cert : Bool) (drawn : Drawn) (told : Telling) → told.course.found ≡ FindingWord.Unsettled → told.row.from ≡ pair.from → told.row.to ≡ pair.to
         → Goes (sized net.now most cert) drawn (at_bound told greatest []) (λ both. bounded told (least_by both.greatest) both.least) (λ _. [])
         (K.told sink.old) (K.told sink.new) result }
 {

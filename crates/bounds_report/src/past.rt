@@ -77,8 +77,9 @@ fn pass_limit(which: Which, limit: i64, value: Bound, pair: Pair, net: &Network,
     ensures past { ArePast net.now pair which limit kept.new.times.items }
 {
     let _events = net.events();
-    if value == Bound::Unbounded {
-        raise(which, limit, pair, net, kept);
+    match value {
+        Bound::Unbounded => raise(which, limit, pair, net, kept),
+        Bound::Closed(_) | Bound::Within { .. } => {}
     }
 }
 

@@ -43,6 +43,7 @@ Attain net pair which (bounds.Within limit attained) times set = IsSomeAnd attai
 
 -- Times and a set of events behind a bound of a pair: the times satisfy with the from-event at 0.
 pub record IsKept (net : Net) (pair : Pair) (which : Which) (value : Bound) (times : List ℤ) (set : List Bool) : Type 0 where
+  pub from : pair.from.0 < net.events
   pub satisfied : Satisfies times net
   pub at_zero : time_of times pair.from ≡ pos 0
   pub nearby : AreNearby times
