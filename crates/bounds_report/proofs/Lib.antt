@@ -2,3 +2,4 @@ pub mod Telling
 pub mod Shifted
 pub mod Answering
 pub mod Putting
+pub mod Passing

@@ -20,7 +20,7 @@ searched_pair sorts.Min pair = record { from = pair.to; to = pair.from }
 
 -- a separation is so far below 2^61 in absolute value that it may be moved by the end of a range
 abbrev pub IsNearby : ℤ → Type 0
-IsNearby value = (neg_ℤ (pos (2 ^ 60)) <ℤ value) × (value <ℤ pos (2 ^ 60))
+IsNearby value = (neg_ℤ (pos (2 ^ 59)) <ℤ value) × (value <ℤ pos (2 ^ 59))
 
 -- each separation of two of the times is so
 abbrev pub AreNearby : List ℤ → Type 0
