@@ -15,6 +15,12 @@ use Rattle.requirements.specs.declared.bound.Bound.{Bound}
 use Rattle.requirements.specs.declared.bound.Bound.TheVariants as bounds
 use Rattle.requirements.specs.declared.verdict.Verdict.{Verdict}
 use Rattle.requirements.specs.declared.verdict.Verdict.TheVariants as verdicts
+use Rattle.slack_report.specs.Entry.{times}
+use Rattle.slack_report.specs.Right.At.{At, Telling, at_past, behind_past, behind_verdict, is_fail}
+use Rattle.slack_report.specs.Right.Drawn.{Drawn, Row}
+use Rattle.slack_report.specs.Right.Facts.{AreTimes, Breaks}
+use Rattle.slack_report.specs.Right.Following.{MayFollow}
+use Rattle.bounds_report.specs.Step.Searched.{sized}
 use Rattle.slack_report.specs.declared.words.Which.{Which}
 use Rattle.slack_report.specs.declared.words.Which.TheVariants as sorts
 use Rattle.bounds_report.specs.declared.pair.Pair.{Pair}
@@ -205,3 +211,42 @@ beyond_low low (bounds.Closed value) e = (turned value low e, tt)
 beyond_low low bounds.Unbounded e = (tt, tt)
 beyond_low low (bounds.Within limit None) e = absurd (cc e)
 beyond_low low (bounds.Within limit (Some found)) e = (turned found low e, tt)
+
+-- ---- the lines of a verdict
+
+above : (r : Row) (range : Ends) (limit : ℤ) (list : List ℤ) → range.high ≡ Some limit → limit <ℤ separation list r.from r.to → Breaks r range verdicts.FailHigh list
+above r range limit list e h = subst (λ (high : Option ℤ). IsSomeAnd high (λ high. high <ℤ separation list r.from r.to)) (sym e) h
+
+under : (r : Row) (range : Ends) (limit : ℤ) (list : List ℤ) → range.low ≡ Some (neg_ℤ limit) → limit <ℤ separation list r.to r.from → Breaks r range verdicts.FailLow list
+under r range limit list e h = subst (λ (low : Option ℤ). IsSomeAnd low (λ low. separation list r.from r.to <ℤ low)) (sym e) (turn_under (time_of list r.from) (time_of list r.to) limit h)
+  where
+    turn_under : (a b limit : ℤ) → limit <ℤ (a -ℤ b) → (b -ℤ a) <ℤ neg_ℤ limit
+    turn_under a b limit h = omega (arith, ints)
+
+module _ (net : Net) (m : ℕ) (cert : Bool) (drawn : Drawn) (told : Telling) (range : Ends) (least most : Bound) (pair : Pair) (f : told.row.from ≡ pair.from) (t : told.row.to ≡ pair.to) where
+  are_times : (which : Which) (limit : ℤ) (list : List ℤ) → ArePast net pair which limit list → All IsTime list × AreTimes net told.row list
+  are_times which limit list past = (past.within, record { satisfied = past.satisfied; at_zero = ap (λ (e : EventId). time_of list e) f ∙ past.at_zero })
+
+  -- times that break the end that a fail names
+  past_may : (word : Verdict) (list : List ℤ) → is_fail word ≡ true → word ≡ verdict_of range least most → All IsTime list × AreTimes net told.row list → Breaks told.row range word list
+      → MayFollow (sized net m cert) drawn (behind_verdict told range least most word) (times list) (behind_past told range least most word)
+  past_may word list fail e are breaks =
+      subst (λ (at : At). MayFollow (sized net m cert) drawn at (times list) (behind_past told range least most word)) (sym (at_fail word fail))
+          (list, refl, (are.0, (are.1, subst (λ (w : Verdict). Breaks told.row range w list) e breaks)), ap (behind_past told range least most) e)
+    where
+      at_fail : (word : Verdict) → is_fail word ≡ true → behind_verdict told range least most word ≡ at_past told range least most
+      at_fail word fail = rw fail refl
+
+  pub past_high_may : (word : Verdict) (limit read : ℤ) (list : List ℤ) → word ≡ verdicts.FailHigh → word ≡ verdict_of range least most → range.high ≡ Some limit → read ≡ limit
+      → ArePast net pair sorts.Max read list → MayFollow (sized net m cert) drawn (behind_verdict told range least most word) (times list) (behind_past told range least most word)
+  past_high_may word limit read list is e high same past =
+      past_may word list (ap is_fail is) e (are_times sorts.Max read list past)
+          (subst (λ (w : Verdict). Breaks told.row range w list) (sym is) (above told.row range read list (high ∙ ap Some (sym same))
+              (subst (λ (p : EventId). read <ℤ separation list p told.row.to) (sym f) (subst (λ (p : EventId). read <ℤ separation list pair.from p) (sym t) past.past))))
+
+  pub past_low_may : (word : Verdict) (limit read : ℤ) (list : List ℤ) → word ≡ verdicts.FailLow → word ≡ verdict_of range least most → range.low ≡ Some (neg_ℤ limit) → read ≡ limit
+      → ArePast net pair sorts.Min read list → MayFollow (sized net m cert) drawn (behind_verdict told range least most word) (times list) (behind_past told range least most word)
+  past_low_may word limit read list is e low same past =
+      past_may word list (ap is_fail is) e (are_times sorts.Min read list past)
+          (subst (λ (w : Verdict). Breaks told.row range w list) (sym is) (under told.row range read list (low ∙ ap (λ z. Some (neg_ℤ z)) (sym same))
+              (subst (λ (p : EventId). read <ℤ separation list told.row.to p) (sym f) (subst (λ (p : EventId). read <ℤ separation list p pair.from) (sym t) past.past))))

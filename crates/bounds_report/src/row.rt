@@ -1,12 +1,12 @@
 //! Telling a row.
 
-ghost use Rattle.std.specs.Prelude.{◌≡◌, ◌<◌, ◌≤◌, ◌+◌, ◌∷◌, ℕ, Bool, [], List, IfOk, IsSomeAnd, OnOk};
+ghost use Rattle.std.specs.Prelude.{◌≡◌, ◌<◌, ◌+◌, ◌||◌, ◌∷◌, ℕ, Bool, [], List, IfOk, IsSomeAnd, OnOk};
 ghost use Rattle.std.specs.Option.{option_to_list};
 ghost use Rattle.requirements.specs.Bounds.{HasTimes};
-ghost use Rattle.slack_report.specs.Right.At.{Course, Telling, at_bound, at_row, bounded, greatest, is_within, least_by};
+ghost use Rattle.slack_report.specs.Right.At.{Course, Telling, at_bound, at_row, bounded, greatest, is_within, judged, least_by, with_bounds};
 ghost use Rattle.slack_report.specs.Right.Drawn.{Drawn, Row as ToldRow};
 ghost use Rattle.bounds_report.specs.Step.Kept.{HasTold, IsKept};
-ghost use Rattle.bounds_report.specs.Step.Ready.{IsReady, IsSet, course_after};
+ghost use Rattle.bounds_report.specs.Step.Ready.{IsReady, IsSet, course_after, course_with};
 ghost use Rattle.bounds_report.specs.Step.Searched.{sized};
 ghost use Rattle.bounds_report.specs.Step.Told.{Goes};
 ghost use Rattle.unroll.specs.Drawn.{IsRowOf, name_of};
@@ -26,7 +26,7 @@ use crate::wanted::Wanted;
 use event_graph::Network;
 use itv_base::{PutFailed, Sink};
 use line_words::LineBuffer;
-use requirements::{BothBounds, Bound};
+use requirements::{BothBounds, Bound, Verdict};
 use sheet::RowKind;
 use slack_report::{FindingWord, Item, Which, write_item};
 use unroll::{Row, Unrolled};
@@ -57,14 +57,43 @@ pub fn tell_row<K: Sink>(
         to: row.to,
     };
     let both = tell_bounds(found, pair, drawn.network(), wanted, desk, sink)?;
-    let verdict = match &row.kind {
-        RowKind::Ask => None,
-        RowKind::Req(range) => Some(tell_verdict(*range, pair, drawn.network(), &both, desk, sink)?),
-    };
+    let verdict = tell_demand(&row.kind, pair, drawn.network(), &both, desk, sink)?;
     Ok(RowEnd {
         verdict,
-        is_within: is_within(both.least) || is_within(both.greatest),
+        is_within: is_left_open(&both),
     })
+}
+
+// Tells the verdict of a row, if a range is demanded.
+fn tell_demand<K: Sink>(
+    kind: &RowKind,
+    pair: Pair,
+    net: &Network,
+    both: &BothBounds,
+    desk: &mut Desk,
+    sink: &mut K,
+) -> Result<Option<Verdict>, PutFailed>
+    requires set { IsSet net.now desk.old }
+    requires from { pair.from.0 < net.now.events }
+    requires to { pair.to.0 < net.now.events }
+    requires most { HasTimes both.now.greatest }
+    requires fewest { HasTimes both.now.least }
+    requires greatest { HasTold both.now.greatest → IsKept net.now pair Which.Max both.now.greatest desk.old.greatest.times.items desk.old.greatest.set.items }
+    requires least { HasTold both.now.least → IsKept net.now pair Which.Min both.now.least desk.old.least.times.items desk.old.least.set.items }
+    ensures set { OnOk result (IsSet net.now desk.new) }
+    ensures known { OnOk result (desk.new.work.known ≡ desk.old.work.known) }
+    ensures goes { (most : ℕ) (cert : Bool) (drawn : Drawn) (told : Telling) → told.row.from ≡ pair.from → told.row.to ≡ pair.to
+        → Goes (sized net.now most cert) drawn (judged kind.now told both.now.least both.now.greatest)
+        (λ verdict. at_row (course_with (with_bounds told.course both.now.least both.now.greatest) verdict) (told.number + 1) told.later)
+        (λ verdict. option_to_list verdict) (K.told sink.old) (K.told sink.new) result }
+{
+    match kind {
+        RowKind::Ask => Ok(None),
+        RowKind::Req(range) => {
+            let word = tell_verdict(*range, pair, net, both, desk, sink)?;
+            Ok(Some(word))
+        }
+    }
 }
 
 // Tells what is asked of a row.
@@ -89,6 +118,13 @@ fn put_row<K: Sink>(
         buffer,
         sink,
     )
+}
+
+// Whether one of two bounds was left open.
+fn is_left_open(both: &BothBounds) -> bool
+    ensures { result ≡ (is_within both.now.least || is_within both.now.greatest) }
+{
+    is_within(both.least) || is_within(both.greatest)
 }
 
 // Whether a bound was left open.
