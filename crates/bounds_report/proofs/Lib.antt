@@ -3,3 +3,6 @@ pub mod Shifted
 pub mod Answering
 pub mod Putting
 pub mod Passing
+pub mod Findings
+pub mod RowByRow
+pub mod Whole

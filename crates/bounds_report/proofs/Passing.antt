@@ -15,7 +15,7 @@ use Rattle.requirements.specs.declared.bound.Bound.{Bound}
 use Rattle.requirements.specs.declared.bound.Bound.TheVariants as bounds
 use Rattle.requirements.specs.declared.verdict.Verdict.{Verdict}
 use Rattle.requirements.specs.declared.verdict.Verdict.TheVariants as verdicts
-use Rattle.slack_report.specs.Entry.{times}
+use Rattle.slack_report.specs.Entry.{times as times_line}
 use Rattle.slack_report.specs.Right.At.{At, Telling, at_past, behind_past, behind_verdict, is_fail}
 use Rattle.slack_report.specs.Right.Drawn.{Drawn, Row}
 use Rattle.slack_report.specs.Right.Facts.{AreTimes, Breaks}
@@ -229,23 +229,23 @@ module _ (net : Net) (m : ℕ) (cert : Bool) (drawn : Drawn) (told : Telling) (r
 
   -- times that break the end that a fail names
   past_may : (word : Verdict) (list : List ℤ) → is_fail word ≡ true → word ≡ verdict_of range least most → All IsTime list × AreTimes net told.row list → Breaks told.row range word list
-      → MayFollow (sized net m cert) drawn (behind_verdict told range least most word) (times list) (behind_past told range least most word)
+      → MayFollow (sized net m cert) drawn (behind_verdict told range least most word) (times_line list) (behind_past told range least most word)
   past_may word list fail e are breaks =
-      subst (λ (at : At). MayFollow (sized net m cert) drawn at (times list) (behind_past told range least most word)) (sym (at_fail word fail))
+      subst (λ (at : At). MayFollow (sized net m cert) drawn at (times_line list) (behind_past told range least most word)) (sym (at_fail word fail))
           (list, refl, (are.0, (are.1, subst (λ (w : Verdict). Breaks told.row range w list) e breaks)), ap (behind_past told range least most) e)
     where
       at_fail : (word : Verdict) → is_fail word ≡ true → behind_verdict told range least most word ≡ at_past told range least most
       at_fail word fail = rw fail refl
 
   pub past_high_may : (word : Verdict) (limit read : ℤ) (list : List ℤ) → word ≡ verdicts.FailHigh → word ≡ verdict_of range least most → range.high ≡ Some limit → read ≡ limit
-      → ArePast net pair sorts.Max read list → MayFollow (sized net m cert) drawn (behind_verdict told range least most word) (times list) (behind_past told range least most word)
+      → ArePast net pair sorts.Max read list → MayFollow (sized net m cert) drawn (behind_verdict told range least most word) (times_line list) (behind_past told range least most word)
   past_high_may word limit read list is e high same past =
       past_may word list (ap is_fail is) e (are_times sorts.Max read list past)
           (subst (λ (w : Verdict). Breaks told.row range w list) (sym is) (above told.row range read list (high ∙ ap Some (sym same))
               (subst (λ (p : EventId). read <ℤ separation list p told.row.to) (sym f) (subst (λ (p : EventId). read <ℤ separation list pair.from p) (sym t) past.past))))
 
   pub past_low_may : (word : Verdict) (limit read : ℤ) (list : List ℤ) → word ≡ verdicts.FailLow → word ≡ verdict_of range least most → range.low ≡ Some (neg_ℤ limit) → read ≡ limit
-      → ArePast net pair sorts.Min read list → MayFollow (sized net m cert) drawn (behind_verdict told range least most word) (times list) (behind_past told range least most word)
+      → ArePast net pair sorts.Min read list → MayFollow (sized net m cert) drawn (behind_verdict told range least most word) (times_line list) (behind_past told range least most word)
   past_low_may word limit read list is e low same past =
       past_may word list (ap is_fail is) e (are_times sorts.Min read list past)
           (subst (λ (w : Verdict). Breaks told.row range w list) (sym is) (under told.row range read list (low ∙ ap (λ z. Some (neg_ℤ z)) (sym same))

@@ -1,8 +1,11 @@
 -- Steps of the writer, one after another.
-use Rattle.std.proofs.Common.{◌≡◌, ℕ, List, [], ◌∷◌, ◌++◌, map, Option, Some, None, Result, Ok, Err, IsErr, refl, sym, subst, ap, ◌∙◌, append-nil}
+use Rattle.std.proofs.Common.{◌≡◌, ℕ, Bool, List, [], ◌∷◌, ◌++◌, map, Option, Some, None, Result, Ok, Err, IsErr, refl, sym, subst, ap, ◌∙◌, append-nil}
 use Rattle.std.specs.Bool.{⊤}
+use Rattle.std.specs.Prelude.{IfOk, OnErr}
 use Rattle.itv_base.specs.Outside.{CutShort, Puts, SinkTold, grown}
+use Rattle.event_graph.specs.Network.{Net}
 use Rattle.event_graph.specs.Proof.{ProofLine}
+use Rattle.bounds_report.specs.Step.Searched.{sized}
 use Rattle.certificate.specs.Scribing.{SinkGrew}
 use Rattle.certificate.specs.Text.{proof_line_text, proof_text}
 use Rattle.itv_base.proofs.Written.{grown-append, grown-nil}
@@ -115,6 +118,9 @@ module _ {facts : Facts} {drawn : Drawn} where
   pub told_from : {here mid last : At} {old new : SinkTold} {words : List Verdict} → mid ≡ here → Told facts drawn mid last words old new → Told facts drawn here last words old new
   told_from {last = last} {old = old} {new = new} {words = words} e t = subst (λ (at : At). Told facts drawn at last words old new) e t
 
+  pub stopped_from : {here mid : At} {old new : SinkTold} → mid ≡ here → Stopped facts drawn mid old new → Stopped facts drawn here old new
+  stopped_from {old = old} {new = new} e t = subst (λ (at : At). Stopped facts drawn at old new) e t
+
   -- lines of a proof are put
   pub told_proof : {here : At} {old new : SinkTold} (last : At) (lines : List ProofLine) → Reads facts drawn here (map proof lines) last → SinkGrew old lines new
       → Told facts drawn here last [] old new
@@ -141,6 +147,30 @@ module _ {facts : Facts} {drawn : Drawn} where
   -- lines are put, and then a front of others
   pub stops_then : {here mid : At} {old now new : SinkTold} {xs : List Verdict} → Told facts drawn here mid xs old now → Stopped facts drawn mid now new → Stopped facts drawn here old new
   stops_then a b = stopped_then (wrote_of a) b
+
+-- lines that lead in a network do so in the same one
+pub told_net : {net other : Net} (most : ℕ) (cert : Bool) {drawn : Drawn} {here last : At} {words : List Verdict} {old new : SinkTold} → net ≡ other
+    → Told (sized net most cert) drawn here last words old new → Told (sized other most cert) drawn here last words old new
+told_net most cert {drawn = drawn} {here = here} {last = last} {words = words} {old = old} {new = new} e t =
+    subst (λ (net : Net). Told (sized net most cert) drawn here last words old new) e t
+
+pub stopped_net : {net other : Net} (most : ℕ) (cert : Bool) {drawn : Drawn} {here : At} {old new : SinkTold} → net ≡ other
+    → Stopped (sized net most cert) drawn here old new → Stopped (sized other most cert) drawn here old new
+stopped_net most cert {drawn = drawn} {here = here} {old = old} {new = new} e t = subst (λ (net : Net). Stopped (sized net most cert) drawn here old new) e t
+
+-- ---- answers
+
+pub on_err : {B E : Type 0} (P : Type 0) (result : Result B E) → P → OnErr result P
+on_err P (Ok x) p = tt
+on_err P (Err e) p = p
+
+pub if_ok : {B E : Type 0} (P Q : B → Type 0) (result : Result B E) → ((x : B) → P x → Q x) → IfOk result P → IfOk result Q
+if_ok P Q (Ok x) f p = f x p
+if_ok P Q (Err e) f p = tt
+
+pub err_then : {B E : Type 0} (P Q : Type 0) (result : Result B E) → (P → Q) → OnErr result P → OnErr result Q
+err_then P Q (Ok x) f p = tt
+err_then P Q (Err e) f p = f p
 
 -- one line is put, or a front of it
 pub goes_line : {E : Type 0} (facts : Facts) (drawn : Drawn) (here next : At) (old new : SinkTold) (line : Entry) (result : Result ⊤ E) → MayFollow facts drawn here line next

@@ -1,20 +1,20 @@
 //! Telling the finding.
 
-ghost use Rattle.std.specs.Prelude.{◌≡◌, ◌<◌, ℕ, Bool, [], List, All, IfOk, IsSomeAnd, OnOk};
+ghost use Rattle.std.specs.Prelude.{◌≡◌, ◌<◌, ℕ, Bool, [], List, All, IfOk, IfSome, IsSomeAnd};
 ghost use Rattle.branch.specs.Work.{IsClose};
 ghost use Rattle.event_graph.specs.Satisfying.{Satisfies};
-ghost use Rattle.slack_report.specs.Right.At.{at_event, at_known, at_rows};
+ghost use Rattle.slack_report.specs.Right.At.{at_event, behind_finding};
 ghost use Rattle.slack_report.specs.Right.Drawn.{Drawn};
-ghost use Rattle.slack_report.specs.declared.words.FindingWord.{FindingWord as Word};
-ghost use Rattle.bounds_report.specs.Step.Ready.{IsReady, IsSet, behind_known, word_of};
+ghost use Rattle.bounds_report.specs.Step.Kept.{IsRoomFor};
+ghost use Rattle.bounds_report.specs.Step.Ready.{AreKnown, IsReady, IsSet, behind_known, word_of};
 ghost use Rattle.bounds_report.specs.Step.Searched.{sized};
 ghost use Rattle.bounds_report.specs.Step.Told.{Goes};
 
 use crate::desk::Desk;
-use crate::kept::take_times;
+use crate::kept::{Kept, take_times};
 use crate::search::find_times;
 use crate::wanted::Wanted;
-use branch::Found;
+use branch::{Found, Work};
 use event_graph::Network;
 use itv_base::{EventId, PutFailed, Sink};
 use slack_report::{FindingWord, Item, write_item};
@@ -36,10 +36,7 @@ pub fn tell_finding<K: Sink>(
     let found = find_times(&mut desk.work, net, wanted, &mut desk.buffer, sink)?;
     let word = word_of(found);
     write_item(&Item::Finding(word), &mut desk.buffer, sink)?;
-    match word {
-        FindingWord::Consistent => tell_known(net, desk, sink)?,
-        FindingWord::Inconsistent | FindingWord::Unsettled => {}
-    }
+    tell_times(word, net, desk, sink)?;
     Ok(word)
 }
 
@@ -54,19 +51,42 @@ fn word_of(found: Found) -> FindingWord
     }
 }
 
-// Tells the known times, with event 0 at 0.
-fn tell_known<K: Sink>(net: &Network, desk: &mut Desk, sink: &mut K) -> Result<(), PutFailed>
-    requires set { IsSet net.now desk.old }
-    requires known { IsSomeAnd desk.old.work.known (λ times. Satisfies times net.now) }
-    requires close { IsSomeAnd desk.old.work.known (All IsClose) }
-    ensures set { IsSet net.now desk.new }
-    ensures known { desk.new.work.known ≡ desk.old.work.known }
+// Tells the known times behind a consistent finding.
+fn tell_times<K: Sink>(
+    word: FindingWord,
+    net: &Network,
+    desk: &mut Desk,
+    sink: &mut K,
+) -> Result<(), PutFailed>
+    requires ready { IsReady net.now word desk.old }
+    requires close { IfSome desk.old.work.known (All IsClose) }
+    ensures ready { IsReady net.now word desk.new }
     ensures goes { (most : ℕ) (cert : Bool) (drawn : Drawn)
-        → Goes (sized net.now most cert) drawn at_known (λ _. at_rows Word.Consistent) (λ _. [])
+        → Goes (sized net.now most cert) drawn (behind_finding word) (λ _. behind_known word) (λ _. [])
         (K.told sink.old) (K.told sink.new) result }
 {
-    if net.events() > 0 {
-        take_times(&mut desk.greatest.times, desk.work.known(), EventId(0));
+    match word {
+        FindingWord::Consistent => {
+            take_known(net, &desk.work, &mut desk.greatest);
+            write_item(
+                &Item::Times(&desk.greatest.times),
+                &mut desk.buffer,
+                sink,
+            )
+        }
+        FindingWord::Inconsistent | FindingWord::Unsettled => Ok(()),
     }
-    write_item(&Item::Times(&desk.greatest.times), &mut desk.buffer, sink)
+}
+
+// Takes the known times, with event 0 at 0.
+fn take_known(net: &Network, work: &Work, kept: &mut Kept)
+    requires room { IsRoomFor net.now kept.old }
+    requires known { IsSomeAnd work.now.known (λ times. Satisfies times net.now) }
+    requires close { IfSome work.now.known (All IsClose) }
+    ensures room { IsRoomFor net.now kept.new }
+    ensures known { AreKnown net.now kept.new.times.items }
+{
+    if net.events() > 0 {
+        take_times(&mut kept.times, work.known(), EventId(0));
+    }
 }

@@ -1,16 +1,17 @@
 -- When all that the rows need is at hand.
-use Rattle.std.specs.Prelude.{◌≡◌, ◌||◌, ℕ, ℤ, List, [], Option, Some, None, IsSomeAnd, count_by, nat_lt}
+use Rattle.std.specs.Prelude.{◌≡◌, ◌||◌, ℕ, ℤ, pos, All, List, [], Option, Some, None, IsSomeAnd, count_by, nat_lt}
 use Rattle.branch.specs.declared.answer.Found.{Found}
 use Rattle.branch.specs.declared.answer.Found.TheVariants as founds
 use Rattle.branch.specs.Work.{IsMadeFor}
 use Rattle.event_graph.specs.Network.{Net}
 use Rattle.event_graph.specs.RootBound.{MeetsAlways}
 use Rattle.event_graph.specs.Satisfying.{Satisfies}
+use Rattle.event_graph.specs.Times.{IsTime, time_of}
 use Rattle.requirements.specs.declared.verdict.Verdict.{Verdict}
 use Rattle.slack_report.specs.declared.words.EndWord.TheVariants as endings
 use Rattle.slack_report.specs.declared.words.FindingWord.{FindingWord}
 use Rattle.slack_report.specs.declared.words.FindingWord.TheVariants as findings
-use Rattle.slack_report.specs.Right.At.{At, Course, at_end, at_row, at_rows, is_fail, with_verdict}
+use Rattle.slack_report.specs.Right.At.{At, Course, at_end, at_row, at_rows, end_word, is_fail, with_verdict}
 use Rattle.bounds_report.specs.Reports.{is_pass, is_undecided}
 use Rattle.bounds_report.specs.declared.desk.Desk.{Desk}
 use Rattle.bounds_report.specs.declared.tally.RowEnd.{RowEnd}
@@ -59,6 +60,10 @@ word_of founds.Consistent = findings.Consistent
 word_of founds.Inconsistent = findings.Inconsistent
 word_of founds.Unsettled = findings.Unsettled
 
+-- times that are printed behind a consistent finding
+abbrev pub AreKnown : Net → List ℤ → Type 0
+AreKnown net list = All IsTime list × Satisfies list net × (time_of list (record { 0 = 0 }) ≡ pos 0)
+
 -- behind a finding and the times that come with it
 abbrev pub behind_known : FindingWord → At
 behind_known findings.Consistent = at_rows findings.Consistent
@@ -68,5 +73,5 @@ behind_known findings.Unsettled = at_rows findings.Unsettled
 -- behind a finding and all rows, of which there are so many
 abbrev pub behind_rows : FindingWord → Tally → ℕ → At
 behind_rows findings.Consistent tally count = at_row (tally_course findings.Consistent tally) count []
-behind_rows findings.Inconsistent tally count = at_end endings.Inconsistent
+behind_rows findings.Inconsistent tally count = at_end (end_word (tally_course findings.Inconsistent tally))
 behind_rows findings.Unsettled tally count = at_row (tally_course findings.Unsettled tally) count []
