@@ -6,3 +6,6 @@ pub mod Passing
 pub mod Findings
 pub mod RowByRow
 pub mod Whole
+pub mod Entries
+pub mod Texts
+pub mod WrittenLaws

@@ -1,5 +1,5 @@
 -- A whole report, and one that a put cut short.
-use Rattle.std.proofs.Common.{◌≡◌, ◌<◌, ◌≤◌, ◌+◌, ◌×◌, ℕ, zero, suc, Bool, true, false, cond, List, [], ◌∷◌, ◌++◌, length, map, drop, Option, Some, None, slice_get, unwrap_or, count_by, refl, sym, subst, ap, ◌∙◌, inl, inr, add-one, append-nil, arith}
+use Rattle.std.proofs.Common.{◌≡◌, ◌<◌, ◌≤◌, ◌+◌, ℕ, zero, suc, Bool, true, false, cond, List, [], ◌∷◌, ◌++◌, length, map, drop, Option, Some, None, slice_get, unwrap_or, count_by, refl, sym, subst, ap, ◌∙◌, inl, inr, add-one, append-nil, arith}
 use Rattle.std.specs.Prelude.{All}
 use Rattle.itv_base.specs.Names.{Name}
 use Rattle.itv_base.specs.Outside.{CutShort, SinkTold, grown}
@@ -11,7 +11,7 @@ use Rattle.slack_report.specs.declared.words.FindingWord.{FindingWord}
 use Rattle.slack_report.specs.declared.words.FindingWord.TheVariants as findings
 use Rattle.slack_report.specs.Entry.{Entry, IsEntry, IsName, heading, budget, events, event, proof, finding, times, rows, row, bound, raise, verdict, slack, ending}
 use Rattle.slack_report.specs.Text.{entry_text, report_text}
-use Rattle.slack_report.specs.Right.At.{At, at_budget, at_events, at_heading, at_last, end_word, is_fail}
+use Rattle.slack_report.specs.Right.At.{At, at_budget, at_event, at_events, at_heading, at_last, end_word, is_fail}
 use Rattle.slack_report.specs.Right.Drawn.{Drawn, nameless}
 use Rattle.slack_report.specs.Right.Following.{Facts, Implies, MayFollow, Reads}
 use Rattle.slack_report.proofs.Judging.{report_text-append}
@@ -42,7 +42,7 @@ counts is_kind (rows n ∷ a) = counts is_kind a
 counts is_kind (row n kind from to ∷ a) = counts is_kind a
 counts is_kind (bound which value ∷ a) = counts is_kind a
 counts is_kind (raise set ∷ a) = counts is_kind a
-counts is_kind (verdict word ∷ a) = rw (counts is_kind a) refl
+counts is_kind (verdict word ∷ a) = ap (λ n. cond (is_kind word) 1 0 + n) (counts is_kind a)
 counts is_kind (slack value ∷ a) = counts is_kind a
 counts is_kind (ending word ∷ a) = counts is_kind a
 
@@ -155,3 +155,6 @@ names_none [] zero h = refl
 names_none [] (suc number) h = refl
 names_none (name ∷ names) zero h = absurd (omega arith)
 names_none (name ∷ names) (suc number) h = names_none names number (omega arith)
+
+pub events_end : (names : List Name) (number count : ℕ) → number ≡ count → length names ≤ number → at_event number (drop number names) ≡ at_event count []
+events_end names number count e h = rw (names_none names number h, e) refl

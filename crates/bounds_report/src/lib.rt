@@ -7,6 +7,7 @@ mod bounding;
 mod desk;
 mod finding;
 mod kept;
+pub mod laws;
 mod limits;
 mod pair;
 mod past;

@@ -1,6 +1,6 @@
 //! Writing a report.
 
-ghost use Rattle.std.specs.Prelude.{◌≡◌, ◌≤◌, ◌∷◌, ℕ, Bool, [], List, IfOk, OnErr, length};
+ghost use Rattle.std.specs.Prelude.{◌≡◌, ◌≤◌, ◌∷◌, ℕ, Bool, [], List, All, IfOk, OnErr, length};
 ghost use Rattle.itv_base.specs.declared.limits.TheConstants.{MAX_BUDGET, MAX_ROWS};
 ghost use Rattle.itv_base.specs.Outside.{CutShort, Puts, grown};
 ghost use Rattle.slack_report.specs.Entry.{heading, budget as entry_budget};
@@ -11,6 +11,7 @@ ghost use Rattle.slack_report.specs.Text.{report_text};
 ghost use Rattle.bounds_report.specs.Step.Ready.{IsSet};
 ghost use Rattle.bounds_report.specs.Step.Told.{Goes};
 ghost use Rattle.job_answer.specs.Works.{Works};
+ghost use Rattle.unroll.specs.Drawn.{IsRowOf};
 ghost use Rattle.unroll.specs.Reported.{reported};
 ghost use Rattle.bounds_report.specs.Reports.{BeginsReport, Reports, answer_of};
 
@@ -44,6 +45,8 @@ pub fn write_bounds<K: Sink>(
         (K.told sink.old) (K.told sink.new) result }
 {
     let mut desk = Desk::new(alloc, drawn.network())?;
+    // The rows are between events.
+    let _rows = drawn.rows();
     let wanted = Wanted { budget, cert };
     Ok(tell_report(drawn, wanted, &mut desk, sink)?)
 }
@@ -58,6 +61,7 @@ fn tell_report<K: Sink>(
     requires least { 1 ≤ wanted.budget }
     requires most { wanted.budget ≤ MAX_BUDGET }
     requires rows { length drawn.now.rows ≤ MAX_ROWS }
+    requires within { All (IsRowOf drawn.now.net) drawn.now.rows }
     requires set { IsSet drawn.now.net desk.old }
     ensures reports { IfOk result (λ summary. (text : List ℕ) × Reports (reported drawn.now) wanted.budget wanted.cert summary text
         × (K.told sink.new ≡ grown (K.told sink.old) text)) }

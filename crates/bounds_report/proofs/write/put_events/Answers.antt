@@ -1,11 +1,12 @@
 use Rattle.std.proofs.Common.{◌≡◌, ◌+◌, ◌∷◌, [], List, drop, ap, refl, sym, subst, ◌∙◌, arith}
+use Rattle.event_graph.specs.Network.{Net}
 use Rattle.itv_base.specs.Names.{Name, name_view}
 use Rattle.slack_report.specs.Entry.{event, events}
 use Rattle.slack_report.specs.Right.At.{At, at_event}
 use Rattle.right_report.proofs.Leading.{stopped_line}
 use Rattle.unroll.specs.Reported.{reported}
 use Rattle.bounds_report.proofs.Telling.{goes_up, stops_then, told_at, told_line, told_then}
-use Rattle.bounds_report.proofs.Whole.{names_more, names_none}
+use Rattle.bounds_report.proofs.Whole.{events_end, names_more}
 use Rattle.bounds_report.proofs.write.put_events.Goals as goal
 
 pub returns-in_err-write_item : goal.returns-in_err-write_item
@@ -34,3 +35,12 @@ loop-number-preserved g c = λ net most cert.
     let names = c.args.drawn.now.names in
     told_then (told_at (ap (at_event number) (names_more names number (omega (arith, c.loop-number-test.true, c.events-count.ensures.count, c.network.ensures.names)))) (c.loop-number.invariant net most cert))
         (told_line (event number (name_view c.name-name.result)) (ap (event number) c.name-name.ensures.name, refl) c.in_ok-write_item-2.ensures.puts refl)
+
+pub returns : goal.returns
+returns g c = record {
+  goes = λ net most cert.
+      told_at (events_end c.args.drawn.now.names c.loop-number.number c.args.drawn.now.net.events
+          (omega (arith, c.loop-number-test.false, c.loop-number.auto.number-end, c.events-count.ensures.count, ap (λ (net : Net). net.events) c.network.ensures.network))
+          (omega (arith, c.loop-number-test.false, c.loop-number.auto.number-end, c.events-count.ensures.count, c.network.ensures.names)))
+          (c.loop-number.invariant net most cert);
+}
