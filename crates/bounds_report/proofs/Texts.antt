@@ -1,5 +1,5 @@
 -- Each line that may follow in a report that is written has a text.
-use Rattle.std.proofs.Common.{◌≡◌, ◌<◌, ◌≤◌, ◌+◌, ◌^◌, ◌⊎◌, ℕ, zero, suc, ℤ, pos, neg_ℤ, ◌-ℤ◌, ◌≤ℤ◌, ◌<ℤ◌, Bool, true, false, List, [], ◌∷◌, ◌++◌, length, map, All, Option, Some, None, slice_get, unwrap_or, refl, sym, subst, ap, ◌∙◌, inl, inr, arith}
+use Rattle.std.proofs.Common.{◌≡◌, ◌<◌, ◌≤◌, ◌+◌, ◌^◌, ◌⊎◌, ℕ, zero, suc, ℤ, pos, negsuc, neg_ℤ, ◌-ℤ◌, ◌≤ℤ◌, ◌<ℤ◌, Bool, true, false, List, [], ◌∷◌, ◌++◌, length, map, All, Option, Some, None, slice_get, unwrap_or, refl, sym, subst, ap, ◌∙◌, inl, inr, arith}
 use Rattle.std.specs.Prelude.{IfSome}
 use Rattle.std.proofs.lemmas.Int.{ints}
 use Rattle.itv_base.specs.Names.{Name}
@@ -35,8 +35,16 @@ use Rattle.bounds_report.proofs.Entries.{all_cons, all_head, all_nil, all_tail, 
 
 -- ---- numbers
 
+wide : (z : ℤ) → neg_ℤ (pos (2 ^ 62)) <ℤ z → z <ℤ pos (2 ^ 62) → IsLong z
+wide (pos n) low high = record { sfits = omega (arith, ints, low, high) }
+wide (negsuc n) low high = record { sfits = omega (arith, ints, low, high) }
+
 long : (z : ℤ) → IsTime z → IsLong z
-long z h = (omega (arith, ints, h.0, h.1), omega (arith, ints, h.0, h.1))
+long z h = wide z (omega (arith, ints, h.0, h.1)) (omega (arith, ints, h.0, h.1))
+
+apart : (a b : ℤ) → IsTime a → IsEnd (Some b) → IsLong (a -ℤ b) × IsLong (b -ℤ a)
+apart a b h end = (wide (a -ℤ b) (omega (arith, ints, end.0, end.1, h.0, h.1)) (omega (arith, ints, end.0, end.1, h.0, h.1)),
+    wide (b -ℤ a) (omega (arith, ints, end.0, end.1, h.0, h.1)) (omega (arith, ints, end.0, end.1, h.0, h.1)))
 
 longs : (list : List ℤ) → All IsTime list → All IsLong list
 longs list all = λ k d h. long _ (all k d h)
@@ -52,13 +60,13 @@ long_bound (bounds.Within limit attained) h = (long_or_open limit h.0, long_or_o
 
 long_low : (low : Option ℤ) (least : Bound) → IsEnd low → HasTimes least → IsLongOrOpen (low_slack low least)
 long_low None least end h = tt
-long_low (Some low) (bounds.Closed value) end h = (omega (arith, ints, end.0, end.1, h.0, h.1), omega (arith, ints, end.0, end.1, h.0, h.1))
+long_low (Some low) (bounds.Closed value) end h = (apart value low h end).0
 long_low (Some low) bounds.Unbounded end h = tt
 long_low (Some low) (bounds.Within limit attained) end h = tt
 
 long_high : (high : Option ℤ) (most : Bound) → IsEnd high → HasTimes most → IsLongOrOpen (high_slack high most)
 long_high None most end h = tt
-long_high (Some high) (bounds.Closed value) end h = (omega (arith, ints, end.0, end.1, h.0, h.1), omega (arith, ints, end.0, end.1, h.0, h.1))
+long_high (Some high) (bounds.Closed value) end h = (apart value high h end).1
 long_high (Some high) bounds.Unbounded end h = tt
 long_high (Some high) (bounds.Within limit attained) end h = tt
 

@@ -1,6 +1,7 @@
 -- A whole report, and one that a put cut short.
 use Rattle.std.proofs.Common.{◌≡◌, ◌<◌, ◌≤◌, ◌+◌, ℕ, zero, suc, Bool, true, false, cond, List, [], ◌∷◌, ◌++◌, length, map, drop, Option, Some, None, slice_get, unwrap_or, count_by, refl, sym, subst, ap, ◌∙◌, inl, inr, add-one, append-nil, arith}
 use Rattle.std.specs.Prelude.{All}
+use Rattle.std.proofs.lemmas.List.Sums.{sum_by-cons}
 use Rattle.itv_base.specs.Names.{Name}
 use Rattle.itv_base.specs.Outside.{CutShort, SinkTold, grown}
 use Rattle.itv_base.proofs.Written.{cut_then, grown-append}
@@ -18,7 +19,7 @@ use Rattle.slack_report.proofs.Judging.{report_text-append}
 use Rattle.slack_report.proofs.RightOrder.{reads-append, reads_weaker}
 use Rattle.right_report.specs.Told.{end_in}
 use Rattle.right_report.specs.Writing.{Stopped}
-use Rattle.bounds_report.specs.Reports.{BeginsReport, HasRanges, IsWrittenReport, Reports, Sums, answer_of, is_pass, is_undecided, verdict_count}
+use Rattle.bounds_report.specs.Reports.{BeginsReport, HasRanges, IsWrittenReport, Reports, Sums, answer_of, is_pass, is_undecided, is_verdict, verdict_count}
 use Rattle.bounds_report.specs.Written.{written}
 use Rattle.bounds_report.specs.declared.summary.Summary.{Summary}
 use Rattle.bounds_report.specs.declared.tally.Tally.{Tally}
@@ -42,7 +43,9 @@ counts is_kind (rows n ∷ a) = counts is_kind a
 counts is_kind (row n kind from to ∷ a) = counts is_kind a
 counts is_kind (bound which value ∷ a) = counts is_kind a
 counts is_kind (raise set ∷ a) = counts is_kind a
-counts is_kind (verdict word ∷ a) = ap (λ n. cond (is_kind word) 1 0 + n) (counts is_kind a)
+counts is_kind (verdict word ∷ a) =
+    sum_by-cons (λ (line : Entry). cond (is_verdict is_kind line) 1 0) (verdict word) a ∙ ap (λ n. cond (is_kind word) 1 0 + n) (counts is_kind a)
+    ∙ sym (sum_by-cons (λ (w : Verdict). cond (is_kind w) 1 0) word (verdicts_in a))
 counts is_kind (slack value ∷ a) = counts is_kind a
 counts is_kind (ending word ∷ a) = counts is_kind a
 
