@@ -1,2 +1,4 @@
 pub mod Written
 pub mod Reports
+pub mod Step
+pub mod Laws

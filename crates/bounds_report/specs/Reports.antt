@@ -6,10 +6,10 @@ use Rattle.requirements.specs.declared.verdict.Verdict.{Verdict}
 use Rattle.requirements.specs.declared.verdict.Verdict.TheVariants as verdicts
 use Rattle.slack_report.specs.declared.words.EndWord.{EndWord}
 use Rattle.slack_report.specs.declared.words.EndWord.TheVariants as endings
-use Rattle.slack_report.specs.Entry.{Entry, IsEntry, IsName, budget, verdict}
+use Rattle.slack_report.specs.Entry.{Entry, IsEntry, IsKind, IsName, budget, verdict}
 use Rattle.slack_report.specs.Text.{report_text}
 use Rattle.slack_report.specs.Right.At.{At, at_heading, at_last, is_fail}
-use Rattle.slack_report.specs.Right.Drawn.{Drawn}
+use Rattle.slack_report.specs.Right.Drawn.{Drawn, Row}
 use Rattle.slack_report.specs.Right.Following.{Reads}
 use Rattle.right_report.specs.Shown.{TellsBudget}
 use Rattle.right_report.specs.Told.{end_in}
@@ -48,11 +48,16 @@ verdict_count is_kind lines = count_by (is_verdict is_kind) lines
 
 -- ---- reports
 
--- a whole report of a budget, with the lines of proofs or without them; its lines have texts where the names of the events have their form
+-- the ranges that the rows demand have their form
+abbrev pub HasRanges : Drawn → Type 0
+HasRanges drawn = All (λ (r : Row). IsKind r.kind) drawn.rows
+
+-- a whole report of a budget, with the lines of proofs or without them; its lines have texts where the names of the events and the
+-- ranges of the rows have their form
 pub record IsWrittenReport (drawn : Drawn) (most : ℕ) (cert : Bool) (lines : List Entry) : Type 0 where
   pub reads : Reads (written drawn.net most cert) drawn at_heading lines at_last
   pub tells : TellsBudget most lines
-  pub texts : All IsName drawn.names → All (IsEntry (length drawn.names)) lines
+  pub texts : All IsName drawn.names → HasRanges drawn → All (IsEntry (length drawn.names)) lines
 
 -- what a summary says of the lines of a report
 pub record Sums (summary : Summary) (lines : List Entry) : Type 0 where

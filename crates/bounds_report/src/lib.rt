@@ -3,8 +3,24 @@
 //! lines of proofs, printed or left out; where a put failed, a front of such a report.
 #![tactic(auto)]
 
+mod bounding;
+mod desk;
+mod finding;
+mod kept;
+pub mod laws;
+mod limits;
+mod pair;
+mod past;
+mod row;
+mod rows;
+mod search;
 mod summary;
+mod tally;
+mod times;
+mod verdict;
+mod wanted;
 mod write;
 
 pub use summary::Summary;
 pub use write::write_bounds;
+

@@ -1,0 +1,85 @@
+-- The lines that tell a finding.
+use Rattle.std.proofs.Common.{◌≡◌, ◌<◌, ◌≤◌, ◌+◌, ◌^◌, ℕ, zero, suc, ℤ, pos, neg_ℤ, ◌<ℤ◌, Bool, true, false, List, [], ◌∷◌, length, All, Option, Some, None, IsSomeAnd, IfSome, refl, sym, subst, ap, ◌∙◌, ◌⊎◌, inl, inr, arith}
+use Rattle.std.proofs.lemmas.Int.{ints}
+use Rattle.itv_base.specs.declared.names.EventId.{EventId}
+use Rattle.branch.specs.Answers.{Finds, IsCounted}
+use Rattle.branch.specs.Work.{IsClose}
+use Rattle.branch.specs.declared.answer.Found.{Found}
+use Rattle.branch.specs.declared.answer.Found.TheVariants as founds
+use Rattle.event_graph.specs.Network.{IsNet, Net}
+use Rattle.event_graph.specs.Proof.{IsStoppedProof, Nothing, ProofLine}
+use Rattle.event_graph.specs.Satisfying.{Satisfies}
+use Rattle.event_graph.specs.Times.{IsTime, shifted, time_of}
+use Rattle.slack_report.specs.declared.words.FindingWord.{FindingWord}
+use Rattle.slack_report.specs.declared.words.FindingWord.TheVariants as findings
+use Rattle.slack_report.specs.Entry.{finding, times as times_line}
+use Rattle.slack_report.specs.Right.At.{behind_finding}
+use Rattle.slack_report.specs.Right.Drawn.{Drawn}
+use Rattle.slack_report.specs.Right.Facts.{IsFinding}
+use Rattle.slack_report.specs.Right.Following.{MayFollow}
+use Rattle.right_report.specs.Shown.{ShowsFinding}
+use Rattle.right_report.proofs.Leading.{behind_proof}
+use Rattle.bounds_report.specs.Step.Kept.{AreNearby, IsShiftedTo}
+use Rattle.bounds_report.specs.Step.Ready.{AreKnown, HasFound, behind_known, word_of}
+use Rattle.bounds_report.specs.Step.Searched.{sized}
+use Rattle.bounds_report.specs.Written.{printed}
+use Rattle.bounds_report.proofs.Shifted.{at_zero, length-shifted, nearby-shifted, nearby_close, satisfies-shifted, times_nearby}
+
+-- what the search shows
+shows : (net : Net) (most : ℕ) (lines : List ProofLine) (leaves : ℕ) (known : Option (List ℤ)) (found : Found) → Finds net most lines leaves known found → leaves ≤ most
+    → IsFinding net (word_of found) × ShowsFinding net most lines (word_of found)
+shows net most lines leaves known founds.Consistent f count = let s = f.stopped in (tt, (s.0, omega (arith, s.2, count), s.1))
+shows net most lines leaves known founds.Inconsistent f count = (f.none, f.proof)
+shows net most lines leaves known founds.Unsettled f count = (f.always, subst (λ n. IsStoppedProof net Nothing lines n) f.used f.stopped)
+
+pub finding_fact : (net : Net) (most : ℕ) (cert : Bool) (lines : List ProofLine) (leaves : ℕ) (known : Option (List ℤ)) (found : Found) (word : FindingWord) → word ≡ word_of found
+    → Finds net most lines leaves known found → leaves ≤ most → (sized net most cert).finding (printed cert lines) word
+finding_fact net most cert lines leaves known found word e f count =
+    let s : IsFinding net (word_of found) × ShowsFinding net most lines (word_of found) = shows net most lines leaves known found f count in
+    subst (λ (w : FindingWord). (sized net most cert).finding (printed cert lines) w) (sym e) (s.0, (lines, refl, s.1))
+
+pub finding_may : (net : Net) (most : ℕ) (cert : Bool) (drawn : Drawn) (number : ℕ) (lines : List ProofLine) (word : FindingWord) → (sized net most cert).finding lines word
+    → MayFollow (sized net most cert) drawn (behind_proof number lines) (finding word) (behind_finding word)
+finding_may net most cert drawn number [] word fact = inr (word, refl, fact, refl)
+finding_may net most cert drawn number (line ∷ lines) word fact = inr (word, refl, fact, refl)
+
+-- what it leaves
+pub found_is : (net : Net) (most : ℕ) (lines : List ProofLine) (leaves : ℕ) (known : Option (List ℤ)) (found : Found) (word : FindingWord) → word ≡ word_of found
+    → Finds net most lines leaves known found → HasFound net word known
+found_is net most lines leaves known found word e f = subst (λ (w : FindingWord). HasFound net w known) (sym e) (leaves_known found f)
+  where
+    leaves_known : (found : Found) → Finds net most lines leaves known found → HasFound net (word_of found) known
+    leaves_known founds.Consistent f = f.satisfies
+    leaves_known founds.Inconsistent f = tt
+    leaves_known founds.Unsettled f = f.always
+
+-- ---- the known times
+
+pub known_shifted : (net : Net) (known list : List ℤ) → IsNet net → Satisfies known net → All IsClose known → 0 < net.events → IsShiftedTo (record { 0 = 0 }) known list → AreKnown net list
+known_shifted net known list is_net sat close some is =
+    let by : ℤ = neg_ℤ (time_of known (record { 0 = 0 })) in
+    let f : 0 < length known = subst (λ n. 0 < n) (sym sat.count) some in
+    let zero_at : time_of list (record { 0 = 0 }) ≡ pos 0 = at_zero known list (record { 0 = 0 }) f is in
+    let near : AreNearby list = subst (λ (ts : List ℤ). AreNearby ts) (sym is) (nearby-shifted known by (nearby_close known close)) in
+    (times_nearby list (record { 0 = 0 }) near (subst (λ n. 0 < n) (sym (ap length is ∙ length-shifted known by)) f) zero_at,
+     subst (λ ts. Satisfies ts net) (sym is) (satisfies-shifted net known by is_net sat), zero_at)
+
+none_is : (list : List ℤ) → length list ≡ 0 → list ≡ []
+none_is [] e = refl
+none_is (time ∷ list) e = absurd (cc e)
+
+pub known_none : (net : Net) (known list : List ℤ) → Satisfies known net → net.events ≤ 0 → length list ≡ net.events → AreKnown net list
+known_none net known list sat none count =
+    let empty : net.events ≡ 0 = omega (arith, none) in
+    let a : list ≡ [] = none_is list (count ∙ empty) in
+    let b : known ≡ [] = none_is known (sat.count ∙ empty) in
+    subst (λ (ts : List ℤ). AreKnown net ts) (sym a) ((λ k d h. absurd (omega arith)), subst (λ ts. Satisfies ts net) b sat, refl)
+
+pub known_may : (net : Net) (most : ℕ) (cert : Bool) (drawn : Drawn) (word : FindingWord) (list : List ℤ) → word ≡ findings.Consistent → AreKnown net list
+    → MayFollow (sized net most cert) drawn (behind_finding word) (times_line list) (behind_known word)
+known_may net most cert drawn word list e known =
+    subst (λ (w : FindingWord). MayFollow (sized net most cert) drawn (behind_finding w) (times_line list) (behind_known w)) (sym e) (list, refl, (known.0, (known.1, known.2)), refl)
+
+pub same_place : (word : FindingWord) → (word ≡ findings.Inconsistent) ⊎ (word ≡ findings.Unsettled) → behind_finding word ≡ behind_known word
+same_place word (inl e) = rw e refl
+same_place word (inr e) = rw e refl

@@ -1,0 +1,11 @@
+pub mod Telling
+pub mod Shifted
+pub mod Answering
+pub mod Putting
+pub mod Passing
+pub mod Findings
+pub mod RowByRow
+pub mod Whole
+pub mod Entries
+pub mod Texts
+pub mod WrittenLaws

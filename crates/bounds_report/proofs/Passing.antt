@@ -1,0 +1,252 @@
+-- Times past an end of a range.
+use Rattle.std.proofs.Common.{◌≡◌, ◌<◌, ◌≤◌, ◌+◌, ◌^◌, ◌⊎◌, ℕ, zero, suc, ℤ, pos, neg_ℤ, ◌+ℤ◌, ◌-ℤ◌, ◌≤ℤ◌, ◌<ℤ◌, Bool, true, false, ◌&&◌, cond, List, [], ◌∷◌, length, get_or, All, Option, Some, None, slice_get, refl, sym, subst, ap, ◌∙◌, inl, inr, arith}
+use Rattle.std.specs.Prelude.{IsSomeAnd, int_lt}
+use Rattle.std.proofs.lemmas.Int.{ints}
+use Rattle.itv_base.specs.Range.{Ends, IsEnd}
+use Rattle.itv_base.specs.declared.names.EventId.{EventId}
+use Rattle.event_graph.specs.Bounds.{IsRay}
+use Rattle.event_graph.specs.Network.{IsNet, Net}
+use Rattle.event_graph.specs.Satisfying.{Satisfies}
+use Rattle.event_graph.specs.Times.{IsTime, raised, separation, shifted, time_of}
+use Rattle.event_graph.proofs.Rays.{length-raised, separation-raised}
+use Rattle.requirements.specs.Raising.{RaisesPast}
+use Rattle.requirements.specs.Verdicts.{breaks_high, breaks_low, meets_high, meets_low, verdict_of}
+use Rattle.requirements.specs.declared.bound.Bound.{Bound}
+use Rattle.requirements.specs.declared.bound.Bound.TheVariants as bounds
+use Rattle.requirements.specs.declared.verdict.Verdict.{Verdict}
+use Rattle.requirements.specs.declared.verdict.Verdict.TheVariants as verdicts
+use Rattle.slack_report.specs.Entry.{times as times_line}
+use Rattle.slack_report.specs.Right.At.{At, Telling, at_past, behind_past, behind_verdict, is_fail}
+use Rattle.slack_report.specs.Right.Drawn.{Drawn, Row}
+use Rattle.slack_report.specs.Right.Facts.{AreTimes, Breaks}
+use Rattle.slack_report.specs.Right.Following.{MayFollow}
+use Rattle.bounds_report.specs.Step.Searched.{sized}
+use Rattle.slack_report.specs.declared.words.Which.{Which}
+use Rattle.slack_report.specs.declared.words.Which.TheVariants as sorts
+use Rattle.bounds_report.specs.declared.pair.Pair.{Pair}
+use Rattle.bounds_report.specs.Step.Kept.{ArePast, AreNearby, Attain, HasTold, IsBeyond, IsKept, IsNearby, IsShiftedTo, number_on, searched_pair}
+use Rattle.bounds_report.proofs.Shifted.{at_zero, length-shifted, satisfies-shifted, separation-shifted, time-shifted, times_nearby}
+
+-- ---- numbers of times that are raised
+
+-- a time of a list that was raised by little
+IsRaised : ℤ → Type 0
+IsRaised time = (neg_ℤ (pos (2 ^ 59)) <ℤ time) × (time <ℤ pos (2 ^ 60 + 2 ^ 41))
+
+raised_at : (set : List Bool) (by : ℕ) (times : List ℤ) (k : ℕ) (d : ℤ) → k < length times
+    → (get_or (raised set by times) k d ≡ get_or times k d) ⊎ (get_or (raised set by times) k d ≡ get_or times k d +ℤ pos by)
+raised_at [] by times k d h = inl refl
+raised_at (is_in ∷ set) by [] k d h = absurd (omega arith)
+raised_at (true ∷ set) by (time ∷ times) zero d h = inr refl
+raised_at (false ∷ set) by (time ∷ times) zero d h = inl refl
+raised_at (is_in ∷ set) by (time ∷ times) (suc k) d h = raised_at set by times k d (omega arith)
+
+-- by how much they are raised
+raised_by : (old : List ℤ) (set : List Bool) (from to : EventId) (limit : ℤ) (new : List ℤ) (r : RaisesPast old set from to limit new) → IsNearby (separation old from to) → IsEnd (Some limit)
+    → slice_get set from.0 ≡ Some false → slice_get set to.0 ≡ Some true → to.0 < length old → pos r.by <ℤ pos (2 ^ 59 + 2 ^ 41)
+raised_by old set from to limit new r near end lacks holds in_to = less r.by r.least
+  where
+    at_most : (sep limit : ℤ) (n : ℕ) → IsNearby sep → IsEnd (Some limit) → (sep +ℤ pos n) ≤ℤ limit → pos (suc n) <ℤ pos (2 ^ 59 + 2 ^ 41)
+    at_most sep limit n near end h = omega (arith, ints, near.0, end.1, h)
+    less : (by : ℕ) → ((n : ℕ) → n < by → separation (raised set n old) from to ≤ℤ limit) → pos by <ℤ pos (2 ^ 59 + 2 ^ 41)
+    less zero least = omega (arith, ints)
+    less (suc n) least = at_most (separation old from to) limit n near end (subst (λ z. z ≤ℤ limit) (separation-raised set n old from to lacks holds in_to) (least n (omega arith)))
+
+is_raised : (old new by : ℤ) → IsNearby old → pos 0 ≤ℤ by → by <ℤ pos (2 ^ 59 + 2 ^ 41) → (new ≡ old) ⊎ (new ≡ old +ℤ by) → IsRaised new
+unfolding IsRaised
+is_raised old new by near low high (inl e) = (omega (arith, ints, near.0, near.1, e), omega (arith, ints, near.0, near.1, e))
+is_raised old new by near low high (inr e) = (omega (arith, ints, near.0, near.1, low, high, e), omega (arith, ints, near.0, near.1, low, high, e))
+
+apart : (a b : ℤ) → IsRaised a → IsRaised b → IsTime (a +ℤ neg_ℤ b)
+unfolding IsRaised
+apart a b h k = (omega (arith, ints, h.0, h.1, k.0, k.1), omega (arith, ints, h.0, h.1, k.0, k.1))
+
+raised_time : (a : ℤ) → IsRaised a → IsTime a
+unfolding IsRaised
+raised_time a h = (omega (arith, ints, h.0, h.1), omega (arith, ints, h.0, h.1))
+
+-- nearby times, of which one is at 0, are near
+near_zero : (times : List ℤ) (origin : EventId) (k : ℕ) → AreNearby times → origin.0 < length times → time_of times origin ≡ pos 0 → k < length times → IsNearby (get_or times k (pos 0))
+near_zero times origin k near in' at within = from_zero (get_or times k (pos 0)) (time_of times origin) at (near origin (record { 0 = k }) in' within)
+  where
+    from_zero : (time origin : ℤ) → origin ≡ pos 0 → IsNearby (time -ℤ origin) → IsNearby time
+    from_zero time origin e n = (omega (arith, ints, e, n.0, n.1), omega (arith, ints, e, n.0, n.1))
+
+all_or : (P : ℤ → Type 0) (xs : List ℤ) (k : ℕ) (d e : ℤ) → k < length xs → P (get_or xs k d) → P (get_or xs k e)
+all_or P [] k d e h p = absurd (omega arith)
+all_or P (x ∷ xs) zero d e h p = p
+all_or P (x ∷ xs) (suc k) d e h p = all_or P xs k d e (omega arith) p
+
+module _ (net : Net) (pair : Pair) (which : Which) (limit : ℤ) (old : List ℤ) (set : List Bool) (new : List ℤ) (is_net : IsNet net) (end : IsEnd (Some limit)) (in_to : pair.to.0 < net.events)
+    (kept : IsKept net pair which bounds.Unbounded old set) (r : RaisesPast old set (searched_pair which pair).from (searched_pair which pair).to limit new) where
+  ray : IsRay net (searched_pair which pair).from (searched_pair which pair).to old set
+  ray = kept.attain
+
+  in_searched : (w : Which) → ((searched_pair w pair).from.0 < net.events) × ((searched_pair w pair).to.0 < net.events)
+  in_searched sorts.Max = (kept.from, in_to)
+  in_searched sorts.Min = (in_to, kept.from)
+
+  old_count : net.events ≡ length old
+  old_count = sym kept.satisfied.count
+
+  pub new_count : length new ≡ net.events
+  new_count = ap length r.rose ∙ length-raised set r.by old ∙ kept.satisfied.count
+
+  raised_all : (k : ℕ) → k < length old → IsRaised (get_or new k (pos 0))
+  raised_all k h =
+      let s_from : (searched_pair which pair).from.0 < length old = subst (λ n. (searched_pair which pair).from.0 < n) old_count (in_searched which).0 in
+      let s_to : (searched_pair which pair).to.0 < length old = subst (λ n. (searched_pair which pair).to.0 < n) old_count (in_searched which).1 in
+      let by : pos r.by <ℤ pos (2 ^ 59 + 2 ^ 41) = raised_by old set (searched_pair which pair).from (searched_pair which pair).to limit new r
+          (kept.nearby (searched_pair which pair).from (searched_pair which pair).to s_from s_to) end ray.lacks ray.holds s_to in
+      let near : IsNearby (get_or old k (pos 0)) = near_zero old pair.from k kept.nearby (subst (λ n. pair.from.0 < n) old_count kept.from) kept.at_zero h in
+      is_raised (get_or old k (pos 0)) (get_or new k (pos 0)) (pos r.by) near (omega (arith, ints)) by
+          (subst (λ (ts : List ℤ). (get_or ts k (pos 0) ≡ get_or old k (pos 0)) ⊎ (get_or ts k (pos 0) ≡ get_or old k (pos 0) +ℤ pos r.by)) (sym r.rose) (raised_at set r.by old k (pos 0) h))
+
+  in_old : (k : ℕ) → k < length new → k < length old
+  in_old k h = subst (λ n. k < n) (new_count ∙ old_count) h
+
+  pub new_times : All IsTime new
+  new_times k d h = all_or IsTime new k (pos 0) d h (raised_time (get_or new k (pos 0)) (raised_all k (in_old k h)))
+
+  pub new_origin : IsTime (time_of new pair.from)
+  new_origin = raised_time (time_of new pair.from) (raised_all pair.from.0 (subst (λ n. pair.from.0 < n) old_count kept.from))
+
+  pub raise_done : (list : List ℤ) → list ≡ shifted new (neg_ℤ (time_of new pair.from)) → ArePast net pair which limit list
+  raise_done list is =
+      let by : ℤ = neg_ℤ (time_of new pair.from) in
+      let f : pair.from.0 < length new = subst (λ n. pair.from.0 < n) (sym new_count) kept.from in
+      let s_from : (searched_pair which pair).from.0 < length new = subst (λ n. (searched_pair which pair).from.0 < n) (sym new_count) (in_searched which).0 in
+      let s_to : (searched_pair which pair).to.0 < length new = subst (λ n. (searched_pair which pair).to.0 < n) (sym new_count) (in_searched which).1 in
+      let sat : Satisfies new net = subst (λ ts. Satisfies ts net) (sym r.rose) (ray.satisfies r.by) in record {
+        satisfied = subst (λ ts. Satisfies ts net) (sym is) (satisfies-shifted net new by is_net sat);
+        at_zero = at_zero new list pair.from f is;
+        within = subst (λ (ts : List ℤ). All IsTime ts) (sym is) (shifted_times f);
+        past = subst (λ (ts : List ℤ). limit <ℤ separation ts (searched_pair which pair).from (searched_pair which pair).to) (sym is)
+            (subst (λ z. limit <ℤ z) (separation-shifted new by (searched_pair which pair).from (searched_pair which pair).to s_from s_to) r.past);
+      }
+    where
+      shifted_times : pair.from.0 < length new → All IsTime (shifted new (neg_ℤ (time_of new pair.from)))
+      shifted_times f k d h =
+          let by : ℤ = neg_ℤ (time_of new pair.from) in
+          let inside : k < length new = subst (λ n. k < n) (length-shifted new by) h in
+          let e : get_or (shifted new by) k (pos 0) ≡ get_or new k (pos 0) +ℤ by = time-shifted new by (record { 0 = k }) inside in
+          all_or IsTime (shifted new by) k (pos 0) d h (subst IsTime (sym e)
+              (apart (get_or new k (pos 0)) (time_of new pair.from) (raised_all k (in_old k inside)) (raised_all pair.from.0 (in_old pair.from.0 f))))
+
+-- what a call that raises tells, of the searched pair and of the limit as it is read
+pub raises : (old : List ℤ) (set : List Bool) (pair : Pair) (which : Which) (searched : Pair) (limit read : ℤ) (new : List ℤ) → searched ≡ searched_pair which pair → read ≡ limit
+    → RaisesPast old set searched.from searched.to read new → RaisesPast old set (searched_pair which pair).from (searched_pair which pair).to limit new
+raises old set pair which searched limit read new e f r =
+    subst (λ (z : ℤ). RaisesPast old set (searched_pair which pair).from (searched_pair which pair).to z new) f (subst (λ (p : Pair). RaisesPast old set p.from p.to read new) e r)
+
+pub end_time : (limit : ℤ) → IsEnd (Some limit) → IsTime limit
+end_time limit h = (omega (arith, ints, h.0, h.1), omega (arith, ints, h.0, h.1))
+
+-- ---- bounds that are past by themselves
+
+turn : (a b limit : ℤ) → limit <ℤ neg_ℤ (b -ℤ a) → limit <ℤ (a -ℤ b)
+turn a b limit h = omega (arith, ints)
+
+number_past : (pair : Pair) (which : Which) (value limit : ℤ) (list : List ℤ) → separation list pair.from pair.to ≡ value → limit <ℤ number_on which value
+    → limit <ℤ separation list (searched_pair which pair).from (searched_pair which pair).to
+number_past pair sorts.Max value limit list e h = subst (λ z. limit <ℤ z) (sym e) h
+number_past pair sorts.Min value limit list e h = turn (time_of list pair.from) (time_of list pair.to) limit (subst (λ z. limit <ℤ neg_ℤ z) (sym e) h)
+
+beyond_past : (net : Net) (pair : Pair) (which : Which) (value : Bound) (limit : ℤ) (list : List ℤ) (set : List Bool) → (value ≡ bounds.Unbounded → ⊥) → IsBeyond which value limit → Attain net pair which value list set
+    → limit <ℤ separation list (searched_pair which pair).from (searched_pair which pair).to
+beyond_past net pair which (bounds.Closed value) limit list set n beyond a = number_past pair which value limit list a beyond
+beyond_past net pair which bounds.Unbounded limit list set n beyond a = absurd (n refl)
+beyond_past net pair which (bounds.Within upper None) limit list set n beyond a = absurd a
+beyond_past net pair which (bounds.Within upper (Some found)) limit list set n beyond a = number_past pair which found limit list a beyond
+
+pub past_kept : (net : Net) (pair : Pair) (which : Which) (value : Bound) (limit : ℤ) (list : List ℤ) (set : List Bool) → (value ≡ bounds.Unbounded → ⊥) → IsBeyond which value limit
+    → IsKept net pair which value list set → ArePast net pair which limit list
+past_kept net pair which value limit list set n beyond kept = record {
+  satisfied = kept.satisfied;
+  at_zero = kept.at_zero;
+  within = times_nearby list pair.from kept.nearby (subst (λ n. pair.from.0 < n) (sym kept.satisfied.count) kept.from) kept.at_zero;
+  past = beyond_past net pair which value limit list set n beyond kept.attain;
+}
+
+-- ---- which end a fail breaks
+
+fail_high : (high low fine : Bool) → cond high verdicts.FailHigh (cond low verdicts.FailLow (cond fine verdicts.Pass verdicts.Undecided)) ≡ verdicts.FailHigh → high ≡ true
+fail_high true low fine e = refl
+fail_high false true fine e = absurd (cc e)
+fail_high false false true e = absurd (cc e)
+fail_high false false false e = absurd (cc e)
+
+fail_low : (high low fine : Bool) → cond high verdicts.FailHigh (cond low verdicts.FailLow (cond fine verdicts.Pass verdicts.Undecided)) ≡ verdicts.FailLow → low ≡ true
+fail_low true low fine e = absurd (cc e)
+fail_low false true fine e = refl
+fail_low false false true e = absurd (cc e)
+fail_low false false false e = absurd (cc e)
+
+pub high_breaks : (range : Ends) (least most : Bound) → verdict_of range least most ≡ verdicts.FailHigh → breaks_high range.high most ≡ true
+high_breaks range least most e = fail_high (breaks_high range.high most) (breaks_low range.low least) (meets_high range.high most && meets_low range.low least) e
+
+pub low_breaks : (range : Ends) (least most : Bound) → verdict_of range least most ≡ verdicts.FailLow → breaks_low range.low least ≡ true
+low_breaks range least most e = fail_low (breaks_high range.high most) (breaks_low range.low least) (meets_high range.high most && meets_low range.low least) e
+
+below : (a b : ℤ) → int_lt a b ≡ true → a <ℤ b
+below a b h = omega (arith, ints)
+
+turned : (a b : ℤ) → int_lt a b ≡ true → neg_ℤ b <ℤ neg_ℤ a
+turned a b h = omega (arith, ints)
+
+pub none_high : (most : Bound) → breaks_high None most ≡ true → ⊥
+none_high most e = cc e
+
+pub none_low : (least : Bound) → breaks_low None least ≡ true → ⊥
+none_low least e = cc e
+
+pub beyond_high : (high : ℤ) (most : Bound) → breaks_high (Some high) most ≡ true → IsBeyond sorts.Max most high × HasTold most
+beyond_high high (bounds.Closed value) e = (below high value e, tt)
+beyond_high high bounds.Unbounded e = (tt, tt)
+beyond_high high (bounds.Within limit None) e = absurd (cc e)
+beyond_high high (bounds.Within limit (Some found)) e = (below high found e, tt)
+
+pub beyond_low : (low : ℤ) (least : Bound) → breaks_low (Some low) least ≡ true → IsBeyond sorts.Min least (neg_ℤ low) × HasTold least
+beyond_low low (bounds.Closed value) e = (turned value low e, tt)
+beyond_low low bounds.Unbounded e = (tt, tt)
+beyond_low low (bounds.Within limit None) e = absurd (cc e)
+beyond_low low (bounds.Within limit (Some found)) e = (turned found low e, tt)
+
+-- ---- the lines of a verdict
+
+above : (r : Row) (range : Ends) (limit : ℤ) (list : List ℤ) → range.high ≡ Some limit → limit <ℤ separation list r.from r.to → Breaks r range verdicts.FailHigh list
+above r range limit list e h = subst (λ (high : Option ℤ). IsSomeAnd high (λ high. high <ℤ separation list r.from r.to)) (sym e) h
+
+under : (r : Row) (range : Ends) (limit : ℤ) (list : List ℤ) → range.low ≡ Some (neg_ℤ limit) → limit <ℤ separation list r.to r.from → Breaks r range verdicts.FailLow list
+under r range limit list e h = subst (λ (low : Option ℤ). IsSomeAnd low (λ low. separation list r.from r.to <ℤ low)) (sym e) (turn_under (time_of list r.from) (time_of list r.to) limit h)
+  where
+    turn_under : (a b limit : ℤ) → limit <ℤ (a -ℤ b) → (b -ℤ a) <ℤ neg_ℤ limit
+    turn_under a b limit h = omega (arith, ints)
+
+module _ (net : Net) (m : ℕ) (cert : Bool) (drawn : Drawn) (told : Telling) (range : Ends) (least most : Bound) (pair : Pair) (f : told.row.from ≡ pair.from) (t : told.row.to ≡ pair.to) where
+  are_times : (which : Which) (limit : ℤ) (list : List ℤ) → ArePast net pair which limit list → All IsTime list × AreTimes net told.row list
+  are_times which limit list past = (past.within, record { satisfied = past.satisfied; at_zero = ap (λ (e : EventId). time_of list e) f ∙ past.at_zero })
+
+  -- times that break the end that a fail names
+  past_may : (word : Verdict) (list : List ℤ) → is_fail word ≡ true → word ≡ verdict_of range least most → All IsTime list × AreTimes net told.row list → Breaks told.row range word list
+      → MayFollow (sized net m cert) drawn (behind_verdict told range least most word) (times_line list) (behind_past told range least most word)
+  past_may word list fail e are breaks =
+      subst (λ (at : At). MayFollow (sized net m cert) drawn at (times_line list) (behind_past told range least most word)) (sym (at_fail word fail))
+          (list, refl, (are.0, (are.1, subst (λ (w : Verdict). Breaks told.row range w list) e breaks)), ap (behind_past told range least most) e)
+    where
+      at_fail : (word : Verdict) → is_fail word ≡ true → behind_verdict told range least most word ≡ at_past told range least most
+      at_fail word fail = rw fail refl
+
+  pub past_high_may : (word : Verdict) (limit read : ℤ) (list : List ℤ) → word ≡ verdicts.FailHigh → word ≡ verdict_of range least most → range.high ≡ Some limit → read ≡ limit
+      → ArePast net pair sorts.Max read list → MayFollow (sized net m cert) drawn (behind_verdict told range least most word) (times_line list) (behind_past told range least most word)
+  past_high_may word limit read list is e high same past =
+      past_may word list (ap is_fail is) e (are_times sorts.Max read list past)
+          (subst (λ (w : Verdict). Breaks told.row range w list) (sym is) (above told.row range read list (high ∙ ap Some (sym same))
+              (subst (λ (p : EventId). read <ℤ separation list p told.row.to) (sym f) (subst (λ (p : EventId). read <ℤ separation list pair.from p) (sym t) past.past))))
+
+  pub past_low_may : (word : Verdict) (limit read : ℤ) (list : List ℤ) → word ≡ verdicts.FailLow → word ≡ verdict_of range least most → range.low ≡ Some (neg_ℤ limit) → read ≡ limit
+      → ArePast net pair sorts.Min read list → MayFollow (sized net m cert) drawn (behind_verdict told range least most word) (times_line list) (behind_past told range least most word)
+  past_low_may word limit read list is e low same past =
+      past_may word list (ap is_fail is) e (are_times sorts.Min read list past)
+          (subst (λ (w : Verdict). Breaks told.row range w list) (sym is) (under told.row range read list (low ∙ ap (λ z. Some (neg_ℤ z)) (sym same))
+              (subst (λ (p : EventId). read <ℤ separation list told.row.to p) (sym f) (subst (λ (p : EventId). read <ℤ separation list p pair.from) (sym t) past.past))))

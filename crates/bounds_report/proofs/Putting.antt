@@ -1,0 +1,140 @@
+-- The lines that tell a bound.
+use Rattle.std.proofs.Common.{◌≡◌, ◌<◌, length, All, ℕ, ℤ, Bool, true, false, List, [], ◌∷◌, Option, Some, None, Result, Ok, Err, ◌⊎◌, refl, sym, subst, ap, ◌∙◌, inl, inr, arith}
+use Rattle.std.specs.Bool.{⊤}
+use Rattle.itv_base.specs.Outside.{Puts, SinkTold}
+use Rattle.itv_base.specs.declared.names.EventId.{EventId}
+use Rattle.event_graph.specs.Bounds.{IsRay}
+use Rattle.event_graph.specs.Network.{Net}
+use Rattle.event_graph.specs.Proof.{ProofLine}
+use Rattle.event_graph.specs.Times.{IsTime, separation, time_of}
+use Rattle.requirements.specs.declared.bound.Bound.{Bound}
+use Rattle.requirements.specs.declared.bound.Bound.TheVariants as bounds
+use Rattle.requirements.specs.Bounds.{HasTimes}
+use Rattle.right_report.specs.Checked.{IsWithinTimes}
+use Rattle.right_report.specs.Shown.{ShowsBound}
+use Rattle.slack_report.specs.declared.words.FindingWord.{FindingWord}
+use Rattle.slack_report.specs.declared.words.FindingWord.TheVariants as findings
+use Rattle.slack_report.specs.declared.words.Which.{Which}
+use Rattle.bounds_report.specs.Written.{ArePrinted, printed}
+use Rattle.slack_report.specs.Entry.{bound, raise, times}
+use Rattle.slack_report.specs.Right.At.{At, Side, Telling, at_bound, at_raise, at_times, behind_bound, behind_times, bounded, greatest, least_by, which_of}
+use Rattle.slack_report.specs.Right.Drawn.{Drawn, Row}
+use Rattle.slack_report.specs.Right.Facts.{AreTimes, Attains, CanRise, IsBoundOf, IsLimit}
+use Rattle.slack_report.specs.Right.Following.{MayFollow}
+use Rattle.bounds_report.specs.declared.pair.Pair.{Pair}
+use Rattle.bounds_report.specs.Step.Kept.{Attain, HasTold, IsKept, IsLimitOf, IsOpenBound, searched_pair}
+use Rattle.bounds_report.specs.Step.Searched.{ShowsIn, sized}
+use Rattle.bounds_report.specs.Step.Told.{IsOf}
+use Rattle.bounds_report.proofs.Shifted.{times_nearby}
+
+-- the line of the bound
+pub bound_may : (net : Net) (most : ℕ) (cert : Bool) (drawn : Drawn) (told : Telling) (side : Side) (lines : List ProofLine) (pair : Pair) (which : Which) (value : Bound)
+    → IsOf told side pair which → (sized net most cert).bound told.course.found told.row side lines value
+    → MayFollow (sized net most cert) drawn (at_bound told side lines) (bound which value) (behind_bound told side value)
+bound_may net most cert drawn told side lines pair which value of fact = inr (value, ap (λ (w : Which). bound w value) (sym of.sort), fact, refl)
+
+-- times come behind it
+behind_is : (net : Net) (pair : Pair) (which : Which) (told : Telling) (side : Side) (value : Bound) (list : List ℤ) (set : List Bool) → Attain net pair which value list set
+    → behind_bound told side value ≡ at_times told side value
+behind_is net pair which told side (bounds.Closed value) list set a = refl
+behind_is net pair which told side bounds.Unbounded list set a = refl
+behind_is net pair which told side (bounds.Within limit None) list set a = absurd a
+behind_is net pair which told side (bounds.Within limit (Some found)) list set a = refl
+
+attains : (net : Net) (pair : Pair) (which : Which) (told : Telling) (value : Bound) (list : List ℤ) (set : List Bool) → told.row.from ≡ pair.from → told.row.to ≡ pair.to
+    → Attain net pair which value list set → Attains told.row value list
+attains net pair which told (bounds.Closed value) list set f t a = rw (f, t) a
+attains net pair which told bounds.Unbounded list set f t a = tt
+attains net pair which told (bounds.Within limit None) list set f t a = absurd a
+attains net pair which told (bounds.Within limit (Some found)) list set f t a = rw (f, t) a
+
+-- times that are kept may stand behind a bound
+times_fact : (net : Net) (told : Telling) (pair : Pair) (which : Which) (value : Bound) (list : List ℤ) (set : List Bool)
+    → told.row.from ≡ pair.from → told.row.to ≡ pair.to → IsKept net pair which value list set → All IsTime list × (AreTimes net told.row list × Attains told.row value list)
+times_fact net told pair which value list set f t kept =
+    let here : pair.from.0 < length list = subst (λ n. pair.from.0 < n) (sym kept.satisfied.count) kept.from in
+    (times_nearby list pair.from kept.nearby here kept.at_zero,
+     (record { satisfied = kept.satisfied; at_zero = ap (λ (e : EventId). time_of list e) f ∙ kept.at_zero }, attains net pair which told value list set f t kept.attain))
+
+pub times_may : (net : Net) (most : ℕ) (cert : Bool) (drawn : Drawn) (told : Telling) (side : Side) (pair : Pair) (which : Which) (value : Bound) (list : List ℤ) (set : List Bool)
+    → IsOf told side pair which → IsKept net pair which value list set
+    → MayFollow (sized net most cert) drawn (behind_bound told side value) (times list) (behind_times told side value list)
+times_may net most cert drawn told side pair which value list set of kept =
+    subst (λ (at : At). MayFollow (sized net most cert) drawn at (times list) (behind_times told side value list)) (sym (behind_is net pair which told side value list set kept.attain))
+        (list, refl, times_fact net told pair which value list set of.from of.to kept, refl)
+
+can_rise : (net : Net) (r : Row) (side : Side) (list : List ℤ) (set : List Bool)
+    → IsRay net (searched_pair (which_of side) (record { from = r.from; to = r.to })).from (searched_pair (which_of side) (record { from = r.from; to = r.to })).to list set → CanRise net r side list set
+can_rise net r greatest list set ray = ray
+can_rise net r (least_by first) list set ray = ray
+
+pub raise_may : (net : Net) (most : ℕ) (cert : Bool) (drawn : Drawn) (told : Telling) (side : Side) (pair : Pair) (which : Which) (list : List ℤ) (set : List Bool)
+    → IsOf told side pair which → IsKept net pair which bounds.Unbounded list set
+    → MayFollow (sized net most cert) drawn (at_raise told side list) (raise set) (bounded told side bounds.Unbounded)
+raise_may net most cert drawn told side pair which list set of kept = (set, refl, can_rise net told.row side list set ray, refl)
+  where
+    ray : IsRay net (searched_pair (which_of side) (record { from = told.row.from; to = told.row.to })).from (searched_pair (which_of side) (record { from = told.row.from; to = told.row.to })).to list set
+    ray = rw (of.sort, of.from, of.to) kept.attain
+
+-- ---- the end of the lines of a bound
+
+-- a bound of another kind is not unbounded
+pub is_bounded : (value : Bound) → ((most : ℤ) × (value ≡ bounds.Closed most)) ⊎ ((limit : Option ℤ) × (found : Option ℤ) × (value ≡ bounds.Within limit found)) → value ≡ bounds.Unbounded → ⊥
+is_bounded value (inl (most, e)) u = cc (e, u)
+is_bounded value (inr (limit, found, e)) u = cc (e, u)
+
+pub set_may : (net : Net) (most : ℕ) (cert : Bool) (drawn : Drawn) (told : Telling) (side : Side) (pair : Pair) (which : Which) (value : Bound) (list : List ℤ) (set : List Bool) → value ≡ bounds.Unbounded
+    → IsOf told side pair which → IsKept net pair which value list set
+    → MayFollow (sized net most cert) drawn (behind_times told side value list) (raise set) (bounded told side value)
+set_may net most cert drawn told side pair which value list set e of kept =
+    subst (λ (v : Bound). MayFollow (sized net most cert) drawn (behind_times told side v list) (raise set) (bounded told side v)) (sym e)
+        (raise_may net most cert drawn told side pair which list set of (subst (λ (v : Bound). IsKept net pair which v list set) e kept))
+
+pub done_is : (told : Telling) (side : Side) (value : Bound) (list : List ℤ) → (value ≡ bounds.Unbounded → ⊥) → behind_times told side value list ≡ bounded told side value
+done_is told side (bounds.Closed value) list n = refl
+done_is told side bounds.Unbounded list n = absurd (n refl)
+done_is told side (bounds.Within limit attained) list n = refl
+
+-- ---- what is asked of the line of a bound
+
+within_times : (value : Bound) → HasTimes value → IsWithinTimes value
+within_times (bounds.Closed value) h = h
+within_times bounds.Unbounded h = tt
+within_times (bounds.Within limit attained) h = h.1
+
+-- behind a search
+pub bound_fact : (net : Net) (most : ℕ) (cert : Bool) (told : Telling) (side : Side) (pair : Pair) (which : Which) (searched : List ProofLine) (value : Bound) → told.course.found ≡ findings.Consistent
+    → IsOf told side pair which → ShowsIn net most pair which searched value → HasTimes value
+    → (sized net most cert).bound told.course.found told.row side (printed cert searched) value
+bound_fact net most cert told side pair which searched value found of shows h =
+    let s : IsBoundOf net findings.Consistent told.row side value × ShowsBound net most searched told.row side value = shows told.row side of.from of.to of.sort in
+    ((within_times value h, subst (λ (word : FindingWord). IsBoundOf net word told.row side value) (sym found) s.0, (searched, refl, s.1)), h)
+
+none_printed : (cert : Bool) → ◌≡◌ {A = List ProofLine} [] (printed cert [])
+none_printed true = refl
+none_printed false = refl
+
+limit_is : (net : Net) (r : Row) (side : Side) (limit : Option ℤ) → IsLimitOf net (record { from = r.from; to = r.to }) (which_of side) limit → IsLimit net r side limit
+limit_is net r greatest limit h = h
+limit_is net r (least_by first) limit h = h
+
+open_bound : (net : Net) (told : Telling) (side : Side) (pair : Pair) (which : Which) (limit : Option ℤ) → told.course.found ≡ findings.Unsettled → IsOf told side pair which
+    → IsLimitOf net pair which limit → IsBoundOf net told.course.found told.row side (bounds.Within limit None)
+open_bound net told side pair which limit found of is =
+    let h : IsLimitOf net (record { from = told.row.from; to = told.row.to }) (which_of side) limit = rw (of.sort, of.from, of.to) is in
+    (limit_is net told.row side limit h, rw found refl)
+
+-- without one
+pub limit_fact : (net : Net) (most : ℕ) (cert : Bool) (told : Telling) (side : Side) (pair : Pair) (which : Which) (value : Bound) → told.course.found ≡ findings.Unsettled
+    → IsOf told side pair which → IsOpenBound net pair which value → HasTimes value → (sized net most cert).bound told.course.found told.row side [] value
+limit_fact net most cert told side pair which value found of is h =
+    let P : Bound → Type 0 = λ v. IsBoundOf net told.course.found told.row side v × ArePrinted cert [] (λ searched. ShowsBound net most searched told.row side v) in
+    let p : P value = subst P (sym is.is_open) (open_bound net told side pair which is.limit found of is.is_limit, ([], none_printed cert, refl)) in
+    ((within_times value h, p.0, p.1), h)
+
+pub limit_done : (net : Net) (pair : Pair) (which : Which) (told : Telling) (side : Side) (value : Bound) → IsOpenBound net pair which value → behind_bound told side value ≡ bounded told side value
+limit_done net pair which told side value is = rw is.is_open refl
+
+-- no separation is told by it
+pub none_told : (net : Net) (pair : Pair) (which : Which) (value : Bound) → IsOpenBound net pair which value → HasTold value → ⊥
+none_told net pair which value is h = subst HasTold is.is_open h

@@ -1,0 +1,179 @@
+-- Steps of the writer, one after another.
+use Rattle.std.proofs.Common.{◌≡◌, ℕ, Bool, List, [], ◌∷◌, ◌++◌, map, Option, Some, None, Result, Ok, Err, IsErr, refl, sym, subst, ap, ◌∙◌, append-nil}
+use Rattle.std.specs.Bool.{⊤}
+use Rattle.std.specs.Prelude.{IfOk, OnErr}
+use Rattle.itv_base.specs.Outside.{CutShort, Puts, SinkTold, grown}
+use Rattle.event_graph.specs.Network.{Net}
+use Rattle.event_graph.specs.Proof.{ProofLine}
+use Rattle.bounds_report.specs.Step.Searched.{sized}
+use Rattle.certificate.specs.Scribing.{SinkGrew}
+use Rattle.certificate.specs.Text.{proof_line_text, proof_text}
+use Rattle.itv_base.proofs.Written.{grown-append, grown-nil}
+use Rattle.slack_report.proofs.Judging.{report_text-append}
+use Rattle.slack_report.proofs.RightOrder.{reads-append}
+use Rattle.requirements.specs.declared.verdict.Verdict.{Verdict}
+use Rattle.slack_report.specs.Entry.{Entry, heading, budget, events, event, proof, finding, times, rows, row, bound, raise, verdict, slack, ending}
+use Rattle.slack_report.specs.Text.{entry_text, report_text, words_of}
+use Rattle.slack_report.specs.Right.Drawn.{Drawn}
+use Rattle.slack_report.specs.Right.At.{At}
+use Rattle.slack_report.specs.Right.Following.{Facts, MayFollow, Reads}
+use Rattle.right_report.proofs.Leading.{stopped_line, stopped_then}
+use Rattle.right_report.specs.Told.{end_in}
+use Rattle.right_report.specs.Writing.{Stopped, Wrote}
+use Rattle.bounds_report.specs.Step.Told.{Goes, Told, verdicts_in}
+
+-- ---- verdicts and ends of lines
+
+pub verdicts-append : (a b : List Entry) → verdicts_in (a ++ b) ≡ verdicts_in a ++ verdicts_in b
+verdicts-append [] b = refl
+verdicts-append (heading ∷ a) b = verdicts-append a b
+verdicts-append (budget n ∷ a) b = verdicts-append a b
+verdicts-append (events n ∷ a) b = verdicts-append a b
+verdicts-append (event n name ∷ a) b = verdicts-append a b
+verdicts-append (proof line ∷ a) b = verdicts-append a b
+verdicts-append (finding word ∷ a) b = verdicts-append a b
+verdicts-append (times list ∷ a) b = verdicts-append a b
+verdicts-append (rows n ∷ a) b = verdicts-append a b
+verdicts-append (row n kind from to ∷ a) b = verdicts-append a b
+verdicts-append (bound which value ∷ a) b = verdicts-append a b
+verdicts-append (raise set ∷ a) b = verdicts-append a b
+verdicts-append (verdict word ∷ a) b = ap (λ words. word ∷ words) (verdicts-append a b)
+verdicts-append (slack value ∷ a) b = verdicts-append a b
+verdicts-append (ending word ∷ a) b = verdicts-append a b
+
+pub end_in-append : (a b : List Entry) → end_in a ≡ None → end_in (a ++ b) ≡ end_in b
+end_in-append [] b none = refl
+end_in-append (heading ∷ a) b none = end_in-append a b none
+end_in-append (budget n ∷ a) b none = end_in-append a b none
+end_in-append (events n ∷ a) b none = end_in-append a b none
+end_in-append (event n name ∷ a) b none = end_in-append a b none
+end_in-append (proof line ∷ a) b none = end_in-append a b none
+end_in-append (finding word ∷ a) b none = end_in-append a b none
+end_in-append (times list ∷ a) b none = end_in-append a b none
+end_in-append (rows n ∷ a) b none = end_in-append a b none
+end_in-append (row n kind from to ∷ a) b none = end_in-append a b none
+end_in-append (bound which value ∷ a) b none = end_in-append a b none
+end_in-append (raise set ∷ a) b none = end_in-append a b none
+end_in-append (verdict word ∷ a) b none = end_in-append a b none
+end_in-append (slack value ∷ a) b none = end_in-append a b none
+end_in-append (ending word ∷ a) b none = absurd (cc none)
+
+-- lines of proofs have neither
+no_verdicts : (lines : List ProofLine) → verdicts_in (map proof lines) ≡ []
+no_verdicts [] = refl
+no_verdicts (line ∷ lines) = no_verdicts lines
+
+no_end_in : (lines : List ProofLine) → end_in (map proof lines) ≡ None
+no_end_in [] = refl
+no_end_in (line ∷ lines) = no_end_in lines
+
+-- the text of one line
+line_text : (line : Entry) → entry_text line ≡ report_text (line ∷ [])
+line_text line = sym (append-nil (entry_text line))
+
+-- the text of lines of a proof is that of lines of a report
+proof_text-lines : (lines : List ProofLine) → proof_text lines ≡ report_text (map proof lines)
+unfolding words_of
+proof_text-lines [] = refl
+proof_text-lines (line ∷ lines) = ap (λ text. proof_line_text line ++ text) (proof_text-lines lines)
+
+-- ---- lines that were put
+
+module _ {facts : Facts} {drawn : Drawn} where
+  -- no line is put
+  pub told_none : (here : At) (told : SinkTold) → Told facts drawn here here [] told told
+  told_none here told = record { lines = []; reads = refl; grew = grown-nil told; words_are = refl; no_end = refl }
+
+  -- one line is put that may follow
+  pub told_line : {here next : At} {old new : SinkTold} (line : Entry) → MayFollow facts drawn here line next → new ≡ grown old (entry_text line) → end_in (line ∷ []) ≡ None
+      → Told facts drawn here next (verdicts_in (line ∷ [])) old new
+  told_line {next = next} {old = old} line may put none = record {
+    lines = line ∷ [];
+    reads = (next, may, refl);
+    grew = put ∙ ap (grown old) (line_text line);
+    words_are = refl;
+    no_end = none;
+  }
+
+  pub wrote_of : {here last : At} {old new : SinkTold} {words : List Verdict} → Told facts drawn here last words old new → Wrote facts drawn here last old new
+  wrote_of t = record { lines = t.lines; reads = t.reads; grew = t.grew }
+
+  -- lines are put, and then others
+  pub told_then : {here mid last : At} {old now new : SinkTold} {xs ys : List Verdict} → Told facts drawn here mid xs old now → Told facts drawn mid last ys now new
+      → Told facts drawn here last (xs ++ ys) old new
+  told_then {here = here} {mid = mid} {last = last} {old = old} {xs = xs} a b = record {
+    lines = a.lines ++ b.lines;
+    reads = reads-append facts drawn a.lines b.lines here mid last a.reads b.reads;
+    grew = b.grew ∙ ap (λ told. grown told (report_text b.lines)) a.grew ∙ grown-append old (report_text a.lines) (report_text b.lines)
+        ∙ ap (grown old) (sym (report_text-append a.lines b.lines));
+    words_are = verdicts-append a.lines b.lines ∙ ap (λ words. words ++ verdicts_in b.lines) a.words_are ∙ ap (λ words. xs ++ words) b.words_are;
+    no_end = end_in-append a.lines b.lines a.no_end ∙ b.no_end;
+  }
+
+  -- lines lead to what is the same place
+  pub told_at : {here mid last : At} {old new : SinkTold} {words : List Verdict} → mid ≡ last → Told facts drawn here mid words old new → Told facts drawn here last words old new
+  told_at {here = here} {old = old} {new = new} {words = words} e t = subst (λ (at : At). Told facts drawn here at words old new) e t
+
+  -- or from what is the same place
+  pub told_from : {here mid last : At} {old new : SinkTold} {words : List Verdict} → mid ≡ here → Told facts drawn mid last words old new → Told facts drawn here last words old new
+  told_from {last = last} {old = old} {new = new} {words = words} e t = subst (λ (at : At). Told facts drawn at last words old new) e t
+
+  pub stopped_from : {here mid : At} {old new : SinkTold} → mid ≡ here → Stopped facts drawn mid old new → Stopped facts drawn here old new
+  stopped_from {old = old} {new = new} e t = subst (λ (at : At). Stopped facts drawn at old new) e t
+
+  -- lines of a proof are put
+  pub told_proof : {here : At} {old new : SinkTold} (last : At) (lines : List ProofLine) → Reads facts drawn here (map proof lines) last → SinkGrew old lines new
+      → Told facts drawn here last [] old new
+  told_proof {old = old} last lines reads grew = record {
+    lines = map proof lines;
+    reads = reads;
+    grew = grew ∙ ap (grown old) (proof_text-lines lines);
+    words_are = no_verdicts lines;
+    no_end = no_end_in lines;
+  }
+
+  -- lines are put, and then a step is done
+  pub goes_then : {B E : Type 0} {here mid : At} {old now : SinkTold} {xs : List Verdict} (to : B → At) (words : B → List Verdict) (new : SinkTold) (result : Result B E)
+      → Told facts drawn here mid xs old now → Goes facts drawn mid to words now new result → Goes facts drawn here to (λ x. xs ++ words x) old new result
+  goes_then to words new (Ok x) a b = told_then a b
+  goes_then to words new (Err e) a b = stopped_then (wrote_of a) b
+
+  -- a step failed, and so does what called it
+  pub goes_up : {B E : Type 0} {here : At} {old new : SinkTold} (to : B → At) (words : B → List Verdict) (result : Result B E) → IsErr result → Stopped facts drawn here old new
+      → Goes facts drawn here to words old new result
+  goes_up to words (Ok x) is stopped = absurd (cc is)
+  goes_up to words (Err e) is stopped = stopped
+
+  -- lines are put, and then a front of others
+  pub stops_then : {here mid : At} {old now new : SinkTold} {xs : List Verdict} → Told facts drawn here mid xs old now → Stopped facts drawn mid now new → Stopped facts drawn here old new
+  stops_then a b = stopped_then (wrote_of a) b
+
+-- lines that lead in a network do so in the same one
+pub told_net : {net other : Net} (most : ℕ) (cert : Bool) {drawn : Drawn} {here last : At} {words : List Verdict} {old new : SinkTold} → net ≡ other
+    → Told (sized net most cert) drawn here last words old new → Told (sized other most cert) drawn here last words old new
+told_net most cert {drawn = drawn} {here = here} {last = last} {words = words} {old = old} {new = new} e t =
+    subst (λ (net : Net). Told (sized net most cert) drawn here last words old new) e t
+
+pub stopped_net : {net other : Net} (most : ℕ) (cert : Bool) {drawn : Drawn} {here : At} {old new : SinkTold} → net ≡ other
+    → Stopped (sized net most cert) drawn here old new → Stopped (sized other most cert) drawn here old new
+stopped_net most cert {drawn = drawn} {here = here} {old = old} {new = new} e t = subst (λ (net : Net). Stopped (sized net most cert) drawn here old new) e t
+
+-- ---- answers
+
+pub on_err : {B E : Type 0} (P : Type 0) (result : Result B E) → P → OnErr result P
+on_err P (Ok x) p = tt
+on_err P (Err e) p = p
+
+pub if_ok : {B E : Type 0} (P Q : B → Type 0) (result : Result B E) → ((x : B) → P x → Q x) → IfOk result P → IfOk result Q
+if_ok P Q (Ok x) f p = f x p
+if_ok P Q (Err e) f p = tt
+
+pub err_then : {B E : Type 0} (P Q : Type 0) (result : Result B E) → (P → Q) → OnErr result P → OnErr result Q
+err_then P Q (Ok x) f p = tt
+err_then P Q (Err e) f p = f p
+
+-- one line is put, or a front of it
+pub goes_line : {E : Type 0} (facts : Facts) (drawn : Drawn) (here next : At) (old new : SinkTold) (line : Entry) (result : Result ⊤ E) → MayFollow facts drawn here line next
+    → end_in (line ∷ []) ≡ None → Puts old new (entry_text line) result → Goes facts drawn here (λ (x : ⊤). next) (λ (x : ⊤). verdicts_in (line ∷ [])) old new result
+goes_line facts drawn here next old new line (Ok x) may none put = told_line line may put none
+goes_line facts drawn here next old new line (Err e) may none put = stopped_line next line may put

@@ -1,0 +1,163 @@
+-- A whole report, and one that a put cut short.
+use Rattle.std.proofs.Common.{◌≡◌, ◌<◌, ◌≤◌, ◌+◌, ℕ, zero, suc, Bool, true, false, cond, List, [], ◌∷◌, ◌++◌, length, map, drop, Option, Some, None, slice_get, unwrap_or, count_by, refl, sym, subst, ap, ◌∙◌, inl, inr, add-one, append-nil, arith}
+use Rattle.std.specs.Prelude.{All}
+use Rattle.std.proofs.lemmas.List.Sums.{sum_by-cons}
+use Rattle.itv_base.specs.Names.{Name}
+use Rattle.itv_base.specs.Outside.{CutShort, SinkTold, grown}
+use Rattle.itv_base.proofs.Written.{cut_then, grown-append}
+use Rattle.event_graph.specs.Network.{Net}
+use Rattle.requirements.specs.declared.verdict.Verdict.{Verdict}
+use Rattle.slack_report.specs.declared.words.EndWord.{EndWord}
+use Rattle.slack_report.specs.declared.words.FindingWord.{FindingWord}
+use Rattle.slack_report.specs.declared.words.FindingWord.TheVariants as findings
+use Rattle.slack_report.specs.Entry.{Entry, IsEntry, IsName, heading, budget, events, event, proof, finding, times, rows, row, bound, raise, verdict, slack, ending}
+use Rattle.slack_report.specs.Text.{entry_text, report_text}
+use Rattle.slack_report.specs.Right.At.{At, at_budget, at_event, at_events, at_heading, at_last, end_word, is_fail}
+use Rattle.slack_report.specs.Right.Drawn.{Drawn, nameless}
+use Rattle.slack_report.specs.Right.Following.{Facts, Implies, MayFollow, Reads}
+use Rattle.slack_report.proofs.Judging.{report_text-append}
+use Rattle.slack_report.proofs.RightOrder.{reads-append, reads_weaker}
+use Rattle.right_report.specs.Told.{end_in}
+use Rattle.right_report.specs.Writing.{Stopped}
+use Rattle.bounds_report.specs.Reports.{BeginsReport, HasRanges, IsWrittenReport, Reports, Sums, answer_of, is_pass, is_undecided, is_verdict, verdict_count}
+use Rattle.bounds_report.specs.Written.{written}
+use Rattle.bounds_report.specs.declared.summary.Summary.{Summary}
+use Rattle.bounds_report.specs.declared.tally.Tally.{Tally}
+use Rattle.bounds_report.specs.Step.Ready.{IsTally, behind_rows, tally_course}
+use Rattle.bounds_report.specs.Step.Searched.{sized}
+use Rattle.bounds_report.specs.Step.Told.{Told, verdicts_in}
+use Rattle.bounds_report.proofs.Telling.{end_in-append, verdicts-append}
+
+-- ---- counts
+
+pub counts : (is_kind : Verdict → Bool) (lines : List Entry) → verdict_count is_kind lines ≡ count_by is_kind (verdicts_in lines)
+counts is_kind [] = refl
+counts is_kind (heading ∷ a) = counts is_kind a
+counts is_kind (budget n ∷ a) = counts is_kind a
+counts is_kind (events n ∷ a) = counts is_kind a
+counts is_kind (event n name ∷ a) = counts is_kind a
+counts is_kind (proof line ∷ a) = counts is_kind a
+counts is_kind (finding word ∷ a) = counts is_kind a
+counts is_kind (times list ∷ a) = counts is_kind a
+counts is_kind (rows n ∷ a) = counts is_kind a
+counts is_kind (row n kind from to ∷ a) = counts is_kind a
+counts is_kind (bound which value ∷ a) = counts is_kind a
+counts is_kind (raise set ∷ a) = counts is_kind a
+counts is_kind (verdict word ∷ a) =
+    sum_by-cons (λ (line : Entry). cond (is_verdict is_kind line) 1 0) (verdict word) a ∙ ap (λ n. cond (is_kind word) 1 0 + n) (counts is_kind a)
+    ∙ sym (sum_by-cons (λ (w : Verdict). cond (is_kind w) 1 0) word (verdicts_in a))
+counts is_kind (slack value ∷ a) = counts is_kind a
+counts is_kind (ending word ∷ a) = counts is_kind a
+
+-- ---- what is asked
+
+sized_implies : (net : Net) (most : ℕ) (cert : Bool) → Implies (sized net most cert) (written net most cert)
+sized_implies net most cert = record {
+  finding = λ lines word h. h;
+  known = λ list h. h;
+  bound = λ found r side lines value h. h.0;
+  times = λ r value list h. h;
+  raise = λ r side list set h. h;
+  past = λ r range word list h. h;
+}
+
+-- ---- the front
+
+abbrev front : ℕ → List Entry
+front most = heading ∷ budget most ∷ []
+
+-- lines behind the front
+front_reads : (drawn : Drawn) (most : ℕ) (cert : Bool) (lines : List Entry) (last : At) → Reads (sized drawn.net most cert) drawn at_events lines last
+    → Reads (written drawn.net most cert) drawn at_heading (heading ∷ budget most ∷ lines) last
+front_reads drawn most cert lines last reads =
+    (at_budget, (refl, refl), (at_events, (most, refl, refl), reads_weaker (sized drawn.net most cert) (written drawn.net most cert) drawn lines at_events last (sized_implies drawn.net most cert) reads))
+
+abbrev Begins : Drawn → ℕ → Bool → SinkTold → SinkTold → Type 0
+Begins drawn most cert old new = (text : List ℕ) × BeginsReport drawn most cert text × CutShort old new text
+
+-- a put of the front was cut short
+pub begins_front : (drawn : Drawn) (most : ℕ) (cert : Bool) (old new : SinkTold) → CutShort old new (report_text (front most)) → Begins drawn most cert old new
+begins_front drawn most cert old new cut = (report_text (front most), record { lines = front most; last = at_events; reads = front_reads drawn most cert [] at_events refl; tells = refl; is_text = refl }, cut)
+
+-- a later one was
+pub begins_rest : (drawn : Drawn) (most : ℕ) (cert : Bool) (old now new : SinkTold) → now ≡ grown old (report_text (front most)) → Stopped (sized drawn.net most cert) drawn at_events now new
+    → Begins drawn most cert old new
+begins_rest drawn most cert old now new put s =
+    (report_text (front most ++ s.lines), record { lines = front most ++ s.lines; last = s.last; reads = front_reads drawn most cert s.lines s.last s.reads; tells = refl; is_text = refl },
+     subst (CutShort old new) (sym (report_text-append (front most) s.lines)) (cut_then old now new (report_text (front most)) (report_text s.lines) put s.cut))
+
+-- ---- the end
+
+pub end_may : (facts : Facts) (drawn : Drawn) (found : FindingWord) (tally : Tally) (count : ℕ) (word : EndWord) → word ≡ end_word (tally_course found tally)
+    → MayFollow facts drawn (behind_rows found tally count) (ending word) at_last
+end_may facts drawn findings.Consistent tally count word e = (ap ending e, refl)
+end_may facts drawn findings.Inconsistent tally count word e = (ap ending e, refl)
+end_may facts drawn findings.Unsettled tally count word e = (ap ending e, refl)
+
+-- the summary of a word and of counts
+abbrev summary_by : EndWord → Tally → Summary
+summary_by word tally = record { answer = answer_of word; passes = tally.passes; fails = tally.fails; undecided = tally.undecided }
+
+module _ (drawn : Drawn) (most : ℕ) (cert : Bool) (old now mid new : SinkTold) (found : FindingWord) (tally : Tally) (count : ℕ) (words : List Verdict) (word : EndWord)
+    (put : now ≡ grown old (report_text (front most))) (t : Told (sized drawn.net most cert) drawn at_events (behind_rows found tally count) words now mid)
+    (end : new ≡ grown mid (entry_text (ending word))) (word_is : word ≡ end_word (tally_course found tally)) (counted : IsTally tally words)
+    (entries : (lines : List Entry) → Reads (sized drawn.net most cert) drawn at_events lines at_last → All IsName drawn.names → HasRanges drawn → All (IsEntry (length drawn.names)) (front most ++ lines)) where
+  rest : List Entry
+  rest = t.lines ++ ending word ∷ []
+
+  rest_reads : Reads (sized drawn.net most cert) drawn at_events rest at_last
+  unfolding rest
+  rest_reads = reads-append (sized drawn.net most cert) drawn t.lines (ending word ∷ []) at_events (behind_rows found tally count) at_last t.reads
+      (at_last, end_may (sized drawn.net most cert) drawn found tally count word word_is, refl)
+
+  words_in : verdicts_in rest ≡ words
+  unfolding rest
+  words_in = verdicts-append t.lines (ending word ∷ []) ∙ append-nil (verdicts_in t.lines) ∙ t.words_are
+
+  end_is : end_in rest ≡ Some word
+  unfolding rest
+  end_is = end_in-append t.lines (ending word ∷ []) t.no_end
+
+  rest_text : new ≡ grown now (report_text rest)
+  unfolding rest
+  rest_text = end ∙ ap (λ told. grown told (entry_text (ending word))) t.grew ∙ grown-append now (report_text t.lines) (entry_text (ending word))
+      ∙ ap (grown now) (ap (λ text. report_text t.lines ++ text) (sym (append-nil (entry_text (ending word)))) ∙ sym (report_text-append t.lines (ending word ∷ [])))
+
+  count_in : (is_kind : Verdict → Bool) (n : ℕ) → n ≡ count_by is_kind words → n ≡ verdict_count is_kind (front most ++ rest)
+  count_in is_kind n e = e ∙ ap (count_by is_kind) (sym words_in) ∙ sym (counts is_kind (front most ++ rest))
+
+  pub reports : (text : List ℕ) × Reports drawn most cert (summary_by word tally) text × (new ≡ grown old text)
+  reports = (
+    report_text (front most ++ rest),
+    record {
+      lines = front most ++ rest;
+      is_written = record { reads = front_reads drawn most cert rest at_last rest_reads; tells = refl; texts = entries rest rest_reads };
+      sums = record {
+        ends = (word, end_is, refl);
+        passes = count_in is_pass tally.passes counted.passes;
+        fails = count_in is_fail tally.fails counted.fails;
+        undecided = count_in is_undecided tally.undecided counted.undecided;
+      };
+      is_text = refl;
+    },
+    rest_text ∙ ap (λ told. grown told (report_text rest)) put ∙ grown-append old (report_text (front most)) (report_text rest) ∙ ap (grown old) (sym (report_text-append (front most) rest)),
+  )
+
+-- ---- the names of the events
+
+pub names_more : (names : List Name) (number : ℕ) → number < length names → drop number names ≡ unwrap_or (slice_get names number) nameless ∷ drop (number + 1) names
+names_more names number h = rw add-one (more names number h)
+  where
+    more : (names : List Name) (number : ℕ) → number < length names → drop number names ≡ unwrap_or (slice_get names number) nameless ∷ drop (suc number) names
+    more [] number h = absurd (omega arith)
+    more (name ∷ names) zero h = refl
+    more (name ∷ names) (suc number) h = more names number (omega arith)
+
+pub names_none : (names : List Name) (number : ℕ) → length names ≤ number → drop number names ≡ []
+names_none [] zero h = refl
+names_none [] (suc number) h = refl
+names_none (name ∷ names) zero h = absurd (omega arith)
+names_none (name ∷ names) (suc number) h = names_none names number (omega arith)
+
+pub events_end : (names : List Name) (number count : ℕ) → number ≡ count → length names ≤ number → at_event number (drop number names) ≡ at_event count []
+events_end names number count e h = rw (names_none names number h, e) refl

@@ -1,0 +1,95 @@
+-- What a written report is.
+use Rattle.std.proofs.Common.{◌≡◌, ℕ, ℤ, Bool, true, false, List, [], All, Option, Some, None, refl, sym, subst}
+use Rattle.event_graph.specs.Network.{Net}
+use Rattle.event_graph.specs.Proof.{ProofLine}
+use Rattle.requirements.specs.declared.bound.Bound.{Bound}
+use Rattle.requirements.specs.declared.bound.Bound.TheVariants as bounds
+use Rattle.slack_report.specs.declared.words.FindingWord.{FindingWord}
+use Rattle.slack_report.specs.declared.words.FindingWord.TheVariants as findings
+use Rattle.slack_report.specs.Entry.{Entry, IsEntry, IsName}
+use Rattle.slack_report.specs.Right.At.{Side, at_heading, at_last}
+use Rattle.slack_report.specs.Right.Drawn.{Drawn, Row}
+use Rattle.slack_report.specs.Right.Facts.{IsBoundOf, IsFinding, right}
+use Rattle.slack_report.specs.Right.Following.{Implies, Reads}
+use Rattle.slack_report.proofs.RightOrder.{reads_weaker}
+use Rattle.right_report.specs.Checked.{ProvesBound, ProvesFinding, checked}
+use Rattle.right_report.specs.Shown.{ShowsBound, ShowsFinding, bare, shown}
+use Rattle.right_report.proofs.Ordering.{right_is_report}
+use Rattle.bounds_report.specs.Laws.{WrittenIsAccepted, WrittenIsBare, WrittenIsChecked, WrittenIsShown}
+use Rattle.bounds_report.specs.Written.{ArePrinted, written}
+
+-- lines that are all printed
+all_printed : (lines : List ProofLine) (Shows : List ProofLine → Type 0) → ArePrinted true lines Shows → Shows lines
+all_printed lines Shows p = subst Shows (sym p.1) p.2
+
+shown_of : (net : Net) (most : ℕ) → Implies (written net most true) (shown net most)
+shown_of net most = record {
+  finding = λ lines word h. (h.0, all_printed lines (λ searched. ShowsFinding net most searched word) h.1);
+  known = λ list h. h.1;
+  bound = λ found r side lines value h. (h.1, all_printed lines (λ searched. ShowsBound net most searched r side value) h.2);
+  times = λ r value list h. h.1;
+  raise = λ r side list set h. h;
+  past = λ r range word list h. h.1;
+}
+
+bare_of : (net : Net) (most : ℕ) → Implies (written net most false) (bare net most)
+bare_of net most = record {
+  finding = λ lines word h. (h.0, h.1.1, (h.1.0, h.1.2));
+  known = λ list h. h.1;
+  bound = λ found r side lines value h. (h.1, h.2.1, (h.2.0, h.2.2));
+  times = λ r value list h. h.1;
+  raise = λ r side list set h. h;
+  past = λ r range word list h. h.1;
+}
+
+right_of : (net : Net) (most : ℕ) → Implies (written net most true) (right net)
+right_of net most = record {
+  finding = λ lines word h. h.0;
+  known = λ list h. h.1;
+  bound = λ found r side lines value h. h.1;
+  times = λ r value list h. h.1;
+  raise = λ r side list set h. h;
+  past = λ r range word list h. h.1;
+}
+
+proves_finding : (net : Net) (most : ℕ) (lines : List ProofLine) (word : FindingWord) → IsFinding net word → ShowsFinding net most lines word → ProvesFinding net lines word
+proves_finding net most lines findings.Consistent f s = tt
+proves_finding net most lines findings.Inconsistent f s = s
+proves_finding net most lines findings.Unsettled f s = f
+
+proves_bound : (net : Net) (most : ℕ) (found : FindingWord) (r : Row) (side : Side) (lines : List ProofLine) (value : Bound) → IsBoundOf net found r side value → ShowsBound net most lines r side value
+    → ProvesBound net found r side lines value
+proves_bound net most found r side lines (bounds.Closed value) b s = (b.0, s)
+proves_bound net most found r side lines bounds.Unbounded b s = b
+proves_bound net most found r side lines (bounds.Within limit attained) b s = b
+
+checked_of : (net : Net) (most : ℕ) → Implies (written net most true) (checked net)
+checked_of net most = record {
+  finding = λ lines word h. proves_finding net most lines word h.0 (all_printed lines (λ searched. ShowsFinding net most searched word) h.1);
+  known = λ list h. h;
+  bound = λ found r side lines value h. (h.0, proves_bound net most found r side lines value h.1 (all_printed lines (λ searched. ShowsBound net most searched r side value) h.2));
+  times = λ r value list h. h;
+  raise = λ r side list set h. h;
+  past = λ r range word list h. h;
+}
+
+pub written_is_shown : WrittenIsShown
+written_is_shown drawn most lines w =
+    record { reads = reads_weaker (written drawn.net most true) (shown drawn.net most) drawn lines at_heading at_last (shown_of drawn.net most) w.reads; tells = w.tells }
+
+pub written_is_bare : WrittenIsBare
+written_is_bare drawn most lines w =
+    record { reads = reads_weaker (written drawn.net most false) (bare drawn.net most) drawn lines at_heading at_last (bare_of drawn.net most) w.reads; tells = w.tells }
+
+pub written_is_checked : WrittenIsChecked
+written_is_checked drawn most lines w = reads_weaker (written drawn.net most true) (checked drawn.net) drawn lines at_heading at_last (checked_of drawn.net most) w.reads
+
+pub written_is_accepted : WrittenIsAccepted
+written_is_accepted drawn most lines w names ranges =
+    let r : Reads (right drawn.net) drawn at_heading lines at_last = reads_weaker (written drawn.net most true) (right drawn.net) drawn lines at_heading at_last (right_of drawn.net most) w.reads in
+    record {
+      lines = lines;
+      report = (right_is_report drawn lines r (w.texts names ranges)).0;
+      text = refl;
+      is_checked = written_is_checked drawn most lines w;
+    }

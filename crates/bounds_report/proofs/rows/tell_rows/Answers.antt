@@ -1,0 +1,14 @@
+use Rattle.std.proofs.Common.{[], sym}
+use Rattle.bounds_report.proofs.RowByRow.{rows_begin, rows_end, rows_skipped}
+use Rattle.bounds_report.proofs.Telling.{err_then, if_ok, stopped_from, told_at, told_from, told_none}
+use Rattle.bounds_report.proofs.rows.tell_rows.Goals as goal
+
+pub returns-in-Inconsistent-clause-tells : goal.returns-in-Inconsistent-clause-tells
+returns-in-Inconsistent-clause-tells g c = ([], c.start.ensures.counted, told_at (rows_skipped c.args.found c.start.result _ c.in-Inconsistent.is (c.start.ensures.course c.args.found)) (told_none _ _))
+
+pub returns-in-Consistent-clause-tells : goal.returns-in-Consistent-clause-tells
+returns-in-Consistent-clause-tells g c =
+    if_ok _ _ c.tell_each.result (λ tally h. (h.0, h.1, told_from (rows_begin c.args.found c.in-Consistent.is) (told_at (rows_end c.args.found tally _ c.in-Consistent.is) h.2))) c.tell_each.ensures.tells
+
+pub returns-in-Consistent-clause-stops : goal.returns-in-Consistent-clause-stops
+returns-in-Consistent-clause-stops g c = err_then _ _ c.tell_each.result (λ h. stopped_from (rows_begin c.args.found c.in-Consistent.is) h) c.tell_each.ensures.stops

@@ -1,0 +1,26 @@
+-- Laws of the reports that the job writes.
+use Rattle.std.specs.Prelude.{ℕ, Bool, true, false, List, All}
+use Rattle.slack_report.specs.Entry.{Entry, IsName}
+use Rattle.slack_report.specs.Text.{report_text}
+use Rattle.slack_report.specs.Right.Drawn.{Drawn}
+use Rattle.right_report.specs.Checked.{IsChecked}
+use Rattle.right_report.specs.Shown.{IsBareReport, IsShownReport}
+use Rattle.right_report.specs.Texts.{IsAcceptedText}
+use Rattle.bounds_report.specs.Reports.{HasRanges, IsWrittenReport}
+
+-- a report that is written with the lines of proofs shows its numbers
+abbrev pub WrittenIsShown : Type 0
+WrittenIsShown = (drawn : Drawn) (most : ℕ) (lines : List Entry) → IsWrittenReport drawn most true lines → IsShownReport drawn most lines
+
+-- and one without them is a right report whose numbers could be shown
+abbrev pub WrittenIsBare : Type 0
+WrittenIsBare = (drawn : Drawn) (most : ℕ) (lines : List Entry) → IsWrittenReport drawn most false lines → IsBareReport drawn most lines
+
+-- each line of one with the lines of proofs meets the check
+abbrev pub WrittenIsChecked : Type 0
+WrittenIsChecked = (drawn : Drawn) (most : ℕ) (lines : List Entry) → IsWrittenReport drawn most true lines → IsChecked drawn lines
+
+-- so its text is accepted, where the names of the events and the ranges of the rows have their form
+abbrev pub WrittenIsAccepted : Type 0
+WrittenIsAccepted = (drawn : Drawn) (most : ℕ) (lines : List Entry) → IsWrittenReport drawn most true lines → All IsName drawn.names → HasRanges drawn
+    → IsAcceptedText drawn (report_text lines)

@@ -1,0 +1,41 @@
+-- What a step of the writer promises: the lines that it put lead from a place to another, tell some verdicts, and do not end the report.
+use Rattle.std.specs.Prelude.{◌≡◌, ◌++◌, List, [], ◌∷◌, Option, Some, None, Result, Ok, Err}
+use Rattle.std.specs.Option.{option_to_list}
+use Rattle.itv_base.specs.Outside.{SinkTold, grown}
+use Rattle.requirements.specs.declared.bound.Bound.{Bound}
+use Rattle.requirements.specs.declared.verdict.Verdict.{Verdict}
+use Rattle.slack_report.specs.declared.words.FindingWord.TheVariants as findings
+use Rattle.slack_report.specs.declared.words.Which.{Which}
+use Rattle.slack_report.specs.Entry.{Entry, verdict}
+use Rattle.slack_report.specs.Text.{report_text}
+use Rattle.slack_report.specs.Right.At.{At, Course, Side, Telling, which_of}
+use Rattle.slack_report.specs.Right.Drawn.{Drawn}
+use Rattle.slack_report.specs.Right.Following.{Facts, Reads}
+use Rattle.right_report.specs.Told.{end_in}
+use Rattle.right_report.specs.Writing.{Stopped}
+use Rattle.bounds_report.specs.declared.pair.Pair.{Pair}
+
+-- the verdicts of the lines
+abbrev pub verdicts_in : List Entry → List Verdict
+verdicts_in [] = []
+verdicts_in (verdict word ∷ lines) = word ∷ verdicts_in lines
+verdicts_in (line ∷ lines) = verdicts_in lines
+
+-- lines were put whole that lead from a place to another, tell these verdicts, and do not end the report
+pub record Told (facts : Facts) (drawn : Drawn) (here last : At) (words : List Verdict) (old new : SinkTold) : Type 0 where
+  pub lines : List Entry
+  pub reads : Reads facts drawn here lines last
+  pub grew : new ≡ grown old (report_text lines)
+  pub words_are : verdicts_in lines ≡ words
+  pub no_end : end_in lines ≡ None
+
+-- a step puts lines that lead to a place and tell verdicts that its answer names, or a front of such lines
+abbrev pub Goes : {B E : Type 0} → Facts → Drawn → At → (B → At) → (B → List Verdict) → SinkTold → SinkTold → Result B E → Type 0
+Goes facts drawn here to words old new (Ok x) = Told facts drawn here (to x) (words x) old new
+Goes facts drawn here to words old new (Err e) = Stopped facts drawn here old new
+
+-- a row that is being told is of a pair, and a bound of this sort is next
+pub record IsOf (told : Telling) (side : Side) (pair : Pair) (which : Which) : Type 0 where
+  pub from : told.row.from ≡ pair.from
+  pub to : told.row.to ≡ pair.to
+  pub sort : which_of side ≡ which

@@ -1,0 +1,167 @@
+//! Telling one bound of a row.
+
+ghost use Rattle.std.specs.Prelude.{◌≡◌, ◌<◌, ◌≤◌, ℕ, Bool, [], List, All, IfOk, IsSomeAnd, OnOk, OnErr};
+ghost use Rattle.branch.specs.Answers.{Answers, IsCounted};
+ghost use Rattle.branch.specs.Work.{IsClose, IsMadeFor};
+ghost use Rattle.event_graph.specs.Network.{Net};
+ghost use Rattle.event_graph.specs.Proof.{ProofLine};
+ghost use Rattle.event_graph.specs.Satisfying.{Satisfies};
+ghost use Rattle.requirements.specs.Bounds.{HasTimes};
+ghost use Rattle.slack_report.specs.Right.At.{Side, Telling, at_bound, bounded};
+ghost use Rattle.slack_report.specs.Right.Drawn.{Drawn};
+ghost use Rattle.slack_report.specs.declared.words.FindingWord.{FindingWord};
+ghost use Rattle.bounds_report.specs.Step.Kept.{IsKept, IsRoomFor, searched_pair};
+ghost use Rattle.bounds_report.specs.Step.Searched.{ShowsIn, Tells, WasCut, bound_of, greatest_of as greatest_by, sized};
+ghost use Rattle.bounds_report.specs.Step.Told.{Goes, IsOf};
+
+use crate::kept::{Kept, take_times};
+use crate::pair::Pair;
+use crate::search::greatest_of;
+use crate::wanted::Wanted;
+use branch::{Answer, Work};
+use event_graph::Network;
+use itv_base::{PutFailed, Sink};
+use line_words::LineBuffer;
+use requirements::Bound;
+use slack_report::{Item, Which, write_item};
+
+/// Searches for a bound of a pair, and tells it with the lines of its proof, where they are wanted, the times that attain it, and the set
+/// of events that shows it unbounded. The times and the set are kept.
+pub fn tell_bound<K: Sink>(
+    which: Which,
+    pair: Pair,
+    net: &Network,
+    wanted: Wanted,
+    work: &mut Work,
+    kept: &mut Kept,
+    buffer: &mut LineBuffer,
+    sink: &mut K,
+) -> Result<Bound, PutFailed>
+    requires made { IsMadeFor net.now work.old }
+    requires known { IsSomeAnd work.old.known (λ times. Satisfies times net.now) }
+    requires from { pair.from.0 < net.now.events }
+    requires to { pair.to.0 < net.now.events }
+    requires budget { 0 < wanted.budget }
+    requires room { IsRoomFor net.now kept.old }
+    ensures made { OnOk result (IsMadeFor net.now work.new) }
+    ensures known { OnOk result (work.new.known ≡ work.old.known) }
+    ensures room { OnOk result (IsRoomFor net.now kept.new) }
+    ensures times { IfOk result HasTimes }
+    ensures kept { IfOk result (λ value. IsKept net.now pair which value kept.new.times.items kept.new.set.items) }
+    ensures goes { (drawn : Drawn) (told : Telling) (side : Side) → told.course.found ≡ FindingWord.Consistent → IsOf told side pair which
+        → Goes (sized net.now wanted.budget wanted.cert) drawn (at_bound told side []) (λ value. bounded told side value) (λ _. [])
+        (K.told sink.old) (K.told sink.new) result }
+{
+    let value = search_bound(which, pair, net, wanted, work, kept, buffer, sink)?;
+    put_bound(which, value, kept, buffer, sink)?;
+    Ok(value)
+}
+
+// Searches for a bound of a pair, and keeps what is left of the search.
+fn search_bound<K: Sink>(
+    which: Which,
+    pair: Pair,
+    net: &Network,
+    wanted: Wanted,
+    work: &mut Work,
+    kept: &mut Kept,
+    buffer: &mut LineBuffer,
+    sink: &mut K,
+) -> Result<Bound, PutFailed>
+    requires made { IsMadeFor net.now work.old }
+    requires known { IsSomeAnd work.old.known (λ times. Satisfies times net.now) }
+    requires from { pair.from.0 < net.now.events }
+    requires to { pair.to.0 < net.now.events }
+    requires budget { 0 < wanted.budget }
+    requires room { IsRoomFor net.now kept.old }
+    ensures made { OnOk result (IsMadeFor net.now work.new) }
+    ensures known { OnOk result (work.new.known ≡ work.old.known) }
+    ensures room { OnOk result (IsRoomFor net.now kept.new) }
+    ensures times { IfOk result HasTimes }
+    ensures kept { IfOk result (λ value. IsKept net.now pair which value kept.new.times.items kept.new.set.items) }
+    ensures tells { IfOk result (λ value. Tells wanted.cert (K.told sink.old) (K.told sink.new)
+        (λ lines. ShowsIn net.now wanted.budget pair which lines value)) }
+    ensures cut { OnErr result (WasCut (K.told sink.old) (K.told sink.new)) }
+{
+    let answer = greatest_of(work, net, pair.searched(which), wanted, buffer, sink)?;
+    keep(net, pair, which, answer, work, kept);
+    Ok(bound_of(net, pair.searched(which), which, answer, work))
+}
+
+// Keeps the times that the last search left, with the from-event of the pair at 0, and the set of events where the bound is unbounded.
+fn keep(net: &Network, pair: Pair, which: Which, answer: Answer, work: &Work, kept: &mut Kept)
+    requires answers { (budget : ℕ) × (lines : List ProofLine)
+        × Answers net.now (searched_pair which pair).from (searched_pair which pair).to budget lines work.now.leaves work.now.times work.now.ray answer }
+    requires times { Satisfies work.now.times net.now }
+    requires close { All IsClose work.now.times }
+    requires from { pair.from.0 < net.now.events }
+    requires to { pair.to.0 < net.now.events }
+    requires room { IsRoomFor net.now kept.old }
+    ensures room { IsRoomFor net.now kept.new }
+    ensures kept { IsKept net.now pair which (bound_of which answer) kept.new.times.items kept.new.set.items }
+{
+    let _events = net.events();
+    take_times(&mut kept.times, work.times(), pair.from);
+    match answer {
+        Answer::Unbounded => kept.set.copy_from_slice(work.ray()),
+        Answer::Closed(_) | Answer::Enclosed { .. } => {}
+    }
+}
+
+// The bound that an answer on its searched pair tells.
+fn bound_of(net: &Network, searched: Pair, which: Which, answer: Answer, work: &Work) -> Bound
+    requires answers { (budget : ℕ) × (lines : List ProofLine)
+        × Answers net.now searched.from searched.to budget lines work.now.leaves work.now.times work.now.ray answer }
+    requires close { All IsClose work.now.times }
+    ensures bound { result ≡ bound_of which answer }
+    ensures times { HasTimes result }
+{
+    let greatest = greatest_in(answer);
+    match which {
+        Which::Max => greatest,
+        Which::Min => greatest.reversed(),
+    }
+}
+
+// The greatest bound that an answer tells.
+fn greatest_in(answer: Answer) -> Bound
+    ensures { result ≡ greatest_by answer }
+{
+    match answer {
+        Answer::Closed(value) => Bound::Closed(value),
+        Answer::Unbounded => Bound::Unbounded,
+        Answer::Enclosed { upper, attained } => Bound::Within {
+            limit: upper,
+            attained: Some(attained),
+        },
+    }
+}
+
+// Tells a bound, the times that attain it, and the set of events that shows it unbounded.
+fn put_bound<K: Sink>(
+    which: Which,
+    value: Bound,
+    kept: &Kept,
+    buffer: &mut LineBuffer,
+    sink: &mut K,
+) -> Result<(), PutFailed>
+    ensures goes { (net : Net) (most : ℕ) (cert : Bool) (drawn : Drawn) (told : Telling) (side : Side) (lines : List ProofLine) (pair : Pair)
+        → IsOf told side pair which → (sized net most cert).bound told.course.found told.row side lines value
+        → IsKept net pair which value kept.now.times.items kept.now.set.items
+        → Goes (sized net most cert) drawn (at_bound told side lines) (λ _. bounded told side value) (λ _. [])
+        (K.told sink.old) (K.told sink.new) result }
+{
+    write_item(
+        &Item::Bound {
+            which,
+            bound: value,
+        },
+        buffer,
+        sink,
+    )?;
+    write_item(&Item::Times(&kept.times), buffer, sink)?;
+    match value {
+        Bound::Unbounded => write_item(&Item::Raise(&kept.set), buffer, sink),
+        Bound::Closed(_) | Bound::Within { .. } => Ok(()),
+    }
+}

@@ -1,0 +1,36 @@
+//! All memory that a report is written with.
+
+ghost use Rattle.std.specs.Prelude.{◌≡◌, IfOk};
+ghost use Rattle.bounds_report.specs.Step.Ready.{IsSet};
+
+use crate::kept::Kept;
+use branch::Work;
+use event_graph::Network;
+use itv_base::NoMemory;
+use line_words::LineBuffer;
+use slack_report::LINE_ROOM;
+use std::alloc::Global;
+
+/// All memory that a report is written with: that of the searches, what is kept of those for the greatest and for the least bound of
+/// a row, and room for a line.
+#[derive(Drop)]
+pub struct Desk {
+    pub work: Work,
+    pub greatest: Kept,
+    pub least: Kept,
+    pub buffer: LineBuffer,
+}
+
+impl Desk {
+    /// Takes all memory that the report on a network needs, or answers `NoMemory`.
+    pub fn new(alloc: Global, net: &Network) -> Result<Desk, NoMemory>
+        ensures set { IfOk result (IsSet net.now) }
+    {
+        Ok(Desk {
+            work: Work::new(alloc, net)?,
+            greatest: Kept::new(alloc, net.events())?,
+            least: Kept::new(alloc, net.events())?,
+            buffer: LineBuffer::new(alloc, LINE_ROOM)?,
+        })
+    }
+}

@@ -1,0 +1,92 @@
+//! Telling the finding.
+
+ghost use Rattle.std.specs.Prelude.{◌≡◌, ◌<◌, ℕ, Bool, [], List, All, IfOk, IfSome, IsSomeAnd};
+ghost use Rattle.branch.specs.Work.{IsClose};
+ghost use Rattle.event_graph.specs.Satisfying.{Satisfies};
+ghost use Rattle.slack_report.specs.Right.At.{at_event, behind_finding};
+ghost use Rattle.slack_report.specs.Right.Drawn.{Drawn};
+ghost use Rattle.bounds_report.specs.Step.Kept.{IsRoomFor};
+ghost use Rattle.bounds_report.specs.Step.Ready.{AreKnown, IsReady, IsSet, behind_known, word_of};
+ghost use Rattle.bounds_report.specs.Step.Searched.{sized};
+ghost use Rattle.bounds_report.specs.Step.Told.{Goes};
+
+use crate::desk::Desk;
+use crate::kept::{Kept, take_times};
+use crate::search::find_times;
+use crate::wanted::Wanted;
+use branch::{Found, Work};
+use event_graph::Network;
+use itv_base::{EventId, PutFailed, Sink};
+use slack_report::{FindingWord, Item, write_item};
+
+/// Looks for times that satisfy a network, and tells the finding and those times.
+pub fn tell_finding<K: Sink>(
+    net: &Network,
+    wanted: Wanted,
+    desk: &mut Desk,
+    sink: &mut K,
+) -> Result<FindingWord, PutFailed>
+    requires budget { 0 < wanted.budget }
+    requires set { IsSet net.now desk.old }
+    ensures ready { IfOk result (λ word. IsReady net.now word desk.new) }
+    ensures goes { (drawn : Drawn) (number : ℕ)
+        → Goes (sized net.now wanted.budget wanted.cert) drawn (at_event number []) behind_known (λ _. [])
+        (K.told sink.old) (K.told sink.new) result }
+{
+    let found = find_times(&mut desk.work, net, wanted, &mut desk.buffer, sink)?;
+    let word = word_of(found);
+    write_item(&Item::Finding(word), &mut desk.buffer, sink)?;
+    tell_times(word, net, desk, sink)?;
+    Ok(word)
+}
+
+// The word for a finding.
+fn word_of(found: Found) -> FindingWord
+    ensures { result ≡ word_of found }
+{
+    match found {
+        Found::Consistent => FindingWord::Consistent,
+        Found::Inconsistent => FindingWord::Inconsistent,
+        Found::Unsettled => FindingWord::Unsettled,
+    }
+}
+
+// Tells the known times behind a consistent finding.
+fn tell_times<K: Sink>(
+    word: FindingWord,
+    net: &Network,
+    desk: &mut Desk,
+    sink: &mut K,
+) -> Result<(), PutFailed>
+    requires ready { IsReady net.now word desk.old }
+    requires close { IfSome desk.old.work.known (All IsClose) }
+    ensures ready { IsReady net.now word desk.new }
+    ensures goes { (most : ℕ) (cert : Bool) (drawn : Drawn)
+        → Goes (sized net.now most cert) drawn (behind_finding word) (λ _. behind_known word) (λ _. [])
+        (K.told sink.old) (K.told sink.new) result }
+{
+    match word {
+        FindingWord::Consistent => {
+            take_known(net, &desk.work, &mut desk.greatest);
+            write_item(
+                &Item::Times(&desk.greatest.times),
+                &mut desk.buffer,
+                sink,
+            )
+        }
+        FindingWord::Inconsistent | FindingWord::Unsettled => Ok(()),
+    }
+}
+
+// Takes the known times, with event 0 at 0.
+fn take_known(net: &Network, work: &Work, kept: &mut Kept)
+    requires room { IsRoomFor net.now kept.old }
+    requires known { IsSomeAnd work.now.known (λ times. Satisfies times net.now) }
+    requires close { IfSome work.now.known (All IsClose) }
+    ensures room { IsRoomFor net.now kept.new }
+    ensures known { AreKnown net.now kept.new.times.items }
+{
+    if net.events() > 0 {
+        take_times(&mut kept.times, work.known(), EventId(0));
+    }
+}

@@ -1,0 +1,41 @@
+//! What is kept of a search for a bound.
+
+ghost use Rattle.std.specs.Prelude.{◌≡◌, ◌<◌, All, IfOk, length};
+ghost use Rattle.bounds_report.specs.Step.Kept.{IsShiftedTo};
+ghost use Rattle.branch.specs.Work.{IsClose};
+
+use crate::times::{shift, time_of};
+use itv_base::{EventId, NoMemory};
+use std::alloc::Global;
+
+/// Times of all events in picoseconds, and for each event whether it is of a set that can be raised by any number.
+#[derive(Debug, Drop)]
+pub struct Kept {
+    pub times: Vec<i64>,
+    pub set: Vec<bool>,
+}
+
+impl Kept {
+    /// Places for so many events.
+    pub fn new(alloc: Global, events: u32) -> Result<Kept, NoMemory>
+        ensures times { IfOk result (λ kept. length kept.times.items ≡ events) }
+        ensures set { IfOk result (λ kept. length kept.set.items ≡ events) }
+    {
+        Ok(Kept {
+            times: Vec::from_elem(alloc, 0, events as usize)?,
+            set: Vec::from_elem(alloc, false, events as usize)?,
+        })
+    }
+}
+
+/// Takes times, less that of an event which is there. All are below 2^60 picoseconds in absolute value.
+pub fn take_times(out: &mut [i64], times: &[i64], origin: EventId)
+    requires count { length times.now ≡ length out.old }
+    requires event { origin.0 < length times.now }
+    requires close { All IsClose times.now }
+    ensures taken { IsShiftedTo origin times.now out.new }
+{
+    let at = time_of(times, origin);
+    out.copy_from_slice(times);
+    shift(out, at);
+}

@@ -1,0 +1,25 @@
+//! Laws of the reports that the job writes. The functions do nothing; what they ensure holds of all drawn networks.
+#![tactic(auto, using(crate::proofs::WrittenLaws::written_is_shown, crate::proofs::WrittenLaws::written_is_bare, crate::proofs::WrittenLaws::written_is_checked, crate::proofs::WrittenLaws::written_is_accepted))]
+
+ghost use Rattle.bounds_report.specs.Laws.{WrittenIsAccepted, WrittenIsBare, WrittenIsChecked, WrittenIsShown};
+
+/// A report with the lines of proofs shows each of its numbers by them.
+pub fn written_is_shown()
+    ensures law { WrittenIsShown }
+{}
+
+/// A report without the lines of proofs is right, and there are such lines for each of its numbers.
+pub fn written_is_bare()
+    ensures law { WrittenIsBare }
+{}
+
+/// In a report with the lines of proofs each line meets the check.
+pub fn written_is_checked()
+    ensures law { WrittenIsChecked }
+{}
+
+/// The text of a report with the lines of proofs is accepted by the check, where the names of the events and the ranges of the rows
+/// have their form.
+pub fn written_is_accepted()
+    ensures law { WrittenIsAccepted }
+{}

@@ -1,0 +1,96 @@
+//! Telling the bounds of a row behind an unsettled finding: the root bounds.
+
+ghost use Rattle.std.specs.Prelude.{◌≡◌, ◌<◌, ℕ, ℤ, Bool, [], List, IfOk, OnOk};
+ghost use Rattle.branch.specs.Work.{IsMadeFor};
+ghost use Rattle.event_graph.specs.Network.{Net};
+ghost use Rattle.event_graph.specs.RootBound.{MeetsAlways};
+ghost use Rattle.requirements.specs.Bounds.{HasTimes};
+ghost use Rattle.slack_report.specs.Right.At.{Side, Telling, at_bound, bounded, greatest, least_by};
+ghost use Rattle.slack_report.specs.Right.Drawn.{Drawn};
+ghost use Rattle.slack_report.specs.declared.words.FindingWord.{FindingWord};
+ghost use Rattle.bounds_report.specs.Step.Kept.{HasTold, IsOpenBound};
+ghost use Rattle.bounds_report.specs.Step.Searched.{sized};
+ghost use Rattle.bounds_report.specs.Step.Told.{Goes, IsOf};
+
+use crate::pair::Pair;
+use branch::{Root, Work, root_bound};
+use event_graph::Network;
+use itv_base::{PutFailed, Sink};
+use line_words::LineBuffer;
+use requirements::{BothBounds, Bound};
+use slack_report::{Item, Which, write_item};
+
+/// Tells both bounds of a pair of which nothing was searched.
+pub fn tell_limits<K: Sink>(
+    pair: Pair,
+    net: &Network,
+    work: &mut Work,
+    buffer: &mut LineBuffer,
+    sink: &mut K,
+) -> Result<BothBounds, PutFailed>
+    requires made { IsMadeFor net.now work.old }
+    requires always { (times : List ℤ) × MeetsAlways times net.now }
+    requires from { pair.from.0 < net.now.events }
+    requires to { pair.to.0 < net.now.events }
+    ensures made { OnOk result (IsMadeFor net.now work.new) }
+    ensures known { OnOk result (work.new.known ≡ work.old.known) }
+    ensures greatest { IfOk result (λ both. HasTimes both.greatest × (HasTold both.greatest → ⊥)) }
+    ensures least { IfOk result (λ both. HasTimes both.least × (HasTold both.least → ⊥)) }
+    ensures goes { (most : ℕ) (cert : Bool) (drawn : Drawn) (told : Telling) → told.course.found ≡ FindingWord.Unsettled → told.row.from ≡ pair.from → told.row.to ≡ pair.to
+        → Goes (sized net.now most cert) drawn (at_bound told greatest []) (λ both. bounded told (least_by both.greatest) both.least) (λ _. [])
+        (K.told sink.old) (K.told sink.new) result }
+{
+    let greatest = limit_of(Which::Max, pair, net, work);
+    put_limit(Which::Max, greatest, buffer, sink)?;
+    let least = limit_of(Which::Min, pair, net, work);
+    put_limit(Which::Min, least, buffer, sink)?;
+    Ok(BothBounds { least, greatest })
+}
+
+// The root bound of a pair, as its greatest or its least bound.
+fn limit_of(which: Which, pair: Pair, net: &Network, work: &mut Work) -> Bound
+    requires made { IsMadeFor net.now work.old }
+    requires always { (times : List ℤ) × MeetsAlways times net.now }
+    requires from { pair.from.0 < net.now.events }
+    requires to { pair.to.0 < net.now.events }
+    ensures made { IsMadeFor net.now work.new }
+    ensures known { work.new.known ≡ work.old.known }
+    ensures open { IsOpenBound net.now pair which result }
+    ensures times { HasTimes result }
+{
+    let searched = pair.searched(which);
+    let limit = match root_bound(work, net, searched.from, searched.to) {
+        Root::Bound(upper) => upper,
+        Root::NoTimes => unreachable!(),
+    };
+    let greatest = Bound::Within {
+        limit,
+        attained: None,
+    };
+    match which {
+        Which::Max => greatest,
+        Which::Min => greatest.reversed(),
+    }
+}
+
+// Tells a bound of which only the limit is known.
+fn put_limit<K: Sink>(
+    which: Which,
+    value: Bound,
+    buffer: &mut LineBuffer,
+    sink: &mut K,
+) -> Result<(), PutFailed>
+    ensures goes { (net : Net) (most : ℕ) (cert : Bool) (drawn : Drawn) (told : Telling) (side : Side) (pair : Pair)
+        → told.course.found ≡ FindingWord.Unsettled → IsOf told side pair which → IsOpenBound net pair which value → HasTimes value
+        → Goes (sized net most cert) drawn (at_bound told side []) (λ _. bounded told side value) (λ _. [])
+        (K.told sink.old) (K.told sink.new) result }
+{
+    write_item(
+        &Item::Bound {
+            which,
+            bound: value,
+        },
+        buffer,
+        sink,
+    )
+}

@@ -1,0 +1,29 @@
+//! Pairs of events.
+
+ghost use Rattle.std.specs.Prelude.{◌≡◌};
+ghost use Rattle.bounds_report.specs.Step.Kept.{searched_pair};
+
+use itv_base::EventId;
+use slack_report::Which;
+
+/// Two events, whose separation is the time of `to` less that of `from`.
+#[derive(Clone, Copy, Debug)]
+pub struct Pair {
+    pub from: EventId,
+    pub to: EventId,
+}
+
+impl Pair {
+    /// The pair whose greatest separation gives a bound of this one: for the least bound it is the reversed pair.
+    pub fn searched(self, which: Which) -> Pair
+        ensures pair { result ≡ searched_pair which self }
+    {
+        match which {
+            Which::Max => self,
+            Which::Min => Pair {
+                from: self.to,
+                to: self.from,
+            },
+        }
+    }
+}

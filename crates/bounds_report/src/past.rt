@@ -1,0 +1,165 @@
+//! Times past an end of a range.
+
+ghost use Rattle.std.specs.Prelude.{◌≡◌, ◌<◌, ℕ, ℤ, Bool, [], List, Some, neg_ℤ};
+ghost use Rattle.event_graph.specs.Network.{IsNet};
+ghost use Rattle.itv_base.specs.Outside.{Puts};
+ghost use Rattle.itv_base.specs.Range.{IsEnd};
+ghost use Rattle.slack_report.specs.Entry.{times as entry_times};
+ghost use Rattle.slack_report.specs.Text.{entry_text};
+ghost use Rattle.slack_report.specs.Right.At.{Telling, behind_past, behind_verdict};
+ghost use Rattle.slack_report.specs.Right.Drawn.{Drawn};
+ghost use Rattle.requirements.specs.Verdicts.{verdict_of};
+ghost use Rattle.bounds_report.specs.Step.Kept.{ArePast, HasTold, IsBeyond, IsKept, IsRoomFor};
+ghost use Rattle.bounds_report.specs.Step.Ready.{IsSet};
+ghost use Rattle.bounds_report.specs.Step.Searched.{sized};
+ghost use Rattle.bounds_report.specs.Step.Told.{Goes};
+
+use crate::desk::Desk;
+use crate::kept::Kept;
+use crate::pair::Pair;
+use crate::times::{shift, time_of};
+use event_graph::Network;
+use itv_base::{PutFailed, Range, Sink};
+use line_words::LineBuffer;
+use requirements::{BothBounds, Bound, Verdict, raise_past};
+use slack_report::{Item, Which, write_item};
+
+/// Behind the verdict of a row, tells times that break the requirement if it is a fail.
+pub fn tell_past<K: Sink>(
+    word: Verdict,
+    range: Range,
+    pair: Pair,
+    net: &Network,
+    both: &BothBounds,
+    desk: &mut Desk,
+    sink: &mut K,
+) -> Result<(), PutFailed>
+    requires word { word ≡ verdict_of range both.now.least both.now.greatest }
+    requires set { IsSet net.now desk.old }
+    requires from { pair.from.0 < net.now.events }
+    requires to { pair.to.0 < net.now.events }
+    requires greatest { HasTold both.now.greatest → IsKept net.now pair Which.Max both.now.greatest desk.old.greatest.times.items desk.old.greatest.set.items }
+    requires least { HasTold both.now.least → IsKept net.now pair Which.Min both.now.least desk.old.least.times.items desk.old.least.set.items }
+    ensures set { IsSet net.now desk.new }
+    ensures known { desk.new.work.known ≡ desk.old.work.known }
+    ensures goes { (most : ℕ) (cert : Bool) (drawn : Drawn) (told : Telling) → told.row.from ≡ pair.from → told.row.to ≡ pair.to
+        → Goes (sized net.now most cert) drawn (behind_verdict told range both.now.least both.now.greatest word)
+        (λ _. behind_past told range both.now.least both.now.greatest word) (λ _. [])
+        (K.told sink.old) (K.told sink.new) result }
+{
+    match word {
+        Verdict::FailHigh => tell_passed(
+            Which::Max,
+            broken_high(range, both),
+            both.greatest,
+            pair,
+            net,
+            &mut desk.greatest,
+            &mut desk.buffer,
+            sink,
+        ),
+        Verdict::FailLow => tell_passed(
+            Which::Min,
+            broken_low(range, both),
+            both.least,
+            pair,
+            net,
+            &mut desk.least,
+            &mut desk.buffer,
+            sink,
+        ),
+        Verdict::Pass | Verdict::Undecided => Ok(()),
+    }
+}
+
+// The high end of a range that the greatest bound breaks.
+fn broken_high(range: Range, both: &BothBounds) -> i64
+    requires word { verdict_of range both.now.least both.now.greatest ≡ Verdict.FailHigh }
+    ensures end { range.high ≡ Some result }
+    ensures limit { IsEnd (Some result) }
+    ensures beyond { IsBeyond Which.Max both.now.greatest result }
+    ensures told { HasTold both.now.greatest }
+{
+    match range.high() {
+        Some(high) => high,
+        None => unreachable!(),
+    }
+}
+
+// Minus the low end of a range that the least bound breaks.
+fn broken_low(range: Range, both: &BothBounds) -> i64
+    requires word { verdict_of range both.now.least both.now.greatest ≡ Verdict.FailLow }
+    ensures end { range.low ≡ Some (neg_ℤ result) }
+    ensures limit { IsEnd (Some result) }
+    ensures beyond { IsBeyond Which.Min both.now.least result }
+    ensures told { HasTold both.now.least }
+{
+    match range.low() {
+        Some(low) => negated(low),
+        None => unreachable!(),
+    }
+}
+
+// Minus an end of a range.
+fn negated(end: i64) -> i64
+    requires end { IsEnd (Some end) }
+    ensures value { result ≡ neg_ℤ end }
+    ensures end { IsEnd (Some result) }
+{
+    -end
+}
+
+// Tells times past a limit, which is one of the separation of the searched pair.
+fn tell_passed<K: Sink>(
+    which: Which,
+    limit: i64,
+    value: Bound,
+    pair: Pair,
+    net: &Network,
+    kept: &mut Kept,
+    buffer: &mut LineBuffer,
+    sink: &mut K,
+) -> Result<(), PutFailed>
+    requires limit { IsEnd (Some limit) }
+    requires beyond { IsBeyond which value limit }
+    requires to { pair.to.0 < net.now.events }
+    requires room { IsRoomFor net.now kept.old }
+    requires kept { IsKept net.now pair which value kept.old.times.items kept.old.set.items }
+    ensures room { IsRoomFor net.now kept.new }
+    ensures puts { (list : List ℤ) × ArePast net.now pair which limit list
+        × Puts (K.told sink.old) (K.told sink.new) (entry_text (entry_times list)) result }
+{
+    pass_limit(which, limit, value, pair, net, kept);
+    write_item(&Item::Times(&kept.times), buffer, sink)
+}
+
+// Sees to it that the times that are kept of a bound are past a limit.
+fn pass_limit(which: Which, limit: i64, value: Bound, pair: Pair, net: &Network, kept: &mut Kept)
+    requires limit { IsEnd (Some limit) }
+    requires beyond { IsBeyond which value limit }
+    requires to { pair.to.0 < net.now.events }
+    requires room { IsRoomFor net.now kept.old }
+    requires kept { IsKept net.now pair which value kept.old.times.items kept.old.set.items }
+    ensures room { IsRoomFor net.now kept.new }
+    ensures past { ArePast net.now pair which limit kept.new.times.items }
+{
+    let _events = net.events();
+    match value {
+        Bound::Unbounded => raise(which, limit, pair, net, &mut kept.times, &kept.set),
+        Bound::Closed(_) | Bound::Within { .. } => {}
+    }
+}
+
+// Raises the set of events until the separation of the searched pair is past a limit, and takes the from-event back to 0.
+fn raise(which: Which, limit: i64, pair: Pair, net: &Network, times: &mut [i64], set: &[bool])
+    requires net { IsNet net.now }
+    requires limit { IsEnd (Some limit) }
+    requires to { pair.to.0 < net.now.events }
+    requires kept { IsKept net.now pair which Bound.Unbounded times.old set.now }
+    ensures past { ArePast net.now pair which limit times.new }
+{
+    let searched = pair.searched(which);
+    raise_past(times, set, searched.from, searched.to, limit);
+    let at = time_of(times, pair.from);
+    shift(times, at);
+}

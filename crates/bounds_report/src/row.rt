@@ -1,0 +1,221 @@
+//! Telling a row.
+
+ghost use Rattle.std.specs.Prelude.{◌≡◌, ◌<◌, ◌+◌, ◌||◌, ◌∷◌, ℕ, Bool, [], List, IfOk, IsSomeAnd, OnOk};
+ghost use Rattle.std.specs.Option.{option_to_list};
+ghost use Rattle.requirements.specs.Bounds.{HasTimes};
+ghost use Rattle.slack_report.specs.Right.At.{Course, Telling, at_bound, at_row, bounded, greatest, is_within, judged, least_by, with_bounds};
+ghost use Rattle.slack_report.specs.Right.Drawn.{Drawn, Row as ToldRow};
+ghost use Rattle.bounds_report.specs.Step.Kept.{HasTold, IsKept};
+ghost use Rattle.bounds_report.specs.Step.Ready.{IsReady, IsSet, course_after, course_with};
+ghost use Rattle.bounds_report.specs.Step.Searched.{sized};
+ghost use Rattle.bounds_report.specs.Step.Told.{Goes};
+ghost use Rattle.unroll.specs.Drawn.{IsRowOf, name_of};
+ghost use Rattle.event_graph.specs.Satisfying.{Satisfies};
+ghost use Rattle.itv_base.specs.Outside.{Puts};
+ghost use Rattle.slack_report.specs.Entry.{row as entry_row};
+ghost use Rattle.slack_report.specs.Text.{entry_text};
+ghost use Rattle.unroll.specs.Reported.{reported, row_told};
+
+use crate::bounding::tell_bound;
+use crate::desk::Desk;
+use crate::limits::tell_limits;
+use crate::pair::Pair;
+use crate::tally::RowEnd;
+use crate::verdict::tell_verdict;
+use crate::wanted::Wanted;
+use event_graph::Network;
+use itv_base::{PutFailed, Sink};
+use line_words::LineBuffer;
+use requirements::{BothBounds, Bound, Verdict};
+use sheet::RowKind;
+use slack_report::{FindingWord, Item, Which, write_item};
+use unroll::{Row, Unrolled};
+
+/// Tells a row: what is asked, both bounds, and the verdict if a range is demanded.
+pub fn tell_row<K: Sink>(
+    number: u32,
+    row: &Row,
+    found: FindingWord,
+    drawn: &Unrolled,
+    wanted: Wanted,
+    desk: &mut Desk,
+    sink: &mut K,
+) -> Result<RowEnd, PutFailed>
+    requires budget { 0 < wanted.budget }
+    requires found { found ≡ FindingWord.Inconsistent → ⊥ }
+    requires ready { IsReady drawn.now.net found desk.old }
+    requires row { IsRowOf drawn.now.net row.now }
+    ensures ready { OnOk result (IsReady drawn.now.net found desk.new) }
+    ensures goes { (course : Course) (later : List ToldRow) → course.found ≡ found
+        → Goes (sized drawn.now.net wanted.budget wanted.cert) (reported drawn.now) (at_row course number (row_told row.now ∷ later))
+        (λ end. at_row (course_after course end) (number + 1) later) (λ end. option_to_list end.verdict)
+        (K.told sink.old) (K.told sink.new) result }
+{
+    put_row(number, row, drawn, &mut desk.buffer, sink)?;
+    let pair = Pair {
+        from: row.from,
+        to: row.to,
+    };
+    let both = tell_bounds(found, pair, drawn.network(), wanted, desk, sink)?;
+    let verdict = tell_demand(&row.kind, pair, drawn.network(), &both, desk, sink)?;
+    Ok(RowEnd {
+        verdict,
+        is_within: is_left_open(&both),
+    })
+}
+
+// Tells the verdict of a row, if a range is demanded.
+fn tell_demand<K: Sink>(
+    kind: &RowKind,
+    pair: Pair,
+    net: &Network,
+    both: &BothBounds,
+    desk: &mut Desk,
+    sink: &mut K,
+) -> Result<Option<Verdict>, PutFailed>
+    requires set { IsSet net.now desk.old }
+    requires from { pair.from.0 < net.now.events }
+    requires to { pair.to.0 < net.now.events }
+    requires most { HasTimes both.now.greatest }
+    requires fewest { HasTimes both.now.least }
+    requires greatest { HasTold both.now.greatest → IsKept net.now pair Which.Max both.now.greatest desk.old.greatest.times.items desk.old.greatest.set.items }
+    requires least { HasTold both.now.least → IsKept net.now pair Which.Min both.now.least desk.old.least.times.items desk.old.least.set.items }
+    ensures set { OnOk result (IsSet net.now desk.new) }
+    ensures known { OnOk result (desk.new.work.known ≡ desk.old.work.known) }
+    ensures goes { (most : ℕ) (cert : Bool) (drawn : Drawn) (told : Telling) → told.row.from ≡ pair.from → told.row.to ≡ pair.to
+        → Goes (sized net.now most cert) drawn (judged kind.now told both.now.least both.now.greatest)
+        (λ verdict. at_row (course_with (with_bounds told.course both.now.least both.now.greatest) verdict) (told.number + 1) told.later)
+        (λ verdict. option_to_list verdict) (K.told sink.old) (K.told sink.new) result }
+{
+    match kind {
+        RowKind::Ask => Ok(None),
+        RowKind::Req(range) => {
+            let word = tell_verdict(*range, pair, net, both, desk, sink)?;
+            Ok(Some(word))
+        }
+    }
+}
+
+// Tells what is asked of a row.
+fn put_row<K: Sink>(
+    number: u32,
+    row: &Row,
+    drawn: &Unrolled,
+    buffer: &mut LineBuffer,
+    sink: &mut K,
+) -> Result<(), PutFailed>
+    requires row { IsRowOf drawn.now.net row.now }
+    ensures puts { Puts (K.told sink.old) (K.told sink.new)
+        (entry_text (entry_row number row.now.kind (name_of drawn.now row.now.from) (name_of drawn.now row.now.to))) result }
+{
+    write_item(
+        &Item::Row {
+            number,
+            kind: row.kind,
+            from: drawn.name(row.from),
+            to: drawn.name(row.to),
+        },
+        buffer,
+        sink,
+    )
+}
+
+// Whether one of two bounds was left open.
+fn is_left_open(both: &BothBounds) -> bool
+    ensures { result ≡ (is_within both.now.least || is_within both.now.greatest) }
+{
+    is_within(both.least) || is_within(both.greatest)
+}
+
+// Whether a bound was left open.
+fn is_within(bound: Bound) -> bool
+    ensures { result ≡ is_within bound }
+{
+    match bound {
+        Bound::Closed(_) | Bound::Unbounded => false,
+        Bound::Within { .. } => true,
+    }
+}
+
+// Tells both bounds of a pair.
+fn tell_bounds<K: Sink>(
+    found: FindingWord,
+    pair: Pair,
+    net: &Network,
+    wanted: Wanted,
+    desk: &mut Desk,
+    sink: &mut K,
+) -> Result<BothBounds, PutFailed>
+    requires budget { 0 < wanted.budget }
+    requires found { found ≡ FindingWord.Inconsistent → ⊥ }
+    requires ready { IsReady net.now found desk.old }
+    requires from { pair.from.0 < net.now.events }
+    requires to { pair.to.0 < net.now.events }
+    ensures set { OnOk result (IsSet net.now desk.new) }
+    ensures known { OnOk result (desk.new.work.known ≡ desk.old.work.known) }
+    ensures most { IfOk result (λ both. HasTimes both.greatest) }
+    ensures fewest { IfOk result (λ both. HasTimes both.least) }
+    ensures greatest { IfOk result (λ both. HasTold both.greatest
+        → IsKept net.now pair Which.Max both.greatest desk.new.greatest.times.items desk.new.greatest.set.items) }
+    ensures least { IfOk result (λ both. HasTold both.least
+        → IsKept net.now pair Which.Min both.least desk.new.least.times.items desk.new.least.set.items) }
+    ensures goes { (drawn : Drawn) (told : Telling) → told.course.found ≡ found → told.row.from ≡ pair.from → told.row.to ≡ pair.to
+        → Goes (sized net.now wanted.budget wanted.cert) drawn (at_bound told greatest [])
+        (λ both. bounded told (least_by both.greatest) both.least) (λ _. [])
+        (K.told sink.old) (K.told sink.new) result }
+{
+    match found {
+        FindingWord::Consistent => tell_searched(pair, net, wanted, desk, sink),
+        FindingWord::Unsettled => tell_limits(pair, net, &mut desk.work, &mut desk.buffer, sink),
+        FindingWord::Inconsistent => unreachable!(),
+    }
+}
+
+// Tells both bounds of a pair, each by a search.
+fn tell_searched<K: Sink>(
+    pair: Pair,
+    net: &Network,
+    wanted: Wanted,
+    desk: &mut Desk,
+    sink: &mut K,
+) -> Result<BothBounds, PutFailed>
+    requires budget { 0 < wanted.budget }
+    requires set { IsSet net.now desk.old }
+    requires known { IsSomeAnd desk.old.work.known (λ times. Satisfies times net.now) }
+    requires from { pair.from.0 < net.now.events }
+    requires to { pair.to.0 < net.now.events }
+    ensures set { OnOk result (IsSet net.now desk.new) }
+    ensures known { OnOk result (desk.new.work.known ≡ desk.old.work.known) }
+    ensures most { IfOk result (λ both. HasTimes both.greatest) }
+    ensures fewest { IfOk result (λ both. HasTimes both.least) }
+    ensures greatest { IfOk result (λ both. HasTold both.greatest
+        → IsKept net.now pair Which.Max both.greatest desk.new.greatest.times.items desk.new.greatest.set.items) }
+    ensures least { IfOk result (λ both. HasTold both.least
+        → IsKept net.now pair Which.Min both.least desk.new.least.times.items desk.new.least.set.items) }
+    ensures goes { (drawn : Drawn) (told : Telling) → told.course.found ≡ FindingWord.Consistent → told.row.from ≡ pair.from → told.row.to ≡ pair.to
+        → Goes (sized net.now wanted.budget wanted.cert) drawn (at_bound told greatest [])
+        (λ both. bounded told (least_by both.greatest) both.least) (λ _. [])
+        (K.told sink.old) (K.told sink.new) result }
+{
+    let greatest = tell_bound(
+        Which::Max,
+        pair,
+        net,
+        wanted,
+        &mut desk.work,
+        &mut desk.greatest,
+        &mut desk.buffer,
+        sink,
+    )?;
+    let least = tell_bound(
+        Which::Min,
+        pair,
+        net,
+        wanted,
+        &mut desk.work,
+        &mut desk.least,
+        &mut desk.buffer,
+        sink,
+    )?;
+    Ok(BothBounds { least, greatest })
+}

@@ -1,0 +1,164 @@
+//! Searches, whose lines of proofs are printed where they are wanted.
+
+ghost use Rattle.std.specs.Prelude.{◌≡◌, ◌<◌, ◌↔◌, All, IsSome, IsSomeAnd, IfOk, IfSome, OnOk, OnErr, Ok, true, List};
+ghost use Rattle.event_graph.specs.Proof.{ProofLine};
+ghost use Rattle.branch.specs.Answers.{Answers, Finds, IsCounted};
+ghost use Rattle.branch.specs.Work.{IsClose, IsMadeFor};
+ghost use Rattle.event_graph.specs.Satisfying.{Satisfies};
+ghost use Rattle.bounds_report.specs.Step.Searched.{Tells, WasCut};
+
+use crate::pair::Pair;
+use crate::wanted::Wanted;
+use branch::{Answer, Found, Quiet, Work, find, greatest};
+use certificate::SinkScribe;
+use event_graph::{Network, ScribeFailed};
+use itv_base::{PutFailed, Sink};
+use line_words::LineBuffer;
+
+/// Looks for times that satisfy a network, and prints the lines of the proof where they are wanted.
+pub fn find_times<K: Sink>(
+    work: &mut Work,
+    net: &Network,
+    wanted: Wanted,
+    buffer: &mut LineBuffer,
+    sink: &mut K,
+) -> Result<Found, PutFailed>
+    requires made { IsMadeFor net.now work.old }
+    requires budget { 0 < wanted.budget }
+    ensures made { IsMadeFor net.now work.new }
+    ensures known { IsSome work.new.known ↔ (result ≡ Ok Found.Consistent) }
+    ensures close { IfSome work.new.known (All IsClose) }
+    ensures finds { IfOk result (λ found. Tells wanted.cert (K.told sink.old) (K.told sink.new)
+        (λ lines. Finds net.now wanted.budget lines work.new.leaves work.new.known found)) }
+    ensures count { OnOk result (IsCounted net.now wanted.budget work.new.leaves) }
+    ensures cut { OnErr result (WasCut (K.told sink.old) (K.told sink.new)) }
+{
+    if wanted.cert {
+        find_printing(work, net, wanted.budget, buffer, sink)
+    } else {
+        Ok(find_quietly(work, net, wanted.budget))
+    }
+}
+
+/// Finds the greatest separation of a pair, and prints the lines of the proof where they are wanted.
+pub fn greatest_of<K: Sink>(
+    work: &mut Work,
+    net: &Network,
+    pair: Pair,
+    wanted: Wanted,
+    buffer: &mut LineBuffer,
+    sink: &mut K,
+) -> Result<Answer, PutFailed>
+    requires made { IsMadeFor net.now work.old }
+    requires known { IsSomeAnd work.old.known (λ times. Satisfies times net.now) }
+    requires from { pair.from.0 < net.now.events }
+    requires to { pair.to.0 < net.now.events }
+    requires budget { 0 < wanted.budget }
+    ensures made { IsMadeFor net.now work.new }
+    ensures known { work.new.known ≡ work.old.known }
+    ensures answers { IfOk result (λ answer. Tells wanted.cert (K.told sink.old) (K.told sink.new)
+        (λ lines. Answers net.now pair.from pair.to wanted.budget lines work.new.leaves work.new.times work.new.ray answer)) }
+    ensures count { OnOk result (IsCounted net.now wanted.budget work.new.leaves) }
+    ensures times { OnOk result (Satisfies work.new.times net.now) }
+    ensures close { OnOk result (All IsClose work.new.times) }
+    ensures cut { OnErr result (WasCut (K.told sink.old) (K.told sink.new)) }
+{
+    if wanted.cert {
+        greatest_printing(work, net, pair, wanted.budget, buffer, sink)
+    } else {
+        Ok(greatest_quietly(work, net, pair, wanted.budget))
+    }
+}
+
+// ---- with the lines
+
+fn find_printing<K: Sink>(
+    work: &mut Work,
+    net: &Network,
+    budget: u64,
+    buffer: &mut LineBuffer,
+    sink: &mut K,
+) -> Result<Found, PutFailed>
+    requires made { IsMadeFor net.now work.old }
+    requires budget { 0 < budget }
+    ensures made { IsMadeFor net.now work.new }
+    ensures known { IsSome work.new.known ↔ (result ≡ Ok Found.Consistent) }
+    ensures close { IfSome work.new.known (All IsClose) }
+    ensures finds { IfOk result (λ found. Tells true (K.told sink.old) (K.told sink.new)
+        (λ lines. Finds net.now budget lines work.new.leaves work.new.known found)) }
+    ensures count { OnOk result (IsCounted net.now budget work.new.leaves) }
+    ensures cut { OnErr result (WasCut (K.told sink.old) (K.told sink.new)) }
+{
+    let mut scribe = SinkScribe { buffer, sink };
+    match find(work, net, budget, &mut scribe) {
+        Ok(found) => Ok(found),
+        Err(ScribeFailed) => Err(PutFailed),
+    }
+}
+
+fn greatest_printing<K: Sink>(
+    work: &mut Work,
+    net: &Network,
+    pair: Pair,
+    budget: u64,
+    buffer: &mut LineBuffer,
+    sink: &mut K,
+) -> Result<Answer, PutFailed>
+    requires made { IsMadeFor net.now work.old }
+    requires known { IsSomeAnd work.old.known (λ times. Satisfies times net.now) }
+    requires from { pair.from.0 < net.now.events }
+    requires to { pair.to.0 < net.now.events }
+    requires budget { 0 < budget }
+    ensures made { IsMadeFor net.now work.new }
+    ensures known { work.new.known ≡ work.old.known }
+    ensures answers { IfOk result (λ answer. Tells true (K.told sink.old) (K.told sink.new)
+        (λ lines. Answers net.now pair.from pair.to budget lines work.new.leaves work.new.times work.new.ray answer)) }
+    ensures count { OnOk result (IsCounted net.now budget work.new.leaves) }
+    ensures times { OnOk result (Satisfies work.new.times net.now) }
+    ensures close { OnOk result (All IsClose work.new.times) }
+    ensures cut { OnErr result (WasCut (K.told sink.old) (K.told sink.new)) }
+{
+    let mut scribe = SinkScribe { buffer, sink };
+    match greatest(work, net, pair.from, pair.to, budget, &mut scribe) {
+        Ok(answer) => Ok(answer),
+        Err(ScribeFailed) => Err(PutFailed),
+    }
+}
+
+// ---- without them
+
+fn find_quietly(work: &mut Work, net: &Network, budget: u64) -> Found
+    requires made { IsMadeFor net.now work.old }
+    requires budget { 0 < budget }
+    ensures made { IsMadeFor net.now work.new }
+    ensures known { IsSome work.new.known ↔ (result ≡ Found.Consistent) }
+    ensures close { IfSome work.new.known (All IsClose) }
+    ensures finds { (lines : List ProofLine)
+        × Finds net.now budget lines work.new.leaves work.new.known result }
+    ensures count { IsCounted net.now budget work.new.leaves }
+{
+    match find(work, net, budget, &mut Quiet) {
+        Ok(found) => found,
+        Err(ScribeFailed) => unreachable!(),
+    }
+}
+
+fn greatest_quietly(work: &mut Work, net: &Network, pair: Pair, budget: u64) -> Answer
+    requires made { IsMadeFor net.now work.old }
+    requires known { IsSomeAnd work.old.known (λ times. Satisfies times net.now) }
+    requires from { pair.from.0 < net.now.events }
+    requires to { pair.to.0 < net.now.events }
+    requires budget { 0 < budget }
+    ensures made { IsMadeFor net.now work.new }
+    ensures known { work.new.known ≡ work.old.known }
+    ensures answers { (lines : List ProofLine)
+        × Answers net.now pair.from pair.to budget lines work.new.leaves work.new.times work.new.ray result }
+    ensures count { IsCounted net.now budget work.new.leaves }
+    ensures times { Satisfies work.new.times net.now }
+    ensures close { All IsClose work.new.times }
+{
+    match greatest(work, net, pair.from, pair.to, budget, &mut Quiet) {
+        Ok(answer) => answer,
+        Err(ScribeFailed) => unreachable!(),
+    }
+}

@@ -1,0 +1,91 @@
+//! Counts of verdicts.
+
+ghost use Rattle.std.specs.Prelude.{◌≡◌, ◌<◌, ◌≤◌, ◌+◌, ◌-◌, ◌^◌, ◌++◌, [], List};
+ghost use Rattle.std.specs.Option.{option_to_list};
+ghost use Rattle.bounds_report.specs.Step.Ready.{IsTally, course_after, tally_course};
+ghost use Rattle.requirements.specs.declared.verdict.Verdict.{Verdict as Word};
+ghost use Rattle.slack_report.specs.declared.words.FindingWord.{FindingWord as Found};
+ghost use Rattle.slack_report.specs.Right.At.{course_of, end_word};
+
+use requirements::Verdict;
+use slack_report::{EndWord, FindingWord};
+
+/// What a row comes to: its verdict, if it has one, and whether a bound of it was left open.
+#[derive(Clone, Copy, Debug)]
+pub struct RowEnd {
+    pub verdict: Option<Verdict>,
+    pub is_within: bool,
+}
+
+/// How many requirements passed, failed and were left undecided so far, and whether some bound was left open.
+#[derive(Clone, Copy, Debug)]
+pub struct Tally {
+    pub passes: u32,
+    pub fails: u32,
+    pub undecided: u32,
+    pub is_within: bool,
+}
+
+impl Tally {
+    /// Before the first row.
+    pub fn start() -> Tally
+        ensures counted { IsTally result [] }
+        ensures course { (found : Found) → tally_course found result ≡ course_of found }
+        ensures none { result.passes + result.fails + result.undecided ≡ 0 }
+    {
+        Tally {
+            passes: 0,
+            fails: 0,
+            undecided: 0,
+            is_within: false,
+        }
+    }
+
+    /// Takes in what one more row comes to.
+    pub fn after(self, end: RowEnd) -> Tally
+        requires room { self.passes + self.fails + self.undecided < 2 ^ 32 - 1 }
+        ensures counted { (words : List Word) → IsTally self words
+            → IsTally result (words ++ option_to_list end.verdict) }
+        ensures course { (found : Found) → tally_course found result ≡ course_after (tally_course found self) end }
+        ensures most { result.passes + result.fails + result.undecided
+            ≤ self.passes + self.fails + self.undecided + 1 }
+    {
+        let open = self.is_within || end.is_within;
+        match end.verdict {
+            None => Tally {
+                is_within: open,
+                ..self
+            },
+            Some(Verdict::Pass) => Tally {
+                passes: self.passes + 1,
+                is_within: open,
+                ..self
+            },
+            Some(Verdict::FailHigh | Verdict::FailLow) => Tally {
+                fails: self.fails + 1,
+                is_within: open,
+                ..self
+            },
+            Some(Verdict::Undecided) => Tally {
+                undecided: self.undecided + 1,
+                is_within: open,
+                ..self
+            },
+        }
+    }
+
+    /// The word at the end of a report, behind a finding and these rows.
+    pub fn end_word(self, found: FindingWord) -> EndWord
+        ensures word { result ≡ end_word (tally_course found self) }
+    {
+        if self.fails > 0 {
+            return EndWord::Fail;
+        }
+        match found {
+            FindingWord::Consistent if self.is_within => EndWord::Undecided,
+            FindingWord::Consistent => EndWord::Pass,
+            FindingWord::Inconsistent => EndWord::Inconsistent,
+            FindingWord::Unsettled => EndWord::Undecided,
+        }
+    }
+}

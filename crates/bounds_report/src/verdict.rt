@@ -1,0 +1,48 @@
+//! Telling the verdict on a row.
+
+ghost use Rattle.std.specs.Prelude.{◌≡◌, ◌<◌, ◌+◌, ◌∷◌, ℕ, Bool, [], List, OnOk};
+ghost use Rattle.requirements.specs.Bounds.{HasTimes};
+ghost use Rattle.slack_report.specs.Right.At.{Telling, at_row, at_verdict, with_bounds, with_verdict};
+ghost use Rattle.slack_report.specs.Right.Drawn.{Drawn};
+ghost use Rattle.bounds_report.specs.Step.Kept.{HasTold, IsKept};
+ghost use Rattle.bounds_report.specs.Step.Ready.{IsSet};
+ghost use Rattle.bounds_report.specs.Step.Searched.{sized};
+ghost use Rattle.bounds_report.specs.Step.Told.{Goes};
+
+use crate::desk::Desk;
+use crate::pair::Pair;
+use crate::past::tell_past;
+use event_graph::Network;
+use itv_base::{PutFailed, Range, Sink};
+use requirements::{BothBounds, Verdict, judge, slack};
+use slack_report::{Item, Which, write_item};
+
+/// Tells the verdict on a requirement by the two bounds of its pair, times that break it, and the slacks.
+pub fn tell_verdict<K: Sink>(
+    range: Range,
+    pair: Pair,
+    net: &Network,
+    both: &BothBounds,
+    desk: &mut Desk,
+    sink: &mut K,
+) -> Result<Verdict, PutFailed>
+    requires set { IsSet net.now desk.old }
+    requires from { pair.from.0 < net.now.events }
+    requires to { pair.to.0 < net.now.events }
+    requires most { HasTimes both.now.greatest }
+    requires fewest { HasTimes both.now.least }
+    requires greatest { HasTold both.now.greatest → IsKept net.now pair Which.Max both.now.greatest desk.old.greatest.times.items desk.old.greatest.set.items }
+    requires least { HasTold both.now.least → IsKept net.now pair Which.Min both.now.least desk.old.least.times.items desk.old.least.set.items }
+    ensures set { OnOk result (IsSet net.now desk.new) }
+    ensures known { OnOk result (desk.new.work.known ≡ desk.old.work.known) }
+    ensures goes { (most : ℕ) (cert : Bool) (drawn : Drawn) (told : Telling) → told.row.from ≡ pair.from → told.row.to ≡ pair.to
+        → Goes (sized net.now most cert) drawn (at_verdict told range both.now.least both.now.greatest)
+        (λ word. at_row (with_verdict (with_bounds told.course both.now.least both.now.greatest) word) (told.number + 1) told.later)
+        (λ word. word ∷ []) (K.told sink.old) (K.told sink.new) result }
+{
+    let word = judge(range, both);
+    write_item(&Item::Verdict(word), &mut desk.buffer, sink)?;
+    tell_past(word, range, pair, net, both, desk, sink)?;
+    write_item(&Item::Slack(slack(range, both)), &mut desk.buffer, sink)?;
+    Ok(word)
+}
