@@ -19,7 +19,7 @@ mod rows;
 mod separations;
 mod sheets;
 mod verdicts;
-mod words;
+mod word_lists;
 
 use itv_base::{ShelfMem, SinkMem, Texts};
 use itv_cli::{Outcome, run};
