@@ -5,3 +5,5 @@ pub mod Bounding
 pub mod Between
 pub mod Counting
 pub mod Settling
+pub mod Closing
+pub mod Negating

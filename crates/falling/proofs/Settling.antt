@@ -78,31 +78,39 @@ raised_most values low high c le = by_high (time_of values c.event) c.range.high
   by_high a None h = tt
   by_high a (Some e) h = omega (arith, ints)
 
-pub has_latest : (values : List ℤ) (c : Cause) (cs : List Cause) → All (λ (x : Cause). IsSome x.range.high) (c ∷ cs) → (value : ℤ) × IsLatestHigh values (c ∷ cs) value
-has_latest values c [] finite =
-    let (h, is) = finite_of c.range.high (finite 0 c (omega arith)) in
-    (time_of values c.event +ℤ h, record {
-      most = all_cons (IsMost values (time_of values c.event +ℤ h)) c [] (if_is c.range.high _ h is (omega (arith, ints))) (none_all _);
-      attained = any_here (IsAttained values (time_of values c.event +ℤ h)) c [] (at_is c.range.high _ h is refl);
-    })
-has_latest values c (d ∷ cs) finite =
-    let (h, is) = finite_of c.range.high (finite 0 c (omega arith)) in
-    let (value, latest) = has_latest values d cs (λ i x within. finite (suc i) x (omega arith)) in
-    elim (below_or_not value (time_of values c.event +ℤ h)) [
-      | inl less ↦ (time_of values c.event +ℤ h, record {
-        most = all_cons (IsMost values (time_of values c.event +ℤ h)) c (d ∷ cs) (if_is c.range.high _ h is (omega (arith, ints)))
-            (λ i x within. raised_most values value (time_of values c.event +ℤ h) _ (le_of _ _ less) (latest.most i x within));
-        attained = any_here (IsAttained values (time_of values c.event +ℤ h)) c (d ∷ cs) (at_is c.range.high _ h is refl);
-      })
-      | inr least ↦ (value, record {
-        most = all_cons (IsMost values value) c (d ∷ cs) (if_is c.range.high _ h is least) latest.most;
-        attained = any_later (IsAttained values value) c (d ∷ cs) latest.attained;
-      })
-    ] where
+latest_one : (values : List ℤ) (c : Cause) (cs : List Cause) (h : ℤ) → c.range.high ≡ Some h → All (IsMost values (time_of values c.event +ℤ h)) cs
+    → IsLatestHigh values (c ∷ cs) (time_of values c.event +ℤ h)
+latest_one values c cs h is rest = record {
+  most = all_cons (IsMost values (time_of values c.event +ℤ h)) c cs (if_is c.range.high _ h is (omega (arith, ints))) rest;
+  attained = any_here (IsAttained values (time_of values c.event +ℤ h)) c cs (at_is c.range.high _ h is refl);
+}
+
+latest_more : (values : List ℤ) (c : Cause) (cs : List Cause) (h value : ℤ) → c.range.high ≡ Some h → IsLatestHigh values cs value
+    → (most : ℤ) × IsLatestHigh values (c ∷ cs) most
+latest_more values c cs h value is latest = elim (below_or_not value (time_of values c.event +ℤ h)) [
+  | inl less ↦ (time_of values c.event +ℤ h, latest_one values c cs h is
+    (λ i x within. raised_most values value (time_of values c.event +ℤ h) (get_or cs i x) (le_of _ _ less) (latest.most i x within)))
+  | inr least ↦ (value, record {
+    most = all_cons (IsMost values value) c cs (if_is c.range.high _ h is least) latest.most;
+    attained = any_later (IsAttained values value) c cs latest.attained;
+  })
+] where
   le_of : (a b : ℤ) → a <ℤ b → a ≤ℤ b
   le_of a b h = omega (arith, ints)
 
+pub has_latest : (values : List ℤ) (c : Cause) (cs : List Cause) → All (λ (x : Cause). IsSome x.range.high) (c ∷ cs) → (value : ℤ) × IsLatestHigh values (c ∷ cs) value
+has_latest values c [] finite =
+    let (h, is) = finite_of c.range.high (finite 0 c (omega arith)) in
+    (time_of values c.event +ℤ h, latest_one values c [] h is (none_all (IsMost values (time_of values c.event +ℤ h))))
+has_latest values c (d ∷ cs) finite =
+    let (h, is) = finite_of c.range.high (finite 0 c (omega arith)) in
+    let (value, latest) = has_latest values d cs (λ i x within. finite (suc i) x (omega arith)) in
+    latest_more values c (d ∷ cs) h value is latest
+
 -- some cause has an open high end, or all are finite
+is_some : (o : Option ℤ) (h : ℤ) → o ≡ Some h → IsSome o
+is_some o h is = rw is refl
+
 open_or_finite : (cs : List Cause) → ((i : ℕ) × (c : Cause) × (i < length cs) × (slice_get cs i ≡ Some c) × (c.range.high ≡ None)) ⊎ All (λ (x : Cause). IsSome x.range.high) cs
 open_or_finite [] = inr (none_all _)
 open_or_finite (c ∷ cs) = by_high c.range.high refl (open_or_finite cs) where
@@ -110,7 +118,7 @@ open_or_finite (c ∷ cs) = by_high c.range.high refl (open_or_finite cs) where
       → ((i : ℕ) × (d : Cause) × (i < length (c ∷ cs)) × (slice_get (c ∷ cs) i ≡ Some d) × (d.range.high ≡ None)) ⊎ All (λ (x : Cause). IsSome x.range.high) (c ∷ cs)
   by_high None is rest = inl (0, c, omega arith, refl, is)
   by_high (Some h) is (inl (i, d, within, at_d, is_open)) = inl (suc i, d, omega arith, at_d, is_open)
-  by_high (Some h) is (inr all) = inr (all_cons _ c cs (rw is refl) all)
+  by_high (Some h) is (inr all) = inr (all_cons (λ (x : Cause). IsSome x.range.high) c cs (is_some c.range.high h is) all)
 
 open_edge : (values : List ℤ) (target : EventId) (c : Cause) → c.range.high ≡ None → IfSome (side_edge Upper target c) (Meets values)
 open_edge values target c is_open = rw is_open tt
