@@ -7,3 +7,4 @@ pub mod Counting
 pub mod Settling
 pub mod Closing
 pub mod Negating
+pub mod Tried
