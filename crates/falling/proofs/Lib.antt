@@ -8,3 +8,6 @@ pub mod Settling
 pub mod Closing
 pub mod Negating
 pub mod Tried
+pub mod Widths
+pub mod Collecting
+pub mod Climbing

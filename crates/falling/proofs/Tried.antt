@@ -28,7 +28,7 @@ named_most Late count h = omega arith
 named_most Early count h = omega arith
 
 -- a number that an option maps to
-counted_is : (f : Constraint → ℕ) (o : Option Constraint) (k : Constraint) (count : ℕ) → option_map f o ≡ Some count → o ≡ Some k → f k ≡ count
+pub counted_is : (f : Constraint → ℕ) (o : Option Constraint) (k : Constraint) (count : ℕ) → option_map f o ≡ Some count → o ≡ Some k → f k ≡ count
 counted_is f o k count counted is = same_Some (f k) count (rw is at counted)
 
 -- an edge that is there is of a cause that a loop over the named causes, or over one, has seen
@@ -188,7 +188,7 @@ latest_all net values number count k value at_k all so_far =
       },
     )
 
-kind_of : (net : Net) (number : ℕ) (kind : RuleKind) → IsKind net number kind → (k : Constraint) × (slice_get net.constraints number ≡ Some k) × (k.kind ≡ kind)
+pub kind_of : (net : Net) (number : ℕ) (kind : RuleKind) → IsKind net number kind → (k : Constraint) × (slice_get net.constraints number ≡ Some k) × (k.kind ≡ kind)
 kind_of net number kind is = mapped_some (λ (c : Constraint). c.kind) (slice_get net.constraints number) kind is
 
 late_count : (kind : RuleKind) (count : ℕ) → kind ≡ Late → named_causes kind count ≡ count

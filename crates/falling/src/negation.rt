@@ -15,8 +15,9 @@ pub fn negation_of(alloc: Global, net: &Network) -> Result<Network, NoMemory>
 {
     let mut negation = Network::new(alloc, net.events())?;
     for number in 0..net.len() {
-        if push_negated(alloc, net, number, &mut negation).is_err() {
-            return Err(NoMemory);
+        match push_negated(alloc, net, number, &mut negation) {
+            Ok(()) => {}
+            Err(_) => return Err(NoMemory),
         }
     }
     Ok(negation)
