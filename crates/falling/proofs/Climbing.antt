@@ -6,10 +6,9 @@ use Rattle.falling.specs.Cap.{cap, far_line, widest_end}
 use Rattle.falling.specs.Rays.{IsReached, above}
 use Rattle.falling.proofs.Within.{room_below}
 
--- whether one value is above a level, as a number
-one_above : (level value : ℤ) (b : Bool) → int_lt level value ≡ b → (value ≤ℤ level) ⊎ ((if b then 1 else 0) ≡ 1)
-one_above level value true e = inr refl
-one_above level value false e = inl (omega (arith, ints))
+-- a truth as a number
+abbrev as_number : Bool → ℕ
+as_number b = if b then 1 else 0
 
 one_most : (b : Bool) → (if b then 1 else 0) ≤ 1
 one_most true = omega arith
@@ -30,19 +29,19 @@ pub above_falls : (values : List ℤ) (low high : ℤ) → low ≤ℤ high → a
 above_falls [] low high le = omega arith
 above_falls (value ∷ values) low high le = omega (arith, one_falls low high value (int_lt low value) (int_lt high value) refl refl le, above_falls values low high le)
 
-at_level : (b : Bool) (value : ℤ) → int_lt value value ≡ b → (if b then 1 else 0) ≡ 0
+at_level : (b : Bool) (value : ℤ) → int_lt value value ≡ b → as_number b ≡ 0
 at_level true value e = absurd (omega (arith, ints))
 at_level false value e = refl
 
-above_level : (b : Bool) (low value : ℤ) → int_lt low value ≡ b → low <ℤ value → (if b then 1 else 0) ≡ 1
+above_level : (b : Bool) (low value : ℤ) → int_lt low value ≡ b → low <ℤ value → as_number b ≡ 1
 above_level true low value e less = refl
 above_level false low value e less = absurd (omega (arith, ints))
 
 pub above_lower : (values : List ℤ) (i : ℕ) (low : ℤ) → i < length values → low <ℤ get_or values i (pos 0) → above (get_or values i (pos 0)) values < above low values
 above_lower [] i low within less = absurd (omega arith)
 above_lower (value ∷ values) zero low within less =
-    let here : (if int_lt value value then 1 else 0) ≡ 0 = at_level (int_lt value value) value refl in
-    let before : (if int_lt low value then 1 else 0) ≡ 1 = above_level (int_lt low value) low value refl less in
+    let here : as_number (int_lt value value) ≡ 0 = at_level (int_lt value value) value refl in
+    let before : as_number (int_lt low value) ≡ 1 = above_level (int_lt low value) low value refl less in
     let rest : above value values ≤ above low values = above_falls values low value (le_of low value less) in
     omega arith where
   le_of : (a b : ℤ) → a <ℤ b → a ≤ℤ b
@@ -50,7 +49,7 @@ above_lower (value ∷ values) zero low within less =
 above_lower (value ∷ values) (suc i) low within less =
     let at : ℤ = get_or values i (pos 0) in
     let rest : above (get_or values i (pos 0)) values < above low values = above_lower values i low (omega arith) less in
-    let first : (if int_lt (get_or values i (pos 0)) value then 1 else 0) ≤ (if int_lt low value then 1 else 0) =
+    let first : as_number (int_lt (get_or values i (pos 0)) value) ≤ as_number (int_lt low value) =
     one_falls low (get_or values i (pos 0)) value (int_lt low value) (int_lt (get_or values i (pos 0)) value) refl refl (le_of low (get_or values i (pos 0)) less) in
     omega arith where
   le_of : (a b : ℤ) → a <ℤ b → a ≤ℤ b
@@ -110,12 +109,13 @@ step_up values width w level next is low high reached other = elim reached.eithe
 -- how high a level is
 pub level_within : (net : Net) (values : List ℤ) (level : ℤ) → length values ≡ net.events → level ≤ℤ pos ((above (pos 0) values - above level values) * widest_end net)
     → level ≤ℤ pos (net.events * widest_end net)
-pub level_small : (net : Net) (level : ℤ) → cap net ≤ 2 ^ 60 → level ≤ℤ pos (net.events * widest_end net) → level ≤ℤ pos (2 ^ 60)
 level_within net values level count high =
     le_to level ((above (pos 0) values - above level values) * widest_end net) (net.events * widest_end net) high
     (mul_most (above (pos 0) values - above level values) net.events (widest_end net) (omega (arith, above_within values (pos 0), count))) where
   le_to : (level : ℤ) (a b : ℕ) → level ≤ℤ pos a → a ≤ b → level ≤ℤ pos b
   le_to level a b h le = omega (arith, ints)
+
+pub level_small : (net : Net) (level : ℤ) → cap net ≤ 2 ^ 60 → level ≤ℤ pos (net.events * widest_end net) → level ≤ℤ pos (2 ^ 60)
 level_small net level small high =
     le_to level (net.events * widest_end net) (cap net) high (room net.events (widest_end net)) small where
   room : (n w : ℕ) → n * w ≤ 2 * n * (w + 1)

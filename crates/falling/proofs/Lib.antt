@@ -11,3 +11,5 @@ pub mod Tried
 pub mod Widths
 pub mod Collecting
 pub mod Climbing
+pub mod Deriving
+pub mod Answering

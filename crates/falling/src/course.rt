@@ -48,6 +48,7 @@ pub fn derive<N: Notes>(
     ensures rose { OnErr result (Rose (N.faults notes.old) (N.faults notes.new)) }
     ensures count { length values.new ≡ length values.old }
 {
+    prove!(net.events() as usize == values.len());
     start(values, from, limits);
     let mut taken: u64 = 0;
     'turns: while let Some(line) = first_line(net, values) {
