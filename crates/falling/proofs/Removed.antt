@@ -78,13 +78,13 @@ removed_stays width times base k (suc n) le covered = elim (or_same k n le) [
   or_same : (k n : ℕ) → k ≤ suc n → (k ≡ suc n) ⊎ (k ≤ n)
   or_same k n le = grind arith
 
-is_le : (a b : ℤ) → a ≤ℤ b → int_le a b ≡ true
+pub is_le : (a b : ℤ) → a ≤ℤ b → int_le a b ≡ true
 is_le a b h = by_test (int_le a b) refl where
   by_test : (t : Bool) → int_le a b ≡ t → t ≡ true
   by_test true e = refl
   by_test false e = absurd (omega (arith, ints))
 
-is_lt : (a b : ℤ) → a <ℤ b → int_lt a b ≡ true
+pub is_lt : (a b : ℤ) → a <ℤ b → int_lt a b ≡ true
 is_lt a b h = by_test (int_lt a b) refl where
   by_test : (t : Bool) → int_lt a b ≡ t → t ≡ true
   by_test true e = refl

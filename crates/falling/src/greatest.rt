@@ -4,6 +4,7 @@ ghost use Rattle.std.specs.Prelude.{◌≡◌, ◌<◌, ◌≤ℤ◌, ◌<ℤ◌
 ghost use Rattle.itv_base.specs.declared.names.EventId.{EventId};
 ghost use Rattle.itv_base.specs.Outside.{Rose};
 ghost use Rattle.event_graph.specs.Times.{time_of};
+ghost use Rattle.falling.specs.declared.answer.Fallen.TheVariants.{Closed};
 ghost use Rattle.falling.specs.declared.line.FallLine.{FallLine};
 ghost use Rattle.falling.specs.Course.{AreLimits, HasSettled};
 ghost use Rattle.falling.specs.Derivation.{IsDerivation};
@@ -46,6 +47,7 @@ pub fn greatest<N: Notes>(
     ensures values { length values.new ≡ length values.old }
     ensures ray { length ray.new ≡ length ray.old }
 {
+    prove!(net.events() as usize == values.len());
     let descent = match derive(net, from, limits, turns, values, notes) {
         Ok(descent) => descent,
         Err(failed) => return Err(failed),
@@ -82,7 +84,7 @@ fn settled(
 {
     prove!(net.events() as usize == values.len());
     if !is_far(values, to, limits) {
-        return Fallen::Closed(values[to.0 as usize]);
+        return closed_at(values, to);
     }
     let level = gap_level(net, values, limits);
     mark_above(values, level, ray);
@@ -97,6 +99,14 @@ fn mark_above(values: &[i64], level: Level, ray: &mut [bool])
     for event in 0..values.len() {
         ray[event] = level.value < values[event];
     }
+}
+
+// The answer that a pair has the value of its to-event.
+fn closed_at(values: &[i64], event: EventId) -> Fallen
+    requires { event.0 < length values.now }
+    ensures { result ≡ Closed (time_of values.now event) }
+{
+    Fallen::Closed(values[event.0 as usize])
 }
 
 // Whether a value is at least the far line.
