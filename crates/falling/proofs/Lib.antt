@@ -13,3 +13,4 @@ pub mod Collecting
 pub mod Climbing
 pub mod Deriving
 pub mod Answering
+pub mod Begun
