@@ -13,7 +13,7 @@ use Rattle.falling.specs.Derivation.{IsAllowed, IsDerivation, IsEnded, IsSettled
 use Rattle.falling.specs.Turns.{IsNearValue}
 use Rattle.falling.proofs.Bounding.{length-starting, replicated, set_at}
 use Rattle.falling.proofs.Closing.{start_source}
-use Rattle.falling.proofs.Counting.{least_of, start_most}
+use Rattle.falling.proofs.Counting.{due_within, least_of, start_most}
 use Rattle.falling.proofs.Near.{below_or_not}
 
 -- a derivation of some lines that has not ended
@@ -108,6 +108,20 @@ start_not_ended net from within (inr (i, value, there, here, low)) =
     ] where
   below : (z : ℤ) (n far : ℕ) → z ≡ pos n → z <ℤ neg_ℤ (pos far) → ⊥
   below z n far e low = omega (arith, ints)
+
+lead_most : (net : Net) (from : EventId) (values : List ℤ) (lines : List FallLine) (after : List ℤ) → IsNet net → length values ≡ net.events
+    → All (λ (value : ℤ). value ≤ℤ pos (cap net)) values → Leads net from values lines after → All (λ (value : ℤ). value ≤ℤ pos (cap net)) after
+lead_most net from values [] after is_net count most leads = subst (All (λ (value : ℤ). value ≤ℤ pos (cap net))) leads most
+lead_most net from values (line ∷ lines) after is_net count most leads =
+    let within : line.event.0 < net.events = due_within net values line.event line.value line.reason is_net leads.1.due in
+    lead_most net from (fallen values line) lines after is_net (length-set values line.event.0 line.value ∙ count)
+    (fallen_most net values line most (omega (arith, within, count)) leads.1.lower) leads.2
+
+-- the values of a derivation are within the cap
+pub derived_most : (net : Net) (from : EventId) (lines : List FallLine) (values : List ℤ) → IsNet net → IsDerivation net from lines values
+    → All (λ (value : ℤ). value ≤ℤ pos (cap net)) values
+derived_most net from lines values is_net derivation =
+    lead_most net from (starting_values net from) lines values is_net (length-starting net from) (start_most net from) derivation
 
 -- a derivation of no lines
 pub under_way_first : (net : Net) (from : EventId) (values : List ℤ) → from.0 < net.events → values ≡ starting_values net from → IsUnderWay net from [] values 0

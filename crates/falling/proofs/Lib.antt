@@ -14,3 +14,5 @@ pub mod Climbing
 pub mod Deriving
 pub mod Answering
 pub mod Begun
+pub mod NegatedNets
+pub mod Turning

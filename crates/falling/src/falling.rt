@@ -1,6 +1,6 @@
 //! The solver.
 
-ghost use Rattle.std.specs.Prelude.{◌≡◌, ◌<◌, ◌↔◌, ℤ, List, All, IsTrue, IfOk, IfErr, OnErr, map, not, length};
+ghost use Rattle.std.specs.Prelude.{◌≡◌, ◌<◌, ◌↔◌, ℤ, List, All, IsTrue, IfOk, IfErr, OnErr, map, neg_ℤ, not, pos, set, slice_index_or, length};
 ghost use Rattle.itv_base.specs.Outside.{Rose};
 ghost use Rattle.event_graph.specs.Network.{IsNet, Net};
 ghost use Rattle.falling.specs.declared.line.FallLine.{FallLine};
@@ -210,6 +210,7 @@ fn greatest_by_negation<N: Notes>(
     ensures times { length times.new ≡ length times.old }
     ensures ray { length ray.new ≡ length ray.old }
 {
+    prove!(negation.events() as usize == times.len());
     let told = match greatest(negation, to, from, limits, turns, times, ray, notes) {
         Ok(told) => told,
         Err(failed) => return Err(failed),
@@ -236,16 +237,25 @@ fn negate(times: &mut [i64])
     requires near { All IsNearValue times.old }
     ensures { times.new ≡ negated_times times.old }
 {
-    for time in times {
-        *time = -*time;
+    for event in 0..times.len() {
+        negate_at(times, event);
     }
+}
+
+// Puts minus the time of one event in its place.
+fn negate_at(times: &mut [i64], event: usize)
+    requires event { event < length times.old }
+    requires near { IsNearValue (slice_index_or times.old event (pos 0)) }
+    ensures { times.new ≡ set times.old event (neg_ℤ (slice_index_or times.old event (pos 0))) }
+{
+    times[event] = -times[event];
 }
 
 // Turns each flag.
 fn complement(flags: &mut [bool])
     ensures { flags.new ≡ map not flags.old }
 {
-    for flag in flags {
-        *flag = !*flag;
+    for event in 0..flags.len() {
+        flags[event] = !flags[event];
     }
 }
