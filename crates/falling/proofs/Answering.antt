@@ -28,8 +28,8 @@ closed_answer net from to turns lines values value is_net plain in_from in_to se
       derivation = settled.derivation;
       derived = refl;
     }) where
-  from_zero : (a b : ℤ) → a ≡ pos 0 → (b -ℤ a) ≡ b
-  from_zero a b e = omega (arith, ints)
+      from_zero : (a b : ℤ) → a ≡ pos 0 → (b -ℤ a) ≡ b
+      from_zero a b e = omega (arith, ints)
 
 pub ended_answer : (net : Net) (from : EventId) (turns : ℕ) (lines : List FallLine) (values : List ℤ) → IsNet net → from.0 < net.events → HasEnded net from turns lines values
     → IsShownInconsistent net from lines
@@ -66,9 +66,9 @@ apart_at width level values flags gap marked low high at_low at_high =
     let is_high : int_lt level (time_of values high) ≡ true = same_Some _ _ (sym (marked.each high.0 in_high) ∙ at_high) in
     apart_of level (time_of values low) (time_of values high) (not_above_from level (time_of values low) is_low) (above_from level (time_of values high) is_high)
     (gap high.0 (pos 0) in_high) where
-  apart_of : (level low high : ℤ) → low ≤ℤ level → level <ℤ high → (high ≤ℤ level) ⊎ ((level +ℤ pos width) <ℤ high) → (low +ℤ pos width) <ℤ high
-  apart_of level low high le less (inl not) = absurd (omega (arith, ints))
-  apart_of level low high le less (inr wide) = omega (arith, ints)
+      apart_of : (level low high : ℤ) → low ≤ℤ level → level <ℤ high → (high ≤ℤ level) ⊎ ((level +ℤ pos width) <ℤ high) → (low +ℤ pos width) <ℤ high
+      apart_of level low high le less (inl not) = absurd (omega (arith, ints))
+      apart_of level low high le less (inr wide) = omega (arith, ints)
 
 pub unbounded_answer : (net : Net) (from to : EventId) (turns : ℕ) (lines : List FallLine) (values : List ℤ) (width level : ℤ) (flags : List Bool) → IsNet net → IsPlain net
     → from.0 < net.events → to.0 < net.events → HasSettled net from turns lines values → width ≡ pos (widest_end net) → pos (far_line net) ≤ℤ time_of values to → IsGapAt width level values → pos 0 ≤ℤ level
@@ -86,7 +86,8 @@ unbounded_answer net from to turns lines values width level flags is_net plain i
           (apart_at (widest_end net) level values flags (subst (λ w. IsGapAt w level values) is_width gap) marked);
       derivation = settled.derivation;
     } where
-  beyond : (a b c : ℤ) → a <ℤ b → b ≤ℤ c → a <ℤ c
-  beyond a b c p q = omega (arith, ints)
-  at_most : (level zero_time : ℤ) → zero_time ≡ pos 0 → pos 0 ≤ℤ level → zero_time ≤ℤ level
-  at_most level zero_time e p = omega (arith, ints)
+      beyond : (a b c : ℤ) → a <ℤ b → b ≤ℤ c → a <ℤ c
+      beyond a b c p q = omega (arith, ints)
+
+      at_most : (level zero_time : ℤ) → zero_time ≡ pos 0 → pos 0 ≤ℤ level → zero_time ≤ℤ level
+      at_most level zero_time e p = omega (arith, ints)

@@ -52,7 +52,7 @@ begun_after net check line values ended is_net begun goes_on allowed is ends =
         (λ has_ended. elim (ends_or_not ended) [
           | inl yes' ↦ yes'
           | inr no' ↦ absurd (not_ended_after net check.source check.values line check.limits.lowest least (omega (arith, begun.made.count, begun.source)) not_ended
-          (λ e. not_true ended no' (ends.1 e)) has_ended)
+              (λ e. not_true ended no' (ends.1 e)) has_ended)
         ]),
       );
       most = fallen_most net check.values line begun.most (omega (arith, begun.made.count)) allowed.lower;

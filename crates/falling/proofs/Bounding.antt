@@ -154,16 +154,17 @@ ended_is_inconsistent net from lines values is_net in_from derivation ended time
     let (others, within_cap, near) = times_near_source net from times is_net in_from h in
     let above : AreAbove values others = derived_above net from lines values others in_from within_cap derivation in
     contradiction others within_cap near above ended where
-  contradiction : (others : List ℤ) → IsWithinCap net from others → All (λ (time : ℤ). neg_ℤ (pos (far_line net)) ≤ℤ time) others → AreAbove values others
-      → IsEnded net from values → ⊥
-  contradiction others within_cap near above (inl low) = below_zero (time_of others from) (time_of values from) within_cap.source (above.each from.0) low where
-    below_zero : (time value : ℤ) → time ≡ pos 0 → time ≤ℤ value → value <ℤ pos 0 → ⊥
-    below_zero time value at_zero le low = omega (arith, ints)
-  contradiction others within_cap near above (inr (i, value, within, here, low)) =
-      below_far (get_or others i (pos 0)) (get_or values i (pos 0)) value (near i (pos 0) (omega (arith, above.count))) (above.each i) (default_same values i value within ∙ here) low where
-    below_far : (time at value : ℤ) → neg_ℤ (pos (far_line net)) ≤ℤ time → time ≤ℤ at → at ≡ value → value <ℤ neg_ℤ (pos (far_line net)) → ⊥
-    below_far time at value near le same low = omega (arith, ints)
-    default_same : (xs : List ℤ) (i : ℕ) (d : ℤ) → i < length xs → get_or xs i (pos 0) ≡ get_or xs i d
-    default_same [] i d within = absurd (omega arith)
-    default_same (x ∷ xs) zero d within = refl
-    default_same (x ∷ xs) (suc i) d within = default_same xs i d (omega arith)
+      contradiction : (others : List ℤ) → IsWithinCap net from others → All (λ (time : ℤ). neg_ℤ (pos (far_line net)) ≤ℤ time) others → AreAbove values others
+          → IsEnded net from values → ⊥
+      contradiction others within_cap near above (inl low) = below_zero (time_of others from) (time_of values from) within_cap.source (above.each from.0) low where
+        below_zero : (time value : ℤ) → time ≡ pos 0 → time ≤ℤ value → value <ℤ pos 0 → ⊥
+        below_zero time value at_zero le low = omega (arith, ints)
+      contradiction others within_cap near above (inr (i, value, within, here, low)) =
+          below_far (get_or others i (pos 0)) (get_or values i (pos 0)) value (near i (pos 0) (omega (arith, above.count))) (above.each i) (default_same values i value within ∙ here) low where
+            below_far : (time at value : ℤ) → neg_ℤ (pos (far_line net)) ≤ℤ time → time ≤ℤ at → at ≡ value → value <ℤ neg_ℤ (pos (far_line net)) → ⊥
+            below_far time at value near le same low = omega (arith, ints)
+
+            default_same : (xs : List ℤ) (i : ℕ) (d : ℤ) → i < length xs → get_or xs i (pos 0) ≡ get_or xs i d
+            default_same [] i d within = absurd (omega arith)
+            default_same (x ∷ xs) zero d within = refl
+            default_same (x ∷ xs) (suc i) d within = default_same xs i d (omega arith)

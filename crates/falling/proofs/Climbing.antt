@@ -44,16 +44,16 @@ above_lower (value ∷ values) zero low within less =
     let before : as_number (int_lt low value) ≡ 1 = above_level (int_lt low value) low value refl less in
     let rest : above value values ≤ above low values = above_falls values low value (le_of low value less) in
     omega arith where
-  le_of : (a b : ℤ) → a <ℤ b → a ≤ℤ b
-  le_of a b h = omega (arith, ints)
+      le_of : (a b : ℤ) → a <ℤ b → a ≤ℤ b
+      le_of a b h = omega (arith, ints)
 above_lower (value ∷ values) (suc i) low within less =
     let at : ℤ = get_or values i (pos 0) in
     let rest : above (get_or values i (pos 0)) values < above low values = above_lower values i low (omega arith) less in
     let first : as_number (int_lt (get_or values i (pos 0)) value) ≤ as_number (int_lt low value) =
     one_falls low (get_or values i (pos 0)) value (int_lt low value) (int_lt (get_or values i (pos 0)) value) refl refl (le_of low (get_or values i (pos 0)) less) in
     omega arith where
-  le_of : (a b : ℤ) → a <ℤ b → a ≤ℤ b
-  le_of a b h = omega (arith, ints)
+      le_of : (a b : ℤ) → a <ℤ b → a ≤ℤ b
+      le_of a b h = omega (arith, ints)
 
 mul_more : (a b w : ℕ) → a < b → a * w + w ≤ b * w
 mul_more zero b w less = some_times b w less where
@@ -98,11 +98,13 @@ step_up values width w level next is low high reached other = elim reached.eithe
   default_same [] i d e within = absurd (omega arith)
   default_same (x ∷ xs) zero d e within = refl
   default_same (x ∷ xs) (suc i) d e within = default_same xs i d e (omega arith)
+
   above_of : (a b : ℤ) → a ≤ℤ b → (b ≡ a → ⊥) → a <ℤ b
   above_of a b le not = by_test (int_lt a b) refl where
     by_test : (t : Bool) → int_lt a b ≡ t → a <ℤ b
     by_test true e = omega (arith, ints)
     by_test false e = absurd (not (omega (arith, ints)))
+
   low_of : (a b : ℤ) → pos 0 ≤ℤ a → a ≤ℤ b → pos 0 ≤ℤ b
   low_of a b p q = omega (arith, ints)
 
@@ -112,16 +114,17 @@ pub level_within : (net : Net) (values : List ℤ) (level : ℤ) → length valu
 level_within net values level count high =
     le_to level ((above (pos 0) values - above level values) * widest_end net) (net.events * widest_end net) high
     (mul_most (above (pos 0) values - above level values) net.events (widest_end net) (omega (arith, above_within values (pos 0), count))) where
-  le_to : (level : ℤ) (a b : ℕ) → level ≤ℤ pos a → a ≤ b → level ≤ℤ pos b
-  le_to level a b h le = omega (arith, ints)
+      le_to : (level : ℤ) (a b : ℕ) → level ≤ℤ pos a → a ≤ b → level ≤ℤ pos b
+      le_to level a b h le = omega (arith, ints)
 
 pub level_small : (net : Net) (level : ℤ) → cap net ≤ 2 ^ 60 → level ≤ℤ pos (net.events * widest_end net) → level ≤ℤ pos (2 ^ 60)
 level_small net level small high =
     le_to level (net.events * widest_end net) (cap net) high (room net.events (widest_end net)) small where
-  room : (n w : ℕ) → n * w ≤ 2 * n * (w + 1)
-  room n w = grind arith
-  le_to : (level : ℤ) (a b : ℕ) → level ≤ℤ pos a → a ≤ b → b ≤ 2 ^ 60 → level ≤ℤ pos (2 ^ 60)
-  le_to level a b h le less = omega (arith, ints)
+      room : (n w : ℕ) → n * w ≤ 2 * n * (w + 1)
+      room n w = grind arith
+
+      le_to : (level : ℤ) (a b : ℕ) → level ≤ℤ pos a → a ≤ b → b ≤ 2 ^ 60 → level ≤ℤ pos (2 ^ 60)
+      le_to level a b h le less = omega (arith, ints)
 
 -- below the far line there is room for a gap
 pub level_below_far : (net : Net) (level : ℤ) → 0 < net.events → level ≤ℤ pos (net.events * widest_end net) → level <ℤ pos (far_line net)

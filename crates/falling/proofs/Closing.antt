@@ -103,10 +103,13 @@ pub settled_closes : SettledCloses
 settled_closes net from to lines values is_net plain in_from in_to derivation goes_on settled =
     let count : length values ≡ net.events = length-derived net from lines values is_net derivation in
     let satisfies : Satisfies values net = settled_satisfies net values is_net plain count settled in
-    let at_zero : time_of values from ≡ pos 0 = source_zero net from lines values in_from derivation goes_on in
-    (satisfies, at_zero, λ below. record {
-      attained = (values, satisfies, from_zero (time_of values from) (time_of values to) at_zero);
-      most = λ times h. derivation_bounds net from to lines values times is_net in_from in_to derivation below h;
-    }) where
-  from_zero : (a b : ℤ) → a ≡ pos 0 → (b -ℤ a) ≡ b
-  from_zero a b e = omega (arith, ints)
+    let at_zero : time_of values from ≡ pos 0 = source_zero net from lines values in_from derivation goes_on in (
+      satisfies,
+      at_zero,
+      λ below. record {
+        attained = (values, satisfies, from_zero (time_of values from) (time_of values to) at_zero);
+        most = λ times h. derivation_bounds net from to lines values times is_net in_from in_to derivation below h;
+      },
+    ) where
+      from_zero : (a b : ℤ) → a ≡ pos 0 → (b -ℤ a) ≡ b
+      from_zero a b e = omega (arith, ints)

@@ -100,12 +100,13 @@ linear_negated net number k t c made is_net at_k is_kind is_target at_c is_made 
     let only : k.causes ≡ c ∷ [] = only_cause k.causes c (single_of k.kind (length k.causes) same_kind is.count) (cause_of_at net number 0 k c at_k at_c) in
     constraint_is Lin t (made ∷ []) (negated_kind k.kind) k.target (map negated_cause k.causes) (sym (ap negated_kind same_kind)) (sym same_target)
     (ap (λ x. x ∷ []) is_made ∙ sym (ap (map negated_cause) only)) where
-  kind_at : (o : Option Constraint) (k : Constraint) → o ≡ Some k → option_map (λ (x : Constraint). x.kind) o ≡ Some Lin → k.kind ≡ Lin
-  kind_at None k e h = absurd (cc)
-  kind_at (Some j) k e h = cc
-  target_at : (o : Option Constraint) (k : Constraint) (t : EventId) → o ≡ Some k → option_map (λ (x : Constraint). x.target) o ≡ Some t → k.target ≡ t
-  target_at None k t e h = absurd (cc)
-  target_at (Some j) k t e h = cc
+      kind_at : (o : Option Constraint) (k : Constraint) → o ≡ Some k → option_map (λ (x : Constraint). x.kind) o ≡ Some Lin → k.kind ≡ Lin
+      kind_at None k e h = absurd (cc)
+      kind_at (Some j) k e h = cc
+
+      target_at : (o : Option Constraint) (k : Constraint) (t : EventId) → o ≡ Some k → option_map (λ (x : Constraint). x.target) o ≡ Some t → k.target ≡ t
+      target_at None k t e h = absurd (cc)
+      target_at (Some j) k t e h = cc
 
 -- a linear constraint was added
 pub linear_added : {T E : Type 0} (r : Result T E) (net : Net) (number : ℕ) (t : EventId) (c made : Cause) (before after : Net) → IsNet net → IsKind net number Lin

@@ -71,8 +71,13 @@ ended_after net from values line lowest is_lowest within (inl (same, low)) =
     subst (λ (e : EventId). time_of (fallen values line) e ≡ line.value) same (set_here values line.event.0 line.value (pos 0) within) in
     inl (subst (λ z. z <ℤ pos 0) (sym here) low)
 ended_after net from values line lowest is_lowest within (inr low) =
-    inr (line.event.0, line.value, omega (arith, length-set values line.event.0 line.value), set_here values line.event.0 line.value line.value within,
-      subst (λ z. line.value <ℤ z) is_lowest low)
+    inr (
+      line.event.0,
+      line.value,
+      omega (arith, length-set values line.event.0 line.value),
+      set_here values line.event.0 line.value line.value within,
+      subst (λ z. line.value <ℤ z) is_lowest low,
+    )
 
 near_of : (value : ℤ) (far capped : ℕ) → far ≤ capped → capped ≤ 2 ^ 60 → neg_ℤ (pos far) ≤ℤ value → value ≤ℤ pos capped → IsNearValue value
 near_of value far capped le small least most = (omega (arith, ints), omega (arith, ints))
@@ -82,8 +87,8 @@ pub near_values : (net : Net) (from : EventId) (values : List ℤ) → cap net �
     → All IsNearValue values
 near_values net from values small goes_on most = λ i d within.
     near_of (get_or values i d) (far_line net) (cap net) (far_le net) small (least_of net from values i d goes_on within) (most i d within) where
-  far_le : (net : Net) → far_line net ≤ cap net
-  far_le net = grind arith
+      far_le : (net : Net) → far_line net ≤ cap net
+      far_le net = grind arith
 
 -- values that fall stay within the cap
 pub fallen_most : (net : Net) (values : List ℤ) (line : FallLine) → All (λ (value : ℤ). value ≤ℤ pos (cap net)) values → line.event.0 < length values
@@ -93,8 +98,8 @@ fallen_most net values line most in_line lower = λ i d within.
       | inl (e, here) ↦ rw here (le_of line.value (time_of values line.event) (pos (cap net)) lower (most line.event.0 (pos 0) in_line))
       | inr (other, here) ↦ rw here (most i d (omega (arith, length-set values line.event.0 line.value)))
     ] where
-  le_of : (a b c : ℤ) → a <ℤ b → b ≤ℤ c → a ≤ℤ c
-  le_of a b c p q = omega (arith, ints)
+      le_of : (a b c : ℤ) → a <ℤ b → b ≤ℤ c → a ≤ℤ c
+      le_of a b c p q = omega (arith, ints)
 
 start_not_ended : (net : Net) (from : EventId) → from.0 < net.events → IsEnded net from (starting_values net from) → ⊥
 start_not_ended net from within (inl low) = below (time_of (starting_values net from) from) (start_source net from within) low where
@@ -106,8 +111,8 @@ start_not_ended net from within (inr (i, value, there, here, low)) =
       | inr (other, at) ↦
           below value (cap net) (far_line net) (sym here ∙ (at ∙ replicated net.events i (pos (cap net)) value (omega (arith, length-starting net from)))) low
     ] where
-  below : (z : ℤ) (n far : ℕ) → z ≡ pos n → z <ℤ neg_ℤ (pos far) → ⊥
-  below z n far e low = omega (arith, ints)
+      below : (z : ℤ) (n far : ℕ) → z ≡ pos n → z <ℤ neg_ℤ (pos far) → ⊥
+      below z n far e low = omega (arith, ints)
 
 lead_most : (net : Net) (from : EventId) (values : List ℤ) (lines : List FallLine) (after : List ℤ) → IsNet net → length values ≡ net.events
     → All (λ (value : ℤ). value ≤ℤ pos (cap net)) values → Leads net from values lines after → All (λ (value : ℤ). value ≤ℤ pos (cap net)) after

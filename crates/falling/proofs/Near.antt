@@ -167,10 +167,10 @@ kept_on_sides : (width : ℕ) (lower upper gap a b a' b' : ℤ) → (lower +ℤ 
 kept_on_sides width lower upper gap a b a' b' wide least side_a side_b (inl (up_a, at_a)) (inl (up_b, at_b)) =
     record { near = λ m n. omega (arith, ints); wide = λ m. omega (arith, ints) }
 kept_on_sides width lower upper gap a b a' b' wide least side_a side_b (inl (up_a, at_a)) (inr (low_b, at_b)) =
-    let in_b : b ≤ℤ lower = elim side_b [ | inl low ↦ low | inr up ↦ absurd (omega (arith, ints)) ] in
+    let in_b : b ≤ℤ lower = elim side_b [ inl low ↦ low | inr up ↦ absurd (omega (arith, ints)) ] in
     record { near = λ m n. absurd (omega (arith, ints)); wide = λ m. absurd (omega (arith, ints)) }
 kept_on_sides width lower upper gap a b a' b' wide least side_a side_b (inr (low_a, at_a)) (inl (up_b, at_b)) =
-    let in_a : a ≤ℤ lower = elim side_a [ | inl low ↦ low | inr up ↦ absurd (omega (arith, ints)) ] in
+    let in_a : a ≤ℤ lower = elim side_a [ inl low ↦ low | inr up ↦ absurd (omega (arith, ints)) ] in
     record { near = λ m n. absurd (omega (arith, ints)); wide = λ m. omega (arith, ints) }
 kept_on_sides width lower upper gap a b a' b' wide least side_a side_b (inr (low_a, at_a)) (inr (low_b, at_b)) =
     record { near = λ m n. omega (arith, ints); wide = λ m. omega (arith, ints) }

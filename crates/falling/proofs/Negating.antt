@@ -27,8 +27,8 @@ time_of-negated times event = get_or-negated times event.0
 pub separation-negated : (times : List ℤ) (from to : EventId) → separation (negated_times times) to from ≡ separation times from to
 separation-negated times from to =
     rw (time_of-negated times from, time_of-negated times to) (turned (time_of times from) (time_of times to)) where
-  turned : (a b : ℤ) → (neg_ℤ a -ℤ neg_ℤ b) ≡ (b -ℤ a)
-  turned a b = omega (arith, ints)
+      turned : (a b : ℤ) → (neg_ℤ a -ℤ neg_ℤ b) ≡ (b -ℤ a)
+      turned a b = omega (arith, ints)
 
 pub negated_twice : (times : List ℤ) → negated_times (negated_times times) ≡ times
 negated_twice [] = refl

@@ -115,61 +115,64 @@ removed_below_grows width times base u v le =
     let part_u : IsNaturalPart (u -ℤ base) (natural_part (u -ℤ base)) = natural_part_is (u -ℤ base) in
     let part_v : IsNaturalPart (v -ℤ base) (natural_part (v -ℤ base)) = natural_part_is (v -ℤ base) in
     grown_below (natural_part (u -ℤ base)) (natural_part (v -ℤ base)) part_u part_v where
-  grown_below : (k n : ℕ) → IsNaturalPart (u -ℤ base) k → IsNaturalPart (v -ℤ base) n
-      → (removed width times base k ≤ removed width times base n) × ((pos (removed width times base n) +ℤ u) ≤ℤ (pos (removed width times base k) +ℤ v))
-  grown_below k n part_u part_v =
-      let le_parts : k ≤ n = parts_le u v base k n part_u part_v le in
-      let grown : IsGrown k n (removed width times base k) (removed width times base n) = removed_grows width times base k n le_parts in
-      (grown.least, most_of u v base k n _ _ part_u part_v le grown) where
-    parts_le : (u v base : ℤ) (k n : ℕ) → IsNaturalPart (u -ℤ base) k → IsNaturalPart (v -ℤ base) n → u ≤ℤ v → k ≤ n
-    parts_le u v base k n part_u part_v le = elim (below_or_not (u -ℤ base) (pos 0)) [
-      | inl low ↦ let none : k ≡ 0 = part_u.down (omega (arith, ints)) in omega arith
-      | inr up ↦
-          let at_u : (u -ℤ base) ≡ pos k = part_u.up up in
-          let at_v : (v -ℤ base) ≡ pos n = part_v.up (omega (arith, ints)) in
-          omega (arith, ints)
-    ]
-    most_of : (u v base : ℤ) (k n before after : ℕ) → IsNaturalPart (u -ℤ base) k → IsNaturalPart (v -ℤ base) n → u ≤ℤ v → IsGrown k n before after
-        → (pos after +ℤ u) ≤ℤ (pos before +ℤ v)
-    most_of u v base k n before after part_u part_v le grown = elim (below_or_not (v -ℤ base) (pos 0)) [
-      | inl low ↦
-          let none_v : n ≡ 0 = part_v.down (omega (arith, ints)) in
-          let none_u : k ≡ 0 = part_u.down (omega (arith, ints)) in
-          omega (arith, ints, grown.most)
-      | inr up ↦
-          let at_v : (v -ℤ base) ≡ pos n = part_v.up up in
-          elim (below_or_not (u -ℤ base) (pos 0)) [
-            | inl low ↦ let none_u : k ≡ 0 = part_u.down (omega (arith, ints)) in omega (arith, ints, grown.most)
-            | inr high ↦ let at_u : (u -ℤ base) ≡ pos k = part_u.up high in omega (arith, ints, grown.most)
-          ]
-    ]
+      grown_below : (k n : ℕ) → IsNaturalPart (u -ℤ base) k → IsNaturalPart (v -ℤ base) n
+          → (removed width times base k ≤ removed width times base n) × ((pos (removed width times base n) +ℤ u) ≤ℤ (pos (removed width times base k) +ℤ v))
+      grown_below k n part_u part_v =
+          let le_parts : k ≤ n = parts_le u v base k n part_u part_v le in
+          let grown : IsGrown k n (removed width times base k) (removed width times base n) = removed_grows width times base k n le_parts in
+          (grown.least, most_of u v base k n _ _ part_u part_v le grown) where
+            parts_le : (u v base : ℤ) (k n : ℕ) → IsNaturalPart (u -ℤ base) k → IsNaturalPart (v -ℤ base) n → u ≤ℤ v → k ≤ n
+            parts_le u v base k n part_u part_v le = elim (below_or_not (u -ℤ base) (pos 0)) [
+              | inl low ↦ let none : k ≡ 0 = part_u.down (omega (arith, ints)) in omega arith
+              | inr up ↦
+                  let at_u : (u -ℤ base) ≡ pos k = part_u.up up in
+                  let at_v : (v -ℤ base) ≡ pos n = part_v.up (omega (arith, ints)) in
+                  omega (arith, ints)
+            ]
+
+            most_of : (u v base : ℤ) (k n before after : ℕ) → IsNaturalPart (u -ℤ base) k → IsNaturalPart (v -ℤ base) n → u ≤ℤ v → IsGrown k n before after
+                → (pos after +ℤ u) ≤ℤ (pos before +ℤ v)
+            most_of u v base k n before after part_u part_v le grown = elim (below_or_not (v -ℤ base) (pos 0)) [
+              | inl low ↦
+                  let none_v : n ≡ 0 = part_v.down (omega (arith, ints)) in
+                  let none_u : k ≡ 0 = part_u.down (omega (arith, ints)) in
+                  omega (arith, ints, grown.most)
+              | inr up ↦
+                  let at_v : (v -ℤ base) ≡ pos n = part_v.up up in
+                  elim (below_or_not (u -ℤ base) (pos 0)) [
+                    | inl low ↦ let none_u : k ≡ 0 = part_u.down (omega (arith, ints)) in omega (arith, ints, grown.most)
+                    | inr high ↦ let at_u : (u -ℤ base) ≡ pos k = part_u.up high in omega (arith, ints, grown.most)
+                  ]
+            ]
 
 pub removed_below_stays : (width : ℕ) (times : List ℤ) (base : ℤ) (i : ℕ) (v : ℤ) → i < length times → get_or times i (pos 0) ≤ℤ v
     → v ≤ℤ (get_or times i (pos 0) +ℤ pos width) → removed_below width times base v ≡ removed_below width times base (get_or times i (pos 0))
 removed_below_stays width times base i v within least most =
     stays (natural_part (v -ℤ base)) (natural_part (get_or times i (pos 0) -ℤ base)) (natural_part_is (v -ℤ base)) (natural_part_is (get_or times i (pos 0) -ℤ base)) where
-  stays : (n k : ℕ) → IsNaturalPart (v -ℤ base) n → IsNaturalPart (get_or times i (pos 0) -ℤ base) k → removed width times base n ≡ removed width times base k
-  stays n k part_v part_u = removed_stays width times base k n (parts_le (get_or times i (pos 0)) k n part_u least part_v)
-      (λ j from below. covered_from width times i (base +ℤ pos j) within (from_time (get_or times i (pos 0)) k n j part_u from)
-      (below_end (get_or times i (pos 0)) n j part_v most below)) where
-    parts_le : (u : ℤ) (k n : ℕ) → IsNaturalPart (u -ℤ base) k → u ≤ℤ v → IsNaturalPart (v -ℤ base) n → k ≤ n
-    parts_le u k n part_u le part_v = elim (below_or_not (u -ℤ base) (pos 0)) [
-      | inl low ↦ let none : k ≡ 0 = part_u.down (omega (arith, ints)) in omega arith
-      | inr up ↦
-          let at_u : (u -ℤ base) ≡ pos k = part_u.up up in
-          let at_v : (v -ℤ base) ≡ pos n = part_v.up (omega (arith, ints)) in
-          omega (arith, ints)
-    ]
-    from_time : (u : ℤ) (k n j : ℕ) → IsNaturalPart (u -ℤ base) k → k ≤ j → u ≤ℤ (base +ℤ pos j)
-    from_time u k n j part_u from = elim (below_or_not (u -ℤ base) (pos 0)) [
-      | inl low ↦ omega (arith, ints)
-      | inr up ↦ let at_u : (u -ℤ base) ≡ pos k = part_u.up up in omega (arith, ints)
-    ]
-    below_end : (u : ℤ) (n j : ℕ) → IsNaturalPart (v -ℤ base) n → v ≤ℤ (u +ℤ pos width) → j < n → (base +ℤ pos j) <ℤ (u +ℤ pos width)
-    below_end u n j part_v most below = elim (below_or_not (v -ℤ base) (pos 0)) [
-      | inl low ↦ let none : n ≡ 0 = part_v.down (omega (arith, ints)) in absurd (omega arith)
-      | inr up ↦ let at_v : (v -ℤ base) ≡ pos n = part_v.up up in omega (arith, ints)
-    ]
+      stays : (n k : ℕ) → IsNaturalPart (v -ℤ base) n → IsNaturalPart (get_or times i (pos 0) -ℤ base) k → removed width times base n ≡ removed width times base k
+      stays n k part_v part_u = removed_stays width times base k n (parts_le (get_or times i (pos 0)) k n part_u least part_v)
+          (λ j from below. covered_from width times i (base +ℤ pos j) within (from_time (get_or times i (pos 0)) k n j part_u from)
+          (below_end (get_or times i (pos 0)) n j part_v most below)) where
+            parts_le : (u : ℤ) (k n : ℕ) → IsNaturalPart (u -ℤ base) k → u ≤ℤ v → IsNaturalPart (v -ℤ base) n → k ≤ n
+            parts_le u k n part_u le part_v = elim (below_or_not (u -ℤ base) (pos 0)) [
+              | inl low ↦ let none : k ≡ 0 = part_u.down (omega (arith, ints)) in omega arith
+              | inr up ↦
+                  let at_u : (u -ℤ base) ≡ pos k = part_u.up up in
+                  let at_v : (v -ℤ base) ≡ pos n = part_v.up (omega (arith, ints)) in
+                  omega (arith, ints)
+            ]
+
+            from_time : (u : ℤ) (k n j : ℕ) → IsNaturalPart (u -ℤ base) k → k ≤ j → u ≤ℤ (base +ℤ pos j)
+            from_time u k n j part_u from = elim (below_or_not (u -ℤ base) (pos 0)) [
+              | inl low ↦ omega (arith, ints)
+              | inr up ↦ let at_u : (u -ℤ base) ≡ pos k = part_u.up up in omega (arith, ints)
+            ]
+
+            below_end : (u : ℤ) (n j : ℕ) → IsNaturalPart (v -ℤ base) n → v ≤ℤ (u +ℤ pos width) → j < n → (base +ℤ pos j) <ℤ (u +ℤ pos width)
+            below_end u n j part_v most below = elim (below_or_not (v -ℤ base) (pos 0)) [
+              | inl low ↦ let none : n ≡ 0 = part_v.down (omega (arith, ints)) in absurd (omega arith)
+              | inr up ↦ let at_v : (v -ℤ base) ≡ pos n = part_v.up up in omega (arith, ints)
+            ]
 
 -- narrowed times keep near separations
 pub kept_narrowed : (width : ℕ) (times : List ℤ) (base : ℤ) (i j : ℕ) → i < length times → j < length times

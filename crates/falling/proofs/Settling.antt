@@ -88,12 +88,18 @@ latest_one values c cs h is rest = record {
 latest_more : (values : List ℤ) (c : Cause) (cs : List Cause) (h value : ℤ) → c.range.high ≡ Some h → IsLatestHigh values cs value
     → (most : ℤ) × IsLatestHigh values (c ∷ cs) most
 latest_more values c cs h value is latest = elim (below_or_not value (time_of values c.event +ℤ h)) [
-  | inl less ↦ (time_of values c.event +ℤ h, latest_one values c cs h is
-    (λ i x within. raised_most values value (time_of values c.event +ℤ h) (get_or cs i x) (le_of _ _ less) (latest.most i x within)))
-  | inr least ↦ (value, record {
-    most = all_cons (IsMost values value) c cs (if_is c.range.high _ h is least) latest.most;
-    attained = any_later (IsAttained values value) c cs latest.attained;
-  })
+  | inl less ↦ (
+    time_of values c.event +ℤ h,
+    latest_one values c cs h is
+        (λ i x within. raised_most values value (time_of values c.event +ℤ h) (get_or cs i x) (le_of _ _ less) (latest.most i x within)),
+  )
+  | inr least ↦ (
+    value,
+    record {
+      most = all_cons (IsMost values value) c cs (if_is c.range.high _ h is least) latest.most;
+      attained = any_later (IsAttained values value) c cs latest.attained;
+    },
+  )
 ] where
   le_of : (a b : ℤ) → a <ℤ b → a ≤ℤ b
   le_of a b h = omega (arith, ints)
@@ -169,12 +175,12 @@ early_choice net number k values at_k is_early single settled =
       0,
       omega arith,
       met_if_some (edge net name) (Meets values) (λ e is_edge.
-      settled_meets net values name e settled (rw is_edge refl, at_is (slice_get net.constraints number) _ k at_k (always_of k.kind (length k.causes) is_early single)) is_edge),
+          settled_meets net values name e settled (rw is_edge refl, at_is (slice_get net.constraints number) _ k at_k (always_of k.kind (length k.causes) is_early single)) is_edge),
     ) where
-  always_of : (kind : RuleKind) (count : ℕ) → kind ≡ Early → count ≡ 1 → IsTrue (holds_always kind count Lower)
-  always_of Lin count is single = refl
-  always_of Late count is single = refl
-  always_of Early count is single = grind arith
+      always_of : (kind : RuleKind) (count : ℕ) → kind ≡ Early → count ≡ 1 → IsTrue (holds_always kind count Lower)
+      always_of Lin count is single = refl
+      always_of Late count is single = refl
+      always_of Early count is single = grind arith
 
 some_choice : (net : Net) (number : ℕ) (k : Constraint) (values : List ℤ) (kind : RuleKind) → k.kind ≡ kind → slice_get net.constraints number ≡ Some k
     → 1 ≤ length k.causes → (IsChoiceOf Early k → ⊥) → IsSettled net values → HasChoice kind → MeetsSomeChoice values net number k
@@ -183,10 +189,10 @@ some_choice net number k values Late is at_k some plain settled has = rw is (lat
 some_choice net number k values Early is at_k some plain settled has =
     let single : length k.causes ≡ 1 = one_only (length k.causes) some (λ two. plain (record { same = is; causes = two })) in
     rw is (early_choice net number k values at_k is single settled) where
-  one_only : (n : ℕ) → 1 ≤ n → (2 ≤ n → ⊥) → n ≡ 1
-  one_only zero some few = absurd (omega arith)
-  one_only (suc zero) some few = refl
-  one_only (suc (suc n)) some few = absurd (few (omega arith))
+      one_only : (n : ℕ) → 1 ≤ n → (2 ≤ n → ⊥) → n ≡ 1
+      one_only zero some few = absurd (omega arith)
+      one_only (suc zero) some few = refl
+      one_only (suc (suc n)) some few = absurd (few (omega arith))
 
 pub settled_satisfies : SettledSatisfies
 settled_satisfies net values is_net plain count settled = record {
@@ -195,8 +201,9 @@ settled_satisfies net values is_net plain count settled = record {
       let k : Constraint = get_or net.constraints i d in
       let at_k : slice_get net.constraints i ≡ Some (get_or net.constraints i d) = slice_get-get_or net.constraints i d within in
       let is : IsConstraint net.events (get_or net.constraints i d) = is_net.constraints i d within in
-      (holds_by_edges net i (get_or net.constraints i d) values is_net at_k).1
-      ((λ name e is_number always is_edge. settled_meets net values name e settled always is_edge),
+      (holds_by_edges net i (get_or net.constraints i d) values is_net at_k).1 (
+        (λ name e is_number always is_edge. settled_meets net values name e settled always is_edge),
         some_choice net i (get_or net.constraints i d) values (get_or net.constraints i d).kind refl at_k
-        (some_cause (get_or net.constraints i d).kind (length (get_or net.constraints i d).causes) is.count) (plain i d within) settled);
+            (some_cause (get_or net.constraints i d).kind (length (get_or net.constraints i d).causes) is.count) (plain i d within) settled,
+      );
 }

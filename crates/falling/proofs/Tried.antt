@@ -50,11 +50,11 @@ side_tried net values number count side is_net counted each name is_number is_si
     let (e, is_edge, rest) = some_and (edge net name) _ allowed.due.1 in
     let below : name.cause < max count 1 = cause_below net number name e count is_net is_number is_edge counted in
     tried_at name is_number is_side (each name.cause below) event value allowed where
-  tried_at : (name : EdgeName) → name.constraint ≡ number → name.side ≡ side → IsTried net values (ByEdge (record { constraint = number; cause = name.cause; side = side }))
-      → IsTried net values (ByEdge name)
-  tried_at name is_number is_side tried =
-      subst (λ (s : Side). IsTried net values (ByEdge (record { constraint = name.constraint; cause = name.cause; side = s }))) (sym is_side)
-      (subst (λ n. IsTried net values (ByEdge (record { constraint = n; cause = name.cause; side = side }))) (sym is_number) tried)
+      tried_at : (name : EdgeName) → name.constraint ≡ number → name.side ≡ side → IsTried net values (ByEdge (record { constraint = number; cause = name.cause; side = side }))
+          → IsTried net values (ByEdge name)
+      tried_at name is_number is_side tried =
+          subst (λ (s : Side). IsTried net values (ByEdge (record { constraint = name.constraint; cause = name.cause; side = s }))) (sym is_side)
+          (subst (λ n. IsTried net values (ByEdge (record { constraint = n; cause = name.cause; side = side }))) (sym is_number) tried)
 
 -- a reason whose constraint is not there allows nothing
 past_tried : (net : Net) (values : List ℤ) (reason : Reason) → length net.constraints ≤ constraint_of reason → IsTried net values reason
@@ -137,20 +137,21 @@ next_of net values number count before here value some high le_before le_here ei
         | inr new ↦ (count, c, omega arith, at_c, sym (high c at_c) ∙ ap Some (sym new))
       ];
     } where
-  earlier_or_last : (k n : ℕ) → k < n + 1 → (k < n) ⊎ (k ≡ n)
-  earlier_or_last k n below = grind arith
-  raised : (o : Option ℤ) (low high : ℤ) → low ≤ℤ high → IsSomeAnd o (λ x. x ≤ℤ low) → IsSomeAnd o (λ x. x ≤ℤ high)
-  raised None low high le h = absurd h
-  raised (Some x) low high le h = omega (arith, ints)
+      earlier_or_last : (k n : ℕ) → k < n + 1 → (k < n) ⊎ (k ≡ n)
+      earlier_or_last k n below = grind arith
+
+      raised : (o : Option ℤ) (low high : ℤ) → low ≤ℤ high → IsSomeAnd o (λ x. x ≤ℤ low) → IsSomeAnd o (λ x. x ≤ℤ high)
+      raised None low high le h = absurd h
+      raised (Some x) low high le h = omega (arith, ints)
 
 -- a cause without a value has an open high end
 pub open_of : (net : Net) (values : List ℤ) (number i : ℕ) → IsSome (cause_at net number i) → IsHighOf net values number i None → HasOpenHigh net number
 open_of net values number i some high =
     let (c, at_c) = some_at (cause_at net number i) some in
     (i, c, at_c, none_of (time_of values c.event) c.range.high (sym (high c at_c))) where
-  none_of : (a : ℤ) (o : Option ℤ) → option_map (λ high. a +ℤ high) o ≡ None → o ≡ None
-  none_of a None e = refl
-  none_of a (Some h) e = absurd (cc)
+      none_of : (a : ℤ) (o : Option ℤ) → option_map (λ high. a +ℤ high) o ≡ None → o ≡ None
+      none_of a None e = refl
+      none_of a (Some h) e = absurd (cc)
 
 pub if_none_then : {X : Type 0} (o : Option X) (P : Type 0) → P → IfNone o P
 if_none_then None P h = h
@@ -176,8 +177,7 @@ pub latest_all : (net : Net) (values : List ℤ) (number count : ℕ) (k : Const
     → IsLatestSoFar net values number count value → All (λ (c : Cause). IsSome c.range.high) k.causes × IsLatestHigh values k.causes value
 latest_all net values number count k value at_k all so_far =
     let each : (i : ℕ) (d : Cause) → i < length k.causes → IsSomeAnd (high_value values (get_or k.causes i d)) (λ here. here ≤ℤ value) =
-    λ i d within. so_far.most i (get_or k.causes i d) (omega arith) (cause_is net number i k (get_or k.causes i d) at_k (slice_get-get_or k.causes i d within)) in
-    (
+    λ i d within. so_far.most i (get_or k.causes i d) (omega arith) (cause_is net number i k (get_or k.causes i d) at_k (slice_get-get_or k.causes i d within)) in (
       (λ i d within. (finite_high (time_of values (get_or k.causes i d).event) (get_or k.causes i d).range.high value (each i d within)).0),
       record {
         most = λ i d within. (finite_high (time_of values (get_or k.causes i d).event) (get_or k.causes i d).range.high value (each i d within)).1;

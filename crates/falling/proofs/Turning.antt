@@ -37,7 +37,7 @@ turned_next f d place old mid new within turned is = record {
   ];
 } where
   less : (k n : ℕ) → k < n + 1 → (k ≡ n → ⊥) → k < n
-  less k n below other = elim (either k n below) [ | inl same ↦ absurd (other same) | inr lower ↦ lower ] where
+  less k n below other = elim (either k n below) [ inl same ↦ absurd (other same) | inr lower ↦ lower ] where
     either : (k n : ℕ) → k < n + 1 → (k ≡ n) ⊎ (k < n)
     either k n below = grind arith
 

@@ -81,10 +81,10 @@ pub widest_next : (net : Net) (i before now here : ℕ) → i < length net.const
 widest_next net i before now here within size is_now is_before =
     let (k, at_k) = found net.constraints i within in
     rw (widest_more net.constraints i k at_k, is_now, size k at_k, is_before) refl where
-  found : (ks : List Constraint) (i : ℕ) → i < length ks → (k : Constraint) × (slice_get ks i ≡ Some k)
-  found [] i within = absurd (omega arith)
-  found (k ∷ ks) zero within = (k, refl)
-  found (k ∷ ks) (suc i) within = found ks i (omega arith)
+      found : (ks : List Constraint) (i : ℕ) → i < length ks → (k : Constraint) × (slice_get ks i ≡ Some k)
+      found [] i within = absurd (omega arith)
+      found (k ∷ ks) zero within = (k, refl)
+      found (k ∷ ks) (suc i) within = found ks i (omega arith)
 
 pub widest_all : (net : Net) (i width : ℕ) → length net.constraints ≤ i → width ≡ widest_of (take i net.constraints) → width ≡ widest_of net.constraints
 widest_all net i width past is = is ∙ ap widest_of (take_all net.constraints i past)

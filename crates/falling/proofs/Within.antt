@@ -45,24 +45,26 @@ pub record IsNarrowed (room : ℕ) (base value result : ℤ) : Type 0 where
 pub narrowed_is : (width : ℕ) (times : List ℤ) (base value : ℤ) → IsNarrowed (length times * width) base value (narrowed width times base value)
 narrowed_is width times base value =
     narrowed_at (natural_part (value -ℤ base)) (natural_part (base -ℤ base)) (natural_part_is (value -ℤ base)) (natural_part_is (base -ℤ base)) where
-  narrowed_at : (n zero_part : ℕ) → IsNaturalPart (value -ℤ base) n → IsNaturalPart (base -ℤ base) zero_part
-      → IsNarrowed (length times * width) base value (value -ℤ pos (removed width times base n))
-  narrowed_at n zero_part part none_part = record {
-    stays = λ m. let none : n ≡ 0 = part.down (omega (arith, ints)) in rw none (omega (arith, ints));
-    least = λ m.
-        let at_n : (value -ℤ base) ≡ pos n = part.up (omega (arith, ints)) in
-        least_of value base n (removed width times base n) at_n (few_removed n);
-    most = λ m.
-        let at_n : (value -ℤ base) ≡ pos n = part.up (omega (arith, ints)) in
-        most_of value base n (removed width times base n) (length times * width) at_n (few_left width times base n);
-  } where
-    few_removed : (k : ℕ) → removed width times base k ≤ k
-    few_removed zero = omega arith
-    few_removed (suc k) = omega (arith, few_removed k, none_or_one (is_covered width times (base +ℤ pos k)))
-    least_of : (value base : ℤ) (n gone : ℕ) → (value -ℤ base) ≡ pos n → gone ≤ n → base ≤ℤ (value -ℤ pos gone)
-    least_of value base n gone at_n less = omega (arith, ints)
-    most_of : (value base : ℤ) (n gone room : ℕ) → (value -ℤ base) ≡ pos n → n ≤ gone + room → (value -ℤ pos gone) ≤ℤ (base +ℤ pos room)
-    most_of value base n gone room at_n few = omega (arith, ints)
+      narrowed_at : (n zero_part : ℕ) → IsNaturalPart (value -ℤ base) n → IsNaturalPart (base -ℤ base) zero_part
+          → IsNarrowed (length times * width) base value (value -ℤ pos (removed width times base n))
+      narrowed_at n zero_part part none_part = record {
+        stays = λ m. let none : n ≡ 0 = part.down (omega (arith, ints)) in rw none (omega (arith, ints));
+        least = λ m.
+            let at_n : (value -ℤ base) ≡ pos n = part.up (omega (arith, ints)) in
+            least_of value base n (removed width times base n) at_n (few_removed n);
+        most = λ m.
+            let at_n : (value -ℤ base) ≡ pos n = part.up (omega (arith, ints)) in
+            most_of value base n (removed width times base n) (length times * width) at_n (few_left width times base n);
+      } where
+        few_removed : (k : ℕ) → removed width times base k ≤ k
+        few_removed zero = omega arith
+        few_removed (suc k) = omega (arith, few_removed k, none_or_one (is_covered width times (base +ℤ pos k)))
+
+        least_of : (value base : ℤ) (n gone : ℕ) → (value -ℤ base) ≡ pos n → gone ≤ n → base ≤ℤ (value -ℤ pos gone)
+        least_of value base n gone at_n less = omega (arith, ints)
+
+        most_of : (value base : ℤ) (n gone room : ℕ) → (value -ℤ base) ≡ pos n → n ≤ gone + room → (value -ℤ pos gone) ≤ℤ (base +ℤ pos room)
+        most_of value base n gone room at_n few = omega (arith, ints)
 
 pub cap_is : (net : Net) → cap net ≡ far_line net + far_line net
 cap_is net = grind arith
@@ -85,8 +87,8 @@ beyond_is net from times i d count within = (
   narrowed (widest_end net) times (time_of times from +ℤ pos (far_line net)) (get_or times i (pos 0)),
   at_event (widest_end net) times (time_of times from +ℤ pos (far_line net)) (time_of times from) i d within,
   subst (λ k. IsNarrowed (k * widest_end net) (time_of times from +ℤ pos (far_line net)) (get_or times i (pos 0))
-    (narrowed (widest_end net) times (time_of times from +ℤ pos (far_line net)) (get_or times i (pos 0)))) count
-  (narrowed_is (widest_end net) times (time_of times from +ℤ pos (far_line net)) (get_or times i (pos 0))),
+      (narrowed (widest_end net) times (time_of times from +ℤ pos (far_line net)) (get_or times i (pos 0)))) count
+      (narrowed_is (widest_end net) times (time_of times from +ℤ pos (far_line net)) (get_or times i (pos 0))),
 )
 
 below_cap : (base far room capped : ℕ) (source value r : ℤ) → room ≤ far → capped ≡ far + far → IsNarrowed room (source +ℤ pos far) value r → (r -ℤ source) ≤ℤ pos capped
@@ -138,12 +140,13 @@ has_floor (time ∷ times) =
       | inl below ↦ (base, λ i d within. at_each base i d within (omega (arith, ints)) (least))
       | inr not ↦ (time, λ i d within. at_each time i d within (omega (arith, ints)) (λ j e there. lower time base (get_or times j e) not (least j e there)))
     ] where
-  lower : (a b c : ℤ) → a ≤ℤ b → b ≤ℤ c → a ≤ℤ c
-  lower a b c p q = omega (arith, ints)
-  at_each : (base : ℤ) (i : ℕ) (d : ℤ) → i < length (time ∷ times) → base ≤ℤ time → ((j : ℕ) (e : ℤ) → j < length times → base ≤ℤ get_or times j e)
-      → base ≤ℤ get_or (time ∷ times) i d
-  at_each base zero d within here least = here
-  at_each base (suc i) d within here least = least i d (omega arith)
+      lower : (a b c : ℤ) → a ≤ℤ b → b ≤ℤ c → a ≤ℤ c
+      lower a b c p q = omega (arith, ints)
+
+      at_each : (base : ℤ) (i : ℕ) (d : ℤ) → i < length (time ∷ times) → base ≤ℤ time → ((j : ℕ) (e : ℤ) → j < length times → base ≤ℤ get_or times j e)
+          → base ≤ℤ get_or (time ∷ times) i d
+      at_each base zero d within here least = here
+      at_each base (suc i) d within here least = least i d (omega arith)
 
 abbrev from_floor : Net → EventId → List ℤ → ℤ → List ℤ
 from_floor net from times base = narrowed_by (widest_end net) times base (narrowed (widest_end net) times base (time_of times from))
@@ -165,27 +168,31 @@ times_near_source net from times is_net in_from h =
     let less : ℤ = narrowed (widest_end net) times base (time_of times from) in
     let count : length times ≡ net.events = h.count in
     let same_length : length (from_floor net from times base) ≡ length times = length-map times _ in
-    let near = near_at net from times base in_from count least in
-    (from_floor net from times base,
+    let near = near_at net from times base in_from count least in (
+      from_floor net from times base,
       record {
         satisfies = satisfies_narrowed net times base less is_net h;
         source = at_event (widest_end net) times base less from.0 (pos 0) (omega arith) ∙ same_zero less;
         most = λ i d within. within_cap (far_line net) (net.events * widest_end net) (cap net) _ (room_within net.events (widest_end net)) (cap_is net) (near i d (omega (arith, same_length))).1;
       },
-      λ i d within. above_far (far_line net) (net.events * widest_end net) _ (room_within net.events (widest_end net)) (near i d (omega (arith, same_length))).0) where
-  same_zero : (z : ℤ) → (z -ℤ z) ≡ pos 0
-  same_zero z = omega (arith, ints)
-  within_cap : (far room capped : ℕ) (z : ℤ) → room ≤ far → capped ≡ far + far → z ≤ℤ pos room → z ≤ℤ pos capped
-  within_cap far room capped z less is most = omega (arith, ints)
-  above_far : (far room : ℕ) (z : ℤ) → room ≤ far → neg_ℤ (pos room) ≤ℤ z → neg_ℤ (pos far) ≤ℤ z
-  above_far far room z less least = omega (arith, ints)
-  near_at : (net : Net) (from : EventId) (times : List ℤ) (base : ℤ) → from.0 < net.events → length times ≡ net.events → ((i : ℕ) (d : ℤ) → i < length times → base ≤ℤ get_or times i d)
-      → (i : ℕ) (d : ℤ) → i < length times
-      → (neg_ℤ (pos (net.events * widest_end net)) ≤ℤ get_or (from_floor net from times base) i d)
-      × (get_or (from_floor net from times base) i d ≤ℤ pos (net.events * widest_end net))
-  near_at net from times base in_from count least i d within =
-      rw (at_event (widest_end net) times base (narrowed (widest_end net) times base (time_of times from)) i d within)
-      (subst (λ k. (neg_ℤ (pos (k * widest_end net)) ≤ℤ (narrowed (widest_end net) times base (get_or times i (pos 0)) -ℤ narrowed (widest_end net) times base (time_of times from)))
-      × ((narrowed (widest_end net) times base (get_or times i (pos 0)) -ℤ narrowed (widest_end net) times base (time_of times from)) ≤ℤ pos (k * widest_end net))) count
-      (near_each (length times * widest_end net) base (time_of times from) (get_or times i (pos 0)) _ _ (least from.0 (pos 0) (omega arith)) (least i (pos 0) within)
-      (narrowed_is (widest_end net) times base (time_of times from)) (narrowed_is (widest_end net) times base (get_or times i (pos 0)))))
+      λ i d within. above_far (far_line net) (net.events * widest_end net) _ (room_within net.events (widest_end net)) (near i d (omega (arith, same_length))).0,
+    ) where
+      same_zero : (z : ℤ) → (z -ℤ z) ≡ pos 0
+      same_zero z = omega (arith, ints)
+
+      within_cap : (far room capped : ℕ) (z : ℤ) → room ≤ far → capped ≡ far + far → z ≤ℤ pos room → z ≤ℤ pos capped
+      within_cap far room capped z less is most = omega (arith, ints)
+
+      above_far : (far room : ℕ) (z : ℤ) → room ≤ far → neg_ℤ (pos room) ≤ℤ z → neg_ℤ (pos far) ≤ℤ z
+      above_far far room z less least = omega (arith, ints)
+
+      near_at : (net : Net) (from : EventId) (times : List ℤ) (base : ℤ) → from.0 < net.events → length times ≡ net.events → ((i : ℕ) (d : ℤ) → i < length times → base ≤ℤ get_or times i d)
+          → (i : ℕ) (d : ℤ) → i < length times
+          → (neg_ℤ (pos (net.events * widest_end net)) ≤ℤ get_or (from_floor net from times base) i d)
+          × (get_or (from_floor net from times base) i d ≤ℤ pos (net.events * widest_end net))
+      near_at net from times base in_from count least i d within =
+          rw (at_event (widest_end net) times base (narrowed (widest_end net) times base (time_of times from)) i d within)
+          (subst (λ k. (neg_ℤ (pos (k * widest_end net)) ≤ℤ (narrowed (widest_end net) times base (get_or times i (pos 0)) -ℤ narrowed (widest_end net) times base (time_of times from)))
+          × ((narrowed (widest_end net) times base (get_or times i (pos 0)) -ℤ narrowed (widest_end net) times base (time_of times from)) ≤ℤ pos (k * widest_end net))) count
+          (near_each (length times * widest_end net) base (time_of times from) (get_or times i (pos 0)) _ _ (least from.0 (pos 0) (omega arith)) (least i (pos 0) within)
+          (narrowed_is (widest_end net) times base (time_of times from)) (narrowed_is (widest_end net) times base (get_or times i (pos 0)))))

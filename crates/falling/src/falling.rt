@@ -2,12 +2,12 @@
 
 ghost use Rattle.std.specs.Prelude.{◌≡◌, ◌<◌, ◌↔◌, ℤ, List, All, IsTrue, IfOk, IfErr, OnErr, map, neg_ℤ, not, pos, set, slice_index_or, length};
 ghost use Rattle.itv_base.specs.Outside.{Rose};
-ghost use Rattle.event_graph.specs.Network.{IsNet, Net};
+ghost use Rattle.event_graph.specs.Network.{Net};
 ghost use Rattle.falling.specs.declared.line.FallLine.{FallLine};
 ghost use Rattle.falling.specs.Cap.{enough_turns};
 ghost use Rattle.falling.specs.Course.{AreLimits};
 ghost use Rattle.falling.specs.Derivation.{IsDerivation};
-ghost use Rattle.falling.specs.Kinds.{IsPlain, negated, negated_times};
+ghost use Rattle.falling.specs.Kinds.{IsNegatable, IsPlain, negated, negated_times};
 ghost use Rattle.falling.specs.Solving.{AnswersAs, AnswersByNegation, IsDerivationAs, IsFallFault, IsMadeFor, IsNegationOf};
 ghost use Rattle.falling.specs.Turns.{IsNearValue};
 
@@ -101,28 +101,17 @@ impl Falling {
         ensures rose { OnErr result (Rose (N.faults notes.old) (N.faults notes.new)) }
         ensures made { IsMadeFor net.now self.new }
     {
-        let told = match &self.negation {
-            None => greatest(
-                net,
-                from,
-                to,
-                self.limits,
-                turns,
-                &mut self.times,
-                &mut self.ray,
-                notes,
-            ),
-            Some(negation) => greatest_by_negation(
-                negation,
-                from,
-                to,
-                self.limits,
-                turns,
-                &mut self.times,
-                &mut self.ray,
-                notes,
-            ),
-        };
+        let told = solve(
+            net,
+            &self.negation,
+            from,
+            to,
+            self.limits,
+            turns,
+            &mut self.times,
+            &mut self.ray,
+            notes,
+        );
         match told {
             Ok(told) => {
                 self.turns = told.turns;
@@ -183,8 +172,44 @@ fn enough_for(net: &Network, limits: Limits) -> u128
     events * (limits.cap as u128 + limits.far as u128 + 1)
 }
 
+// The greatest separation of a pair, by the negation of the network where there is one.
+fn solve<N: Notes>(
+    net: &Network,
+    negation: &Option<Network>,
+    from: EventId,
+    to: EventId,
+    limits: Limits,
+    turns: u64,
+    times: &mut [i64],
+    ray: &mut [bool],
+    notes: &mut N,
+) -> Result<Told, NotesFailed>
+    requires negation { IsNegationOf net.now negation.now }
+    requires from { from.0 < net.now.events }
+    requires to { to.0 < net.now.events }
+    requires count { length times.old ≡ net.now.events }
+    requires ray { length ray.old ≡ net.now.events }
+    requires limits { AreLimits net.now limits }
+    ensures lines { IfOk result (λ told. (lines : List FallLine) × N.Grew notes.old lines notes.new
+        × (length lines ≡ told.turns)
+        × AnswersAs negation.now net.now from to turns lines times.new ray.new told.fallen) }
+    ensures cut { OnErr result ((lines : List FallLine) × N.WasCut notes.old lines notes.new
+        × (after : List ℤ) × IsDerivationAs negation.now net.now from to lines after) }
+    ensures rose { OnErr result (Rose (N.faults notes.old) (N.faults notes.new)) }
+    ensures times { length times.new ≡ length times.old }
+    ensures ray { length ray.new ≡ length ray.old }
+{
+    match negation {
+        None => greatest(net, from, to, limits, turns, times, ray, notes),
+        Some(negation) => {
+            greatest_by_negation(net, negation, from, to, limits, turns, times, ray, notes)
+        }
+    }
+}
+
 // The greatest separation of a pair of a network by its negation, where the pair is turned round.
 fn greatest_by_negation<N: Notes>(
+    net: &Network,
     negation: &Network,
     from: EventId,
     to: EventId,
@@ -194,23 +219,24 @@ fn greatest_by_negation<N: Notes>(
     ray: &mut [bool],
     notes: &mut N,
 ) -> Result<Told, NotesFailed>
-    requires plain { IsPlain negation.now }
-    requires from { from.0 < negation.now.events }
-    requires to { to.0 < negation.now.events }
-    requires count { length times.old ≡ negation.now.events }
-    requires ray { length ray.old ≡ negation.now.events }
-    requires limits { AreLimits negation.now limits }
+    requires negation { negation.now ≡ negated net.now }
+    requires negatable { IsNegatable net.now }
+    requires from { from.0 < net.now.events }
+    requires to { to.0 < net.now.events }
+    requires count { length times.old ≡ net.now.events }
+    requires ray { length ray.old ≡ net.now.events }
+    requires limits { AreLimits net.now limits }
     ensures lines { IfOk result (λ told. (lines : List FallLine) × N.Grew notes.old lines notes.new
         × (length lines ≡ told.turns)
-        × ((net : Net) → IsNet net → negation.now ≡ negated net
-            → AnswersByNegation net from to turns lines times.new ray.new told.fallen)) }
+        × AnswersByNegation net.now from to turns lines times.new ray.new told.fallen) }
     ensures cut { OnErr result ((lines : List FallLine) × N.WasCut notes.old lines notes.new
-        × (after : List ℤ) × IsDerivation negation.now to lines after) }
+        × (after : List ℤ) × IsDerivation (negated net.now) to lines after) }
     ensures rose { OnErr result (Rose (N.faults notes.old) (N.faults notes.new)) }
     ensures times { length times.new ≡ length times.old }
     ensures ray { length ray.new ≡ length ray.old }
 {
-    prove!(negation.events() as usize == times.len());
+    let events = net.events();
+    prove!(negation.events() == events);
     let told = match greatest(negation, to, from, limits, turns, times, ray, notes) {
         Ok(told) => told,
         Err(failed) => return Err(failed),

@@ -21,7 +21,10 @@ impl fmt::Display for FallFault {
     fn fmt<W: fmt::Write>(&self, f: &mut fmt::Formatter<W>) -> fmt::Result {
         match self {
             FallFault::Mixed(late, early) => {
-                write!(f, "constraints {late} and {early} are choices of both kinds")
+                write!(
+                    f,
+                    "constraints {late} and {early} are choices of both kinds"
+                )
             }
             FallFault::NoMemory => write!(f, "out of memory"),
         }

@@ -65,13 +65,7 @@ pub fn greatest<N: Notes>(
 
 // The answer about settled values: closed below the far line, and from it on unbounded, with the events beyond a
 // gap as the ray.
-fn settled(
-    net: &Network,
-    to: EventId,
-    limits: Limits,
-    values: &[i64],
-    ray: &mut [bool],
-) -> Fallen
+fn settled(net: &Network, to: EventId, limits: Limits, values: &[i64], ray: &mut [bool]) -> Fallen
     requires plain { IsPlain net.now }
     requires to { to.0 < net.now.events }
     requires count { length values.now ≡ net.now.events }

@@ -168,8 +168,20 @@ fn finds_bounds_of_both_kinds(rt: HostRuntime) -> Result<(), Fail> {
 fn shows_an_inconsistent_network(rt: HostRuntime) -> Result<(), Fail> {
     let alloc = rt.alloc();
     let mut net = Network::new(alloc, 2)?;
-    add(alloc, &mut net, RuleKind::Lin, 1, &[cause(0, (Some(1), None))?])?;
-    add(alloc, &mut net, RuleKind::Lin, 0, &[cause(1, (Some(1), None))?])?;
+    add(
+        alloc,
+        &mut net,
+        RuleKind::Lin,
+        1,
+        &[cause(0, (Some(1), None))?],
+    )?;
+    add(
+        alloc,
+        &mut net,
+        RuleKind::Lin,
+        0,
+        &[cause(1, (Some(1), None))?],
+    )?;
     let falling = Falling::new(alloc, &net)?;
     assert_eq!(&rt; falling.enough(), 2 * (3 * 2 * 2 + 1));
     assert_eq!(&rt; answer(alloc, &net, 0, 1, 26)?.0, Fallen::Inconsistent);

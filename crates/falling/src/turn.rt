@@ -212,7 +212,11 @@ impl Due {
         ensures second { other.value ≤ℤ result.value }
         ensures either { (result.value ≡ self.value) ⊎ (result.value ≡ other.value) }
     {
-        if self.value < other.value { other } else { self }
+        if self.value < other.value {
+            other
+        } else {
+            self
+        }
     }
 }
 

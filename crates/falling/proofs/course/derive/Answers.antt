@@ -40,7 +40,7 @@ returns-then-ends-clause-lines g c =
       g.met.N.Notes.grew_more _ _ _ _ _ inv.1 c.in_default-note.ensures.grew,
       length-more inv.0 c.in-Some.line ∙ ap (λ n. n + 1) inv.2.taken_lines,
       rw c.lower.ensures (has_ended c.args.net.now c.args.from inv.0 c.turns.values c.turns.taken c.args.turns c.in-Some.line c.args.limits.lowest within c.requires.limits.lowest_is
-      inv.2 c.in-Some.ensures.line (c.ends.ensures.0 c.if-ends.true) left),
+          inv.2 c.in-Some.ensures.line (c.ends.ensures.0 c.if-ends.true) left),
     )
 
 pub turns-preserved : goal.turns-preserved
@@ -54,7 +54,7 @@ turns-preserved g c =
         inv.0 ++ c.in-Some.line ∷ [],
         g.met.N.Notes.grew_more _ _ _ _ _ inv.1 c.in_default-note.ensures.grew,
         rw c.lower.ensures (under_way_next c.args.net.now c.args.from inv.0 c.turns.values c.turns.taken c.in-Some.line c.args.limits.lowest c.requires.from within c.requires.limits.lowest_is
-        inv.2 c.in-Some.ensures.line (not_ending c.ends.result _ c.ends.ensures.1 c.if-ends.false)),
+            inv.2 c.in-Some.ensures.line (not_ending c.ends.result _ c.ends.ensures.1 c.if-ends.false)),
       );
       left = omega (arith, c.turns.invariant.left);
     }
