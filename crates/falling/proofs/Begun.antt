@@ -1,5 +1,5 @@
 -- A checker that was begun, and its first faults.
-use Rattle.std.proofs.Common.{◌≡◌, ◌+◌, ◌<◌, ◌≤◌, ◌⊎◌, inl, inr, ◌↔◌, ℕ, ℤ, pos, neg_ℤ, ◌≤ℤ◌, ◌<ℤ◌, Bool, true, false, IsTrue, List, [], ◌∷◌, ◌++◌, All, length, sym, ap, ◌∙◌, refl, subst, arith}
+use Rattle.std.proofs.Common.{◌≡◌, ◌<◌, ◌⊎◌, inl, inr, ◌↔◌, ℤ, Bool, true, false, IsTrue, List, [], ◌∷◌, ◌++◌, sym, ap, ◌∙◌, refl, subst, arith}
 use Rattle.std.proofs.Math.ListN.{length-set}
 use Rattle.itv_base.specs.declared.names.EventId.{EventId}
 use Rattle.event_graph.specs.Network.{IsNet, Net}
@@ -7,9 +7,8 @@ use Rattle.falling.specs.declared.fault.FallCheckFault.{FallCheckFault}
 use Rattle.falling.specs.declared.fault.FallCheckFault.TheVariants.{AfterEnd, NotLower, NoEdge, NoLate, WrongValue}
 use Rattle.falling.specs.declared.limits.Limits.{Limits}
 use Rattle.falling.specs.declared.line.FallLine.{FallLine}
-use Rattle.falling.specs.Cap.{cap}
-use Rattle.falling.specs.Checking.{Checking, IsBegun, IsCheckFault, IsCheckerFor, IsLineFault}
-use Rattle.falling.specs.Course.{AreLimits, Ends}
+use Rattle.falling.specs.Checking.{Checking, IsBegun, IsCheckFault, IsLineFault}
+use Rattle.falling.specs.Course.{Ends}
 use Rattle.falling.specs.Derivation.{IsAllowed, IsEnded, fallen, starting_values}
 use Rattle.falling.proofs.Counting.{due_within}
 use Rattle.falling.proofs.Deriving.{ended_after, fallen_most, leads_more, not_ended_after}

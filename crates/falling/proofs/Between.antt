@@ -1,5 +1,5 @@
 -- Edges lead between events of the network.
-use Rattle.std.proofs.Common.{◌≡◌, ◌<◌, ℕ, ℤ, neg_ℤ, List, All, Option, Some, None, option_map, option_and_then, slice_get, sym, ap, ◌∙◌, refl, subst, arith}
+use Rattle.std.proofs.Common.{◌≡◌, ◌<◌, ℕ, Option, Some, None, option_map, option_and_then, slice_get, refl, subst}
 use Rattle.std.proofs.lemmas.Option.{same_Some}
 use Rattle.itv_base.specs.declared.names.EdgeName.{EdgeName}
 use Rattle.itv_base.specs.declared.names.EventId.{EventId}
@@ -8,7 +8,7 @@ use Rattle.itv_base.specs.declared.names.Side.TheVariants.{Lower, Upper}
 use Rattle.event_graph.specs.declared.cause.Cause.{Cause}
 use Rattle.event_graph.specs.declared.edge.Edge.{Edge}
 use Rattle.event_graph.specs.Edges.{edge, side_edge}
-use Rattle.event_graph.specs.Network.{Constraint, IsConstraint, IsNet, Net}
+use Rattle.event_graph.specs.Network.{IsConstraint, IsNet, Net}
 use Rattle.event_graph.proofs.EdgesMet.{All-found}
 
 -- both ends of an edge are events of the network

@@ -1,16 +1,15 @@
 -- The values of a derivation are never below satisfying times within the cap.
-use Rattle.std.proofs.Common.{◌≡◌, ◌+◌, ◌<◌, ◌≤◌, ◌⊎◌, inl, inr, ℕ, zero, suc, ℤ, pos, neg_ℤ, ◌+ℤ◌, ◌-ℤ◌, ◌≤ℤ◌, ◌<ℤ◌, Bool, true, false, List, [], ◌∷◌, All, Any, length, map, get_or, set, replicate, Option, Some, None, IsSome, IfSome, IsSomeAnd, slice_get, sym, ap, ◌∙◌, refl, subst, arith}
+use Rattle.std.proofs.Common.{◌≡◌, ◌<◌, ◌≤◌, ◌⊎◌, inl, inr, ℕ, zero, suc, ℤ, pos, neg_ℤ, ◌+ℤ◌, ◌-ℤ◌, ◌≤ℤ◌, ◌<ℤ◌, List, [], ◌∷◌, All, Any, length, get_or, set, replicate, Option, Some, None, IsSome, IfSome, IsSomeAnd, slice_get, sym, ap, ◌∙◌, refl, subst, arith}
 use Rattle.std.proofs.Math.ListN.{length-set}
 use Rattle.std.proofs.lemmas.Int.{ints}
 use Rattle.std.proofs.lemmas.List.{length-replicate}
-use Rattle.itv_base.specs.declared.names.EdgeName.{EdgeName}
 use Rattle.itv_base.specs.declared.names.EventId.{EventId}
 use Rattle.itv_base.specs.declared.names.RuleKind.{RuleKind}
 use Rattle.itv_base.specs.declared.names.RuleKind.TheVariants.{Lin, Late, Early}
 use Rattle.event_graph.specs.declared.cause.Cause.{Cause}
 use Rattle.event_graph.specs.declared.edge.Edge.{Edge}
 use Rattle.event_graph.specs.Edges.{Meets, edge}
-use Rattle.event_graph.specs.Network.{Constraint, IsNet, Net}
+use Rattle.event_graph.specs.Network.{Net}
 use Rattle.event_graph.specs.Satisfying.{Holds, HoldsAs, IsBefore, Satisfies}
 use Rattle.event_graph.specs.Times.{separation, time_of}
 use Rattle.event_graph.proofs.ByEdges.{satisfying_meets_always}
@@ -19,10 +18,9 @@ use Rattle.falling.specs.declared.line.FallLine.{FallLine}
 use Rattle.falling.specs.declared.line.Reason.{Reason}
 use Rattle.falling.specs.declared.line.Reason.TheVariants.{ByEdge, ByLatest}
 use Rattle.falling.specs.Cap.{cap, far_line}
-use Rattle.falling.specs.Derivation.{IsAllowed, IsDerivation, IsDue, IsEnded, IsLatestHigh, IsLatestOf, Leads, fallen, starting_values}
+use Rattle.falling.specs.Derivation.{IsAllowed, IsDerivation, IsDue, IsEnded, IsLatestHigh, Leads, fallen, starting_values}
 use Rattle.falling.specs.Gaps.{IsWithinCap}
 use Rattle.falling.specs.Laws.{DerivationBounds, EndedIsInconsistent}
-use Rattle.falling.proofs.Near.{below_or_not}
 use Rattle.falling.proofs.Within.{separation_within_cap, times_near_source}
 
 -- as many values as times, each at least the time

@@ -1,23 +1,21 @@
 -- What settled values of a derivation say.
-use Rattle.std.proofs.Common.{◌≡◌, ◌+◌, ◌*◌, ◌<◌, ◌≤◌, ◌⊎◌, inl, inr, ℕ, zero, suc, ℤ, pos, neg_ℤ, ◌+ℤ◌, ◌-ℤ◌, ◌≤ℤ◌, ◌<ℤ◌, Bool, true, false, List, [], ◌∷◌, All, Any, length, get_or, set, replicate, Option, Some, None, slice_get, sym, ap, ◌∙◌, refl, subst, arith}
+use Rattle.std.proofs.Common.{◌≡◌, ◌<◌, inl, inr, ℕ, ℤ, pos, ◌+ℤ◌, ◌-ℤ◌, ◌≤ℤ◌, ◌<ℤ◌, Bool, true, false, List, [], ◌∷◌, length, get_or, set, replicate, Some, slice_get, sym, ap, ◌∙◌, refl, subst, arith}
 use Rattle.std.proofs.Math.ListN.{length-set}
 use Rattle.std.proofs.lemmas.Int.{ints}
 use Rattle.std.proofs.lemmas.List.{length-replicate}
-use Rattle.std.proofs.lemmas.Option.{same_Some, slice_get_within}
 use Rattle.itv_base.specs.declared.names.EventId.{EventId}
-use Rattle.event_graph.specs.Bounds.{IsGreatest}
-use Rattle.event_graph.specs.Network.{IsNet, Net}
+use Rattle.event_graph.specs.Network.{Net}
 use Rattle.event_graph.specs.Satisfying.{Satisfies}
-use Rattle.event_graph.specs.Times.{raised, separation, time_of}
+use Rattle.event_graph.specs.Times.{raised, time_of}
 use Rattle.event_graph.proofs.EdgesMet.{found_below}
 use Rattle.event_graph.proofs.Rays.{get_or-raised_in, get_or-raised_out, length-raised}
 use Rattle.falling.specs.declared.line.FallLine.{FallLine}
-use Rattle.falling.specs.Cap.{cap, far_line, widest_end}
-use Rattle.falling.specs.Derivation.{IsAllowed, IsDerivation, IsEnded, IsSettled, Leads, fallen, starting_values}
+use Rattle.falling.specs.Cap.{cap, widest_end}
+use Rattle.falling.specs.Derivation.{IsDerivation, IsEnded, Leads, fallen, starting_values}
 use Rattle.falling.specs.Rays.{IsApartBy}
 use Rattle.falling.specs.Laws.{GapIsRay, SettledCloses}
 use Rattle.falling.proofs.Bounding.{derivation_bounds, set_at}
-use Rattle.falling.proofs.Counting.{due_within, least_of, length-derived}
+use Rattle.falling.proofs.Counting.{length-derived}
 use Rattle.falling.proofs.Near.{IsKept, KeepsNear, below_or_not, keeps_in, satisfies_kept}
 use Rattle.falling.proofs.Settling.{settled_satisfies}
 

@@ -1,6 +1,5 @@
 -- The negated causes and constraints so far.
-use Rattle.std.proofs.Common.{◌≡◌, ◌+◌, ◌<◌, ◌≤◌, ℕ, zero, suc, ℤ, List, [], ◌∷◌, ◌++◌, All, length, get_or, take, map, Option, Some, None, IsSome, IfSome, OnOk, Result, Ok, Err, option_map, slice_get, sym, ap, ◌∙◌, refl, subst, add-one, arith}
-use Rattle.std.proofs.lemmas.Option.{get_or_from_slice_get, slice_get_within}
+use Rattle.std.proofs.Common.{◌≡◌, ◌+◌, ◌<◌, ◌≤◌, ℕ, zero, suc, List, [], ◌∷◌, ◌++◌, All, length, take, map, Option, Some, None, OnOk, Result, Ok, Err, option_map, slice_get, sym, ap, ◌∙◌, refl, subst, add-one, arith}
 use Rattle.itv_base.specs.declared.limits.TheConstants.{MAX_CAUSES}
 use Rattle.itv_base.specs.declared.names.EventId.{EventId}
 use Rattle.itv_base.specs.declared.names.RuleKind.{RuleKind}
@@ -8,12 +7,12 @@ use Rattle.itv_base.specs.declared.names.RuleKind.TheVariants.{Lin, Late, Early}
 use Rattle.event_graph.specs.declared.cause.Cause.{Cause}
 use Rattle.event_graph.specs.Network.{Constraint, IsCauseCount, IsConstraint, IsNet, Net, cause_at, cause_count_of, linear, with_constraint}
 use Rattle.event_graph.proofs.EdgesMet.{All-found, found_below}
-use Rattle.falling.specs.Kinds.{AreNegatedCauses, negated, negated_cause, negated_constraint, negated_ends, negated_kind}
+use Rattle.falling.specs.Kinds.{AreNegatedCauses, negated, negated_cause, negated_constraint, negated_kind}
 use Rattle.falling.specs.Turns.{IsKind}
 use Rattle.falling.proofs.Between.{mapped_some}
 use Rattle.falling.proofs.Negating.{all_map, length-mapped}
-use Rattle.falling.proofs.Tried.{cause_of_at, kind_of, some_at}
-use Rattle.falling.proofs.Widths.{all_seen, take_all}
+use Rattle.falling.proofs.Tried.{cause_of_at, kind_of}
+use Rattle.falling.proofs.Widths.{take_all}
 
 take_next : {X Y : Type 0} (f : X → Y) (xs : List X) (i : ℕ) (x : X) → slice_get xs i ≡ Some x → map f (take (suc i) xs) ≡ map f (take i xs) ++ f x ∷ []
 take_next f [] i x at_x = absurd (cc)

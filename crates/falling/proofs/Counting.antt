@@ -1,20 +1,17 @@
 -- How many lines a derivation can have.
-use Rattle.std.proofs.Common.{◌≡◌, ◌+◌, ◌-◌, ◌*◌, ◌<◌, ◌≤◌, ◌⊎◌, inl, inr, ℕ, zero, suc, ℤ, pos, negsuc, neg_ℤ, ◌+ℤ◌, ◌-ℤ◌, ◌≤ℤ◌, ◌<ℤ◌, Bool, true, false, List, [], ◌∷◌, ◌++◌, All, Any, length, get_or, set, replicate, Option, Some, None, IsSomeAnd, slice_get, sym, ap, ◌∙◌, refl, subst, arith}
+use Rattle.std.proofs.Common.{◌≡◌, ◌+◌, ◌*◌, ◌<◌, ◌≤◌, inl, inr, ℕ, zero, suc, ℤ, pos, neg_ℤ, ◌+ℤ◌, ◌≤ℤ◌, ◌<ℤ◌, List, [], ◌∷◌, All, length, get_or, set, replicate, slice_get, ap, ◌∙◌, refl, subst, arith}
 use Rattle.std.proofs.Math.ListN.{length-set}
 use Rattle.std.proofs.lemmas.Int.{ints}
-use Rattle.std.proofs.lemmas.List.{length-replicate}
-use Rattle.itv_base.specs.declared.names.EdgeName.{EdgeName}
 use Rattle.itv_base.specs.declared.names.EventId.{EventId}
-use Rattle.event_graph.specs.declared.edge.Edge.{Edge}
 use Rattle.event_graph.specs.Edges.{edge}
-use Rattle.event_graph.specs.Network.{Constraint, IsConstraint, IsNet, Net}
+use Rattle.event_graph.specs.Network.{IsConstraint, IsNet, Net}
 use Rattle.event_graph.specs.Times.{time_of}
 use Rattle.event_graph.proofs.EdgesMet.{All-found}
 use Rattle.falling.specs.declared.line.FallLine.{FallLine}
 use Rattle.falling.specs.declared.line.Reason.{Reason}
 use Rattle.falling.specs.declared.line.Reason.TheVariants.{ByEdge, ByLatest}
-use Rattle.falling.specs.Cap.{cap, enough_turns, far_line, widest_end}
-use Rattle.falling.specs.Derivation.{IsAllowed, IsDerivation, IsDue, IsEnded, IsLatestOf, Leads, fallen, starting_values}
+use Rattle.falling.specs.Cap.{cap, enough_turns, far_line}
+use Rattle.falling.specs.Derivation.{IsAllowed, IsDerivation, IsDue, IsEnded, Leads, fallen, starting_values}
 use Rattle.falling.specs.Laws.{NotEndedIsShort}
 use Rattle.falling.proofs.Between.{edge_between}
 use Rattle.falling.proofs.Bounding.{length-starting, replicated, set_at, some_and}

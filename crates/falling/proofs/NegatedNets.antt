@@ -1,31 +1,29 @@
 -- The negation of a network, and what its answers say of the network.
-use Rattle.std.proofs.Common.{◌≡◌, ◌+◌, ◌*◌, ◌^◌, ◌<◌, ◌≤◌, ◌⊎◌, inl, inr, ℕ, zero, suc, ℤ, pos, negsuc, neg_ℤ, unsigned_abs, max, ◌+ℤ◌, ◌-ℤ◌, ◌≤ℤ◌, ◌<ℤ◌, Bool, true, false, not, List, [], ◌∷◌, All, length, map, get_or, Option, Some, None, option_map, slice_get, sym, ap, ◌∙◌, refl, subst, arith}
+use Rattle.std.proofs.Common.{◌≡◌, ◌+◌, ◌*◌, ◌^◌, ◌<◌, ◌≤◌, ◌⊎◌, inl, inr, ℕ, zero, suc, ℤ, pos, negsuc, neg_ℤ, unsigned_abs, max, ◌+ℤ◌, Bool, true, false, not, List, [], ◌∷◌, All, length, map, Option, Some, None, option_map, slice_get, sym, ap, ◌∙◌, refl, subst, arith}
 use Rattle.std.proofs.lemmas.Int.{ints}
-use Rattle.std.proofs.lemmas.Option.{slice_get-get_or, slice_get_within}
-use Rattle.itv_base.specs.declared.limits.TheConstants.{MAX_CAUSES}
 use Rattle.itv_base.specs.declared.names.EventId.{EventId}
 use Rattle.itv_base.specs.declared.names.RuleKind.{RuleKind}
 use Rattle.itv_base.specs.declared.names.RuleKind.TheVariants.{Lin, Late, Early}
 use Rattle.event_graph.specs.declared.cause.Cause.{Cause}
-use Rattle.event_graph.specs.Bounds.{IsGreatest, IsInconsistent, IsRay}
+use Rattle.event_graph.specs.Bounds.{IsInconsistent, IsRay}
 use Rattle.event_graph.specs.Network.{Constraint, IsNet, Net}
 use Rattle.event_graph.specs.Satisfying.{Satisfies}
-use Rattle.event_graph.specs.Times.{raised, separation, shifted, time_of}
+use Rattle.event_graph.specs.Times.{raised, shifted}
 use Rattle.event_graph.proofs.Shifting.{shift_keeps_satisfying}
 use Rattle.falling.specs.declared.answer.Fallen.{Fallen}
 use Rattle.falling.specs.declared.answer.Fallen.TheVariants.{Closed, Inconsistent, Spent, Unbounded}
 use Rattle.falling.specs.declared.line.FallLine.{FallLine}
 use Rattle.falling.specs.declared.limits.Limits.{Limits}
-use Rattle.falling.specs.Cap.{cap, end_size, enough_turns, far_line, widest_end, widest_of, widest_of_causes}
+use Rattle.falling.specs.Cap.{cap, end_size, widest_end, widest_of, widest_of_causes}
 use Rattle.falling.specs.Course.{AreLimits}
-use Rattle.falling.specs.Derivation.{IsDerivation, IsEnded}
+use Rattle.falling.specs.Derivation.{IsDerivation}
 use Rattle.falling.specs.Fallen.{Answers, IsClosedAt, IsShownInconsistent, IsShownUnbounded}
 use Rattle.falling.specs.Kinds.{IsChoiceOf, IsNegatable, IsPlain, negated, negated_cause, negated_constraint, negated_kind, negated_times}
 use Rattle.falling.specs.Solving.{AnswersByNegation, IsClosedByNegation, IsInconsistentByNegation, IsUnboundedByNegation}
 use Rattle.falling.specs.Turns.{IsNearValue}
 use Rattle.falling.proofs.Bounding.{ended_is_inconsistent}
 use Rattle.falling.proofs.Deriving.{derived_most, near_values}
-use Rattle.falling.proofs.Negating.{all_map, length-mapped, negated_twice, negation_reverses_greatest, satisfies_from, satisfies_turns, separation-negated, time_of-negated}
+use Rattle.falling.proofs.Negating.{all_map, length-mapped, negation_reverses_greatest, satisfies_from, satisfies_turns, separation-negated}
 
 size-negated : (end : Option ℤ) → end_size (option_map neg_ℤ end) ≡ end_size end
 size-negated None = refl

@@ -1,27 +1,24 @@
 -- Values that no line lowers satisfy a plain network.
-use Rattle.std.proofs.Common.{◌≡◌, ◌+◌, ◌<◌, ◌≤◌, ◌⊎◌, inl, inr, ℕ, zero, suc, ℤ, pos, neg_ℤ, ◌+ℤ◌, ◌-ℤ◌, ◌≤ℤ◌, ◌<ℤ◌, IsTrue, List, [], ◌∷◌, All, Any, length, get_or, Option, Some, None, IsSome, IfSome, IsSomeAnd, option_map, slice_get, sym, ap, ◌∙◌, refl, subst, arith}
+use Rattle.std.proofs.Common.{◌≡◌, ◌<◌, ◌≤◌, ◌⊎◌, inl, inr, ℕ, zero, suc, ℤ, ◌+ℤ◌, ◌-ℤ◌, ◌≤ℤ◌, ◌<ℤ◌, IsTrue, List, [], ◌∷◌, All, Any, length, get_or, Option, Some, None, IsSome, IfSome, IsSomeAnd, option_map, slice_get, ap, ◌∙◌, refl, arith}
 use Rattle.std.proofs.lemmas.Int.{ints}
 use Rattle.std.proofs.lemmas.Option.{slice_get-get_or}
 use Rattle.itv_base.specs.declared.names.EdgeName.{EdgeName}
 use Rattle.itv_base.specs.declared.names.EventId.{EventId}
 use Rattle.itv_base.specs.declared.names.RuleKind.{RuleKind}
 use Rattle.itv_base.specs.declared.names.RuleKind.TheVariants.{Lin, Late, Early}
-use Rattle.itv_base.specs.declared.names.Side.{Side}
 use Rattle.itv_base.specs.declared.names.Side.TheVariants.{Lower, Upper}
 use Rattle.event_graph.specs.declared.cause.Cause.{Cause}
 use Rattle.event_graph.specs.declared.edge.Edge.{Edge}
-use Rattle.event_graph.specs.Edges.{IsAlways, Meets, choice_side, edge, holds_always, side_edge}
+use Rattle.event_graph.specs.Edges.{IsAlways, Meets, edge, holds_always, side_edge}
 use Rattle.event_graph.specs.Laws.{MeetsSomeChoice}
-use Rattle.event_graph.specs.Network.{Constraint, IsCauseCount, IsConstraint, IsNet, Net}
+use Rattle.event_graph.specs.Network.{Constraint, IsCauseCount, IsConstraint, Net}
 use Rattle.event_graph.specs.Proof.{HasChoice}
-use Rattle.event_graph.specs.Satisfying.{Holds, Satisfies}
 use Rattle.event_graph.specs.Times.{time_of}
 use Rattle.event_graph.proofs.ByEdges.{holds_by_edges}
-use Rattle.event_graph.proofs.EdgesMet.{All-found, edge-at, met_if_some}
-use Rattle.falling.specs.declared.line.FallLine.{FallLine}
+use Rattle.event_graph.proofs.EdgesMet.{edge-at, met_if_some}
 use Rattle.falling.specs.declared.line.Reason.TheVariants.{ByEdge, ByLatest}
-use Rattle.falling.specs.Derivation.{IsAllowed, IsDueByEdge, IsDueByLatest, IsLatestHigh, IsLatestOf, IsSettled}
-use Rattle.falling.specs.Kinds.{IsChoiceOf, IsPlain}
+use Rattle.falling.specs.Derivation.{IsDueByEdge, IsDueByLatest, IsLatestHigh, IsSettled}
+use Rattle.falling.specs.Kinds.{IsChoiceOf}
 use Rattle.falling.specs.Laws.{SettledSatisfies}
 use Rattle.falling.proofs.Near.{below_or_not}
 

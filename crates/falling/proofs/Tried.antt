@@ -1,9 +1,8 @@
 -- What was tried, and the greatest value of the causes so far.
-use Rattle.std.proofs.Common.{◌≡◌, ◌+◌, ◌<◌, ◌≤◌, ◌⊎◌, inl, inr, ℕ, zero, suc, ℤ, pos, ◌+ℤ◌, ◌≤ℤ◌, ◌<ℤ◌, max, List, [], ◌∷◌, All, Any, length, get_or, Option, Some, None, IsSome, IfSome, IfNone, IsSomeAnd, option_map, option_and_then, slice_get, sym, ap, ◌∙◌, refl, subst, arith}
+use Rattle.std.proofs.Common.{◌≡◌, ◌+◌, ◌<◌, ◌≤◌, ◌⊎◌, inl, inr, ℕ, ℤ, ◌+ℤ◌, ◌≤ℤ◌, max, List, All, length, get_or, Option, Some, None, IsSome, IfSome, IfNone, IsSomeAnd, option_map, slice_get, sym, ap, ◌∙◌, refl, subst, arith}
 use Rattle.std.proofs.lemmas.Int.{ints}
 use Rattle.std.proofs.lemmas.Option.{get_or_from_slice_get, same_Some, slice_get-get_or, slice_get_within}
 use Rattle.itv_base.specs.declared.names.EdgeName.{EdgeName}
-use Rattle.itv_base.specs.declared.names.EventId.{EventId}
 use Rattle.itv_base.specs.declared.names.RuleKind.{RuleKind}
 use Rattle.itv_base.specs.declared.names.RuleKind.TheVariants.{Lin, Late, Early}
 use Rattle.itv_base.specs.declared.names.Side.{Side}
@@ -13,10 +12,9 @@ use Rattle.event_graph.specs.Edges.{edge}
 use Rattle.event_graph.specs.Network.{Constraint, IsCauseCount, IsConstraint, IsNet, Net, cause_at, cause_count_of, named_causes}
 use Rattle.event_graph.specs.Times.{time_of}
 use Rattle.event_graph.proofs.EdgesMet.{All-found, cause_of}
-use Rattle.falling.specs.declared.line.FallLine.{FallLine}
 use Rattle.falling.specs.declared.line.Reason.{Reason}
 use Rattle.falling.specs.declared.line.Reason.TheVariants.{ByEdge, ByLatest}
-use Rattle.falling.specs.Derivation.{IsAllowed, IsLatestHigh, IsSettled}
+use Rattle.falling.specs.Derivation.{IsLatestHigh, IsSettled}
 use Rattle.falling.specs.Turns.{HasOpenHigh, IsConstraintTried, IsHighOf, IsKind, IsLatestValue, IsSideTried, IsTried, constraint_of}
 use Rattle.falling.proofs.Between.{mapped_some, then_some}
 use Rattle.falling.proofs.Bounding.{some_and}

@@ -1,8 +1,7 @@
 -- Lists that are turned place by place.
-use Rattle.std.proofs.Common.{◌≡◌, ◌+◌, ◌<◌, ◌≤◌, ◌⊎◌, inl, inr, ℕ, zero, suc, ℤ, pos, neg_ℤ, Bool, true, false, not, List, [], ◌∷◌, length, map, get_or, set, sym, ap, ◌∙◌, refl, arith}
+use Rattle.std.proofs.Common.{◌≡◌, ◌+◌, ◌<◌, ◌≤◌, ◌⊎◌, inl, inr, ℕ, zero, suc, List, [], ◌∷◌, length, map, get_or, set, sym, ap, ◌∙◌, refl, arith}
 use Rattle.std.proofs.Math.ListN.{length-set}
-use Rattle.falling.specs.Kinds.{negated_times}
-use Rattle.falling.proofs.Negating.{get_or-negated, length-mapped}
+use Rattle.falling.proofs.Negating.{length-mapped}
 
 -- the places before one have what a function gives, and the others are as they were
 pub record IsTurnedTo {X : Type 0} (f : X → X) (d : X) (place : ℕ) (old new : List X) : Type 0 where

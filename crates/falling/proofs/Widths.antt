@@ -1,6 +1,5 @@
 -- The widest end of the causes and constraints so far.
-use Rattle.std.proofs.Common.{◌≡◌, ◌+◌, ◌<◌, ◌≤◌, ℕ, zero, suc, ℤ, max, List, [], ◌∷◌, ◌++◌, length, get_or, take, map, Option, Some, None, IsSome, option_map, slice_get, sym, ap, ◌∙◌, refl, subst, add-one, arith}
-use Rattle.std.proofs.lemmas.Option.{slice_get_within}
+use Rattle.std.proofs.Common.{◌≡◌, ◌+◌, ◌<◌, ◌≤◌, ℕ, zero, suc, max, List, [], ◌∷◌, length, take, Some, IsSome, option_map, slice_get, sym, ap, ◌∙◌, refl, subst, add-one, arith}
 use Rattle.event_graph.specs.declared.cause.Cause.{Cause}
 use Rattle.event_graph.specs.Network.{Constraint, IsConstraint, IsNet, Net, cause_at, cause_count_of}
 use Rattle.event_graph.proofs.EdgesMet.{All-found}

@@ -1,16 +1,16 @@
 -- Satisfying times brought near an event.
-use Rattle.std.proofs.Common.{◌≡◌, ◌+◌, ◌*◌, ◌<◌, ◌≤◌, ◌⊎◌, inl, inr, ℕ, zero, suc, ℤ, pos, negsuc, neg_ℤ, unsigned_abs, ◌+ℤ◌, ◌-ℤ◌, ◌≤ℤ◌, ◌<ℤ◌, Bool, true, false, List, [], ◌∷◌, All, length, map, get_or, sym, ap, ◌∙◌, refl, subst, arith}
+use Rattle.std.proofs.Common.{◌≡◌, ◌+◌, ◌*◌, ◌<◌, ◌≤◌, ◌⊎◌, inl, inr, ℕ, zero, suc, ℤ, pos, neg_ℤ, ◌+ℤ◌, ◌-ℤ◌, ◌≤ℤ◌, List, [], ◌∷◌, length, map, get_or, ◌∙◌, subst, arith}
 use Rattle.std.proofs.lemmas.Int.{ints}
 use Rattle.std.proofs.lemmas.List.{get_or-map, length-map}
 use Rattle.itv_base.specs.declared.names.EventId.{EventId}
 use Rattle.event_graph.specs.Network.{IsNet, Net}
 use Rattle.event_graph.specs.Satisfying.{Satisfies}
-use Rattle.event_graph.specs.Times.{separation, time_of}
+use Rattle.event_graph.specs.Times.{time_of}
 use Rattle.falling.specs.Cap.{cap, far_line, widest_end}
-use Rattle.falling.specs.Gaps.{HasNearSource, HasWithinCap, IsWithinCap}
+use Rattle.falling.specs.Gaps.{IsWithinCap}
 use Rattle.falling.specs.Laws.{SeparationWithinCap, TimesNearSource}
 use Rattle.falling.proofs.Near.{IsKept, KeepsNear, below_or_not, keeps_in, satisfies_kept}
-use Rattle.falling.proofs.Removed.{IsNaturalPart, few_left, is_covered, none_or_one, kept_narrowed, narrowed, natural_part, natural_part_is, removed, removed_below, removed_below_grows}
+use Rattle.falling.proofs.Removed.{IsNaturalPart, few_left, is_covered, none_or_one, kept_narrowed, narrowed, natural_part, natural_part_is, removed}
 
 -- the times narrowed, with one number taken off
 abbrev pub narrowed_by : ℕ → List ℤ → ℤ → ℤ → List ℤ

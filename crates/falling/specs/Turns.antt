@@ -7,7 +7,6 @@ use Rattle.itv_base.specs.declared.names.Side.{Side}
 use Rattle.event_graph.specs.declared.cause.Cause.{Cause}
 use Rattle.event_graph.specs.Network.{Constraint, Net, cause_at}
 use Rattle.event_graph.specs.Times.{time_of}
-use Rattle.falling.specs.declared.line.FallLine.{FallLine}
 use Rattle.falling.specs.declared.line.Reason.{Reason}
 use Rattle.falling.specs.declared.line.Reason.TheVariants.{ByEdge, ByLatest}
 use Rattle.falling.specs.Derivation.{IsAllowed, IsLatestHigh}

@@ -1,6 +1,6 @@
-use Rattle.std.proofs.Common.{◌≡◌, ◌+◌, ◌<◌, ◌∙◌, ◌++◌, ◌∷◌, [], Bool, false, IsTrue, ap, sym, subst, arith}
+use Rattle.std.proofs.Common.{◌≡◌, ◌+◌, ◌<◌, ◌∙◌, ◌++◌, ◌∷◌, [], Bool, false, IsTrue, ap, arith}
 use Rattle.falling.proofs.Counting.{due_within}
-use Rattle.falling.proofs.Deriving.{has_ended, has_settled, leads_more, length-more, under_way_first, under_way_next}
+use Rattle.falling.proofs.Deriving.{has_ended, leads_more, length-more, under_way_first, under_way_next}
 use Rattle.falling.specs.Derivation.{fallen, starting_values}
 use Rattle.falling.proofs.course.derive.Goals as goal
 

@@ -1,5 +1,4 @@
 use Rattle.std.proofs.Common.{◌≤◌, ◌-◌, List}
-use Rattle.event_graph.specs.Network.{IsNet}
 use Rattle.falling.specs.declared.line.FallLine.{FallLine}
 use Rattle.falling.proofs.Deriving.{IsUnderWay}
 use Rattle.falling.proofs.course.derive.Given as goal

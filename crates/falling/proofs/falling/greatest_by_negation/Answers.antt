@@ -1,4 +1,4 @@
-use Rattle.std.proofs.Common.{◌≡◌, ◌<◌, length, ap, sym, ◌∙◌, subst}
+use Rattle.std.proofs.Common.{◌<◌, ap, sym, subst}
 use Rattle.event_graph.specs.Network.{Net}
 use Rattle.falling.specs.Course.{AreLimits}
 use Rattle.falling.specs.Kinds.{IsPlain}

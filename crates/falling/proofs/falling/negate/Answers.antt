@@ -1,5 +1,5 @@
 use Rattle.std.proofs.Common.{neg_ℤ, pos, arith}
-use Rattle.falling.proofs.Turning.{turned_all, turned_first, turned_next}
+use Rattle.falling.proofs.Turning.{turned_all}
 use Rattle.falling.proofs.falling.negate.Goals as goal
 
 pub returns : goal.returns

@@ -1,4 +1,4 @@
-use Rattle.std.proofs.Common.{◌≤ℤ◌, pos, ◌*◌, ap, arith}
+use Rattle.std.proofs.Common.{ap}
 use mir.Syntax.{w64}
 use mir.Val.{of_z}
 use Rattle.falling.specs.Cap.{widest_end}

@@ -1,7 +1,5 @@
 use Rattle.std.proofs.Common.{refl}
-use Rattle.std.proofs.Common.{◌≡◌, ◌<ℤ◌, ◌≤ℤ◌, pos, subst, ℤ}
 use Rattle.event_graph.specs.Times.{time_of}
-use Rattle.falling.specs.Cap.{far_line}
 use Rattle.falling.proofs.Answering.{closed_answer, unbounded_answer}
 use Rattle.falling.proofs.greatest.settled.Goals as goal
 

@@ -1,4 +1,4 @@
-use Rattle.std.proofs.Common.{arith, ap, ◌∙◌}
+use Rattle.std.proofs.Common.{arith}
 use Rattle.falling.proofs.Collecting.{causes_all, causes_next}
 use Rattle.falling.proofs.Widths.{all_seen}
 use Rattle.falling.proofs.negation.negated_causes.Goals as goal

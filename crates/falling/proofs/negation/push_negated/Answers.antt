@@ -1,7 +1,4 @@
-use Rattle.std.proofs.Common.{◌≡◌, ◌<◌, All, ◌++◌, ◌∷◌, [], ap, sym, ◌∙◌, subst, arith}
-use Rattle.itv_base.specs.declared.names.RuleKind.TheVariants.{Early, Late, Lin}
-use Rattle.event_graph.specs.declared.cause.Cause.{Cause}
-use Rattle.event_graph.specs.Network.{Constraint, Net}
+use Rattle.itv_base.specs.declared.names.RuleKind.TheVariants.{Early, Late}
 use Rattle.falling.proofs.Collecting.{linear_added, pushable}
 use Rattle.falling.proofs.negation.push_negated.Goals as goal
 
