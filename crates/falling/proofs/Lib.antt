@@ -16,3 +16,4 @@ pub mod Answering
 pub mod Begun
 pub mod NegatedNets
 pub mod Turning
+pub mod Faults

@@ -176,7 +176,10 @@ other_of : (net : Net) (from to : EventId) (turns : ℕ) (lines : List FallLine)
 other_of net from to turns lines values ray (Closed value) none h = absurd (none tt)
 other_of net from to turns lines values ray Unbounded none h = absurd (none tt)
 other_of net from to turns lines values ray Inconsistent none h = inconsistent_answer net to lines h
-other_of net from to turns lines values ray Spent none h = (values, h)
+other_of net from to turns lines values ray Spent none h = record {
+  spent = (values, h.spent);
+  few = subst (λ w. turns < net.events * (3 * net.events * (w + 1) + 1)) (widest-negated net) h.few;
+}
 
 pub other_answer : (negation : Net) (from to : EventId) (turns : ℕ) (lines : List FallLine) (values : List ℤ) (ray : List Bool) (fallen : Fallen) → (HasTimes fallen → ⊥)
     → Answers negation to from turns lines values ray fallen → (net : Net) → IsNet net → negation ≡ negated net → AnswersByNegation net from to turns lines values ray fallen

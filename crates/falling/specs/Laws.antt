@@ -6,8 +6,10 @@ use Rattle.event_graph.specs.Network.{IsNet, Net}
 use Rattle.event_graph.specs.Satisfying.{Satisfies}
 use Rattle.event_graph.specs.Times.{separation, time_of}
 use Rattle.falling.specs.declared.line.FallLine.{FallLine}
+use Rattle.falling.specs.declared.fault.FallCheckFault.{FallCheckFault}
 use Rattle.falling.specs.Cap.{enough_turns, far_line, widest_end}
-use Rattle.falling.specs.Derivation.{IsDerivation, IsEnded, IsSettled}
+use Rattle.falling.specs.Checking.{IsLineFault}
+use Rattle.falling.specs.Derivation.{IsAllowed, IsDerivation, IsEnded, IsSettled}
 use Rattle.falling.specs.Gaps.{HasNearSource, HasWithinCap, IsGapBeyond, with_gap}
 use Rattle.falling.specs.Kinds.{IsPlain, negated, negated_times}
 use Rattle.falling.specs.Rays.{IsApartBy}
@@ -67,3 +69,7 @@ NegationReversesGreatest = (net : Net) (from to : EventId) (value : ℤ) → IsN
 -- and so is whether it is unbounded
 abbrev pub NegationReversesUnbounded : Type 0
 NegationReversesUnbounded = (net : Net) (from to : EventId) → IsNet net → (IsUnbounded net from to ↔ IsUnbounded (negated net) to from)
+
+-- a line with a fault is not allowed
+abbrev pub FaultForbids : Type 0
+FaultForbids = (net : Net) (values : List ℤ) (line : FallLine) (fault : FallCheckFault) → IsLineFault net values line fault → IsAllowed net values line → ⊥

@@ -1,5 +1,5 @@
 -- What a solver made for a network is at, and what it says of a pair.
-use Rattle.std.specs.Prelude.{◌≡◌, ◌⊎◌, ℕ, ℤ, Bool, List, length, Option, Some, None}
+use Rattle.std.specs.Prelude.{◌≡◌, ◌<◌, ◌⊎◌, ℕ, ℤ, Bool, List, length, Option, Some, None}
 use Rattle.itv_base.specs.declared.names.EventId.{EventId}
 use Rattle.itv_base.specs.declared.names.RuleKind.TheVariants.{Late, Early}
 use Rattle.event_graph.specs.Bounds.{IsGreatest, IsInconsistent, IsRay}
@@ -13,7 +13,7 @@ use Rattle.falling.specs.declared.fault.FallFault.TheVariants.{Mixed, NoMemory}
 use Rattle.falling.specs.declared.limits.Limits.{Limits}
 use Rattle.falling.specs.declared.line.FallLine.{FallLine}
 use Rattle.falling.specs.Cap.{enough_turns}
-use Rattle.falling.specs.Course.{AreLimits}
+use Rattle.falling.specs.Course.{AreLimits, IsSpent}
 use Rattle.falling.specs.Derivation.{IsDerivation, IsEnded}
 use Rattle.falling.specs.Fallen.{Answers, HasSpentTurns}
 use Rattle.falling.specs.Kinds.{IsFirstChoice, IsNegatable, IsPlain, negated, negated_times}
@@ -65,12 +65,17 @@ pub record IsInconsistentByNegation (net : Net) (to : EventId) (lines : List Fal
   pub none : IsInconsistent net
   pub derivation : (values : List ℤ) × IsDerivation (negated net) to lines values × IsEnded (negated net) to values
 
+-- the lines are a derivation in the negation from the to-event of as many lines as turns, which are not enough, and one more is allowed
+pub record HasSpentTurnsByNegation (net : Net) (to : EventId) (turns : ℕ) (lines : List FallLine) : Type 0 where
+  pub spent : (values : List ℤ) × IsSpent (negated net) to turns lines values
+  pub few : turns < enough_turns net
+
 -- what an answer says of a pair of a negatable network
 abbrev pub AnswersByNegation : Net → EventId → EventId → ℕ → List FallLine → List ℤ → List Bool → Fallen → Type 0
 AnswersByNegation net from to turns lines times ray (Closed value) = IsClosedByNegation net from to value lines times
 AnswersByNegation net from to turns lines times ray Unbounded = IsUnboundedByNegation net from to lines times ray
 AnswersByNegation net from to turns lines times ray Inconsistent = IsInconsistentByNegation net to lines
-AnswersByNegation net from to turns lines times ray Spent = (values : List ℤ) × HasSpentTurns (negated net) to turns lines values
+AnswersByNegation net from to turns lines times ray Spent = HasSpentTurnsByNegation net to turns lines
 
 -- what an answer says of a pair, by whether the negation was solved
 abbrev pub AnswersAs : Option Net → Net → EventId → EventId → ℕ → List FallLine → List ℤ → List Bool → Fallen → Type 0

@@ -100,6 +100,7 @@ impl Falling {
             × (after : List ℤ) × IsDerivationAs self.old.negation net.now from to lines after) }
         ensures rose { OnErr result (Rose (N.faults notes.old) (N.faults notes.new)) }
         ensures made { IsMadeFor net.now self.new }
+        ensures negation { self.new.negation ≡ self.old.negation }
     {
         let told = solve(
             net,

@@ -1,6 +1,6 @@
 //! Laws of gaps and of derivations. Each is the contract of a function that does nothing.
 
-ghost use Rattle.falling.specs.Laws.{DerivationBounds, EndedIsInconsistent, GapCanBeSet, GapIsRay, NegationKeepsSatisfying, NegationReversesGreatest, NegationReversesUnbounded, NotEndedIsShort, SeparationWithinCap, SettledCloses, SettledSatisfies, TimesNearSource};
+ghost use Rattle.falling.specs.Laws.{DerivationBounds, EndedIsInconsistent, FaultForbids, GapCanBeSet, GapIsRay, NegationKeepsSatisfying, NegationReversesGreatest, NegationReversesUnbounded, NotEndedIsShort, SeparationWithinCap, SettledCloses, SettledSatisfies, TimesNearSource};
 
 /// A gap greater than the widest end can be made any number that is at least the widest end.
 pub fn gap_can_be_set()
@@ -61,4 +61,9 @@ pub fn negation_reverses_greatest()
 /// A pair is unbounded exactly where the reversed pair is in the negation.
 pub fn negation_reverses_unbounded()
     ensures law { NegationReversesUnbounded }
+{}
+
+/// A line for which a checker tells a fault is not allowed.
+pub fn fault_forbids()
+    ensures law { FaultForbids }
 {}

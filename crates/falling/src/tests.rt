@@ -1,3 +1,6 @@
+ghost use Rattle.std.specs.Prelude.{◌≡◌};
+ghost use Rattle.falling.specs.Checking.{IsBegun};
+
 use super::*;
 use event_graph::{Cause, Network};
 use itv_base::{EdgeName, EventId, Range, RuleKind, Side};
@@ -117,6 +120,28 @@ fn shows_an_unbounded_pair(rt: HostRuntime) -> Result<(), Fail> {
     Ok(())
 }
 
+// The upper edge of `y->k`.
+const BACK: EdgeName = EdgeName {
+    constraint: 1,
+    cause: 0,
+    side: Side::Upper,
+};
+
+// Lets k fall by the edge from y, and then y by the latest constraint.
+fn take_pair(
+    net: &Network,
+    checker: &mut FallChecker,
+    fall: i64,
+    latest: i64,
+) -> Result<(), FallCheckFault>
+    requires begun { IsBegun net.now checker.old }
+    requires events { net.now.events ≡ 3 }
+    ensures { IsBegun net.now checker.new }
+{
+    checker.take_fall(net, EventId(2), fall, BACK)?;
+    checker.take_late(net, EventId(1), latest, 0)
+}
+
 // The checker takes the 17 lines of the pair (0, 0): k to 31, y to 31, k to 26, .., y to 1, k to -4, y to 0 and
 // k to -5.
 #[test]
@@ -128,18 +153,15 @@ fn checks_the_lines_of_a_derivation(rt: HostRuntime) -> Result<(), Fail> {
     }
     let mut checker = FallChecker::new(alloc, &net)?;
     checker.begin(&net, EventId(0));
-    let upper = EdgeName {
-        constraint: 1,
-        cause: 0,
-        side: Side::Upper,
-    };
-    let falls = [31, 26, 21, 16, 11, 6, 1, -4];
-    for value in falls {
-        checker.take_fall(&net, EventId(2), value, upper)?;
-        let latest = if value < 0 { 0 } else { value };
-        checker.take_late(&net, EventId(1), latest, 0)?;
-    }
-    checker.take_fall(&net, EventId(2), -5, upper)?;
+    take_pair(&net, &mut checker, 31, 31)?;
+    take_pair(&net, &mut checker, 26, 26)?;
+    take_pair(&net, &mut checker, 21, 21)?;
+    take_pair(&net, &mut checker, 16, 16)?;
+    take_pair(&net, &mut checker, 11, 11)?;
+    take_pair(&net, &mut checker, 6, 6)?;
+    take_pair(&net, &mut checker, 1, 1)?;
+    take_pair(&net, &mut checker, -4, 0)?;
+    checker.take_fall(&net, EventId(2), -5, BACK)?;
     assert_eq!(&rt; checker.value(EventId(0)), 0);
     assert_eq!(&rt; checker.value(EventId(1)), 0);
     assert_eq!(&rt; checker.value(EventId(2)), -5);
