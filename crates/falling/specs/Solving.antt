@@ -15,7 +15,7 @@ use Rattle.falling.specs.declared.line.FallLine.{FallLine}
 use Rattle.falling.specs.Cap.{enough_turns}
 use Rattle.falling.specs.Course.{AreLimits, IsSpent}
 use Rattle.falling.specs.Derivation.{IsDerivation, IsEnded}
-use Rattle.falling.specs.Fallen.{Answers, HasSpentTurns}
+use Rattle.falling.specs.Fallen.{Answers}
 use Rattle.falling.specs.Kinds.{IsFirstChoice, IsNegatable, IsPlain, negated, negated_times}
 
 -- what a solver is at: the negation that it solves, if the network is not plain, its limits, a number of turns that is enough,
