@@ -1,0 +1,32 @@
+-- The text of a line of a derivation.
+use Rattle.std.specs.Prelude.{ℕ, List, [], ◌∷◌, codes}
+use Rattle.std.specs.List.{flat_map}
+use Rattle.itv_base.specs.Numerals.{number_text, signed_text}
+use Rattle.line_words.specs.Words.{Word}
+use Rattle.line_words.specs.Lines.{ended, line_of}
+use Rattle.certificate.specs.Text.{edge_word}
+use Rattle.falling.specs.declared.line.FallLine.{FallLine}
+use Rattle.falling.specs.declared.line.Reason.{Reason}
+use Rattle.falling.specs.declared.line.Reason.TheVariants.{ByEdge, ByLatest}
+
+-- how a reason begins a line
+abbrev pub reason_name : Reason → Word
+reason_name (ByEdge edge) = codes "fall"
+reason_name (ByLatest number) = codes "late"
+
+-- what a reason names: an edge, or the number of a constraint
+abbrev pub reason_word : Reason → Word
+reason_word (ByEdge edge) = edge_word edge
+reason_word (ByLatest number) = number_text number
+
+-- the words of a line: what it is, the event, the value in picoseconds, and what the reason names
+abbrev pub fall_words : FallLine → List Word
+fall_words line = reason_name line.reason ∷ number_text line.event.0 ∷ signed_text line.value ∷ reason_word line.reason ∷ []
+
+-- the line with its end
+abbrev pub fall_line_text : FallLine → List ℕ
+fall_line_text line = ended (line_of (fall_words line))
+
+-- the text of lines of a derivation
+abbrev pub fall_text : List FallLine → List ℕ
+fall_text lines = flat_map fall_line_text lines

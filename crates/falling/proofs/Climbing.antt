@@ -1,0 +1,133 @@
+-- Climbing from value to value to a gap.
+use Rattle.std.proofs.Common.{◌≡◌, ◌+◌, ◌-◌, ◌*◌, ◌^◌, ◌<◌, ◌≤◌, inl, inr, ℕ, zero, suc, ℤ, pos, ◌+ℤ◌, ◌≤ℤ◌, ◌<ℤ◌, Bool, true, false, if◌then◌else◌, int_lt, List, [], ◌∷◌, length, get_or, sym, ◌∙◌, refl, subst, arith}
+use Rattle.std.proofs.lemmas.Int.{ints}
+use Rattle.event_graph.specs.Network.{Net}
+use Rattle.falling.specs.Cap.{cap, far_line, widest_end}
+use Rattle.falling.specs.Rays.{IsReached, above}
+use Rattle.falling.proofs.Within.{room_below}
+
+-- a truth as a number
+abbrev as_number : Bool → ℕ
+as_number b = if b then 1 else 0
+
+one_most : (b : Bool) → (if b then 1 else 0) ≤ 1
+one_most true = omega arith
+one_most false = omega arith
+
+one_falls : (low high value : ℤ) (a b : Bool) → int_lt low value ≡ a → int_lt high value ≡ b → low ≤ℤ high → (if b then 1 else 0) ≤ (if a then 1 else 0)
+one_falls low high value true true is_a is_b le = omega arith
+one_falls low high value true false is_a is_b le = omega arith
+one_falls low high value false true is_a is_b le = absurd (omega (arith, ints))
+one_falls low high value false false is_a is_b le = omega arith
+
+pub above_within : (values : List ℤ) (level : ℤ) → above level values ≤ length values
+above_within [] level = omega arith
+above_within (value ∷ values) level = omega (arith, one_most (int_lt level value), above_within values level)
+
+-- how many values are above a higher level: no more, and fewer where a value lies between
+pub above_falls : (values : List ℤ) (low high : ℤ) → low ≤ℤ high → above high values ≤ above low values
+above_falls [] low high le = omega arith
+above_falls (value ∷ values) low high le = omega (arith, one_falls low high value (int_lt low value) (int_lt high value) refl refl le, above_falls values low high le)
+
+at_level : (b : Bool) (value : ℤ) → int_lt value value ≡ b → as_number b ≡ 0
+at_level true value e = absurd (omega (arith, ints))
+at_level false value e = refl
+
+above_level : (b : Bool) (low value : ℤ) → int_lt low value ≡ b → low <ℤ value → as_number b ≡ 1
+above_level true low value e less = refl
+above_level false low value e less = absurd (omega (arith, ints))
+
+pub above_lower : (values : List ℤ) (i : ℕ) (low : ℤ) → i < length values → low <ℤ get_or values i (pos 0) → above (get_or values i (pos 0)) values < above low values
+above_lower [] i low within less = absurd (omega arith)
+above_lower (value ∷ values) zero low within less =
+    let here : as_number (int_lt value value) ≡ 0 = at_level (int_lt value value) value refl in
+    let before : as_number (int_lt low value) ≡ 1 = above_level (int_lt low value) low value refl less in
+    let rest : above value values ≤ above low values = above_falls values low value (le_of low value less) in
+    omega arith where
+      le_of : (a b : ℤ) → a <ℤ b → a ≤ℤ b
+      le_of a b h = omega (arith, ints)
+above_lower (value ∷ values) (suc i) low within less =
+    let at : ℤ = get_or values i (pos 0) in
+    let rest : above (get_or values i (pos 0)) values < above low values = above_lower values i low (omega arith) less in
+    let first : as_number (int_lt (get_or values i (pos 0)) value) ≤ as_number (int_lt low value) =
+    one_falls low (get_or values i (pos 0)) value (int_lt low value) (int_lt (get_or values i (pos 0)) value) refl refl (le_of low (get_or values i (pos 0)) less) in
+    omega arith where
+      le_of : (a b : ℤ) → a <ℤ b → a ≤ℤ b
+      le_of a b h = omega (arith, ints)
+
+mul_more : (a b w : ℕ) → a < b → a * w + w ≤ b * w
+mul_more zero b w less = some_times b w less where
+  some_times : (b w : ℕ) → 0 < b → 0 * w + w ≤ b * w
+  some_times zero w less = absurd (omega arith)
+  some_times (suc b) w less = grind arith
+mul_more (suc a) zero w less = absurd (omega arith)
+mul_more (suc a) (suc b) w less = let rest : a * w + w ≤ b * w = mul_more a b w (omega arith) in grind arith
+
+mul_most : (a b w : ℕ) → a ≤ b → a * w ≤ b * w
+mul_most zero b w le = omega arith
+mul_most (suc a) zero w le = absurd (omega arith)
+mul_most (suc a) (suc b) w le = let rest : a * w ≤ b * w = mul_most a b w (omega arith) in grind arith
+
+-- what a step to another value gives
+pub record IsStep (values : List ℤ) (width : ℕ) (level next : ℤ) : Type 0 where
+  pub falls : above next values < above level values
+  pub low : pos 0 ≤ℤ next
+  pub high : next ≤ℤ pos ((above (pos 0) values - above next values) * width)
+
+high_of : (level next w : ℤ) (width steps more : ℕ) → w ≡ pos width → level ≤ℤ pos (steps * width) → next ≤ℤ (level +ℤ w) → steps * width + width ≤ more * width → next ≤ℤ pos (more * width)
+high_of level next w width steps more is high most le = omega (arith, ints)
+
+pub step_up : (values : List ℤ) (width : ℕ) (w level next : ℤ) → w ≡ pos width → pos 0 ≤ℤ level → level ≤ℤ pos ((above (pos 0) values - above level values) * width)
+    → IsReached w level values next → (next ≡ level → ⊥) → IsStep values width level next
+step_up values width w level next is low high reached other = elim reached.either [
+  | inl same ↦ absurd (other same)
+  | inr (i, value, within, here, is_next) ↦
+      let at : get_or values i (pos 0) ≡ next = default_same values i (pos 0) value within ∙ (here ∙ is_next) in
+      let up : level <ℤ next = above_of level next reached.least other in
+      let fewer : above next values < above level values =
+      subst (λ z. above z values < above level values) at (above_lower values i level within (subst (λ z. level <ℤ z) (sym at) up)) in
+      let most : above level values ≤ above (pos 0) values = above_falls values (pos 0) level low in
+      record {
+        falls = fewer;
+        low = low_of level next low reached.least;
+        high = high_of level next w width (above (pos 0) values - above level values) (above (pos 0) values - above next values) is high reached.most
+            (mul_more (above (pos 0) values - above level values) (above (pos 0) values - above next values) width (omega arith));
+      }
+] where
+  default_same : (xs : List ℤ) (i : ℕ) (d e : ℤ) → i < length xs → get_or xs i d ≡ get_or xs i e
+  default_same [] i d e within = absurd (omega arith)
+  default_same (x ∷ xs) zero d e within = refl
+  default_same (x ∷ xs) (suc i) d e within = default_same xs i d e (omega arith)
+
+  above_of : (a b : ℤ) → a ≤ℤ b → (b ≡ a → ⊥) → a <ℤ b
+  above_of a b le not = by_test (int_lt a b) refl where
+    by_test : (t : Bool) → int_lt a b ≡ t → a <ℤ b
+    by_test true e = omega (arith, ints)
+    by_test false e = absurd (not (omega (arith, ints)))
+
+  low_of : (a b : ℤ) → pos 0 ≤ℤ a → a ≤ℤ b → pos 0 ≤ℤ b
+  low_of a b p q = omega (arith, ints)
+
+-- how high a level is
+pub level_within : (net : Net) (values : List ℤ) (level : ℤ) → length values ≡ net.events → level ≤ℤ pos ((above (pos 0) values - above level values) * widest_end net)
+    → level ≤ℤ pos (net.events * widest_end net)
+level_within net values level count high =
+    le_to level ((above (pos 0) values - above level values) * widest_end net) (net.events * widest_end net) high
+    (mul_most (above (pos 0) values - above level values) net.events (widest_end net) (omega (arith, above_within values (pos 0), count))) where
+      le_to : (level : ℤ) (a b : ℕ) → level ≤ℤ pos a → a ≤ b → level ≤ℤ pos b
+      le_to level a b h le = omega (arith, ints)
+
+pub level_small : (net : Net) (level : ℤ) → cap net ≤ 2 ^ 60 → level ≤ℤ pos (net.events * widest_end net) → level ≤ℤ pos (2 ^ 60)
+level_small net level small high =
+    le_to level (net.events * widest_end net) (cap net) high (room net.events (widest_end net)) small where
+      room : (n w : ℕ) → n * w ≤ 2 * n * (w + 1)
+      room n w = grind arith
+
+      le_to : (level : ℤ) (a b : ℕ) → level ≤ℤ pos a → a ≤ b → b ≤ 2 ^ 60 → level ≤ℤ pos (2 ^ 60)
+      le_to level a b h le less = omega (arith, ints)
+
+-- below the far line there is room for a gap
+pub level_below_far : (net : Net) (level : ℤ) → 0 < net.events → level ≤ℤ pos (net.events * widest_end net) → level <ℤ pos (far_line net)
+level_below_far net level some high = lt_to level (net.events * widest_end net) (far_line net) high (room_below net.events (widest_end net) some) where
+  lt_to : (level : ℤ) (a b : ℕ) → level ≤ℤ pos a → a < b → level <ℤ pos b
+  lt_to level a b h less = omega (arith, ints)

@@ -1,0 +1,14 @@
+use Rattle.std.proofs.Common.{◌≤◌, ◌-◌, List}
+use Rattle.falling.specs.declared.line.FallLine.{FallLine}
+use Rattle.falling.proofs.Deriving.{IsUnderWay}
+use Rattle.falling.proofs.course.derive.Given as goal
+
+-- the lines so far are a derivation of as many lines as turns were taken, which has not ended
+abbrev pub invariant-turns : goal.invariant-turns
+invariant-turns g l = record {
+  lines : (lines : List FallLine) × g.N.Notes.Grew l.fn.notes lines l.notes × IsUnderWay l.net l.from lines l.values l.taken;
+  left : l.taken ≤ l.turns;
+}
+
+abbrev pub decreases-turns : goal.decreases-turns
+decreases-turns g l = l.turns - l.taken

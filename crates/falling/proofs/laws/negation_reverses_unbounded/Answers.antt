@@ -1,0 +1,5 @@
+use Rattle.falling.proofs.Negating.{negation_reverses_unbounded}
+use Rattle.falling.proofs.laws.negation_reverses_unbounded.Goals as goal
+
+pub returns : goal.returns
+returns c = record { law = negation_reverses_unbounded }

@@ -1,0 +1,10 @@
+use Rattle.std.proofs.Common.{◌≡◌, ◌≤◌, take}
+use Rattle.falling.specs.Cap.{widest_of}
+use Rattle.falling.proofs.limits.widest.Given as goal
+
+-- the widest end of the constraints so far
+abbrev pub invariant-loop-number : goal.invariant-loop-number
+invariant-loop-number l = record {
+  width : l.width ≡ widest_of (take l.number l.net.constraints);
+  most : l.width ≤ 1000000000000;
+}

@@ -1,0 +1,35 @@
+-- The numbers, in picoseconds, that a solver starts from and ends at.
+use Rattle.std.specs.Prelude.{◌+◌, ◌*◌, ℕ, ℤ, unsigned_abs, max, List, [], ◌∷◌, Option, Some, None}
+use Rattle.event_graph.specs.declared.cause.Cause.{Cause}
+use Rattle.event_graph.specs.Network.{Constraint, Net}
+
+-- the absolute value of an end, 0 where it is open
+abbrev pub end_size : Option ℤ → ℕ
+end_size None = 0
+end_size (Some end) = unsigned_abs end
+
+-- the greatest absolute value of the finite ends of some causes, 0 where there is none
+abbrev pub widest_of_causes : List Cause → ℕ
+widest_of_causes [] = 0
+widest_of_causes (c ∷ cs) = max (max (end_size c.range.low) (end_size c.range.high)) (widest_of_causes cs)
+
+-- the same of some constraints
+abbrev pub widest_of : List Constraint → ℕ
+widest_of [] = 0
+widest_of (k ∷ ks) = max (widest_of_causes k.causes) (widest_of ks)
+
+-- the greatest absolute value of a finite end of a network
+abbrev pub widest_end : Net → ℕ
+widest_end net = widest_of net.constraints
+
+-- where a derivation starts the events other than its source
+abbrev pub cap : Net → ℕ
+cap net = 2 * net.events * (widest_end net + 1)
+
+-- a value at least as great shows that a pair is unbounded, and one as far below 0 that no times satisfy
+abbrev pub far_line : Net → ℕ
+far_line net = net.events * (widest_end net + 1)
+
+-- a number of turns in which a derivation ends or settles
+abbrev pub enough_turns : Net → ℕ
+enough_turns net = net.events * (3 * net.events * (widest_end net + 1) + 1)

@@ -1,0 +1,11 @@
+pub mod Cap
+pub mod Kinds
+pub mod Gaps
+pub mod Derivation
+pub mod Turns
+pub mod Course
+pub mod Fallen
+pub mod Rays
+pub mod Checking
+pub mod Solving
+pub mod Laws

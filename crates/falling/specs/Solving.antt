@@ -1,0 +1,88 @@
+-- What a solver made for a network is at, and what it says of a pair.
+use Rattle.std.specs.Prelude.{◌≡◌, ◌<◌, ◌⊎◌, ℕ, ℤ, Bool, List, length, Option, Some, None}
+use Rattle.itv_base.specs.declared.names.EventId.{EventId}
+use Rattle.itv_base.specs.declared.names.RuleKind.TheVariants.{Late, Early}
+use Rattle.event_graph.specs.Bounds.{IsGreatest, IsInconsistent, IsRay}
+use Rattle.event_graph.specs.Network.{Net}
+use Rattle.event_graph.specs.Satisfying.{Satisfies}
+use Rattle.event_graph.specs.Times.{separation, time_of}
+use Rattle.falling.specs.declared.answer.Fallen.{Fallen}
+use Rattle.falling.specs.declared.answer.Fallen.TheVariants.{Closed, Unbounded, Inconsistent, Spent}
+use Rattle.falling.specs.declared.fault.FallFault.{FallFault}
+use Rattle.falling.specs.declared.fault.FallFault.TheVariants.{Mixed, NoMemory}
+use Rattle.falling.specs.declared.limits.Limits.{Limits}
+use Rattle.falling.specs.declared.line.FallLine.{FallLine}
+use Rattle.falling.specs.Cap.{enough_turns}
+use Rattle.falling.specs.Course.{AreLimits, IsSpent}
+use Rattle.falling.specs.Derivation.{IsDerivation, IsEnded}
+use Rattle.falling.specs.Fallen.{Answers}
+use Rattle.falling.specs.Kinds.{IsFirstChoice, IsNegatable, IsPlain, negated, negated_times}
+
+-- what a solver is at: the negation that it solves, if the network is not plain, its limits, a number of turns that is enough,
+-- the times, the ray, and the turns of the last answer
+pub record Solving : Type 0 where
+  pub negation : Option Net
+  pub limits : Limits
+  pub enough : ℕ
+  pub times : List ℤ
+  pub ray : List Bool
+  pub turns : ℕ
+
+-- a plain network is solved itself, and one that is negatable and not plain by its negation
+abbrev pub IsNegationOf : Net → Option Net → Type 0
+IsNegationOf net None = IsPlain net
+IsNegationOf net (Some negation) = (negation ≡ negated net) × IsNegatable net × (IsPlain net → ⊥)
+
+-- a solver made for a network
+pub record IsMadeFor (net : Net) (solving : Solving) : Type 0 where
+  pub negation : IsNegationOf net solving.negation
+  pub limits : AreLimits net solving.limits
+  pub enough : solving.enough ≡ enough_turns net
+  pub times : length solving.times ≡ net.events
+  pub ray : length solving.ray ≡ net.events
+
+-- why there is no solver for a network: it has choices of both kinds, the first of which these are, or memory is wanted
+abbrev pub IsFallFault : Net → FallFault → Type 0
+IsFallFault net (Mixed late early) = IsFirstChoice Late net late × IsFirstChoice Early net early
+IsFallFault net NoMemory = IsPlain net ⊎ IsNegatable net
+
+-- the value is the greatest separation, the times satisfy and attain it, and the lines are a derivation in the negation from the to-event,
+-- which gives it to the from-event and gives each event minus its time
+pub record IsClosedByNegation (net : Net) (from to : EventId) (value : ℤ) (lines : List FallLine) (times : List ℤ) : Type 0 where
+  pub greatest : IsGreatest net from to value
+  pub satisfies : Satisfies times net
+  pub attained : separation times from to ≡ value
+  pub derivation : (values : List ℤ) × IsDerivation (negated net) to lines values × (times ≡ negated_times values) × (time_of values from ≡ value)
+
+-- the times satisfy, and the events of the ray can be raised from them without end; the derivation is one in the negation from the to-event
+pub record IsUnboundedByNegation (net : Net) (from to : EventId) (lines : List FallLine) (times : List ℤ) (ray : List Bool) : Type 0 where
+  pub satisfies : Satisfies times net
+  pub raised : IsRay net from to times ray
+  pub derivation : (values : List ℤ) × IsDerivation (negated net) to lines values × (times ≡ negated_times values)
+
+-- no times satisfy, and the lines are a derivation in the negation from the to-event that ends
+pub record IsInconsistentByNegation (net : Net) (to : EventId) (lines : List FallLine) : Type 0 where
+  pub none : IsInconsistent net
+  pub derivation : (values : List ℤ) × IsDerivation (negated net) to lines values × IsEnded (negated net) to values
+
+-- the lines are a derivation in the negation from the to-event of as many lines as turns, which are not enough, and one more is allowed
+pub record HasSpentTurnsByNegation (net : Net) (to : EventId) (turns : ℕ) (lines : List FallLine) : Type 0 where
+  pub spent : (values : List ℤ) × IsSpent (negated net) to turns lines values
+  pub few : turns < enough_turns net
+
+-- what an answer says of a pair of a negatable network
+abbrev pub AnswersByNegation : Net → EventId → EventId → ℕ → List FallLine → List ℤ → List Bool → Fallen → Type 0
+AnswersByNegation net from to turns lines times ray (Closed value) = IsClosedByNegation net from to value lines times
+AnswersByNegation net from to turns lines times ray Unbounded = IsUnboundedByNegation net from to lines times ray
+AnswersByNegation net from to turns lines times ray Inconsistent = IsInconsistentByNegation net to lines
+AnswersByNegation net from to turns lines times ray Spent = HasSpentTurnsByNegation net to turns lines
+
+-- what an answer says of a pair, by whether the negation was solved
+abbrev pub AnswersAs : Option Net → Net → EventId → EventId → ℕ → List FallLine → List ℤ → List Bool → Fallen → Type 0
+AnswersAs None net from to turns lines times ray answer = Answers net from to turns lines times ray answer
+AnswersAs (Some negation) net from to turns lines times ray answer = AnswersByNegation net from to turns lines times ray answer
+
+-- the lines are a derivation in the network from the from-event, or in the negation from the to-event
+abbrev pub IsDerivationAs : Option Net → Net → EventId → EventId → List FallLine → List ℤ → Type 0
+IsDerivationAs None net from to lines values = IsDerivation net from lines values
+IsDerivationAs (Some negation) net from to lines values = IsDerivation (negated net) to lines values

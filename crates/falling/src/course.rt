@@ -1,0 +1,113 @@
+//! Derivations: from a source all values fall, line by line.
+
+ghost use Rattle.std.specs.Prelude.{◌≡◌, ◌<◌, ◌↔◌, ℤ, pos, List, [], ◌∷◌, set, replicate, IsTrue, OnOk, OnErr, IfOk, length};
+ghost use Rattle.itv_base.specs.Outside.{Rose};
+ghost use Rattle.falling.specs.declared.line.FallLine.{FallLine};
+ghost use Rattle.falling.specs.Course.{AreLimits, Ends, IsCourse};
+ghost use Rattle.falling.specs.Derivation.{IsDerivation, fallen};
+
+use crate::limits::Limits;
+use crate::line::{FallLine, Reason};
+use crate::notes::{Notes, NotesFailed};
+use crate::turn::first_line;
+use event_graph::Network;
+use itv_base::EventId;
+
+/// How a derivation went: no line is allowed any more, it has ended, or its turns were spent.
+#[derive(Clone, Copy, Debug, PartialEq, Eq)]
+pub enum Course {
+    Settled,
+    Ended,
+    Spent,
+}
+
+// How a derivation went, and the number of its lines.
+#[derive(Clone, Copy, Debug, PartialEq, Eq)]
+pub struct Descent {
+    pub course: Course,
+    pub turns: u64,
+}
+
+/// Lets the values fall from a source, by at most so many lines.
+pub fn derive<N: Notes>(
+    net: &Network,
+    from: EventId,
+    limits: Limits,
+    turns: u64,
+    values: &mut [i64],
+    notes: &mut N,
+) -> Result<Descent, NotesFailed>
+    requires from { from.0 < net.now.events }
+    requires count { length values.old ≡ net.now.events }
+    requires limits { AreLimits net.now limits }
+    ensures lines { IfOk result (λ descent. (lines : List FallLine) × N.Grew notes.old lines notes.new
+        × (length lines ≡ descent.turns)
+        × IsCourse net.now from turns lines values.new descent.course) }
+    ensures cut { OnErr result ((lines : List FallLine) × N.WasCut notes.old lines notes.new
+        × (after : List ℤ) × IsDerivation net.now from lines after) }
+    ensures rose { OnErr result (Rose (N.faults notes.old) (N.faults notes.new)) }
+    ensures count { length values.new ≡ length values.old }
+{
+    prove!(net.events() as usize == values.len());
+    start(values, from, limits);
+    let mut taken: u64 = 0;
+    'turns: while let Some(line) = first_line(net, values) {
+        if taken == turns {
+            return Ok(Descent {
+                course: Course::Spent,
+                turns: taken,
+            });
+        }
+        if let Err(failed) = note(line, notes) {
+            return Err(failed);
+        }
+        lower(values, line);
+        taken += 1;
+        if ends(line, from, limits) {
+            return Ok(Descent {
+                course: Course::Ended,
+                turns: taken,
+            });
+        }
+    }
+    Ok(Descent {
+        course: Course::Settled,
+        turns: taken,
+    })
+}
+
+// The source at 0, and every other event at the cap.
+pub fn start(values: &mut [i64], from: EventId, limits: Limits)
+    requires from { from.0 < length values.old }
+    ensures { values.new ≡ set (replicate (length values.old) limits.cap) from.0 (pos 0) }
+{
+    values.fill(limits.cap);
+    values[from.0 as usize] = 0;
+}
+
+// Notes a line.
+fn note<N: Notes>(line: FallLine, notes: &mut N) -> Result<(), NotesFailed>
+    ensures grew { OnOk result (N.Grew notes.old (line ∷ []) notes.new) }
+    ensures cut { OnErr result (N.WasCut notes.old (line ∷ []) notes.new) }
+    ensures rose { OnErr result (Rose (N.faults notes.old) (N.faults notes.new)) }
+{
+    match line.reason {
+        Reason::ByEdge(edge) => notes.fall(line.event, line.value, edge),
+        Reason::ByLatest(constraint) => notes.late(line.event, line.value, constraint),
+    }
+}
+
+// Whether a line ends a derivation that has not ended before.
+pub fn ends(line: FallLine, from: EventId, limits: Limits) -> bool
+    ensures { IsTrue result ↔ Ends line from limits.lowest }
+{
+    (line.event == from && line.value < 0) || line.value < limits.lowest
+}
+
+// The values after a line.
+pub fn lower(values: &mut [i64], line: FallLine)
+    requires { line.event.0 < length values.old }
+    ensures { values.new ≡ fallen values.old line }
+{
+    values[line.event.0 as usize] = line.value;
+}

@@ -1,0 +1,288 @@
+//! The solver.
+
+ghost use Rattle.std.specs.Prelude.{◌≡◌, ◌<◌, ◌↔◌, ℤ, List, All, IsTrue, IfOk, IfErr, OnErr, map, neg_ℤ, not, pos, set, slice_index_or, length};
+ghost use Rattle.itv_base.specs.Outside.{Rose};
+ghost use Rattle.event_graph.specs.Network.{Net};
+ghost use Rattle.falling.specs.declared.line.FallLine.{FallLine};
+ghost use Rattle.falling.specs.Cap.{enough_turns};
+ghost use Rattle.falling.specs.Course.{AreLimits};
+ghost use Rattle.falling.specs.Derivation.{IsDerivation};
+ghost use Rattle.falling.specs.Kinds.{IsNegatable, IsPlain, negated, negated_times};
+ghost use Rattle.falling.specs.Solving.{AnswersAs, AnswersByNegation, IsDerivationAs, IsFallFault, IsMadeFor, IsNegationOf};
+ghost use Rattle.falling.specs.Turns.{IsNearValue};
+
+use crate::answer::{Fallen, Told};
+use crate::fault::FallFault;
+use crate::greatest::greatest;
+use crate::kinds::first_choice;
+use crate::limits::{Limits, limits_of};
+use crate::negation::negation_of;
+use crate::notes::{Notes, NotesFailed};
+use event_graph::Network;
+use itv_base::{EventId, RuleKind};
+use std::alloc::Global;
+use std::marker::Model;
+
+/// Finds greatest separations over one network whose choices are all of one kind.
+///
+/// It is made for a network, and every later call is given the same one. A network that is not plain is solved
+/// by its negation: the pair is turned round, and the times are negated. No call but `new` takes memory.
+#[derive(Debug, Drop)]
+pub struct Falling {
+    negation: Option<Network>,
+    limits: Limits,
+    enough: u128,
+    times: Vec<i64>,
+    ray: Vec<bool>,
+    turns: u64,
+}
+
+impl Model for Falling {
+    ghost use Rattle.falling.specs.Solving.{Solving};
+
+    ghost Value = { Solving };
+
+    ghost view = { λ f. record { negation = f.negation; limits = f.limits; enough = f.enough; times = f.times.items; ray = f.ray.items; turns = f.turns } };
+}
+
+impl Falling {
+    /// A solver for a network. The answer is `Mixed` exactly where there is a latest constraint with two or more
+    /// causes and an earliest one too, with the least numbers of both. Takes all the memory that is ever needed.
+    pub fn new(alloc: Global, net: &Network) -> Result<Falling, FallFault>
+        ensures made { IfOk result (λ falling. IsMadeFor net.now falling) }
+        ensures fault { IfErr result (IsFallFault net.now) }
+    {
+        let negation = negation_for(alloc, net)?;
+        let limits = limits_of(net);
+        let count = net.events() as usize;
+        Ok(Falling {
+            negation,
+            limits,
+            enough: enough_for(net, limits),
+            times: vec![in alloc; 0; count]?,
+            ray: vec![in alloc; false; count]?,
+            turns: 0,
+        })
+    }
+
+    /// Whether the negation of the network is solved: exactly where the network is not plain.
+    pub fn is_negated(&self) -> bool
+        ensures negated { (net : Net) → IsMadeFor net self.now → (IsTrue result ↔ (IsPlain net → ⊥)) }
+    {
+        self.negation.is_some()
+    }
+
+    /// A number of turns with which no answer is [`Fallen::Spent`].
+    pub fn enough(&self) -> u128
+        ensures enough { result ≡ self.now.enough }
+    {
+        self.enough
+    }
+
+    /// The greatest separation of a pair of events, in picoseconds, by a derivation of at most so many lines,
+    /// which are noted. Over a plain network it is a derivation from the from-event. Else it is one in the
+    /// negation from the to-event.
+    pub fn greatest<N: Notes>(
+        &mut self,
+        net: &Network,
+        from: EventId,
+        to: EventId,
+        turns: u64,
+        notes: &mut N,
+    ) -> Result<Fallen, NotesFailed>
+        requires made { IsMadeFor net.now self.old }
+        requires from { from.0 < net.now.events }
+        requires to { to.0 < net.now.events }
+        ensures lines { IfOk result (λ fallen. (lines : List FallLine) × N.Grew notes.old lines notes.new
+            × (length lines ≡ self.new.turns)
+            × AnswersAs self.old.negation net.now from to turns lines self.new.times self.new.ray fallen) }
+        ensures cut { OnErr result ((lines : List FallLine) × N.WasCut notes.old lines notes.new
+            × (after : List ℤ) × IsDerivationAs self.old.negation net.now from to lines after) }
+        ensures rose { OnErr result (Rose (N.faults notes.old) (N.faults notes.new)) }
+        ensures made { IsMadeFor net.now self.new }
+        ensures negation { self.new.negation ≡ self.old.negation }
+    {
+        let told = solve(
+            net,
+            &self.negation,
+            from,
+            to,
+            self.limits,
+            turns,
+            &mut self.times,
+            &mut self.ray,
+            notes,
+        );
+        match told {
+            Ok(told) => {
+                self.turns = told.turns;
+                Ok(told.fallen)
+            }
+            Err(failed) => Err(failed),
+        }
+    }
+
+    /// The times of the last answer, in picoseconds, one per event. After [`Fallen::Closed`] they satisfy and
+    /// attain it, after [`Fallen::Unbounded`] they satisfy.
+    pub fn times(&self) -> &[i64]
+        ensures times { result.now ≡ self.now.times }
+    {
+        &self.times
+    }
+
+    /// The ray of the last answer, after [`Fallen::Unbounded`]: a flag for each event, which says whether it can
+    /// be raised from the times without end.
+    pub fn ray(&self) -> &[bool]
+        ensures ray { result.now ≡ self.now.ray }
+    {
+        &self.ray
+    }
+
+    /// The number of lines of the last answer's derivation.
+    pub fn turns(&self) -> u64
+        ensures turns { result ≡ self.now.turns }
+    {
+        self.turns
+    }
+}
+
+// The negation of a network that is not plain but negatable, or nothing for a plain one.
+fn negation_for(alloc: Global, net: &Network) -> Result<Option<Network>, FallFault>
+    ensures negation { IfOk result (IsNegationOf net.now) }
+    ensures fault { IfErr result (IsFallFault net.now) }
+{
+    let early = match first_choice(net, RuleKind::Early) {
+        Some(early) => early,
+        None => return Ok(None),
+    };
+    if let Some(late) = first_choice(net, RuleKind::Late) {
+        return Err(FallFault::Mixed(late, early));
+    }
+    match negation_of(alloc, net) {
+        Ok(negation) => Ok(Some(negation)),
+        Err(_) => Err(FallFault::NoMemory),
+    }
+}
+
+// A number of turns in which every derivation ends or settles.
+fn enough_for(net: &Network, limits: Limits) -> u128
+    requires limits { AreLimits net.now limits }
+    ensures { result ≡ enough_turns net.now }
+{
+    let events = net.events() as u128;
+    events * (limits.cap as u128 + limits.far as u128 + 1)
+}
+
+// The greatest separation of a pair, by the negation of the network where there is one.
+fn solve<N: Notes>(
+    net: &Network,
+    negation: &Option<Network>,
+    from: EventId,
+    to: EventId,
+    limits: Limits,
+    turns: u64,
+    times: &mut [i64],
+    ray: &mut [bool],
+    notes: &mut N,
+) -> Result<Told, NotesFailed>
+    requires negation { IsNegationOf net.now negation.now }
+    requires from { from.0 < net.now.events }
+    requires to { to.0 < net.now.events }
+    requires count { length times.old ≡ net.now.events }
+    requires ray { length ray.old ≡ net.now.events }
+    requires limits { AreLimits net.now limits }
+    ensures lines { IfOk result (λ told. (lines : List FallLine) × N.Grew notes.old lines notes.new
+        × (length lines ≡ told.turns)
+        × AnswersAs negation.now net.now from to turns lines times.new ray.new told.fallen) }
+    ensures cut { OnErr result ((lines : List FallLine) × N.WasCut notes.old lines notes.new
+        × (after : List ℤ) × IsDerivationAs negation.now net.now from to lines after) }
+    ensures rose { OnErr result (Rose (N.faults notes.old) (N.faults notes.new)) }
+    ensures times { length times.new ≡ length times.old }
+    ensures ray { length ray.new ≡ length ray.old }
+{
+    match negation {
+        None => greatest(net, from, to, limits, turns, times, ray, notes),
+        Some(negation) => {
+            greatest_by_negation(net, negation, from, to, limits, turns, times, ray, notes)
+        }
+    }
+}
+
+// The greatest separation of a pair of a network by its negation, where the pair is turned round.
+fn greatest_by_negation<N: Notes>(
+    net: &Network,
+    negation: &Network,
+    from: EventId,
+    to: EventId,
+    limits: Limits,
+    turns: u64,
+    times: &mut [i64],
+    ray: &mut [bool],
+    notes: &mut N,
+) -> Result<Told, NotesFailed>
+    requires negation { negation.now ≡ negated net.now }
+    requires negatable { IsNegatable net.now }
+    requires from { from.0 < net.now.events }
+    requires to { to.0 < net.now.events }
+    requires count { length times.old ≡ net.now.events }
+    requires ray { length ray.old ≡ net.now.events }
+    requires limits { AreLimits net.now limits }
+    ensures lines { IfOk result (λ told. (lines : List FallLine) × N.Grew notes.old lines notes.new
+        × (length lines ≡ told.turns)
+        × AnswersByNegation net.now from to turns lines times.new ray.new told.fallen) }
+    ensures cut { OnErr result ((lines : List FallLine) × N.WasCut notes.old lines notes.new
+        × (after : List ℤ) × IsDerivation (negated net.now) to lines after) }
+    ensures rose { OnErr result (Rose (N.faults notes.old) (N.faults notes.new)) }
+    ensures times { length times.new ≡ length times.old }
+    ensures ray { length ray.new ≡ length ray.old }
+{
+    let events = net.events();
+    prove!(negation.events() == events);
+    let told = match greatest(negation, to, from, limits, turns, times, ray, notes) {
+        Ok(told) => told,
+        Err(failed) => return Err(failed),
+    };
+    match told.fallen {
+        Fallen::Closed(_) | Fallen::Unbounded => turn_round(times, ray),
+        Fallen::Inconsistent | Fallen::Spent => {}
+    }
+    Ok(told)
+}
+
+// Turns an answer of a negation round: each time becomes its negative, and the other events are raised.
+fn turn_round(times: &mut [i64], ray: &mut [bool])
+    requires near { All IsNearValue times.old }
+    ensures times { times.new ≡ negated_times times.old }
+    ensures ray { ray.new ≡ map not ray.old }
+{
+    negate(times);
+    complement(ray);
+}
+
+// Puts minus each time in its place.
+fn negate(times: &mut [i64])
+    requires near { All IsNearValue times.old }
+    ensures { times.new ≡ negated_times times.old }
+{
+    for event in 0..times.len() {
+        negate_at(times, event);
+    }
+}
+
+// Puts minus the time of one event in its place.
+fn negate_at(times: &mut [i64], event: usize)
+    requires event { event < length times.old }
+    requires near { IsNearValue (slice_index_or times.old event (pos 0)) }
+    ensures { times.new ≡ set times.old event (neg_ℤ (slice_index_or times.old event (pos 0))) }
+{
+    times[event] = -times[event];
+}
+
+// Turns each flag.
+fn complement(flags: &mut [bool])
+    ensures { flags.new ≡ map not flags.old }
+{
+    for event in 0..flags.len() {
+        flags[event] = !flags[event];
+    }
+}

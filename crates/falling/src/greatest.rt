@@ -1,0 +1,113 @@
+//! The greatest separation of a pair of events of a plain network.
+
+ghost use Rattle.std.specs.Prelude.{◌≡◌, ◌<◌, ◌≤ℤ◌, ◌<ℤ◌, ℕ, ℤ, List, IsTrue, IsFalse, OnErr, IfOk, length};
+ghost use Rattle.itv_base.specs.declared.names.EventId.{EventId};
+ghost use Rattle.itv_base.specs.Outside.{Rose};
+ghost use Rattle.event_graph.specs.Times.{time_of};
+ghost use Rattle.falling.specs.declared.answer.Fallen.TheVariants.{Closed};
+ghost use Rattle.falling.specs.declared.line.FallLine.{FallLine};
+ghost use Rattle.falling.specs.Course.{AreLimits, HasSettled};
+ghost use Rattle.falling.specs.Derivation.{IsDerivation};
+ghost use Rattle.falling.specs.Fallen.{Answers};
+ghost use Rattle.falling.specs.Kinds.{IsPlain};
+ghost use Rattle.falling.specs.Rays.{HaveAbove};
+
+use crate::answer::{Fallen, Told};
+use crate::course::{Course, derive};
+use crate::gap::{Level, gap_level};
+use crate::limits::Limits;
+use crate::notes::{Notes, NotesFailed};
+use event_graph::Network;
+use itv_base::EventId;
+
+/// The greatest separation of a pair over a plain network, by a derivation of at most so many lines. The values
+/// are the times that attain it or show it unbounded with the ray.
+pub fn greatest<N: Notes>(
+    net: &Network,
+    from: EventId,
+    to: EventId,
+    limits: Limits,
+    turns: u64,
+    values: &mut [i64],
+    ray: &mut [bool],
+    notes: &mut N,
+) -> Result<Told, NotesFailed>
+    requires plain { IsPlain net.now }
+    requires from { from.0 < net.now.events }
+    requires to { to.0 < net.now.events }
+    requires count { length values.old ≡ net.now.events }
+    requires ray { length ray.old ≡ net.now.events }
+    requires limits { AreLimits net.now limits }
+    ensures lines { IfOk result (λ told. (lines : List FallLine) × N.Grew notes.old lines notes.new
+        × (length lines ≡ told.turns)
+        × Answers net.now from to turns lines values.new ray.new told.fallen) }
+    ensures cut { OnErr result ((lines : List FallLine) × N.WasCut notes.old lines notes.new
+        × (after : List ℤ) × IsDerivation net.now from lines after) }
+    ensures rose { OnErr result (Rose (N.faults notes.old) (N.faults notes.new)) }
+    ensures values { length values.new ≡ length values.old }
+    ensures ray { length ray.new ≡ length ray.old }
+{
+    prove!(net.events() as usize == values.len());
+    let descent = match derive(net, from, limits, turns, values, notes) {
+        Ok(descent) => descent,
+        Err(failed) => return Err(failed),
+    };
+    let fallen = match descent.course {
+        Course::Settled => settled(net, to, limits, values, ray),
+        Course::Ended => Fallen::Inconsistent,
+        Course::Spent => Fallen::Spent,
+    };
+    Ok(Told {
+        fallen,
+        turns: descent.turns,
+    })
+}
+
+// The answer about settled values: closed below the far line, and from it on unbounded, with the events beyond a
+// gap as the ray.
+fn settled(net: &Network, to: EventId, limits: Limits, values: &[i64], ray: &mut [bool]) -> Fallen
+    requires plain { IsPlain net.now }
+    requires to { to.0 < net.now.events }
+    requires count { length values.now ≡ net.now.events }
+    requires ray { length ray.old ≡ net.now.events }
+    requires limits { AreLimits net.now limits }
+    ensures answers { (from : EventId) (turns : ℕ) (lines : List FallLine) → from.0 < net.now.events
+        → HasSettled net.now from turns lines values.now
+        → Answers net.now from to turns lines values.now ray.new result }
+    ensures ray { length ray.new ≡ length ray.old }
+{
+    prove!(net.events() as usize == values.len());
+    if !is_far(values, to, limits) {
+        return closed_at(values, to);
+    }
+    let level = gap_level(net, values, limits);
+    mark_above(values, level, ray);
+    Fallen::Unbounded
+}
+
+// Marks the events whose values are above a level.
+fn mark_above(values: &[i64], level: Level, ray: &mut [bool])
+    requires { length ray.old ≡ length values.now }
+    ensures { HaveAbove level.value values.now ray.new }
+{
+    for event in 0..values.len() {
+        ray[event] = level.value < values[event];
+    }
+}
+
+// The answer that a pair has the value of its to-event.
+fn closed_at(values: &[i64], event: EventId) -> Fallen
+    requires { event.0 < length values.now }
+    ensures { result ≡ Closed (time_of values.now event) }
+{
+    Fallen::Closed(values[event.0 as usize])
+}
+
+// Whether a value is at least the far line.
+fn is_far(values: &[i64], event: EventId, limits: Limits) -> bool
+    requires { event.0 < length values.now }
+    ensures near { IsFalse result → time_of values.now event <ℤ limits.far }
+    ensures far { IsTrue result → limits.far ≤ℤ time_of values.now event }
+{
+    limits.far <= values[event.0 as usize]
+}

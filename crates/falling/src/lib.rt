@@ -1,0 +1,33 @@
+//! Greatest separations without a case split, for networks whose choices are all of one kind. Every value
+//! starts high and only falls, line by line, until none falls any more or the network is shown inconsistent.
+//! The contract of the crate: over a network without a choice of the earliest kind, or without one of the latest
+//! kind, [`Falling::greatest`] gives the greatest separation of a pair with times that attain it, or times and a
+//! ray that show it unbounded, or that no times satisfy, each with the lines of a derivation; and
+//! [`FallChecker`] takes a line exactly where a derivation allows it.
+#![tactic(auto)]
+
+mod answer;
+mod check;
+mod checker;
+mod course;
+mod falling;
+mod fault;
+mod gap;
+mod greatest;
+mod kinds;
+pub mod laws;
+mod limits;
+mod line;
+mod negation;
+mod notes;
+#[cfg(test)]
+mod tests;
+mod turn;
+
+pub use answer::Fallen;
+pub use checker::FallChecker;
+pub use falling::Falling;
+pub use fault::{FallCheckFault, FallFault};
+pub use limits::Limits;
+pub use line::{FallLine, Reason};
+pub use notes::{NoNotes, Notes, NotesFailed};

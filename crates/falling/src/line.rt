@@ -1,0 +1,19 @@
+//! Lines of derivations.
+
+use itv_base::{EdgeName, EventId};
+
+/// Why an event has a value: by an always-edge to it, or by the latest constraint of a number from 0 of which it
+/// is the target.
+#[derive(Clone, Copy, Debug, PartialEq, Eq)]
+pub enum Reason {
+    ByEdge(EdgeName),
+    ByLatest(u32),
+}
+
+/// A line of a derivation: the value of the event falls to this one, in picoseconds, for the reason.
+#[derive(Clone, Copy, Debug, PartialEq, Eq)]
+pub struct FallLine {
+    pub event: EventId,
+    pub value: i64,
+    pub reason: Reason,
+}

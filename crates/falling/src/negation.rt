@@ -1,0 +1,95 @@
+//! The network that negated times satisfy.
+
+ghost use Rattle.std.specs.Prelude.{◌≡◌, ◌<◌, ◌++◌, ◌∷◌, [], neg_ℤ, option_map, IfOk, OnOk, length, slice_get, Some};
+ghost use Rattle.itv_base.specs.Range.{IsEnd};
+ghost use Rattle.event_graph.specs.Network.{Constraint, IsNet};
+ghost use Rattle.falling.specs.Kinds.{AreNegatedCauses, negated, negated_cause, negated_constraint, negated_ends};
+
+use event_graph::{Cause, Network, PushFault};
+use itv_base::{NoMemory, Range, RuleKind};
+use std::alloc::Global;
+
+/// The negation of a network: each range is that of the negated numbers, and latest and earliest change places.
+pub fn negation_of(alloc: Global, net: &Network) -> Result<Network, NoMemory>
+    ensures { IfOk result (λ negation. negation ≡ negated net.now) }
+{
+    let mut negation = Network::new(alloc, net.events())?;
+    for number in 0..net.len() {
+        match push_negated(alloc, net, number, &mut negation) {
+            Ok(()) => {}
+            Err(_) => return Err(NoMemory),
+        }
+    }
+    Ok(negation)
+}
+
+// Adds the negation of the constraint of a number, behind those of the constraints before it.
+fn push_negated(
+    alloc: Global,
+    net: &Network,
+    number: u32,
+    negation: &mut Network,
+) -> Result<(), PushFault>
+    requires net { IsNet net.now }
+    requires number { number < length net.now.constraints }
+    requires events { negation.old.events ≡ net.now.events }
+    ensures events { negation.new.events ≡ negation.old.events }
+    ensures added { OnOk result ((k : Constraint) → slice_get net.now.constraints number ≡ Some k
+        → negation.new.constraints ≡ negation.old.constraints ++ negated_constraint k ∷ []) }
+{
+    let causes = negated_causes(alloc, net, number)?;
+    let target = net.target(number);
+    match net.kind(number) {
+        RuleKind::Lin => {
+            let cause = negated(net.cause(number, 0));
+            negation.push_linear(alloc, cause.event, target, cause.range)
+        }
+        RuleKind::Late => negation.push_early(alloc, target, &causes),
+        RuleKind::Early => negation.push_late(alloc, target, &causes),
+    }
+}
+
+// The causes of a constraint with the negated ranges.
+fn negated_causes(alloc: Global, net: &Network, number: u32) -> Result<Vec<Cause>, NoMemory>
+    requires net { IsNet net.now }
+    requires number { number < length net.now.constraints }
+    ensures { IfOk result (λ causes. AreNegatedCauses net.now number causes.items) }
+{
+    let count = net.cause_count(number);
+    let mut causes = Vec::new(alloc);
+    for cause in 0..count.max(1) {
+        causes.push(negated(net.cause(number, cause)))?;
+    }
+    Ok(causes)
+}
+
+/// The cause with the negated range.
+pub fn negated(cause: Cause) -> Cause
+    ensures { result ≡ negated_cause cause }
+{
+    Cause {
+        event: cause.event,
+        range: negated_range(cause.range),
+    }
+}
+
+// The range of the negated numbers.
+fn negated_range(range: Range) -> Range
+    ensures { result ≡ negated_ends range }
+{
+    match Range::new(negated_end(range.high()), negated_end(range.low())) {
+        Ok(range) => range,
+        Err(_) => unreachable!(),
+    }
+}
+
+// Minus an end, if it is not open.
+fn negated_end(end: Option<i64>) -> Option<i64>
+    requires { IsEnd end }
+    ensures { result ≡ option_map neg_ℤ end }
+{
+    match end {
+        None => None,
+        Some(value) => Some(-value),
+    }
+}

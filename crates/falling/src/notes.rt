@@ -1,0 +1,93 @@
+//! Who notes the lines of a derivation while it is found.
+
+ghost use Rattle.std.specs.Prelude.{◌≡◌, ℕ, List, [], ◌∷◌, ◌++◌, OnOk, OnErr};
+ghost use Rattle.itv_base.specs.Outside.{Rose};
+ghost use Rattle.falling.specs.declared.line.FallLine.{FallLine};
+ghost use Rattle.falling.specs.declared.line.Reason.TheVariants.{ByEdge, ByLatest};
+
+use itv_base::{EdgeName, EventId};
+use std::error::Error;
+use std::fmt;
+
+/// A line of a derivation was not noted whole.
+#[derive(Clone, Copy, Debug, PartialEq, Eq)]
+pub struct NotesFailed;
+
+impl fmt::Display for NotesFailed {
+    fn fmt<W: fmt::Write>(&self, f: &mut fmt::Formatter<W>) -> fmt::Result {
+        write!(f, "a line of a derivation could not be noted")
+    }
+}
+
+impl Error for NotesFailed {}
+
+/// Takes the lines of a derivation, one after another. Each call notes its line, or fails: then the notes have
+/// some front of the line at their end, and their count of faults rose.
+pub trait Notes {
+    /// How often they have failed. The count never falls.
+    ghost faults: { Self → ℕ };
+
+    /// The notes grew by just these lines.
+    ghost Grew: { Self → List FallLine → Self → Type 0 };
+
+    /// The notes failed in the last of these lines, and have those before it.
+    ghost WasCut: { Self → List FallLine → Self → Type 0 };
+
+    /// Notes that an event falls to a value, in picoseconds, by an always-edge.
+    fn fall(&mut self, event: EventId, value: i64, edge: EdgeName) -> Result<(), NotesFailed>
+        ensures grew { OnOk result (Grew self.old
+            ((record { event = event; value = value; reason = ByEdge edge }) ∷ []) self.new) }
+        ensures cut { OnErr result (WasCut self.old
+            ((record { event = event; value = value; reason = ByEdge edge }) ∷ []) self.new) }
+        ensures rose { OnErr result (Rose (faults self.old) (faults self.new)) };
+
+    /// Notes that an event falls to a value, in picoseconds, by the latest constraint of a number.
+    fn late(&mut self, event: EventId, value: i64, constraint: u32) -> Result<(), NotesFailed>
+        ensures grew { OnOk result (Grew self.old
+            ((record { event = event; value = value; reason = ByLatest constraint }) ∷ []) self.new) }
+        ensures cut { OnErr result (WasCut self.old
+            ((record { event = event; value = value; reason = ByLatest constraint }) ∷ []) self.new) }
+        ensures rose { OnErr result (Rose (faults self.old) (faults self.new)) };
+
+    /// They grow by no lines where nothing is noted.
+    ghost grew_none: { (s : Self) → Grew s [] s };
+
+    /// Lines and then more of them.
+    ghost grew_more: { (s t u : Self) (xs ys : List FallLine) → Grew s xs t → Grew t ys u → Grew s (xs ++ ys) u };
+
+    /// Lines, and then some in which they failed.
+    ghost cut_after: { (s t u : Self) (xs ys : List FallLine) → Grew s xs t → WasCut t ys u → WasCut s (xs ++ ys) u };
+
+    /// Lines that are noted leave the count of faults as it is.
+    ghost grew_faults: { (s t : Self) (xs : List FallLine) → Grew s xs t → faults t ≡ faults s };
+}
+
+/// Notes nothing, and never fails.
+#[derive(Clone, Copy, Debug)]
+pub struct NoNotes;
+
+impl Notes for NoNotes {
+    ghost use Rattle.std.proofs.Common.{refl};
+
+    ghost faults = { λ _. 0 };
+
+    ghost Grew = { λ _ _ _. Unit {0} };
+
+    ghost WasCut = { λ _ _ _. Unit {0} };
+
+    fn fall(&mut self, _event: EventId, _value: i64, _edge: EdgeName) -> Result<(), NotesFailed> {
+        Ok(())
+    }
+
+    fn late(&mut self, _event: EventId, _value: i64, _constraint: u32) -> Result<(), NotesFailed> {
+        Ok(())
+    }
+
+    ghost grew_none = { λ s. tt };
+
+    ghost grew_more = { λ s t u xs ys p q. tt };
+
+    ghost cut_after = { λ s t u xs ys p q. tt };
+
+    ghost grew_faults = { λ s t xs p. refl };
+}
