@@ -1,8 +1,8 @@
 -- What the answer of a search says of a bound of a pair.
-use Rattle.std.proofs.Common.{◌≡◌, ◌<◌, ◌≤◌, ◌^◌, ℕ, zero, suc, ℤ, pos, negsuc, neg_ℤ, ◌+ℤ◌, ◌-ℤ◌, ◌≤ℤ◌, ◌<ℤ◌, Bool, List, [], ◌∷◌, length, get_or, All, Option, Some, None, IfSome, option_map, ◌⊎◌, inl, inr, refl, sym, subst, ap, ◌∙◌, arith}
+use Rattle.std.proofs.Common.{◌≡◌, ◌<◌, ◌≤◌, ℕ, zero, suc, ℤ, pos, neg_ℤ, ◌-ℤ◌, Bool, List, [], ◌∷◌, length, get_or, All, Option, Some, None, option_map, ◌⊎◌, inl, inr, refl, sym, subst, ap, ◌∙◌, arith}
 use Rattle.std.proofs.lemmas.Int.{ints}
 use Rattle.itv_base.specs.declared.names.EventId.{EventId}
-use Rattle.branch.specs.Answers.{Answers, IsClosedAt, IsEnclosedBy, IsShownUnbounded}
+use Rattle.branch.specs.Answers.{Answers}
 use Rattle.branch.specs.Work.{IsClose}
 use Rattle.branch.specs.declared.answer.Answer.{Answer}
 use Rattle.branch.specs.declared.answer.Answer.TheVariants as answers
@@ -27,7 +27,7 @@ use Rattle.right_report.specs.Shown.{ShowsBound}
 use Rattle.bounds_report.specs.declared.pair.Pair.{Pair}
 use Rattle.bounds_report.specs.Step.Kept.{AreNearby, Attain, IsKept, IsShiftedTo, searched_pair}
 use Rattle.bounds_report.specs.Step.Searched.{ShowsIn, bound_of, greatest_of}
-use Rattle.bounds_report.proofs.Shifted.{at_zero, length-shifted, nearby-shifted, nearby_close, ray-shifted, satisfies-shifted, separation-shifted}
+use Rattle.bounds_report.proofs.Shifted.{at_zero, nearby-shifted, nearby_close, ray-shifted, satisfies-shifted, separation-shifted}
 
 -- ---- numbers
 
@@ -84,10 +84,11 @@ shows_least net most r first lines leaves times ray (answers.Closed value) a cou
 shows_least net most r first lines leaves times ray answers.Unbounded a count =
     let s = a.stopped in
     (refl, (neg_ℤ s.0, (s.1, omega (arith, s.3, count), subst (λ z. IsStoppedProof net (BoundGoal r.to r.from z) lines s.1) (sym (neg_neg s.0)) s.2)))
-shows_least net most r first lines leaves times ray (answers.Enclosed upper found) a count =
-    ((subst (IsRootBound net r.to r.from) (no_neg upper) a.root, refl),
-     subst (λ n. IsStoppedProof net (BoundGoal r.to r.from (neg_ℤ (neg_ℤ found))) lines n) a.used
-         (subst (λ z. IsStoppedProof net (BoundGoal r.to r.from z) lines leaves) (sym (neg_neg found)) a.stopped))
+shows_least net most r first lines leaves times ray (answers.Enclosed upper found) a count = (
+  (subst (IsRootBound net r.to r.from) (no_neg upper) a.root, refl),
+  subst (λ n. IsStoppedProof net (BoundGoal r.to r.from (neg_ℤ (neg_ℤ found))) lines n) a.used
+      (subst (λ z. IsStoppedProof net (BoundGoal r.to r.from z) lines leaves) (sym (neg_neg found)) a.stopped),
+)
 
 shows_by : (net : Net) (most : ℕ) (r : Row) (side : Side) (lines : List ProofLine) (leaves : ℕ) (times : List ℤ) (ray : List Bool) (answer : Answer)
     → Answers net (searched_pair (which_of side) (row_pair r)).from (searched_pair (which_of side) (row_pair r)).to most lines leaves times ray answer → leaves ≤ most
@@ -102,9 +103,9 @@ shows_in net most pair which lines leaves times ray answer a count r side f t w 
     let e : row_pair r ≡ pair = pair_is r.from r.to pair f t in
     let b : Answers net (searched_pair (which_of side) (row_pair r)).from (searched_pair (which_of side) (row_pair r)).to most lines leaves times ray answer =
     subst (λ (k : Which). Answers net (searched_pair k (row_pair r)).from (searched_pair k (row_pair r)).to most lines leaves times ray answer) (sym w)
-        (subst (λ (p : Pair). Answers net (searched_pair which p).from (searched_pair which p).to most lines leaves times ray answer) (sym e) a) in
+    (subst (λ (p : Pair). Answers net (searched_pair which p).from (searched_pair which p).to most lines leaves times ray answer) (sym e) a) in
     subst (λ (k : Which). IsBoundOf net findings.Consistent r side (bound_of k answer) × ShowsBound net most lines r side (bound_of k answer)) w
-        (shows_by net most r side lines leaves times ray answer b count)
+    (shows_by net most r side lines leaves times ray answer b count)
 
 -- ---- what is kept
 
@@ -145,8 +146,8 @@ kept_from net pair which most lines leaves times list ray set answer is_net a sa
       nearby = subst (λ (ts : List ℤ). AreNearby ts) (sym is) (nearby-shifted times by (nearby_close times close));
       attain = attain net pair which most lines leaves times list ray set answer a
           (λ unbounded. subst (λ (ts : List ℤ). Attain net pair which bounds.Unbounded ts set) (sym is)
-              (subst (λ (flags : List Bool). Attain net pair which bounds.Unbounded (shifted times by) flags) (sym (rays unbounded))
-                  (ray-shifted net (searched_pair which pair).from (searched_pair which pair).to times ray by is_net (ray_of net _ _ most lines leaves times ray answer unbounded a))))
+          (subst (λ (flags : List Bool). Attain net pair which bounds.Unbounded (shifted times by) flags) (sym (rays unbounded))
+          (ray-shifted net (searched_pair which pair).from (searched_pair which pair).to times ray by is_net (ray_of net _ _ most lines leaves times ray answer unbounded a))))
           (separation-shifted times by pair.from pair.to f t ∙ ap (λ (ts : List ℤ). separation ts pair.from pair.to) (sym is));
     }
   where

@@ -1,16 +1,12 @@
 -- Each line of a report has a text.
-use Rattle.std.proofs.Common.{◌≡◌, ◌<◌, ◌≤◌, ◌+◌, ◌^◌, ◌⊎◌, ℕ, zero, suc, ℤ, pos, neg_ℤ, ◌-ℤ◌, ◌≤ℤ◌, ◌<ℤ◌, Bool, true, false, List, [], ◌∷◌, ◌++◌, length, get_or, All, Option, Some, None, slice_get, unwrap_or, refl, sym, subst, ap, ◌∙◌, inl, inr, arith}
-use Rattle.std.specs.Prelude.{IfSome, IsSome, IsSomeAnd, option_and_then}
-use Rattle.std.proofs.lemmas.Int.{ints}
-use Rattle.itv_base.specs.Names.{Name}
-use Rattle.itv_base.specs.Range.{Ends, IsEnd, IsRange}
-use Rattle.itv_base.specs.declared.limits.TheConstants.{MAX_BUDGET, MAX_CAUSES, MAX_CONSTRAINTS, MAX_EVENTS, MAX_ROWS}
+use Rattle.std.proofs.Common.{◌≡◌, ◌<◌, ◌≤◌, ℕ, zero, suc, Bool, true, false, List, [], ◌∷◌, length, All, Option, Some, None, slice_get, refl, sym, subst, arith}
+use Rattle.std.specs.Prelude.{IsSomeAnd, option_and_then}
+use Rattle.itv_base.specs.declared.limits.TheConstants.{MAX_CAUSES}
 use Rattle.itv_base.specs.declared.names.EdgeName.{EdgeName}
 use Rattle.itv_base.specs.declared.names.EventId.{EventId}
 use Rattle.itv_base.specs.declared.names.RuleKind.{RuleKind}
 use Rattle.itv_base.specs.declared.names.RuleKind.TheVariants.{Lin, Late, Early}
 use Rattle.certificate.specs.Text.{IsEdgeName, IsProofLine}
-use Rattle.event_graph.specs.declared.cause.Cause.{Cause}
 use Rattle.event_graph.specs.declared.edge.Edge.{Edge}
 use Rattle.event_graph.specs.Edges.{edge, side_edge}
 use Rattle.event_graph.specs.Network.{Constraint, IsCauseCount, IsConstraint, IsNet, Net}
@@ -21,7 +17,7 @@ use Rattle.slack_report.specs.declared.words.FindingWord.TheVariants as findings
 use Rattle.requirements.specs.declared.bound.Bound.{Bound as RowBound}
 use Rattle.requirements.specs.declared.bound.Bound.TheVariants as bounds
 use Rattle.slack_report.specs.Right.At.{Side}
-use Rattle.slack_report.specs.Right.Drawn.{Drawn, Row}
+use Rattle.slack_report.specs.Right.Drawn.{Row}
 use Rattle.right_report.specs.Shown.{ShowsBound, ShowsFinding, goal_of}
 use Rattle.bounds_report.specs.Written.{printed}
 

@@ -1,15 +1,13 @@
 -- The lines that tell a finding.
-use Rattle.std.proofs.Common.{◌≡◌, ◌<◌, ◌≤◌, ◌+◌, ◌^◌, ℕ, zero, suc, ℤ, pos, neg_ℤ, ◌<ℤ◌, Bool, true, false, List, [], ◌∷◌, length, All, Option, Some, None, IsSomeAnd, IfSome, refl, sym, subst, ap, ◌∙◌, ◌⊎◌, inl, inr, arith}
-use Rattle.std.proofs.lemmas.Int.{ints}
-use Rattle.itv_base.specs.declared.names.EventId.{EventId}
-use Rattle.branch.specs.Answers.{Finds, IsCounted}
+use Rattle.std.proofs.Common.{◌≡◌, ◌<◌, ◌≤◌, ℕ, ℤ, pos, neg_ℤ, Bool, List, [], ◌∷◌, length, All, Option, refl, sym, subst, ap, ◌∙◌, ◌⊎◌, inl, inr, arith}
+use Rattle.branch.specs.Answers.{Finds}
 use Rattle.branch.specs.Work.{IsClose}
 use Rattle.branch.specs.declared.answer.Found.{Found}
 use Rattle.branch.specs.declared.answer.Found.TheVariants as founds
 use Rattle.event_graph.specs.Network.{IsNet, Net}
 use Rattle.event_graph.specs.Proof.{IsStoppedProof, Nothing, ProofLine}
 use Rattle.event_graph.specs.Satisfying.{Satisfies}
-use Rattle.event_graph.specs.Times.{IsTime, shifted, time_of}
+use Rattle.event_graph.specs.Times.{time_of}
 use Rattle.slack_report.specs.declared.words.FindingWord.{FindingWord}
 use Rattle.slack_report.specs.declared.words.FindingWord.TheVariants as findings
 use Rattle.slack_report.specs.Entry.{finding, times as times_line}
@@ -60,9 +58,11 @@ known_shifted net known list is_net sat close some is =
     let by : ℤ = neg_ℤ (time_of known (record { 0 = 0 })) in
     let f : 0 < length known = subst (λ n. 0 < n) (sym sat.count) some in
     let zero_at : time_of list (record { 0 = 0 }) ≡ pos 0 = at_zero known list (record { 0 = 0 }) f is in
-    let near : AreNearby list = subst (λ (ts : List ℤ). AreNearby ts) (sym is) (nearby-shifted known by (nearby_close known close)) in
-    (times_nearby list (record { 0 = 0 }) near (subst (λ n. 0 < n) (sym (ap length is ∙ length-shifted known by)) f) zero_at,
-     subst (λ ts. Satisfies ts net) (sym is) (satisfies-shifted net known by is_net sat), zero_at)
+    let near : AreNearby list = subst (λ (ts : List ℤ). AreNearby ts) (sym is) (nearby-shifted known by (nearby_close known close)) in (
+      times_nearby list (record { 0 = 0 }) near (subst (λ n. 0 < n) (sym (ap length is ∙ length-shifted known by)) f) zero_at,
+      subst (λ ts. Satisfies ts net) (sym is) (satisfies-shifted net known by is_net sat),
+      zero_at,
+    )
 
 none_is : (list : List ℤ) → length list ≡ 0 → list ≡ []
 none_is [] e = refl

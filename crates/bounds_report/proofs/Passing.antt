@@ -1,5 +1,5 @@
 -- Times past an end of a range.
-use Rattle.std.proofs.Common.{◌≡◌, ◌<◌, ◌≤◌, ◌+◌, ◌^◌, ◌⊎◌, ℕ, zero, suc, ℤ, pos, neg_ℤ, ◌+ℤ◌, ◌-ℤ◌, ◌≤ℤ◌, ◌<ℤ◌, Bool, true, false, ◌&&◌, cond, List, [], ◌∷◌, length, get_or, All, Option, Some, None, slice_get, refl, sym, subst, ap, ◌∙◌, inl, inr, arith}
+use Rattle.std.proofs.Common.{◌≡◌, ◌<◌, ◌+◌, ◌^◌, ◌⊎◌, ℕ, zero, suc, ℤ, pos, neg_ℤ, ◌+ℤ◌, ◌-ℤ◌, ◌≤ℤ◌, ◌<ℤ◌, Bool, true, false, ◌&&◌, cond, List, [], ◌∷◌, length, get_or, All, Option, Some, None, slice_get, refl, sym, subst, ap, ◌∙◌, inl, inr, arith}
 use Rattle.std.specs.Prelude.{IsSomeAnd, int_lt}
 use Rattle.std.proofs.lemmas.Int.{ints}
 use Rattle.itv_base.specs.Range.{Ends, IsEnd}
@@ -24,7 +24,7 @@ use Rattle.bounds_report.specs.Step.Searched.{sized}
 use Rattle.slack_report.specs.declared.words.Which.{Which}
 use Rattle.slack_report.specs.declared.words.Which.TheVariants as sorts
 use Rattle.bounds_report.specs.declared.pair.Pair.{Pair}
-use Rattle.bounds_report.specs.Step.Kept.{ArePast, AreNearby, Attain, HasTold, IsBeyond, IsKept, IsNearby, IsShiftedTo, number_on, searched_pair}
+use Rattle.bounds_report.specs.Step.Kept.{ArePast, AreNearby, Attain, HasTold, IsBeyond, IsKept, IsNearby, number_on, searched_pair}
 use Rattle.bounds_report.proofs.Shifted.{at_zero, length-shifted, satisfies-shifted, separation-shifted, time-shifted, times_nearby}
 
 -- ---- numbers of times that are raised
@@ -48,6 +48,7 @@ raised_by old set from to limit new r near end lacks holds in_to = less r.by r.l
   where
     at_most : (sep limit : ℤ) (n : ℕ) → IsNearby sep → IsEnd (Some limit) → (sep +ℤ pos n) ≤ℤ limit → pos (suc n) <ℤ pos (2 ^ 59 + 2 ^ 41)
     at_most sep limit n near end h = omega (arith, ints, near.0, end.1, h)
+
     less : (by : ℕ) → ((n : ℕ) → n < by → separation (raised set n old) from to ≤ℤ limit) → pos by <ℤ pos (2 ^ 59 + 2 ^ 41)
     less zero least = omega (arith, ints)
     less (suc n) least = at_most (separation old from to) limit n near end (subst (λ z. z ≤ℤ limit) (separation-raised set n old from to lacks holds in_to) (least n (omega arith)))
@@ -97,10 +98,10 @@ module _ (net : Net) (pair : Pair) (which : Which) (limit : ℤ) (old : List ℤ
       let s_from : (searched_pair which pair).from.0 < length old = subst (λ n. (searched_pair which pair).from.0 < n) old_count (in_searched which).0 in
       let s_to : (searched_pair which pair).to.0 < length old = subst (λ n. (searched_pair which pair).to.0 < n) old_count (in_searched which).1 in
       let by : pos r.by <ℤ pos (2 ^ 59 + 2 ^ 41) = raised_by old set (searched_pair which pair).from (searched_pair which pair).to limit new r
-          (kept.nearby (searched_pair which pair).from (searched_pair which pair).to s_from s_to) end ray.lacks ray.holds s_to in
+      (kept.nearby (searched_pair which pair).from (searched_pair which pair).to s_from s_to) end ray.lacks ray.holds s_to in
       let near : IsNearby (get_or old k (pos 0)) = near_zero old pair.from k kept.nearby (subst (λ n. pair.from.0 < n) old_count kept.from) kept.at_zero h in
       is_raised (get_or old k (pos 0)) (get_or new k (pos 0)) (pos r.by) near (omega (arith, ints)) by
-          (subst (λ (ts : List ℤ). (get_or ts k (pos 0) ≡ get_or old k (pos 0)) ⊎ (get_or ts k (pos 0) ≡ get_or old k (pos 0) +ℤ pos r.by)) (sym r.rose) (raised_at set r.by old k (pos 0) h))
+      (subst (λ (ts : List ℤ). (get_or ts k (pos 0) ≡ get_or old k (pos 0)) ⊎ (get_or ts k (pos 0) ≡ get_or old k (pos 0) +ℤ pos r.by)) (sym r.rose) (raised_at set r.by old k (pos 0) h))
 
   in_old : (k : ℕ) → k < length new → k < length old
   in_old k h = subst (λ n. k < n) (new_count ∙ old_count) h
@@ -131,7 +132,7 @@ module _ (net : Net) (pair : Pair) (which : Which) (limit : ℤ) (old : List ℤ
           let inside : k < length new = subst (λ n. k < n) (length-shifted new by) h in
           let e : get_or (shifted new by) k (pos 0) ≡ get_or new k (pos 0) +ℤ by = time-shifted new by (record { 0 = k }) inside in
           all_or IsTime (shifted new by) k (pos 0) d h (subst IsTime (sym e)
-              (apart (get_or new k (pos 0)) (time_of new pair.from) (raised_all k (in_old k inside)) (raised_all pair.from.0 (in_old pair.from.0 f))))
+          (apart (get_or new k (pos 0)) (time_of new pair.from) (raised_all k (in_old k inside)) (raised_all pair.from.0 (in_old pair.from.0 f))))
 
 -- what a call that raises tells, of the searched pair and of the limit as it is read
 pub raises : (old : List ℤ) (set : List Bool) (pair : Pair) (which : Which) (searched : Pair) (limit read : ℤ) (new : List ℤ) → searched ≡ searched_pair which pair → read ≡ limit
@@ -232,7 +233,7 @@ module _ (net : Net) (m : ℕ) (cert : Bool) (drawn : Drawn) (told : Telling) (r
       → MayFollow (sized net m cert) drawn (behind_verdict told range least most word) (times_line list) (behind_past told range least most word)
   past_may word list fail e are breaks =
       subst (λ (at : At). MayFollow (sized net m cert) drawn at (times_line list) (behind_past told range least most word)) (sym (at_fail word fail))
-          (list, refl, (are.0, (are.1, subst (λ (w : Verdict). Breaks told.row range w list) e breaks)), ap (behind_past told range least most) e)
+      (list, refl, (are.0, (are.1, subst (λ (w : Verdict). Breaks told.row range w list) e breaks)), ap (behind_past told range least most) e)
     where
       at_fail : (word : Verdict) → is_fail word ≡ true → behind_verdict told range least most word ≡ at_past told range least most
       at_fail word fail = rw fail refl
@@ -241,12 +242,12 @@ module _ (net : Net) (m : ℕ) (cert : Bool) (drawn : Drawn) (told : Telling) (r
       → ArePast net pair sorts.Max read list → MayFollow (sized net m cert) drawn (behind_verdict told range least most word) (times_line list) (behind_past told range least most word)
   past_high_may word limit read list is e high same past =
       past_may word list (ap is_fail is) e (are_times sorts.Max read list past)
-          (subst (λ (w : Verdict). Breaks told.row range w list) (sym is) (above told.row range read list (high ∙ ap Some (sym same))
-              (subst (λ (p : EventId). read <ℤ separation list p told.row.to) (sym f) (subst (λ (p : EventId). read <ℤ separation list pair.from p) (sym t) past.past))))
+      (subst (λ (w : Verdict). Breaks told.row range w list) (sym is) (above told.row range read list (high ∙ ap Some (sym same))
+      (subst (λ (p : EventId). read <ℤ separation list p told.row.to) (sym f) (subst (λ (p : EventId). read <ℤ separation list pair.from p) (sym t) past.past))))
 
   pub past_low_may : (word : Verdict) (limit read : ℤ) (list : List ℤ) → word ≡ verdicts.FailLow → word ≡ verdict_of range least most → range.low ≡ Some (neg_ℤ limit) → read ≡ limit
       → ArePast net pair sorts.Min read list → MayFollow (sized net m cert) drawn (behind_verdict told range least most word) (times_line list) (behind_past told range least most word)
   past_low_may word limit read list is e low same past =
       past_may word list (ap is_fail is) e (are_times sorts.Min read list past)
-          (subst (λ (w : Verdict). Breaks told.row range w list) (sym is) (under told.row range read list (low ∙ ap (λ z. Some (neg_ℤ z)) (sym same))
-              (subst (λ (p : EventId). read <ℤ separation list told.row.to p) (sym f) (subst (λ (p : EventId). read <ℤ separation list p pair.from) (sym t) past.past))))
+      (subst (λ (w : Verdict). Breaks told.row range w list) (sym is) (under told.row range read list (low ∙ ap (λ z. Some (neg_ℤ z)) (sym same))
+      (subst (λ (p : EventId). read <ℤ separation list told.row.to p) (sym f) (subst (λ (p : EventId). read <ℤ separation list p pair.from) (sym t) past.past))))

@@ -1,12 +1,10 @@
 -- The lines that tell a bound.
-use Rattle.std.proofs.Common.{◌≡◌, ◌<◌, length, All, ℕ, ℤ, Bool, true, false, List, [], ◌∷◌, Option, Some, None, Result, Ok, Err, ◌⊎◌, refl, sym, subst, ap, ◌∙◌, inl, inr, arith}
-use Rattle.std.specs.Bool.{⊤}
-use Rattle.itv_base.specs.Outside.{Puts, SinkTold}
+use Rattle.std.proofs.Common.{◌≡◌, ◌<◌, length, All, ℕ, ℤ, Bool, true, false, List, [], Option, Some, None, ◌⊎◌, refl, sym, subst, ap, ◌∙◌, inl, inr}
 use Rattle.itv_base.specs.declared.names.EventId.{EventId}
 use Rattle.event_graph.specs.Bounds.{IsRay}
 use Rattle.event_graph.specs.Network.{Net}
 use Rattle.event_graph.specs.Proof.{ProofLine}
-use Rattle.event_graph.specs.Times.{IsTime, separation, time_of}
+use Rattle.event_graph.specs.Times.{IsTime, time_of}
 use Rattle.requirements.specs.declared.bound.Bound.{Bound}
 use Rattle.requirements.specs.declared.bound.Bound.TheVariants as bounds
 use Rattle.requirements.specs.Bounds.{HasTimes}
@@ -52,16 +50,17 @@ attains net pair which told (bounds.Within limit (Some found)) list set f t a = 
 times_fact : (net : Net) (told : Telling) (pair : Pair) (which : Which) (value : Bound) (list : List ℤ) (set : List Bool)
     → told.row.from ≡ pair.from → told.row.to ≡ pair.to → IsKept net pair which value list set → All IsTime list × (AreTimes net told.row list × Attains told.row value list)
 times_fact net told pair which value list set f t kept =
-    let here : pair.from.0 < length list = subst (λ n. pair.from.0 < n) (sym kept.satisfied.count) kept.from in
-    (times_nearby list pair.from kept.nearby here kept.at_zero,
-     (record { satisfied = kept.satisfied; at_zero = ap (λ (e : EventId). time_of list e) f ∙ kept.at_zero }, attains net pair which told value list set f t kept.attain))
+    let here : pair.from.0 < length list = subst (λ n. pair.from.0 < n) (sym kept.satisfied.count) kept.from in (
+      times_nearby list pair.from kept.nearby here kept.at_zero,
+      (record { satisfied = kept.satisfied; at_zero = ap (λ (e : EventId). time_of list e) f ∙ kept.at_zero }, attains net pair which told value list set f t kept.attain),
+    )
 
 pub times_may : (net : Net) (most : ℕ) (cert : Bool) (drawn : Drawn) (told : Telling) (side : Side) (pair : Pair) (which : Which) (value : Bound) (list : List ℤ) (set : List Bool)
     → IsOf told side pair which → IsKept net pair which value list set
     → MayFollow (sized net most cert) drawn (behind_bound told side value) (times list) (behind_times told side value list)
 times_may net most cert drawn told side pair which value list set of kept =
     subst (λ (at : At). MayFollow (sized net most cert) drawn at (times list) (behind_times told side value list)) (sym (behind_is net pair which told side value list set kept.attain))
-        (list, refl, times_fact net told pair which value list set of.from of.to kept, refl)
+    (list, refl, times_fact net told pair which value list set of.from of.to kept, refl)
 
 can_rise : (net : Net) (r : Row) (side : Side) (list : List ℤ) (set : List Bool)
     → IsRay net (searched_pair (which_of side) (record { from = r.from; to = r.to })).from (searched_pair (which_of side) (record { from = r.from; to = r.to })).to list set → CanRise net r side list set
@@ -88,7 +87,7 @@ pub set_may : (net : Net) (most : ℕ) (cert : Bool) (drawn : Drawn) (told : Tel
     → MayFollow (sized net most cert) drawn (behind_times told side value list) (raise set) (bounded told side value)
 set_may net most cert drawn told side pair which value list set e of kept =
     subst (λ (v : Bound). MayFollow (sized net most cert) drawn (behind_times told side v list) (raise set) (bounded told side v)) (sym e)
-        (raise_may net most cert drawn told side pair which list set of (subst (λ (v : Bound). IsKept net pair which v list set) e kept))
+    (raise_may net most cert drawn told side pair which list set of (subst (λ (v : Bound). IsKept net pair which v list set) e kept))
 
 pub done_is : (told : Telling) (side : Side) (value : Bound) (list : List ℤ) → (value ≡ bounds.Unbounded → ⊥) → behind_times told side value list ≡ bounded told side value
 done_is told side (bounds.Closed value) list n = refl

@@ -1,5 +1,5 @@
 -- The rows one after another.
-use Rattle.std.proofs.Common.{◌≡◌, ◌<◌, ◌≤◌, ◌+◌, ℕ, zero, suc, Bool, List, [], ◌∷◌, length, map, drop, Option, Some, None, slice_get, refl, sym, subst, ap, ◌∙◌, ◌⊎◌, inl, inr, add-one, arith}
+use Rattle.std.proofs.Common.{◌≡◌, ◌≤◌, ◌+◌, ℕ, zero, suc, List, [], ◌∷◌, length, map, drop, Option, Some, slice_get, refl, sym, subst, ap, ◌⊎◌, inl, inr, add-one, arith}
 use Rattle.itv_base.specs.Outside.{SinkTold}
 use Rattle.requirements.specs.declared.verdict.Verdict.{Verdict}
 use Rattle.slack_report.specs.declared.words.FindingWord.{FindingWord}
@@ -12,7 +12,6 @@ use Rattle.unroll.specs.Reported.{row_told}
 use Rattle.bounds_report.specs.declared.desk.Desk.{Desk}
 use Rattle.bounds_report.specs.declared.tally.Tally.{Tally}
 use Rattle.bounds_report.specs.Step.Ready.{IsReady, IsTally, behind_known, behind_rows, tally_course}
-use Rattle.bounds_report.specs.Step.Searched.{sized}
 use Rattle.bounds_report.specs.Step.Told.{Told}
 
 -- some rows are told

@@ -1,5 +1,5 @@
 -- Times with one number added to all of them, and some of them raised.
-use Rattle.std.proofs.Common.{◌≡◌, ◌<◌, ◌≤◌, ◌+◌, ◌^◌, ℕ, zero, suc, ℤ, pos, neg_ℤ, ◌+ℤ◌, ◌-ℤ◌, ◌≤ℤ◌, ◌<ℤ◌, Bool, true, false, cond, List, [], ◌∷◌, ◌++◌, length, get_or, take, drop, All, Some, slice_get, refl, sym, subst, ap, ◌∙◌, add-one, arith}
+use Rattle.std.proofs.Common.{◌≡◌, ◌<◌, ◌≤◌, ◌+◌, ℕ, zero, suc, ℤ, pos, neg_ℤ, ◌+ℤ◌, ◌-ℤ◌, Bool, true, false, List, [], ◌∷◌, ◌++◌, length, get_or, take, drop, All, refl, sym, subst, ap, ◌∙◌, add-one, arith}
 use Rattle.std.proofs.Math.ListN.{set}
 use Rattle.std.proofs.Common.{w64}
 use Rattle.std.specs.Prelude.{FitsSigned}
@@ -13,8 +13,7 @@ use Rattle.event_graph.specs.Bounds.{IsRay}
 use Rattle.event_graph.specs.Network.{IsNet, Net}
 use Rattle.event_graph.specs.Satisfying.{Satisfies}
 use Rattle.event_graph.specs.Times.{IsTime, raised, separation, shifted, time_of}
-use Rattle.event_graph.proofs.Rays.{length-raised}
-use Rattle.event_graph.proofs.Shifting.{SameSeparations, satisfies_same}
+use Rattle.event_graph.proofs.Shifting.{satisfies_same}
 use Rattle.bounds_report.specs.Step.Kept.{AreNearby, IsNearby, IsShiftedTo}
 
 -- ---- shifting one by one
@@ -102,6 +101,7 @@ times_nearby times origin near in' at k d within =
     get_or-default [] k d h = absurd (omega arith)
     get_or-default (time ∷ times) zero d h = refl
     get_or-default (time ∷ times) (suc k) d h = get_or-default times k d (omega arith)
+
     from_zero : (time origin : ℤ) → origin ≡ pos 0 → IsNearby (time -ℤ origin) → IsTime time
     from_zero time origin at n = (omega (arith, ints, at, n.0, n.1), omega (arith, ints, at, n.0, n.1))
 

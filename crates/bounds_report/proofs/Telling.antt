@@ -1,8 +1,8 @@
 -- Steps of the writer, one after another.
-use Rattle.std.proofs.Common.{◌≡◌, ℕ, Bool, List, [], ◌∷◌, ◌++◌, map, Option, Some, None, Result, Ok, Err, IsErr, refl, sym, subst, ap, ◌∙◌, append-nil}
+use Rattle.std.proofs.Common.{◌≡◌, ℕ, Bool, List, [], ◌∷◌, ◌++◌, map, None, Result, Ok, Err, IsErr, refl, sym, subst, ap, ◌∙◌, append-nil}
 use Rattle.std.specs.Bool.{⊤}
 use Rattle.std.specs.Prelude.{IfOk, OnErr}
-use Rattle.itv_base.specs.Outside.{CutShort, Puts, SinkTold, grown}
+use Rattle.itv_base.specs.Outside.{Puts, SinkTold, grown}
 use Rattle.event_graph.specs.Network.{Net}
 use Rattle.event_graph.specs.Proof.{ProofLine}
 use Rattle.bounds_report.specs.Step.Searched.{sized}

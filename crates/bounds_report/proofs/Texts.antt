@@ -1,10 +1,10 @@
 -- Each line that may follow in a report that is written has a text.
-use Rattle.std.proofs.Common.{◌≡◌, ◌<◌, ◌≤◌, ◌+◌, ◌^◌, ◌⊎◌, ℕ, zero, suc, ℤ, pos, negsuc, neg_ℤ, ◌-ℤ◌, ◌≤ℤ◌, ◌<ℤ◌, Bool, true, false, List, [], ◌∷◌, ◌++◌, length, map, All, Option, Some, None, slice_get, unwrap_or, refl, sym, subst, ap, ◌∙◌, inl, inr, arith}
+use Rattle.std.proofs.Common.{◌≡◌, ◌<◌, ◌≤◌, ◌^◌, ℕ, zero, suc, ℤ, pos, negsuc, neg_ℤ, ◌-ℤ◌, ◌<ℤ◌, Bool, List, [], ◌∷◌, ◌++◌, length, map, All, Option, Some, None, slice_get, unwrap_or, sym, subst, ◌∙◌, inl, inr, arith}
 use Rattle.std.specs.Prelude.{IfSome}
 use Rattle.std.proofs.lemmas.Int.{ints}
 use Rattle.itv_base.specs.Names.{Name}
 use Rattle.itv_base.specs.Range.{Ends, IsEnd, IsRange}
-use Rattle.itv_base.specs.declared.limits.TheConstants.{MAX_BUDGET, MAX_EVENTS, MAX_ROWS}
+use Rattle.itv_base.specs.declared.limits.TheConstants.{MAX_BUDGET, MAX_ROWS}
 use Rattle.itv_base.specs.declared.names.EventId.{EventId}
 use Rattle.certificate.specs.Text.{IsProofLine}
 use Rattle.event_graph.specs.Network.{IsNet, Net}
@@ -22,8 +22,8 @@ use Rattle.sheet.specs.declared.row.RowKind.{RowKind}
 use Rattle.sheet.specs.declared.row.RowKind.TheVariants as kinds
 use Rattle.slack_report.specs.declared.words.FindingWord.{FindingWord}
 use Rattle.slack_report.specs.declared.words.FindingWord.TheVariants as findings
-use Rattle.slack_report.specs.Entry.{Entry, IsBound, IsEntry, IsKind, IsName, heading, budget, events, event, proof, finding, times, rows, row, bound, raise, verdict, slack, ending}
-use Rattle.slack_report.specs.Right.At.{At, Side, Telling, at_heading, at_budget, at_events, at_event, at_finding, at_known, at_rows, at_row, at_bound, at_times, at_raise, at_verdict, at_past, at_slack, at_end, at_last, behind_bound, behind_finding, behind_past, behind_times, behind_verdict, bounded, greatest, judged, least_by, is_fail}
+use Rattle.slack_report.specs.Entry.{Entry, IsBound, IsEntry, IsKind, IsName, heading, budget}
+use Rattle.slack_report.specs.Right.At.{At, Side, Telling, at_heading, at_budget, at_events, at_event, at_finding, at_known, at_rows, at_row, at_bound, at_times, at_raise, at_verdict, at_past, at_slack, at_end, at_last, behind_bound, behind_finding, behind_times, behind_verdict, bounded, greatest, judged, least_by}
 use Rattle.slack_report.specs.Right.Drawn.{Drawn, Row, name_of, nameless}
 use Rattle.slack_report.specs.Right.Facts.{CanRise}
 use Rattle.slack_report.specs.Right.Following.{MayFollow, Reads}
@@ -43,8 +43,10 @@ long : (z : ℤ) → IsTime z → IsLong z
 long z h = wide z (omega (arith, ints, h.0, h.1)) (omega (arith, ints, h.0, h.1))
 
 apart : (a b : ℤ) → IsTime a → IsEnd (Some b) → IsLong (a -ℤ b) × IsLong (b -ℤ a)
-apart a b h end = (wide (a -ℤ b) (omega (arith, ints, end.0, end.1, h.0, h.1)) (omega (arith, ints, end.0, end.1, h.0, h.1)),
-    wide (b -ℤ a) (omega (arith, ints, end.0, end.1, h.0, h.1)) (omega (arith, ints, end.0, end.1, h.0, h.1)))
+apart a b h end = (
+  wide (a -ℤ b) (omega (arith, ints, end.0, end.1, h.0, h.1)) (omega (arith, ints, end.0, end.1, h.0, h.1)),
+  wide (b -ℤ a) (omega (arith, ints, end.0, end.1, h.0, h.1)) (omega (arith, ints, end.0, end.1, h.0, h.1)),
+)
 
 longs : (list : List ℤ) → All IsTime list → All IsLong list
 longs list all = λ k d h. long _ (all k d h)
@@ -232,4 +234,4 @@ fine_rows net [] within ranges = all_nil (IsFine net)
 fine_rows net (r ∷ asked) within ranges =
     let w : IsRowOf net r = all_head (IsRowOf net) r asked within in
     all_cons (IsFine net) (row_told r) (map row_told asked) (all_head (λ (r : Row). IsKind r.kind) (row_told r) (map row_told asked) ranges, w.0, w.1)
-        (fine_rows net asked (all_tail (IsRowOf net) r asked within) (all_tail (λ (r : Row). IsKind r.kind) (row_told r) (map row_told asked) ranges))
+    (fine_rows net asked (all_tail (IsRowOf net) r asked within) (all_tail (λ (r : Row). IsKind r.kind) (row_told r) (map row_told asked) ranges))

@@ -1,5 +1,5 @@
 -- A whole report, and one that a put cut short.
-use Rattle.std.proofs.Common.{◌≡◌, ◌<◌, ◌≤◌, ◌+◌, ℕ, zero, suc, Bool, true, false, cond, List, [], ◌∷◌, ◌++◌, length, map, drop, Option, Some, None, slice_get, unwrap_or, count_by, refl, sym, subst, ap, ◌∙◌, inl, inr, add-one, append-nil, arith}
+use Rattle.std.proofs.Common.{◌≡◌, ◌<◌, ◌≤◌, ◌+◌, ℕ, zero, suc, Bool, cond, List, [], ◌∷◌, ◌++◌, length, drop, Some, slice_get, unwrap_or, count_by, refl, sym, subst, ap, ◌∙◌, add-one, append-nil, arith}
 use Rattle.std.specs.Prelude.{All}
 use Rattle.std.proofs.lemmas.List.Sums.{sum_by-cons}
 use Rattle.itv_base.specs.Names.{Name}
@@ -19,7 +19,7 @@ use Rattle.slack_report.proofs.Judging.{report_text-append}
 use Rattle.slack_report.proofs.RightOrder.{reads-append, reads_weaker}
 use Rattle.right_report.specs.Told.{end_in}
 use Rattle.right_report.specs.Writing.{Stopped}
-use Rattle.bounds_report.specs.Reports.{BeginsReport, HasRanges, IsWrittenReport, Reports, Sums, answer_of, is_pass, is_undecided, is_verdict, verdict_count}
+use Rattle.bounds_report.specs.Reports.{BeginsReport, HasRanges, Reports, answer_of, is_pass, is_undecided, is_verdict, verdict_count}
 use Rattle.bounds_report.specs.Written.{written}
 use Rattle.bounds_report.specs.declared.summary.Summary.{Summary}
 use Rattle.bounds_report.specs.declared.tally.Tally.{Tally}
@@ -82,9 +82,11 @@ begins_front drawn most cert old new cut = (report_text (front most), record { l
 -- a later one was
 pub begins_rest : (drawn : Drawn) (most : ℕ) (cert : Bool) (old now new : SinkTold) → now ≡ grown old (report_text (front most)) → Stopped (sized drawn.net most cert) drawn at_events now new
     → Begins drawn most cert old new
-begins_rest drawn most cert old now new put s =
-    (report_text (front most ++ s.lines), record { lines = front most ++ s.lines; last = s.last; reads = front_reads drawn most cert s.lines s.last s.reads; tells = refl; is_text = refl },
-     subst (CutShort old new) (sym (report_text-append (front most) s.lines)) (cut_then old now new (report_text (front most)) (report_text s.lines) put s.cut))
+begins_rest drawn most cert old now new put s = (
+  report_text (front most ++ s.lines),
+  record { lines = front most ++ s.lines; last = s.last; reads = front_reads drawn most cert s.lines s.last s.reads; tells = refl; is_text = refl },
+  subst (CutShort old new) (sym (report_text-append (front most) s.lines)) (cut_then old now new (report_text (front most)) (report_text s.lines) put s.cut),
+)
 
 -- ---- the end
 

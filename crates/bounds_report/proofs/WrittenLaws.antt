@@ -1,14 +1,13 @@
 -- What a written report is.
-use Rattle.std.proofs.Common.{◌≡◌, ℕ, ℤ, Bool, true, false, List, [], All, Option, Some, None, refl, sym, subst}
+use Rattle.std.proofs.Common.{ℕ, true, false, List, refl, sym, subst}
 use Rattle.event_graph.specs.Network.{Net}
 use Rattle.event_graph.specs.Proof.{ProofLine}
 use Rattle.requirements.specs.declared.bound.Bound.{Bound}
 use Rattle.requirements.specs.declared.bound.Bound.TheVariants as bounds
 use Rattle.slack_report.specs.declared.words.FindingWord.{FindingWord}
 use Rattle.slack_report.specs.declared.words.FindingWord.TheVariants as findings
-use Rattle.slack_report.specs.Entry.{Entry, IsEntry, IsName}
 use Rattle.slack_report.specs.Right.At.{Side, at_heading, at_last}
-use Rattle.slack_report.specs.Right.Drawn.{Drawn, Row}
+use Rattle.slack_report.specs.Right.Drawn.{Row}
 use Rattle.slack_report.specs.Right.Facts.{IsBoundOf, IsFinding, right}
 use Rattle.slack_report.specs.Right.Following.{Implies, Reads}
 use Rattle.slack_report.proofs.RightOrder.{reads_weaker}

@@ -1,5 +1,5 @@
 -- Laws of the reports that the job writes.
-use Rattle.std.specs.Prelude.{ℕ, Bool, true, false, List, All}
+use Rattle.std.specs.Prelude.{ℕ, true, false, List, All}
 use Rattle.slack_report.specs.Entry.{Entry, IsName}
 use Rattle.slack_report.specs.Text.{report_text}
 use Rattle.slack_report.specs.Right.Drawn.{Drawn}

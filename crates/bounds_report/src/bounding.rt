@@ -100,6 +100,7 @@ fn keep(net: &Network, pair: Pair, which: Which, answer: Answer, work: &Work, ke
     ensures room { IsRoomFor net.now kept.new }
     ensures kept { IsKept net.now pair which (bound_of which answer) kept.new.times.items kept.new.set.items }
 {
+    // The network is within its limits.
     let _events = net.events();
     take_times(&mut kept.times, work.times(), pair.from);
     match answer {

@@ -68,11 +68,7 @@ fn tell_times<K: Sink>(
     match word {
         FindingWord::Consistent => {
             take_known(net, &desk.work, &mut desk.greatest);
-            write_item(
-                &Item::Times(&desk.greatest.times),
-                &mut desk.buffer,
-                sink,
-            )
+            write_item(&Item::Times(&desk.greatest.times), &mut desk.buffer, sink)
         }
         FindingWord::Inconsistent | FindingWord::Unsettled => Ok(()),
     }

@@ -23,4 +23,3 @@ mod write;
 
 pub use summary::Summary;
 pub use write::write_bounds;
-

@@ -143,6 +143,7 @@ fn pass_limit(which: Which, limit: i64, value: Bound, pair: Pair, net: &Network,
     ensures room { IsRoomFor net.now kept.new }
     ensures past { ArePast net.now pair which limit kept.new.times.items }
 {
+    // The network is within its limits.
     let _events = net.events();
     match value {
         Bound::Unbounded => raise(which, limit, pair, net, &mut kept.times, &kept.set),

@@ -78,11 +78,7 @@ fn tell_report<K: Sink>(
 }
 
 // The heading, and how many cases each search may close.
-fn put_front<K: Sink>(
-    budget: u64,
-    buffer: &mut LineBuffer,
-    sink: &mut K,
-) -> Result<(), PutFailed>
+fn put_front<K: Sink>(budget: u64, buffer: &mut LineBuffer, sink: &mut K) -> Result<(), PutFailed>
     ensures puts { Puts (K.told sink.old) (K.told sink.new) (report_text (heading ∷ entry_budget budget ∷ [])) result }
 {
     write_item(&Item::Heading, buffer, sink)?;

@@ -1,5 +1,5 @@
 -- What is kept of a search for a bound, and what it says of the bound.
-use Rattle.std.specs.Prelude.{◌≡◌, ◌<◌, ◌^◌, ℕ, ℤ, pos, neg_ℤ, ◌<ℤ◌, Bool, List, All, Option, IsSomeAnd, Some, None, length, option_map}
+use Rattle.std.specs.Prelude.{◌≡◌, ◌<◌, ◌^◌, ℤ, pos, neg_ℤ, ◌<ℤ◌, Bool, List, All, Option, IsSomeAnd, Some, None, length, option_map}
 use Rattle.event_graph.specs.Bounds.{IsRay}
 use Rattle.event_graph.specs.Network.{Net}
 use Rattle.event_graph.specs.RootBound.{IsRootBound}

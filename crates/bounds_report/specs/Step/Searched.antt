@@ -1,5 +1,5 @@
 -- What a search for a bound of a pair shows.
-use Rattle.std.specs.Prelude.{◌≡◌, ◌≤◌, ℕ, ℤ, List, [], Bool, Some}
+use Rattle.std.specs.Prelude.{◌≡◌, ℕ, List, Bool, Some}
 use Rattle.branch.specs.declared.answer.Answer.{Answer}
 use Rattle.branch.specs.declared.answer.Answer.TheVariants as answers
 use Rattle.event_graph.specs.Network.{Net}

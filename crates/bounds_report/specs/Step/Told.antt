@@ -1,14 +1,11 @@
 -- What a step of the writer promises: the lines that it put lead from a place to another, tell some verdicts, and do not end the report.
-use Rattle.std.specs.Prelude.{◌≡◌, ◌++◌, List, [], ◌∷◌, Option, Some, None, Result, Ok, Err}
-use Rattle.std.specs.Option.{option_to_list}
+use Rattle.std.specs.Prelude.{◌≡◌, List, [], ◌∷◌, None, Result, Ok, Err}
 use Rattle.itv_base.specs.Outside.{SinkTold, grown}
-use Rattle.requirements.specs.declared.bound.Bound.{Bound}
 use Rattle.requirements.specs.declared.verdict.Verdict.{Verdict}
-use Rattle.slack_report.specs.declared.words.FindingWord.TheVariants as findings
 use Rattle.slack_report.specs.declared.words.Which.{Which}
 use Rattle.slack_report.specs.Entry.{Entry, verdict}
 use Rattle.slack_report.specs.Text.{report_text}
-use Rattle.slack_report.specs.Right.At.{At, Course, Side, Telling, which_of}
+use Rattle.slack_report.specs.Right.At.{At, Side, Telling, which_of}
 use Rattle.slack_report.specs.Right.Drawn.{Drawn}
 use Rattle.slack_report.specs.Right.Following.{Facts, Reads}
 use Rattle.right_report.specs.Told.{end_in}

@@ -19,8 +19,11 @@ bound_of-requires-clause-answers g c =
 
 pub returns-clause-tells : goal.returns-clause-tells
 returns-clause-tells g c =
-    let told = c.in_ok-answer.ensures.answers in
-    (told.0, told.1, subst (λ (v : Bound). ShowsIn c.args.net.now c.args.wanted.budget c.args.pair c.args.which told.0 v) (sym c.bound_of.ensures.bound)
-        (shows_in c.args.net.now c.args.wanted.budget c.args.pair c.args.which told.0 c.greatest_of.new.work.leaves c.greatest_of.new.work.times c.greatest_of.new.work.ray c.in_ok-answer.answer
-            (subst (λ (p : Pair). Answers c.args.net.now p.from p.to c.args.wanted.budget told.0 c.greatest_of.new.work.leaves c.greatest_of.new.work.times c.greatest_of.new.work.ray c.in_ok-answer.answer) c.searched.ensures.pair told.2)
-            c.in_ok-answer.ensures.count.within_budget))
+    let told = c.in_ok-answer.ensures.answers in (
+      told.0,
+      told.1,
+      subst (λ (v : Bound). ShowsIn c.args.net.now c.args.wanted.budget c.args.pair c.args.which told.0 v) (sym c.bound_of.ensures.bound)
+          (shows_in c.args.net.now c.args.wanted.budget c.args.pair c.args.which told.0 c.greatest_of.new.work.leaves c.greatest_of.new.work.times c.greatest_of.new.work.ray c.in_ok-answer.answer
+          (subst (λ (p : Pair). Answers c.args.net.now p.from p.to c.args.wanted.budget told.0 c.greatest_of.new.work.leaves c.greatest_of.new.work.times c.greatest_of.new.work.ray c.in_ok-answer.answer) c.searched.ensures.pair told.2)
+          c.in_ok-answer.ensures.count.within_budget),
+    )

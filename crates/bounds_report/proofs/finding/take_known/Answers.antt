@@ -1,4 +1,4 @@
-use Rattle.std.proofs.Common.{List, ℤ, ◌<◌, ◌∙◌, All, Option, IsSomeAnd, IfSome, length, ap, subst, sym, arith}
+use Rattle.std.proofs.Common.{List, ℤ, ◌∙◌, All, Option, IsSomeAnd, IfSome, length, ap, subst, sym, arith}
 use Rattle.std.proofs.lemmas.List.{with_items_is}
 use Rattle.branch.specs.Work.{IsClose}
 use Rattle.event_graph.specs.Satisfying.{Satisfies}
@@ -9,6 +9,6 @@ pub returns-then-events-gt0-clause-known : goal.returns-then-events-gt0-clause-k
 returns-then-events-gt0-clause-known c =
     let list = with_items_is c.args.kept.now.times c.take_times.new.out (c.take_times.auto.out ∙ ap length c.deref_mut.ensures.value ∙ sym c.args.kept.now.times.ok.0) in
     known_shifted c.args.net.now c.known.result.now _ c.events.ensures.net
-        (subst (λ (known : Option (List ℤ)). IsSomeAnd known (λ times. Satisfies times c.args.net.now)) c.known.ensures c.requires.known)
-        (subst (λ (known : Option (List ℤ)). IfSome known (All IsClose)) c.known.ensures c.requires.close)
-        (omega (arith, c.if-events-gt0.true, c.events.ensures.count)) (list ∙ c.take_times.ensures.taken)
+    (subst (λ (known : Option (List ℤ)). IsSomeAnd known (λ times. Satisfies times c.args.net.now)) c.known.ensures c.requires.known)
+    (subst (λ (known : Option (List ℤ)). IfSome known (All IsClose)) c.known.ensures c.requires.close)
+    (omega (arith, c.if-events-gt0.true, c.events.ensures.count)) (list ∙ c.take_times.ensures.taken)

@@ -29,8 +29,8 @@ returns-in_err-write_item-clause-goes g c = λ drawn number.
     let word = c.word_of-word.result in
     let fact = finding_fact c.args.net.now c.args.wanted.budget c.args.wanted.cert finds.0 c.find_times.new.work.leaves c.find_times.new.work.known c.in_ok-found.found word c.word_of-word.ensures finds.2 c.in_ok-found.ensures.count.within_budget in
     goes_up _ _ c.from_residual-in_err-write_item.result c.from_residual-in_err-write_item.ensures.0
-        (stops_then (told_proof (behind_proof number lines) lines (reads_event_proof facts drawn number lines) finds.1)
-            (stopped_line (behind_finding word) (finding word) (finding_may c.args.net.now c.args.wanted.budget c.args.wanted.cert drawn number lines word fact) c.in_err-write_item.ensures.puts))
+    (stops_then (told_proof (behind_proof number lines) lines (reads_event_proof facts drawn number lines) finds.1)
+    (stopped_line (behind_finding word) (finding word) (finding_may c.args.net.now c.args.wanted.budget c.args.wanted.cert drawn number lines word fact) c.in_err-write_item.ensures.puts))
 
 pub returns-in_err-tell_times-clause-goes : goal.returns-in_err-tell_times-clause-goes
 returns-in_err-tell_times-clause-goes g c = λ drawn number.
@@ -40,9 +40,9 @@ returns-in_err-tell_times-clause-goes g c = λ drawn number.
     let word = c.word_of-word.result in
     let fact = finding_fact c.args.net.now c.args.wanted.budget c.args.wanted.cert finds.0 c.find_times.new.work.leaves c.find_times.new.work.known c.in_ok-found.found word c.word_of-word.ensures finds.2 c.in_ok-found.ensures.count.within_budget in
     goes_up _ _ c.from_residual-in_err-tell_times.result c.from_residual-in_err-tell_times.ensures.0
-        (stops_then (told_then (told_proof (behind_proof number lines) lines (reads_event_proof facts drawn number lines) finds.1)
-            (told_line (finding word) (finding_may c.args.net.now c.args.wanted.budget c.args.wanted.cert drawn number lines word fact) c.in_ok-write_item.ensures.puts refl))
-            (c.in_err-tell_times.ensures.goes c.args.wanted.budget c.args.wanted.cert drawn))
+    (stops_then (told_then (told_proof (behind_proof number lines) lines (reads_event_proof facts drawn number lines) finds.1)
+    (told_line (finding word) (finding_may c.args.net.now c.args.wanted.budget c.args.wanted.cert drawn number lines word fact) c.in_ok-write_item.ensures.puts refl))
+    (c.in_err-tell_times.ensures.goes c.args.wanted.budget c.args.wanted.cert drawn))
 
 pub returns-clause-goes : goal.returns-clause-goes
 returns-clause-goes g c = λ drawn number.
@@ -52,5 +52,5 @@ returns-clause-goes g c = λ drawn number.
     let word = c.word_of-word.result in
     let fact = finding_fact c.args.net.now c.args.wanted.budget c.args.wanted.cert finds.0 c.find_times.new.work.leaves c.find_times.new.work.known c.in_ok-found.found word c.word_of-word.ensures finds.2 c.in_ok-found.ensures.count.within_budget in
     told_then (told_then (told_proof (behind_proof number lines) lines (reads_event_proof facts drawn number lines) finds.1)
-        (told_line (finding word) (finding_may c.args.net.now c.args.wanted.budget c.args.wanted.cert drawn number lines word fact) c.in_ok-write_item.ensures.puts refl))
-        (c.in_ok-tell_times.ensures.goes c.args.wanted.budget c.args.wanted.cert drawn)
+    (told_line (finding word) (finding_may c.args.net.now c.args.wanted.budget c.args.wanted.cert drawn number lines word fact) c.in_ok-write_item.ensures.puts refl))
+    (c.in_ok-tell_times.ensures.goes c.args.wanted.budget c.args.wanted.cert drawn)

@@ -15,8 +15,8 @@ pub returns-in-Consistent-clause-goes : goal.returns-in-Consistent-clause-goes
 returns-in-Consistent-clause-goes g c = λ most cert drawn.
     let list = c.deref.result.now in
     goes_line (sized c.args.net.now most cert) drawn (behind_finding c.args.word) (behind_known c.args.word) _ _ (times list) _
-        (known_may c.args.net.now most cert drawn c.args.word list c.in-Consistent.is (subst (λ (ts : List ℤ). AreKnown c.args.net.now ts) (sym c.deref.ensures.value) c.take_known.ensures.known))
-        refl c.write_item.ensures.puts
+    (known_may c.args.net.now most cert drawn c.args.word list c.in-Consistent.is (subst (λ (ts : List ℤ). AreKnown c.args.net.now ts) (sym c.deref.ensures.value) c.take_known.ensures.known))
+    refl c.write_item.ensures.puts
 
 pub returns-in-Inconsistent-clause-goes : goal.returns-in-Inconsistent-clause-goes
 returns-in-Inconsistent-clause-goes g c = λ most cert drawn. told_at (same_place c.args.word c.in-Inconsistent.is) (told_none _ _)

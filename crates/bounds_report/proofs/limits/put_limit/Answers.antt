@@ -11,7 +11,7 @@ pub returns : goal.returns
 returns g c = record {
   goes = λ net most cert drawn told side pair found of is times.
       goes_line (sized net most cert) drawn (at_bound told side []) (bounded told side c.args.value) _ _ (bound c.args.which c.args.value) _
-          (subst (λ (at : At). MayFollow (sized net most cert) drawn (at_bound told side []) (bound c.args.which c.args.value) at) (limit_done net pair c.args.which told side c.args.value is)
-              (bound_may net most cert drawn told side [] pair c.args.which c.args.value of (limit_fact net most cert told side pair c.args.which c.args.value found of is times)))
-          refl c.write_item.ensures.puts;
+      (subst (λ (at : At). MayFollow (sized net most cert) drawn (at_bound told side []) (bound c.args.which c.args.value) at) (limit_done net pair c.args.which told side c.args.value is)
+      (bound_may net most cert drawn told side [] pair c.args.which c.args.value of (limit_fact net most cert told side pair c.args.which c.args.value found of is times)))
+      refl c.write_item.ensures.puts;
 }

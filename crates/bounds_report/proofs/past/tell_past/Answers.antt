@@ -14,9 +14,9 @@ returns-in-FailHigh-clause-goes g c = λ most cert drawn told f t.
     let limit = c.broken_high.result in
     let puts = c.tell_passed.ensures.puts in
     goes_line (sized c.args.net.now most cert) drawn (behind_verdict told c.args.range least greatest c.args.word) (behind_past told c.args.range least greatest c.args.word) _ _ (times puts.0) _
-        (past_high_may c.args.net.now most cert drawn told c.args.range least greatest c.args.pair f t c.args.word limit _ puts.0 c.in-FailHigh.is c.requires.word c.broken_high.ensures.end
-            (read_time limit (end_time limit c.broken_high.ensures.limit)) puts.1)
-        refl puts.2
+    (past_high_may c.args.net.now most cert drawn told c.args.range least greatest c.args.pair f t c.args.word limit _ puts.0 c.in-FailHigh.is c.requires.word c.broken_high.ensures.end
+    (read_time limit (end_time limit c.broken_high.ensures.limit)) puts.1)
+    refl puts.2
 
 pub returns-in-FailLow-clause-goes : goal.returns-in-FailLow-clause-goes
 returns-in-FailLow-clause-goes g c = λ most cert drawn told f t.
@@ -25,6 +25,6 @@ returns-in-FailLow-clause-goes g c = λ most cert drawn told f t.
     let limit = c.broken_low.result in
     let puts = c.tell_passed-in-FailLow.ensures.puts in
     goes_line (sized c.args.net.now most cert) drawn (behind_verdict told c.args.range least greatest c.args.word) (behind_past told c.args.range least greatest c.args.word) _ _ (times puts.0) _
-        (past_low_may c.args.net.now most cert drawn told c.args.range least greatest c.args.pair f t c.args.word limit _ puts.0 c.in-FailLow.is c.requires.word c.broken_low.ensures.end
-            (read_time limit (end_time limit c.broken_low.ensures.limit)) puts.1)
-        refl puts.2
+    (past_low_may c.args.net.now most cert drawn told c.args.range least greatest c.args.pair f t c.args.word limit _ puts.0 c.in-FailLow.is c.requires.word c.broken_low.ensures.end
+    (read_time limit (end_time limit c.broken_low.ensures.limit)) puts.1)
+    refl puts.2

@@ -10,10 +10,10 @@ returns-in_err-greatest-clause-goes g c = λ drawn told found f t.
 pub returns-in_err-least-clause-goes : goal.returns-in_err-least-clause-goes
 returns-in_err-least-clause-goes g c = λ drawn told found f t.
     goes_up _ _ c.from_residual-in_err-least.result c.from_residual-in_err-least.ensures.0
-        (stops_then (c.in_ok-greatest.ensures.goes drawn told greatest found (record { from = f; to = t; sort = refl }))
-            (c.in_err-least.ensures.goes drawn told (least_by c.in_ok-greatest.greatest) found (record { from = f; to = t; sort = refl })))
+    (stops_then (c.in_ok-greatest.ensures.goes drawn told greatest found (record { from = f; to = t; sort = refl }))
+    (c.in_err-least.ensures.goes drawn told (least_by c.in_ok-greatest.greatest) found (record { from = f; to = t; sort = refl })))
 
 pub returns-clause-goes : goal.returns-clause-goes
 returns-clause-goes g c = λ drawn told found f t.
     told_then (c.in_ok-greatest.ensures.goes drawn told greatest found (record { from = f; to = t; sort = refl }))
-        (c.in_ok-least.ensures.goes drawn told (least_by c.in_ok-greatest.greatest) found (record { from = f; to = t; sort = refl }))
+    (c.in_ok-least.ensures.goes drawn told (least_by c.in_ok-greatest.greatest) found (record { from = f; to = t; sort = refl }))

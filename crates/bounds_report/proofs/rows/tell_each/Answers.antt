@@ -1,4 +1,4 @@
-use Rattle.std.proofs.Common.{◌≡◌, ◌+◌, ◌++◌, [], drop, map, length, ap, refl, sym, ◌∙◌, arith}
+use Rattle.std.proofs.Common.{◌+◌, ◌++◌, [], drop, map, length, ap, refl, sym, ◌∙◌, arith}
 use Rattle.std.proofs.lemmas.List.{length-map}
 use Rattle.std.specs.Option.{option_to_list}
 use Rattle.slack_report.specs.Entry.{rows}
@@ -13,8 +13,8 @@ use Rattle.bounds_report.proofs.rows.tell_each.Goals as goal
 pub returns-in_err-write_item-clause-stops : goal.returns-in_err-write_item-clause-stops
 returns-in_err-write_item-clause-stops g c =
     on_err _ c.from_residual.result
-        (stopped_line (at_row (course_of c.args.found) 0 (map row_told c.args.drawn.now.rows)) (rows _)
-            (ap rows (c.len-count.ensures.count ∙ ap length c.rows.ensures.rows ∙ sym (length-map c.args.drawn.now.rows row_told)), refl) c.in_err-write_item.ensures.puts)
+    (stopped_line (at_row (course_of c.args.found) 0 (map row_told c.args.drawn.now.rows)) (rows _)
+    (ap rows (c.len-count.ensures.count ∙ ap length c.rows.ensures.rows ∙ sym (length-map c.args.drawn.now.rows row_told)), refl) c.in_err-write_item.ensures.puts)
 
 pub loop-number-init : goal.loop-number-init
 loop-number-init g c = record {
@@ -31,8 +31,8 @@ returns-in_err-end-clause-stops g c =
     let number = c.loop-number.number in
     let course = tally_course c.args.found c.loop-number.tally in
     on_err _ c.from_residual-in_err-end.result
-        (stops_then (told_at (ap (at_row course number) (rows_more c.args.drawn.now.rows number c.row_at-row.result.now c.row_at-row.ensures.row)) c.loop-number.invariant.lines)
-            (c.in_err-end.ensures.goes course (drop (number + 1) (map row_told c.args.drawn.now.rows)) refl))
+    (stops_then (told_at (ap (at_row course number) (rows_more c.args.drawn.now.rows number c.row_at-row.result.now c.row_at-row.ensures.row)) c.loop-number.invariant.lines)
+    (c.in_err-end.ensures.goes course (drop (number + 1) (map row_told c.args.drawn.now.rows)) refl))
 
 pub loop-number-preserved : goal.loop-number-preserved
 loop-number-preserved g c =
@@ -44,6 +44,6 @@ loop-number-preserved g c =
       counted = c.after-tally.ensures.counted c.loop-number.invariant.words c.loop-number.invariant.counted;
       lines = told_at (ap (λ (behind : Course). at_row behind (number + 1) later) (sym (c.after-tally.ensures.course c.args.found)))
           (told_then (told_at (ap (at_row course number) (rows_more c.args.drawn.now.rows number c.row_at-row.result.now c.row_at-row.ensures.row)) c.loop-number.invariant.lines)
-              (c.in_ok-end.ensures.goes course later refl));
+          (c.in_ok-end.ensures.goes course later refl));
       most = omega (arith, c.after-tally.ensures.most, c.loop-number.invariant.most);
     }

@@ -1,4 +1,4 @@
-use Rattle.std.proofs.Common.{[], sym}
+use Rattle.std.proofs.Common.{[]}
 use Rattle.bounds_report.proofs.RowByRow.{rows_begin, rows_end, rows_skipped}
 use Rattle.bounds_report.proofs.Telling.{err_then, if_ok, stopped_from, told_at, told_from, told_none}
 use Rattle.bounds_report.proofs.rows.tell_rows.Goals as goal

@@ -1,4 +1,4 @@
-use Rattle.std.proofs.Common.{neg_ℤ, arith}
+use Rattle.std.proofs.Common.{arith}
 use Rattle.requirements.proofs.Rising.{read_time}
 use Rattle.bounds_report.proofs.Shifted.{front_done, front_known, front_step}
 use Rattle.bounds_report.proofs.times.shift.Goals as goal

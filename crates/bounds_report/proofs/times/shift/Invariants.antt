@@ -1,4 +1,4 @@
-use Rattle.std.proofs.Common.{◌≡◌, ◌+◌, neg_ℤ}
+use Rattle.std.proofs.Common.{◌≡◌, neg_ℤ}
 use Rattle.bounds_report.proofs.Shifted.{shifted_front}
 use Rattle.bounds_report.proofs.times.shift.Given as goal
 

@@ -1,4 +1,4 @@
-use Rattle.std.proofs.Common.{◌≡◌, ◌++◌, ap, append-nil, sym}
+use Rattle.std.proofs.Common.{◌++◌, ap, append-nil, sym}
 use Rattle.itv_base.proofs.Written.{puts_same, puts_then}
 use Rattle.slack_report.specs.Entry.{budget, heading}
 use Rattle.slack_report.specs.Text.{entry_text}

@@ -1,4 +1,4 @@
-use Rattle.std.proofs.Common.{◌≡◌, ◌≤◌, ℕ, List, [], length, ap, map, refl, subst, sym, ◌∙◌}
+use Rattle.std.proofs.Common.{◌≡◌, ◌≤◌, ℕ, List, length, ap, subst, sym, ◌∙◌}
 use Rattle.std.proofs.lemmas.List.{length-map}
 use Rattle.itv_base.specs.Outside.{grown}
 use Rattle.itv_base.specs.declared.limits.TheConstants.{MAX_ROWS}
@@ -31,7 +31,7 @@ returns-in_err-found-clause-begins g c =
     let most = c.args.wanted.budget in
     let cert = c.args.wanted.cert in
     on_err _ c.from_residual-in_err-found.result (begins_rest drawn most cert _ _ _ c.in_ok-put_front.ensures.puts
-        (stops_then (c.in_ok-put_events.ensures.goes drawn.net most cert) (stopped_net most cert c.network.ensures.network (c.in_err-found.ensures.goes drawn drawn.net.events))))
+    (stops_then (c.in_ok-put_events.ensures.goes drawn.net most cert) (stopped_net most cert c.network.ensures.network (c.in_err-found.ensures.goes drawn drawn.net.events))))
 
 pub returns-in_err-tally-clause-begins : goal.returns-in_err-tally-clause-begins
 returns-in_err-tally-clause-begins g c =
@@ -39,8 +39,8 @@ returns-in_err-tally-clause-begins g c =
     let most = c.args.wanted.budget in
     let cert = c.args.wanted.cert in
     on_err _ c.from_residual-in_err-tally.result (begins_rest drawn most cert _ _ _ c.in_ok-put_front.ensures.puts
-        (stops_then (told_then (c.in_ok-put_events.ensures.goes drawn.net most cert) (told_net most cert c.network.ensures.network (c.in_ok-found.ensures.goes drawn drawn.net.events)))
-            c.in_err-tally.ensures.stops))
+    (stops_then (told_then (c.in_ok-put_events.ensures.goes drawn.net most cert) (told_net most cert c.network.ensures.network (c.in_ok-found.ensures.goes drawn drawn.net.events)))
+    c.in_err-tally.ensures.stops))
 
 pub returns-in_err-write_item-clause-begins : goal.returns-in_err-write_item-clause-begins
 returns-in_err-write_item-clause-begins g c =
@@ -49,10 +49,10 @@ returns-in_err-write_item-clause-begins g c =
     let cert = c.args.wanted.cert in
     let tells = c.in_ok-tally.ensures.tells in
     on_err _ c.from_residual-in_err-write_item.result (begins_rest drawn most cert _ _ _ c.in_ok-put_front.ensures.puts
-        (stops_then (told_then (told_then (c.in_ok-put_events.ensures.goes drawn.net most cert) (told_net most cert c.network.ensures.network (c.in_ok-found.ensures.goes drawn drawn.net.events))) tells.2)
-            (stopped_line at_last (ending c.end_word-word.result)
-                (end_may (sized drawn.net most cert) drawn c.in_ok-found.found c.in_ok-tally.tally (length c.args.drawn.now.rows) c.end_word-word.result c.end_word-word.ensures.word)
-                c.in_err-write_item.ensures.puts)))
+    (stops_then (told_then (told_then (c.in_ok-put_events.ensures.goes drawn.net most cert) (told_net most cert c.network.ensures.network (c.in_ok-found.ensures.goes drawn drawn.net.events))) tells.2)
+    (stopped_line at_last (ending c.end_word-word.result)
+    (end_may (sized drawn.net most cert) drawn c.in_ok-found.found c.in_ok-tally.tally (length c.args.drawn.now.rows) c.end_word-word.result c.end_word-word.ensures.word)
+    c.in_err-write_item.ensures.puts)))
 
 pub returns-clause-reports : goal.returns-clause-reports
 returns-clause-reports g c =
@@ -62,8 +62,8 @@ returns-clause-reports g c =
     let tells = c.in_ok-tally.ensures.tells in
     let t = told_then (told_then (c.in_ok-put_events.ensures.goes drawn.net most cert) (told_net most cert c.network.ensures.network (c.in_ok-found.ensures.goes drawn drawn.net.events))) tells.2 in
     subst (λ (summary : Summary). (text : List ℕ) × Reports drawn most cert summary text × (g.K.Sink.told c.write_item.new.sink ≡ grown (g.K.Sink.told c.args.sink.now) text)) (sym c.summary_of.ensures)
-        (reports drawn most cert _ _ _ _ c.in_ok-found.found c.in_ok-tally.tally (length c.args.drawn.now.rows) tells.0 c.end_word-word.result c.in_ok-put_front.ensures.puts t c.in_ok-write_item.ensures.puts
-            c.end_word-word.ensures.word tells.1
-            (λ lines reads names ranges. entries drawn most cert c.requires.set.made.is_net (c.network.ensures.names ∙ ap (λ (net : Net). net.events) c.network.ensures.network)
-                (subst (λ n. n ≤ MAX_ROWS) (sym (length-map c.args.drawn.now.rows row_told)) c.requires.rows)
-                names (fine_rows drawn.net c.args.drawn.now.rows c.requires.within ranges) lines c.requires.least c.requires.most reads))
+    (reports drawn most cert _ _ _ _ c.in_ok-found.found c.in_ok-tally.tally (length c.args.drawn.now.rows) tells.0 c.end_word-word.result c.in_ok-put_front.ensures.puts t c.in_ok-write_item.ensures.puts
+    c.end_word-word.ensures.word tells.1
+    (λ lines reads names ranges. entries drawn most cert c.requires.set.made.is_net (c.network.ensures.names ∙ ap (λ (net : Net). net.events) c.network.ensures.network)
+    (subst (λ n. n ≤ MAX_ROWS) (sym (length-map c.args.drawn.now.rows row_told)) c.requires.rows)
+    names (fine_rows drawn.net c.args.drawn.now.rows c.requires.within ranges) lines c.requires.least c.requires.most reads))
