@@ -1,6 +1,6 @@
 -- What the steps of a run answer: words of contracts within this crate.
-use Rattle.std.specs.Prelude.{◌≡◌, ◌≤◌, ◌⊎◌, ℕ, ⊤, List, Result, Ok, Err}
-use Rattle.itv_base.specs.declared.limits.TheConstants.{MAX_MATRIX_EVENTS}
+use Rattle.std.specs.Prelude.{◌≡◌, ◌≤◌, ◌⊎◌, ℕ, ⊤, List, length, Result, Ok, Err}
+use Rattle.itv_base.specs.declared.limits.TheConstants.{MAX_MATRIX_EVENTS, MAX_ROWS}
 use Rattle.itv_base.specs.Outside.{ShelfTold, SinkTold, grown, CutShort}
 use Rattle.job_answer.specs.declared.answer.Answer.{Answer}
 use Rattle.job_answer.specs.declared.unanswered.Unanswered.{Unanswered}
@@ -9,6 +9,7 @@ use Rattle.reading.specs.declared.stop.Stop.{Stop}
 use Rattle.reading.specs.declared.stop.Stop.TheVariants.{Refused, ReadFault, NoMemory}
 use Rattle.reading.specs.Opening.{ready, refused, unread}
 use Rattle.reading.specs.Refusal.{refusal_text, unread_text}
+use Rattle.unroll.specs.Drawn.{Drawn}
 use Rattle.words.specs.Task.{IsBudget, Task}
 use Rattle.itv_cli.specs.declared.outcome.Outcome.{Outcome}
 use Rattle.itv_cli.specs.declared.outcome.Outcome.TheVariants as ends
@@ -17,12 +18,16 @@ use Rattle.itv_cli.specs.declared.ready.Ready.TheVariants as given
 use Rattle.itv_cli.specs.Job.{is_made}
 use Rattle.itv_cli.specs.Run.{EndsMade, EndsOver, outcome_of}
 
+-- a budget within its limits, and no more rows than theirs
+abbrev pub IsBoundable : Drawn → ℕ → Type 0
+IsBoundable drawn budget = IsBudget budget × (length drawn.rows ≤ MAX_ROWS)
+
 -- what a job may be given
 abbrev pub IsAllowed : Ready → Type 0
-IsAllowed (given.Bounds drawn budget cert) = IsBudget budget
+IsAllowed (given.Bounds drawn budget cert) = IsBoundable drawn budget
 IsAllowed (given.Matrix drawn) = drawn.net.events ≤ MAX_MATRIX_EVENTS
 IsAllowed (given.Check drawn report) = Unit {0}
-IsAllowed (given.Generated drawn size budget) = IsBudget budget
+IsAllowed (given.Generated drawn size budget) = IsBoundable drawn budget
 
 -- what the reading for a task answers over files that are made for it; want of memory says nothing
 abbrev pub OpensMade : Task → Result Ready Stop → Type 0

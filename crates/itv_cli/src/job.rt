@@ -2,11 +2,10 @@
 
 ghost use Rattle.std.specs.Prelude.{◌≡◌};
 ghost use Rattle.job_answer.specs.Works.{Works};
-ghost use Rattle.words.specs.Task.{IsBudget};
 ghost use Rattle.itv_cli.specs.Job.{Answers, Begins};
 ghost use Rattle.itv_cli.specs.Job as job;
 ghost use Rattle.itv_cli.specs.declared.ready.Ready.TheVariants as ready;
-ghost use Rattle.itv_cli.specs.Step.{IsAllowed};
+ghost use Rattle.itv_cli.specs.Step.{IsAllowed, IsBoundable};
 
 use crate::ready::Ready;
 use bounds_report::write_bounds;
@@ -47,7 +46,7 @@ fn answer_bounds<K: Sink>(
     cert: bool,
     sink: &mut K,
 ) -> Result<Answer, Unanswered>
-    requires budget { IsBudget budget }
+    requires boundable { IsBoundable drawn.now budget }
     ensures works { Works (Answers (ready.Bounds drawn.now budget cert)) (Begins (ready.Bounds drawn.now budget cert))
         (K.told sink.old) (K.told sink.new) result }
 {
@@ -65,7 +64,7 @@ fn answer_generated<K: Sink>(
     budget: u64,
     sink: &mut K,
 ) -> Result<Answer, Unanswered>
-    requires budget { IsBudget budget }
+    requires boundable { IsBoundable drawn.now budget }
     ensures works { Works (Answers (ready.Generated drawn.now size budget)) (Begins (ready.Generated drawn.now size budget))
         (K.told sink.old) (K.told sink.new) result }
 {

@@ -1,9 +1,9 @@
 //! Writing a summary.
 
-ghost use Rattle.std.specs.Prelude.{◌≡◌, ◌≢◌, ◌≤◌, ◌∷◌, [], IfOk};
+ghost use Rattle.std.specs.Prelude.{◌≡◌, ◌≢◌, ◌≤◌, ◌∷◌, [], IfOk, length};
 ghost use Rattle.std.specs.List.{flat_map};
 ghost use Rattle.itv_base.specs.Outside.{Puts};
-ghost use Rattle.itv_base.specs.declared.limits.TheConstants.{MAX_BUDGET};
+ghost use Rattle.itv_base.specs.declared.limits.TheConstants.{MAX_BUDGET, MAX_ROWS};
 ghost use Rattle.job_answer.specs.Works.{Works};
 ghost use Rattle.job_answer.specs.declared.answer.Answer.TheVariants.{CheckRefused};
 ghost use Rattle.slack_report.specs.declared.words.EndWord.{EndWord};
@@ -35,6 +35,7 @@ pub fn write_summary<K: Sink>(
 ) -> Result<Answer, Unanswered>
     requires least { 1 ≤ budget }
     requires most { budget ≤ MAX_BUDGET }
+    requires rows { length drawn.now.rows ≤ MAX_ROWS }
     ensures works { Works (AnswersSummary (reported drawn.now) size budget) (BeginsSummary (reported drawn.now) size budget)
         (K.told sink.old) (K.told sink.new) result }
 {
@@ -48,6 +49,7 @@ pub fn write_summary<K: Sink>(
 fn summed(alloc: Global, drawn: &Unrolled, budget: u64) -> Result<Summary, NoMemory>
     requires least { 1 ≤ budget }
     requires most { budget ≤ MAX_BUDGET }
+    requires rows { length drawn.now.rows ≤ MAX_ROWS }
     ensures { IfOk result (IsSummary (reported drawn.now) budget) }
 {
     match write_bounds(alloc, drawn, budget, false, &mut Nowhere) {
