@@ -65,7 +65,7 @@ range_after : (flag : Bool) (time : ℤ) (n : ℕ) → IsNear time → pos n ≤
 range_after true time n near high = (omega (arith, ints), omega (arith, ints))
 range_after false time n near high = (omega (arith, ints), omega (arith, ints))
 
--- and below 2^60
+-- and below 2^58
 close_after : (flag : Bool) (time : ℤ) (n : ℕ) → IsNear time → pos n ≤ℤ pos (5 * near_limit) → IsClose (raised_to flag time n)
 close_after true time n near high = (omega (arith, ints), omega (arith, ints))
 close_after false time n near high = (omega (arith, ints), omega (arith, ints))

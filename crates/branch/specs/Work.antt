@@ -24,9 +24,9 @@ pub record IsMadeFor (net : Net) (work : View) : Type 0 where
   pub room : splittable_count net ≤ work.room
   pub places : length work.times ≡ net.events
 
--- a time is below 2^60 in absolute value, so that separations of such times are below 2^61
+-- a time is below 2^58 in absolute value, so that separations of such times are below 2^59
 abbrev pub IsClose : ℤ → Type 0
-IsClose time = (neg_ℤ (pos (2 ^ 60)) <ℤ time) × (time <ℤ pos (2 ^ 60))
+IsClose time = (neg_ℤ (pos (2 ^ 58)) <ℤ time) × (time <ℤ pos (2 ^ 58))
 
 -- the separation of a pair in the known times
 abbrev pub known_separation : View → EventId → EventId → ℤ
