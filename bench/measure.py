@@ -22,6 +22,7 @@ LIMIT = 60
 
 
 def seconds(command, folder, stdin=None, runs=3):
+    """The least time of some runs, of one alone if it takes more than 5 seconds, and what the program printed; None past the limit."""
     best, out = None, b""
     for _ in range(runs):
         begin = time.perf_counter()
@@ -31,6 +32,8 @@ def seconds(command, folder, stdin=None, runs=3):
             return None, b""
         took = time.perf_counter() - begin
         best, out = took if best is None else min(best, took), done.stdout
+        if took > 5:
+            break
     return best, out
 
 
@@ -112,11 +115,13 @@ def solver_cells(net, folder, told):
             continue
         total, differs = 0.0, False
         for sign, number in zip((1, -1), wanted):
+            if total is None:
+                break
             path = os.path.join(folder, f"side{sign}.{suffix}")
             with open(path, "w") as file:
                 file.write(make(net, sign))
             took, out = seconds(command(path), folder, runs=1)
-            total = None if took is None or total is None else total + took
+            total = None if took is None else total + took
             found = re.search(pattern, out.decode())
             if took is not None and number:
                 # A solver may tell the greatest of a number as the least of its opposite.
