@@ -3,10 +3,11 @@
 
     bench/measure.py PATH_OF_THE_BUILT_PROGRAM [searches|bounds|readings|all]
 
-Builds bench/peer with the machine's cargo. Each time is the least of three runs of the whole program, in seconds. The line of a
-network is a row of a table of docs/speed.md: its name, the seconds of `itv`, those of the Rust program, their ratio, what became of
-the two answers, and for searches the seconds of the solvers. That of a design that is read alone has the seconds of job matrix, which
-reads and draws it and then refuses it for its number of events, and those of a report without a row."""
+Builds bench/peer with the machine's cargo. Each time is the least of three runs of the whole program, in seconds; a run of more
+than 5 seconds is made once. The line of a network is a row of a table of docs/speed.md: its name, the seconds of `itv`, those of the
+Rust program, their ratio, what became of the two answers, and for searches the seconds of the solvers. That of a design that is read
+alone has the seconds of job matrix, which reads and draws it and then refuses it for its number of events, and those of a report
+without a row."""
 import os
 import re
 import shutil
