@@ -3,10 +3,11 @@
 
     bench/measure.py PATH_OF_THE_BUILT_PROGRAM [searches|bounds|readings|all]
 
-Builds bench/peer with the machine's cargo. Each time is the least of three runs of the whole program, in seconds. The line of a
-network is a row of a table of docs/speed.md: its name, the seconds of `itv`, those of the Rust program, their ratio, what became of
-the two answers, and for searches the seconds of the solvers. That of a design that is read alone has the seconds of job matrix, which
-reads and draws it and then refuses it for its number of events, and those of a report without a row."""
+Builds bench/peer with the machine's cargo. Each time is the least of three runs of the whole program, in seconds; a run of more
+than 5 seconds is made once. The line of a network is a row of a table of docs/speed.md: its name, the seconds of `itv`, those of the
+Rust program, their ratio, what became of the two answers, and for searches the seconds of the solvers. That of a design that is read
+alone has the seconds of job matrix, which reads and draws it and then refuses it for its number of events, and those of a report
+without a row."""
 import os
 import re
 import shutil
@@ -22,6 +23,7 @@ LIMIT = 60
 
 
 def seconds(command, folder, stdin=None, runs=3):
+    """The least time of some runs, of one alone if it takes more than 5 seconds, and what the program printed; None past the limit."""
     best, out = None, b""
     for _ in range(runs):
         begin = time.perf_counter()
@@ -31,6 +33,8 @@ def seconds(command, folder, stdin=None, runs=3):
             return None, b""
         took = time.perf_counter() - begin
         best, out = took if best is None else min(best, took), done.stdout
+        if took > 5:
+            break
     return best, out
 
 
@@ -112,11 +116,13 @@ def solver_cells(net, folder, told):
             continue
         total, differs = 0.0, False
         for sign, number in zip((1, -1), wanted):
+            if total is None:
+                break
             path = os.path.join(folder, f"side{sign}.{suffix}")
             with open(path, "w") as file:
                 file.write(make(net, sign))
             took, out = seconds(command(path), folder, runs=1)
-            total = None if took is None or total is None else total + took
+            total = None if took is None else total + took
             found = re.search(pattern, out.decode())
             if took is not None and number:
                 # A solver may tell the greatest of a number as the least of its opposite.

@@ -89,6 +89,13 @@ impl Labels {
     }
 }
 
+/// Room for the search backwards from an event.
+struct Scratch {
+    at: Vec<usize>,
+    reached: Vec<bool>,
+    queue: Vec<usize>,
+}
+
 struct Level {
     constraint: usize,
     cause: usize,
@@ -300,8 +307,11 @@ impl<'n> Search<'n> {
     }
 
     /// The constraint nearest to an event among those that are wanted.
-    fn nearest(&self, to: usize, wanted: &dyn Fn(usize) -> bool) -> Option<usize> {
-        let mut at = vec![usize::MAX; self.net.events];
+    fn nearest(&self, scratch: &mut Scratch, to: usize, wanted: impl Fn(usize) -> bool) -> Option<usize> {
+        let Scratch { at, reached, queue } = scratch;
+        at.fill(usize::MAX);
+        reached.fill(false);
+        queue.clear();
         for (number, c) in self.net.constraints.iter().enumerate() {
             if c.can_split() && wanted(number) {
                 if c.kind == Kind::Early {
@@ -313,24 +323,25 @@ impl<'n> Search<'n> {
                 }
             }
         }
-        let mut reached = vec![false; self.net.events];
-        let mut ring = vec![to];
         reached[to] = true;
-        while !ring.is_empty() {
-            let best = ring.iter().map(|&e| at[e]).min().unwrap_or(usize::MAX);
+        queue.push(to);
+        let mut first = 0;
+        while first < queue.len() {
+            // The events of one distance.
+            let ring = first..queue.len();
+            let best = queue[ring.clone()].iter().map(|&e| at[e]).min().unwrap_or(usize::MAX);
             if best != usize::MAX {
                 return Some(best);
             }
-            let mut next = Vec::new();
-            for &e in &ring {
-                for &from in &self.into[e] {
+            first = ring.end;
+            for place in ring {
+                for &from in &self.into[queue[place]] {
                     if !reached[from] {
                         reached[from] = true;
-                        next.push(from);
+                        queue.push(from);
                     }
                 }
             }
-            ring = next;
         }
         None
     }
@@ -382,6 +393,11 @@ impl<'n> Search<'n> {
         best.copy_from_slice(known);
         let mut value = known[to] - known[from];
         let mut times = vec![0; self.net.events];
+        let mut scratch = Scratch {
+            at: vec![usize::MAX; self.net.events],
+            reached: vec![false; self.net.events],
+            queue: Vec::with_capacity(self.net.events),
+        };
         loop {
             if self.leaves >= self.budget {
                 return End::Within(root, value);
@@ -413,10 +429,10 @@ impl<'n> Search<'n> {
                     continue;
                 }
                 Some(first) if upper == OPEN => {
-                    self.nearest(to, &|n| !self.is_split[n]).unwrap_or(first)
+                    self.nearest(&mut scratch, to, |n| !self.is_split[n]).unwrap_or(first)
                 }
                 Some(first) => self
-                    .nearest(to, &|n| !self.net.constraints[n].is_met(&times))
+                    .nearest(&mut scratch, to, |n| !self.net.constraints[n].is_met(&times))
                     .unwrap_or(first),
             };
             if !self.next(Some((split, 0))) {
