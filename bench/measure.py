@@ -19,7 +19,7 @@ import time
 import networks
 
 HERE = os.path.dirname(os.path.abspath(__file__))
-LIMIT = 60
+LIMIT = 20
 
 
 def seconds(command, folder, stdin=None, runs=3):
