@@ -141,7 +141,8 @@ fn cycles_end(rt: &impl Abort, alloc: Global, entry: Cycled<'_>) -> Result<(), F
     let design = format!(in alloc;
         r#"{{"itv":1,"cycles":{cycles},"parts":[{{"name":"U1","sheet":"s.json"}}]}}"#
     )?;
-    let mut shelf = shelf_of(alloc, &[("n.json", design.as_str()), ("s.json", sheet)])?;
+    let mut shelf = shelf_with(alloc, "n.json", design.as_bytes())?;
+    shelf.add(alloc, "s.json", sheet.as_bytes())?;
     match refusal {
         Some(line) => run_ends(rt, alloc, &["n.json"], &mut shelf, (Outcome::Refused, line)),
         None => ends_with_report(rt, alloc, &mut shelf, "n.json"),

@@ -189,6 +189,19 @@ fn the_row_of_ordinary_use(rt: HostRuntime) -> Result<(), Fail> {
     )
 }
 
+// A report with lines of a proof before its finding.
+fn with_proof(alloc: Global, report: &str, proof: &str) -> Result<String, Fail> {
+    let mut proved = String::new(alloc);
+    for line in report.lines() {
+        if line.starts_with("finding ") {
+            proved.push_str(proof)?;
+        }
+        proved.push_str(line)?;
+        proved.push_str("\n")?;
+    }
+    Ok(proved)
+}
+
 // A sheet that no times satisfy: its marks, and the lines of its proof between the events and the finding.
 fn contradicts(
     rt: &impl Abort,
@@ -207,11 +220,7 @@ fn contradicts(
         &mut shelf,
         (end, report.as_str()),
     )?;
-    let (head, tail) = match report.as_str().split_once("finding ") {
-        Some(parts) => parts,
-        None => (report.as_str(), ""),
-    };
-    let proved = format!(in alloc; "{head}{proof}finding {tail}")?;
+    let proved = with_proof(alloc, report.as_str(), proof)?;
     let words = ["--cert", "sheet.json"];
     run_ends(rt, alloc, &words, &mut shelf, (end, proved.as_str()))?;
     is_accepted(rt, alloc, "sheet.json", &mut shelf)

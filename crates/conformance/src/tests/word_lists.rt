@@ -3,6 +3,8 @@
 use super::{FIRST, FIRST_PROVED, FIRST_REPORT, ROOM, run_ends, shelf_of, words_of};
 use itv_base::SinkMem;
 use itv_cli::{Outcome, run};
+use std::alloc::Global;
+use std::process::Abort;
 use std::str;
 use std::test::Fail;
 
@@ -106,20 +108,33 @@ const DESIGNS: [Entry<'static>; 10] = [
     (&["help"], UNREAD),
 ];
 
-#[test]
-fn words_are_taken_for_what_they_say(rt: HostRuntime) -> Result<(), Fail> {
-    for table in [&JOBS[..], &OPTIONS[..], &DESIGNS[..]] {
-        for (words, wanted) in table {
-            let files = [
-                ("sheet.json", FIRST),
-                ("--help", FIRST),
-                ("report", FIRST_PROVED),
-            ];
-            let mut shelf = shelf_of(rt.alloc(), &files)?;
-            run_ends(&rt, rt.alloc(), words, &mut shelf, *wanted)?;
-        }
+// Each list of words ends its run as it says.
+fn all_end(rt: &impl Abort, alloc: Global, table: &[Entry<'_>]) -> Result<(), Fail> {
+    for (words, wanted) in table {
+        let files = [
+            ("sheet.json", FIRST),
+            ("--help", FIRST),
+            ("report", FIRST_PROVED),
+        ];
+        let mut shelf = shelf_of(alloc, &files)?;
+        run_ends(rt, alloc, words, &mut shelf, *wanted)?;
     }
     Ok(())
+}
+
+#[test]
+fn words_are_taken_for_the_job_that_they_ask_for(rt: HostRuntime) -> Result<(), Fail> {
+    all_end(&rt, rt.alloc(), &JOBS)
+}
+
+#[test]
+fn options_are_taken_for_what_they_say(rt: HostRuntime) -> Result<(), Fail> {
+    all_end(&rt, rt.alloc(), &OPTIONS)
+}
+
+#[test]
+fn a_name_that_is_no_option_is_the_design(rt: HostRuntime) -> Result<(), Fail> {
+    all_end(&rt, rt.alloc(), &DESIGNS)
 }
 
 // The words are read from left to right: the first fault or wish for help decides. Of the help text only its line of use is looked at.
