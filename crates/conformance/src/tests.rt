@@ -70,6 +70,24 @@ times 0 0
 end pass
 ";
 
+// A sheet that no times satisfy: j is at most 10 after the later of its causes, and at least 20 after both.
+const CONTRADICTS: &str =
+    r#"{"signal":[{"node":"a"},{"node":"b"},{"node":"j"}],"edge":["a->j @late [0,10]","b->j @late [0,10]","a->j @lin [20,30]","b->j @lin [20,30]","a->j @ask"]}"#;
+
+// Its report with proofs. Each of the two cases has a loop.
+const CONTRADICTS_PROVED: &str = "itv report 1
+budget 2
+events 3
+event 0 U.a@0
+event 1 U.b@0
+event 2 U.j@0
+split 0
+loop 0.0u 1.0l
+loop 0.1u 2.0l
+finding inconsistent
+end inconsistent
+";
+
 // A list of words.
 fn words_of(alloc: Global, words: &[&str]) -> Result<Texts, Fail> {
     let mut texts = Texts::new(alloc)?;

@@ -1,15 +1,11 @@
 //! Budgets: what a search that is cut short says, and that it says all from the number of cause choices on.
 
-use super::{end_of, is_accepted_under, run_ends, shelf_with, written_by};
+use super::{CONTRADICTS, end_of, is_accepted_under, run_ends, shelf_with, written_by};
 use itv_base::ShelfMem;
 use itv_cli::Outcome;
 use std::alloc::Global;
 use std::process::Abort;
 use std::test::Fail;
-
-// No times satisfy this sheet: j is at most 10 after the later of its causes, and at least 20 after both.
-const CONTRADICTS: &str =
-    r#"{"signal":[{"node":"a"},{"node":"b"},{"node":"j"}],"edge":["a->j @late [0,10]","b->j @late [0,10]","a->j @lin [20,30]","b->j @lin [20,30]","a->j @ask"]}"#;
 
 // From b to j at most 600. Cause a is tried first, and it gives the 600 at once; the rules without a choice give no limit.
 const SETTLES: &str =

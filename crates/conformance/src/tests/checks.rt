@@ -1,27 +1,13 @@
 //! Job check: a report is held to its design, line by line.
 
-use super::{FIRST, FIRST_PROVED, is_like, run_ends, shelf_of, shelf_with, written_by};
+use super::{
+    CONTRADICTS, CONTRADICTS_PROVED, FIRST, FIRST_PROVED, is_like, run_ends, shelf_of, shelf_with,
+    written_by,
+};
 use itv_cli::Outcome;
 use std::alloc::Global;
 use std::process::Abort;
 use std::test::Fail;
-
-// The sheet that no times satisfy within two cause choices, and its report with proofs.
-const CONTRADICTS: &str =
-    r#"{"signal":[{"node":"a"},{"node":"b"},{"node":"j"}],"edge":["a->j @late [0,10]","b->j @late [0,10]","a->j @lin [20,30]","b->j @lin [20,30]","a->j @ask"]}"#;
-
-const CONTRADICTS_PROVED: &str = "itv report 1
-budget 2
-events 3
-event 0 U.a@0
-event 1 U.b@0
-event 2 U.j@0
-split 0
-loop 0.0u 1.0l
-loop 0.1u 2.0l
-finding inconsistent
-end inconsistent
-";
 
 // Each report on a design is refused at this line, or accepted where it is 0.
 pub fn reports_end(

@@ -1,7 +1,7 @@
 //! Forged reports: each with the line at which it is refused.
 
 use super::checks::{edited, edits_end, reports_end};
-use super::{FIRST, FIRST_PROVED};
+use super::{CONTRADICTS, CONTRADICTS_PROVED, FIRST, FIRST_PROVED};
 use std::test::Fail;
 
 // Edits of the report with proofs of the first row. Its lines are numbered from 1: 3 counts the events, 6 is the finding, 7 its times, 9
@@ -104,23 +104,7 @@ fn a_cut_report_is_refused_where_it_ends(rt: HostRuntime) -> Result<(), Fail> {
     reports_end(&rt, alloc, FIRST, &[(front.as_str(), 0)])
 }
 
-// The sheet that no times satisfy, and reports with other proofs.
-const CONTRADICTS: &str =
-    r#"{"signal":[{"node":"a"},{"node":"b"},{"node":"j"}],"edge":["a->j @late [0,10]","b->j @late [0,10]","a->j @lin [20,30]","b->j @lin [20,30]","a->j @ask"]}"#;
-
-const CONTRADICTS_PROVED: &str = "itv report 1
-budget 2
-events 3
-event 0 U.a@0
-event 1 U.b@0
-event 2 U.j@0
-split 0
-loop 0.0u 1.0l
-loop 0.1u 2.0l
-finding inconsistent
-end inconsistent
-";
-
+// Reports with other proofs on the sheet that no times satisfy.
 #[test]
 fn forged_proofs_are_refused(rt: HostRuntime) -> Result<(), Fail> {
     let alloc = rt.alloc();
