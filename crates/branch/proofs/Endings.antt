@@ -68,7 +68,7 @@ pub shown_unbounded : (net : Net) (aim : Aim) (value : ℤ) (lines : List ProofL
     → IsBoundSearched net aim value lines (open_cases net chosen) closed → leaves ≡ closed + 1 → IsShownUnbounded net aim.from aim.to lines leaves times ray
 shown_unbounded net aim value lines leaves closed times ray chosen rays searched one_more = record {
   raised = rays.raises;
-  stopped = (value, closed, is_stopped net (Bound aim.from aim.to value) _ lines chosen closed searched, omega arith);
+  stopped = (value, closed, is_stopped net (Bound aim.from aim.to value) _ lines chosen closed searched, one_more);
 }
 
 -- a loop of always-edges shows that no times satisfy
@@ -85,7 +85,7 @@ pub found_consistent : (net : Net) (lines : List ProofLine) (leaves closed : ℕ
     → IsFindSearched net lines (open_cases net chosen) closed → leaves ≡ closed + 1 → IsFoundConsistent net lines leaves (Some times)
 found_consistent net lines leaves closed times chosen satisfies searched one_more = record {
   satisfies = satisfies;
-  stopped = (closed, is_stopped net Nothing _ lines chosen closed searched, omega arith);
+  stopped = (closed, is_stopped net Nothing _ lines chosen closed searched, one_more);
 }
 
 pub found_inconsistent : (net : Net) (lines : List ProofLine) (leaves : ℕ) → IsFindSearched net lines [] leaves → IsFoundInconsistent net lines leaves

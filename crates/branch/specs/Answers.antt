@@ -1,5 +1,5 @@
 -- What a search answers, and what its lines show.
-use Rattle.std.specs.Prelude.{◌≡◌, ◌<◌, ◌≤◌, ℕ, ℤ, Bool, List, Option, IfSome, IsSomeAnd}
+use Rattle.std.specs.Prelude.{◌≡◌, ◌+◌, ◌<◌, ◌≤◌, ℕ, ℤ, Bool, List, Option, IfSome, IsSomeAnd}
 use Rattle.itv_base.specs.declared.names.EventId.{EventId}
 use Rattle.event_graph.specs.Bounds.{IsGreatest, IsInconsistent, IsRay}
 use Rattle.event_graph.specs.Edges.{cause_choices}
@@ -28,10 +28,11 @@ pub record IsClosedAt (net : Net) (from to : EventId) (value : ℤ) (lines : Lis
   pub proof : IsProof net (BoundGoal from to value) lines
   pub count : closing_lines lines ≡ leaves
 
--- the events of the ray can be raised from the times without end, and the lines are a stopped proof of some value
+-- the events of the ray can be raised from the times without end, and the lines are a stopped proof of some value, with a closing line for
+-- each closed case but the last, whose times these are
 pub record IsShownUnbounded (net : Net) (from to : EventId) (lines : List ProofLine) (leaves : ℕ) (times : List ℤ) (ray : List Bool) : Type 0 where
   pub raised : IsRay net from to times ray
-  pub stopped : (value : ℤ) × (count : ℕ) × IsStoppedProof net (BoundGoal from to value) lines count × (count ≤ leaves)
+  pub stopped : (value : ℤ) × (count : ℕ) × IsStoppedProof net (BoundGoal from to value) lines count × (leaves ≡ count + 1)
 
 -- the budget ended the search: the root bound encloses, which is below 2^61 in absolute value, the times attain the other value, and the lines are a stopped proof of it with
 -- as many closing lines as the budget, which is less than the cause choices
@@ -49,10 +50,11 @@ Answers net from to budget lines leaves times ray (Closed value) = IsClosedAt ne
 Answers net from to budget lines leaves times ray Unbounded = IsShownUnbounded net from to lines leaves times ray
 Answers net from to budget lines leaves times ray (Enclosed upper attained) = IsEnclosedBy net from to upper attained budget lines leaves times
 
--- there are known times, which satisfy, and the lines are a stopped proof that none do
+-- there are known times, which satisfy, and the lines are a stopped proof that none do, with a closing line for each closed case but the
+-- last, whose times these are
 pub record IsFoundConsistent (net : Net) (lines : List ProofLine) (leaves : ℕ) (known : Option (List ℤ)) : Type 0 where
   pub satisfies : IsSomeAnd known (λ times. Satisfies times net)
-  pub stopped : (count : ℕ) × IsStoppedProof net Nothing lines count × (count ≤ leaves)
+  pub stopped : (count : ℕ) × IsStoppedProof net Nothing lines count × (leaves ≡ count + 1)
 
 -- no times satisfy, and the lines prove it with a closing line for each closed case
 pub record IsFoundInconsistent (net : Net) (lines : List ProofLine) (leaves : ℕ) : Type 0 where

@@ -1,42 +1,48 @@
 //! The choice of the constraint on which a case is split.
 
-ghost use Rattle.std.specs.Prelude.{◌≡◌, ◌<◌, ◌≤◌, ◌⊎◌, IsTrue, IfSome, All, length};
-ghost use Rattle.event_graph.specs.Network.{IsNet};
-ghost use Rattle.event_graph.specs.Satisfying.{Breaks};
+ghost use Rattle.std.specs.Prelude.{◌≡◌, ◌⊎◌, IsTrue, MatchOption, All, length};
+ghost use Rattle.event_graph.specs.Satisfying.{Breaks, Satisfies};
 ghost use Rattle.event_graph.specs.Times.{IsTime};
 ghost use Rattle.branch.specs.Step.Cases.{IsFree};
 
 use crate::decisions::Decisions;
-use crate::distances::Distances;
+use crate::distances::{Distances, Wanted};
 use event_graph::Network;
 use itv_base::EventId;
 
-/// The constraint nearest to an event that the times break, of which the first is given. Of several at one distance it is the one
-/// of least number.
+/// The constraint nearest to an event among those that the times break, or none exactly where they satisfy the network. Of several at
+/// one distance it is the one of least number; where none is reached it is the least of all.
 pub fn nearest_broken(
     net: &Network,
     times: &[i64],
-    first: u32,
     cases: &Decisions,
     to: EventId,
     distances: &mut Distances,
-) -> u32
-    requires net { IsNet net.now }
-    requires first { Breaks times.now net.now first }
+) -> Option<u32>
     requires count { length times.now ≡ net.now.events }
     requires times { All IsTime times.now }
-    ensures { Breaks times.now net.now result }
+    ensures { MatchOption result (Satisfies times.now net.now) (λ number. Breaks times.now net.now number) }
 {
-    distances.unmark();
-    mark_broken(net, times, first, distances);
-    match distances.nearest(cases, to) {
-        Some(nearest) if is_broken(net, times, nearest) => nearest,
-        _ => first,
+    match distances.nearest(Wanted::Broken(times), cases, to) {
+        Some(nearest) if is_broken(net, times, nearest) => Some(nearest),
+        _ => net.broken(times),
     }
 }
 
-/// The constraint nearest to an event that the times break, of which the first is given, or that is reached backwards from the
-/// event and can be split. Of several at one distance it is the one of least number.
+/// The least number of a constraint that the times break, or none exactly where they satisfy the network.
+pub fn first_broken(net: &Network, times: &[i64], distances: &Distances) -> Option<u32>
+    requires count { length times.now ≡ net.now.events }
+    requires times { All IsTime times.now }
+    ensures { MatchOption result (Satisfies times.now net.now) (λ number. Breaks times.now net.now number) }
+{
+    match distances.first_broken(times) {
+        Some(first) if is_broken(net, times, first) => Some(first),
+        _ => net.broken(times),
+    }
+}
+
+/// The constraint nearest to an event among those that can be split, or one that the times break where none is reached. Of several at
+/// one distance it is the one of least number.
 pub fn nearest_open(
     net: &Network,
     times: &[i64],
@@ -46,38 +52,11 @@ pub fn nearest_open(
     distances: &mut Distances,
 ) -> u32
     requires first { Breaks times.now net.now first }
-    requires count { length times.now ≡ net.now.events }
-    requires times { All IsTime times.now }
     ensures { Breaks times.now net.now result ⊎ IsFree net.now cases.now.chosen result }
 {
-    distances.unmark();
-    mark_free(net, cases, distances);
-    match distances.nearest(cases, to) {
+    match distances.nearest(Wanted::Open, cases, to) {
         Some(nearest) if is_free(net, cases, nearest) => nearest,
         _ => first,
-    }
-}
-
-// Marks the constraints that the times break, of which the first is given.
-fn mark_broken(net: &Network, times: &[i64], first: u32, distances: &mut Distances)
-    requires net { IsNet net.now }
-    requires first { first < length net.now.constraints }
-    requires count { length times.now ≡ net.now.events }
-    requires times { All IsTime times.now }
-{
-    let mut next = Some(first);
-    while let Some(number) = next {
-        distances.mark(net, number);
-        next = net.broken_from(times, number + 1);
-    }
-}
-
-// Marks the constraints with two or more causes of which none is chosen.
-fn mark_free(net: &Network, cases: &Decisions, distances: &mut Distances) {
-    for number in 0..net.len() {
-        if net.cause_count(number) > 1 && !cases.has(number) {
-            distances.mark(net, number);
-        }
     }
 }
 

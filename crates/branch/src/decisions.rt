@@ -13,6 +13,8 @@ use std::marker::Model;
 pub struct Decisions {
     room: u32,
     choices: Vec<Choice>,
+    // The cause of each constraint that is chosen, for those who only want to know where to look.
+    causes: Vec<Option<u32>>,
 }
 
 impl Model for Decisions {
@@ -27,13 +29,14 @@ impl Model for Decisions {
 }
 
 impl Decisions {
-    /// No choices, and room for a number of them.
-    pub fn new(alloc: Global, room: u32) -> Result<Decisions, NoMemory>
+    /// No choices, and room for a number of them, in a network with a number of constraints.
+    pub fn new(alloc: Global, room: u32, constraints: u32) -> Result<Decisions, NoMemory>
         ensures { IfOk result (λ d. d ≡ record { room = room; chosen = [] }) }
     {
         Ok(Decisions {
             room,
             choices: Vec::with_capacity(alloc, room as usize)?,
+            causes: Vec::from_elem(alloc, None, constraints as usize)?,
         })
     }
 
@@ -42,6 +45,7 @@ impl Decisions {
         ensures { self.new ≡ record self.old { chosen = [] } }
     {
         self.choices.clear();
+        self.causes.fill(None);
     }
 
     /// Whether there are none.
@@ -57,6 +61,7 @@ impl Decisions {
         ensures { self.new ≡ record self.old { chosen = choice ∷ self.old.chosen } }
     {
         self.choices.push_reserved(choice);
+        note(&mut self.causes, choice.constraint, Some(choice.cause));
     }
 
     /// Takes the latest choice away.
@@ -66,7 +71,9 @@ impl Decisions {
             (λ choice. self.old.chosen ≡ choice ∷ self.new.chosen) }
         ensures free { OnSome result (length self.new.chosen < self.new.room) }
     {
-        self.choices.pop()
+        let choice = self.choices.pop()?;
+        note(&mut self.causes, choice.constraint, None);
+        Some(choice)
     }
 
     /// The latest choice.
@@ -77,9 +84,10 @@ impl Decisions {
         self.choices.last().copied()
     }
 
-    /// The choices, the earliest first.
-    pub fn as_slice(&self) -> &[Choice] {
-        &self.choices
+    /// The cause that is chosen of a constraint, as it was noted. No contract speaks of it: [`Decisions::has`] tells for sure whether
+    /// there is one, and takes longer.
+    pub fn cause_of(&self, constraint: u32) -> Option<u32> {
+        self.causes.get(constraint as usize).copied().flatten()
     }
 
     /// Whether a cause of a constraint is chosen.
@@ -90,5 +98,13 @@ impl Decisions {
         self.choices
             .iter()
             .any(|choice| choice.constraint == constraint)
+    }
+}
+
+// Notes the cause that is chosen of a constraint, or that none is.
+fn note(causes: &mut [Option<u32>], constraint: u32, cause: Option<u32>) {
+    let place = constraint as usize;
+    if place < causes.len() {
+        causes[place] = cause;
     }
 }

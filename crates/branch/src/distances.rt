@@ -2,251 +2,283 @@
 
 ghost use Rattle.std.specs.Prelude.{◌<◌, ◌≤◌, length};
 
-use crate::choice::Choice;
 use crate::decisions::Decisions;
+use crate::splittable::Splittable;
 use event_graph::Network;
-use itv_base::{EdgeName, EventId, NoMemory, RuleKind, Side};
+use itv_base::{EdgeName, EventId, NoMemory, Side};
 use std::alloc::Global;
 
-/// Looks for the nearest of some constraints: backwards from an event, over the always-edges and the edges of the choices, for the
-/// first event that one of them enters by its choice side. That is the target of a latest constraint, and any cause of an earliest
-/// one. What it answers decides which split is tried first, and nothing else: so no contract speaks of it.
+/// Looks for the nearest of some constraints with two or more causes: backwards from an event, over the always-edges and the edges of
+/// the choices, for the first event that one of them enters by its choice side. That is the target of a latest constraint, and any
+/// cause of an earliest one. What it answers decides which split is tried, and nothing else: who asks tests the answer, and so no
+/// contract speaks of it.
 #[derive(Debug, Drop)]
 pub struct Distances {
-    // The arcs of the network. Those that enter an event are linked, the last one first.
-    arcs: Vec<Arc>,
-    // One more than the number of the last arc that enters an event, or 0 where there is none.
-    last_arcs: Vec<u32>,
-    // The cause of a constraint that is chosen.
-    chosen: Vec<Option<u32>>,
-    // The least marked constraint that enters an event.
-    marks: Vec<Option<u32>>,
+    // The constraints with two or more causes, by their numbers.
+    rules: Vec<Splittable>,
+    // For each event the places of those that enter it, in the same order.
+    entering: Vec<Vec<usize>>,
+    // For each event the starts of the always-edges that enter it.
+    sources: Vec<Vec<EventId>>,
     // Whether an event was reached.
     reached: Vec<bool>,
     // The events that were reached, in their order.
     queue: Vec<EventId>,
 }
 
-// An edge that enters an event.
-#[derive(Clone, Copy, Debug)]
-struct Arc {
-    from: EventId,
-    // The choice that it needs, unless it is an always-edge.
-    choice: Option<Choice>,
-    // One more than the number of the arc before it that enters the same event, or 0.
-    next: u32,
+/// Which constraints are looked for.
+#[derive(Clone, Copy)]
+pub enum Wanted<'a> {
+    /// Those that these times break, which meet all always-edges.
+    Broken(&'a [i64]),
+    /// Those without a choice.
+    Open,
 }
 
 impl Distances {
     /// Room for a network. Takes all memory that is ever needed.
     pub fn new(alloc: Global, net: &Network) -> Result<Distances, NoMemory> {
-        let events = net.events() as usize;
-        let mut last_arcs = Vec::from_elem(alloc, 0, events)?;
-        let mut arcs = Vec::new(alloc);
-        for constraint in 0..net.len() {
-            add_constraint(net, constraint, &mut last_arcs, &mut arcs)?;
+        let events = net.events();
+        let count = net.splittable_count() as usize;
+        let mut rules = Vec::with_capacity(alloc, count)?;
+        let mut entering = empty_lists(alloc, events)?;
+        let mut sources = empty_lists(alloc, events)?;
+        for number in 0..net.len() {
+            // Where there are none to look for, no way to them is wanted.
+            if count > 0 {
+                add_sources(net, number, &mut sources)?;
+            }
+            if net.cause_count(number) > 1 {
+                let rule = Splittable::new(alloc, net, number)?;
+                add_entering(&rule, rules.len(), &mut entering)?;
+                rules.push(rule)?;
+            }
         }
         Ok(Distances {
-            arcs,
-            last_arcs,
-            chosen: Vec::from_elem(alloc, None, net.len() as usize)?,
-            marks: Vec::from_elem(alloc, None, events)?,
-            reached: Vec::from_elem(alloc, false, events)?,
-            queue: Vec::from_elem(alloc, EventId(0), events)?,
+            rules,
+            entering,
+            sources,
+            reached: Vec::from_elem(alloc, false, events as usize)?,
+            queue: Vec::from_elem(alloc, EventId(0), events as usize)?,
         })
     }
 
-    /// Marks no constraint.
-    pub fn unmark(&mut self) {
-        self.marks.fill(None);
-    }
-
-    /// Marks a constraint of the network, whose number is above those that are marked.
-    pub fn mark(&mut self, net: &Network, constraint: u32)
-        requires { constraint < length net.now.constraints }
-    {
-        if net.kind(constraint) == RuleKind::Early {
-            for cause in 0..net.cause_count(constraint) {
-                mark_event(
-                    &mut self.marks,
-                    net.cause(constraint, cause).event,
-                    constraint,
-                );
+    /// The least number of a constraint that times break, which meet all always-edges.
+    pub fn first_broken(&self, times: &[i64]) -> Option<u32> {
+        for rule in &self.rules {
+            if rule.is_broken(times) {
+                return Some(rule.number());
             }
-        } else {
-            mark_event(&mut self.marks, net.target(constraint), constraint);
         }
+        None
     }
 
-    /// The nearest marked constraint, or none where none is reached.
-    pub fn nearest(&mut self, cases: &Decisions, to: EventId) -> Option<u32> {
+    /// The nearest of the constraints that are looked for, and of several at one distance the one of least number. There is no answer
+    /// where none is reached.
+    pub fn nearest(&mut self, wanted: Wanted<'_>, cases: &Decisions, to: EventId) -> Option<u32> {
+        if self.rules.is_empty() {
+            return None;
+        }
         self.reached.fill(false);
-        self.chosen.fill(None);
-        choose(&mut self.chosen, cases.as_slice());
         let graph = Graph {
-            arcs: &self.arcs,
-            last_arcs: &self.last_arcs,
-            chosen: &self.chosen,
+            rules: &self.rules,
+            entering: &self.entering,
+            sources: &self.sources,
+            cases,
+            wanted,
         };
-        first_mark(graph, &self.marks, &mut self.reached, &mut self.queue, to)
+        first_wanted(graph, &mut self.reached, &mut self.queue, to)
     }
 }
 
-// Adds the arcs of a constraint.
-fn add_constraint(
+// An empty list for each event.
+fn empty_lists<T: Drop>(alloc: Global, events: u32) -> Result<Vec<Vec<T>>, NoMemory> {
+    let mut lists = Vec::with_capacity(alloc, events as usize)?;
+    for _event in 0..events {
+        lists.push(Vec::new(alloc))?;
+    }
+    Ok(lists)
+}
+
+// Adds the starts of the always-edges of a constraint.
+fn add_sources(
     net: &Network,
     constraint: u32,
-    last_arcs: &mut [u32],
-    arcs: &mut Vec<Arc>,
+    sources: &mut Vec<Vec<EventId>>,
 ) -> Result<(), NoMemory>
     requires { constraint < length net.now.constraints }
 {
     // A linear constraint names no cause, and has its from-event as cause 0.
     for cause in 0..net.cause_count(constraint).max(1) {
-        add_edge(net, constraint, cause, Side::Lower, last_arcs, arcs)?;
-        add_edge(net, constraint, cause, Side::Upper, last_arcs, arcs)?;
-    }
-    Ok(())
-}
-
-// Adds the arc of an edge, if it is there.
-fn add_edge(
-    net: &Network,
-    constraint: u32,
-    cause: u32,
-    side: Side,
-    last_arcs: &mut [u32],
-    arcs: &mut Vec<Arc>,
-) -> Result<(), NoMemory> {
-    let name = EdgeName {
-        constraint,
-        cause,
-        side,
-    };
-    let Some(edge) = net.edge(name) else {
-        return Ok(());
-    };
-    let choice = if net.is_always(name) {
-        None
-    } else {
-        Some(Choice { constraint, cause })
-    };
-    let to = edge.to.0 as usize;
-    let count = arcs.len();
-    if to < last_arcs.len() && count < u32::MAX as usize {
-        arcs.push(Arc {
-            from: edge.from,
-            choice,
-            next: last_arcs[to],
-        })?;
-        last_arcs[to] = count as u32 + 1;
-    }
-    Ok(())
-}
-
-// Marks an event, unless it is marked already.
-fn mark_event(marks: &mut [Option<u32>], event: EventId, constraint: u32) {
-    let place = event.0 as usize;
-    if place < marks.len() && marks[place].is_none() {
-        marks[place] = Some(constraint);
-    }
-}
-
-// Sets the cause of each choice.
-fn choose(chosen: &mut [Option<u32>], choices: &[Choice]) {
-    for choice in choices {
-        let place = choice.constraint as usize;
-        if place < chosen.len() {
-            chosen[place] = Some(choice.cause);
+        for side in [Side::Lower, Side::Upper] {
+            add_source(
+                net,
+                EdgeName {
+                    constraint,
+                    cause,
+                    side,
+                },
+                sources,
+            )?;
         }
     }
+    Ok(())
 }
 
-// The arcs of a network by the events that they enter, and the causes that are chosen.
+// Adds the start of an edge, if it is an always-edge.
+fn add_source(
+    net: &Network,
+    name: EdgeName,
+    sources: &mut Vec<Vec<EventId>>,
+) -> Result<(), NoMemory> {
+    if net.is_always(name)
+        && let Some(edge) = net.edge(name)
+        && let Some(list) = sources.get_mut(edge.to.0 as usize)
+        && !list.contains(&edge.from)
+    {
+        list.push(edge.from)?;
+    }
+    Ok(())
+}
+
+// Adds the place of a constraint to the events that it enters.
+fn add_entering(
+    rule: &Splittable,
+    place: usize,
+    entering: &mut Vec<Vec<usize>>,
+) -> Result<(), NoMemory> {
+    for edge in rule.edges() {
+        if let Some(list) = entering.get_mut(edge.to.0 as usize)
+            && list.last() != Some(&place)
+        {
+            list.push(place)?;
+        }
+    }
+    Ok(())
+}
+
+// What is gone over backwards: the constraints, what enters the events, the choices, and what is looked for.
 #[derive(Clone, Copy)]
 struct Graph<'a> {
-    arcs: &'a [Arc],
-    last_arcs: &'a [u32],
-    chosen: &'a [Option<u32>],
+    rules: &'a [Splittable],
+    entering: &'a [Vec<usize>],
+    sources: &'a [Vec<EventId>],
+    cases: &'a Decisions,
+    wanted: Wanted<'a>,
 }
 
-// The least of the marks of the nearest marked events, going backwards from one, breadth first.
-fn first_mark(
+// How far it is gone over: how many events are reached, and the least number of a constraint that is looked for, if one was found.
+#[derive(Clone, Copy)]
+struct Reach {
+    count: usize,
+    least: Option<u32>,
+}
+
+// The least number of a constraint that is looked for and enters the nearest of the events that such a one enters, going backwards
+// from one event, breadth first.
+fn first_wanted(
     graph: Graph<'_>,
-    marks: &[Option<u32>],
     reached: &mut [bool],
     queue: &mut [EventId],
     to: EventId,
 ) -> Option<u32> {
-    let mut count = reach(reached, queue, 0, to);
+    let mut reach = Reach {
+        count: put(reached, queue, 0, to),
+        least: None,
+    };
     let mut head = 0;
-    while head < count {
+    while head < reach.count {
         // The events of one distance.
-        let end = count;
-        let found = least_mark(marks, queue, head, end);
-        if found.is_some() {
-            return found;
-        }
+        let end = reach.count;
         for place in head..end {
             let event = queue[place];
-            count = spread(graph, reached, queue, count, event);
+            reach = visit(graph, reached, queue, reach, event);
+        }
+        if reach.least.is_some() {
+            return reach.least;
         }
         head = end;
     }
     None
 }
 
-// The least mark of the events from one place to another.
-fn least_mark(marks: &[Option<u32>], queue: &[EventId], start: usize, end: usize) -> Option<u32>
-    requires start { start ≤ end }
-    requires end { end ≤ length queue.now }
-{
-    let mut least = None;
-    for event in &queue[start..end] {
-        if let Some(Some(mark)) = marks.get(event.0 as usize).copied()
-            && least.is_none_or(|so_far| mark < so_far)
-        {
-            least = Some(mark);
-        }
-    }
-    least
-}
-
-// Reaches the events at the starts of the arcs that enter an event. The answer is how many were reached in all.
-fn spread(
+// Looks at the constraints that enter an event, and reaches the starts of the current edges that enter it, unless a constraint is found.
+fn visit(
     graph: Graph<'_>,
     reached: &mut [bool],
     queue: &mut [EventId],
-    mut count: usize,
+    so_far: Reach,
     event: EventId,
-) -> usize
-    requires { count ≤ length queue.old }
-    ensures { result ≤ length queue.new }
+) -> Reach
+    requires { so_far.count ≤ length queue.old }
+    ensures { result.count ≤ length queue.new }
 {
-    let mut number = read(graph.last_arcs, event.0);
-    while 0 < number {
-        let Some(arc) = graph.arcs.get(number as usize - 1) else {
-            return count;
-        };
-        if is_current(graph.chosen, arc.choice) {
-            count = reach(reached, queue, count, arc.from);
+    let place = event.0 as usize;
+    let mut reach = so_far;
+    if let Some(places) = graph.entering.get(place) {
+        for rule in places {
+            reach = look_at(graph, reached, queue, reach, *rule, event);
         }
-        // The arcs before have lesser numbers.
-        number = arc.next.min(number - 1);
     }
-    count
+    if reach.least.is_none()
+        && let Some(sources) = graph.sources.get(place)
+    {
+        for source in sources {
+            reach.count = put(reached, queue, reach.count, *source);
+        }
+    }
+    reach
 }
 
-// Whether an arc counts: it is that of an always-edge, or of a cause that is chosen.
-fn is_current(chosen: &[Option<u32>], choice: Option<Choice>) -> bool {
-    match choice {
-        None => true,
-        Some(choice) => chosen.get(choice.constraint as usize) == Some(&Some(choice.cause)),
+// Looks at a constraint that enters an event: it is found, or the start of the edge of its choice is reached.
+fn look_at(
+    graph: Graph<'_>,
+    reached: &mut [bool],
+    queue: &mut [EventId],
+    so_far: Reach,
+    rule: usize,
+    event: EventId,
+) -> Reach
+    requires { so_far.count ≤ length queue.old }
+    ensures { result.count ≤ length queue.new }
+{
+    let Some(rule) = graph.rules.get(rule) else {
+        return so_far;
+    };
+    match graph.cases.cause_of(rule.number()) {
+        Some(cause) => match rule.source(cause, event) {
+            Some(source) => Reach {
+                count: put(reached, queue, so_far.count, source),
+                ..so_far
+            },
+            None => so_far,
+        },
+        None if is_wanted(graph.wanted, rule) => Reach {
+            least: lesser(so_far.least, rule.number()),
+            ..so_far
+        },
+        None => so_far,
+    }
+}
+
+// Whether a constraint without a choice is looked for.
+fn is_wanted(wanted: Wanted<'_>, rule: &Splittable) -> bool {
+    match wanted {
+        Wanted::Broken(times) => rule.is_broken(times),
+        Wanted::Open => true,
+    }
+}
+
+// The lesser of two numbers, of which the first may be missing.
+fn lesser(so_far: Option<u32>, number: u32) -> Option<u32> {
+    match so_far {
+        Some(least) if least < number => so_far,
+        _ => Some(number),
     }
 }
 
 // Puts an event at the end of those that were reached, unless it is there already. The answer is how many there are.
-fn reach(reached: &mut [bool], queue: &mut [EventId], count: usize, event: EventId) -> usize
+fn put(reached: &mut [bool], queue: &mut [EventId], count: usize, event: EventId) -> usize
     requires { count ≤ length queue.old }
     ensures { result ≤ length queue.new }
 {
@@ -257,12 +289,4 @@ fn reach(reached: &mut [bool], queue: &mut [EventId], count: usize, event: Event
         return count + 1;
     }
     count
-}
-
-// A number at a place, or 0 where there is none.
-fn read(numbers: &[u32], place: u32) -> u32 {
-    match numbers.get(place as usize) {
-        None => 0,
-        Some(number) => *number,
-    }
 }

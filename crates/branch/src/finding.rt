@@ -16,6 +16,8 @@ ghost use Rattle.diff_bounds.specs.Limits.{IsNear};
 ghost use Rattle.branch.specs.Step.Searched.{EndsAs, FindAdvances, IsAtCase, IsFindCutAfter, IsTrialFor, Keeps};
 
 use crate::answer::Found;
+use crate::choose::first_broken;
+use crate::distances::Distances;
 use crate::levels::{start, times_in};
 use crate::search::{Entry, Search, split_case};
 use diff_bounds::Fit;
@@ -27,6 +29,7 @@ pub fn find_times<S: Scribe>(
     net: &Network,
     search: &mut Search,
     candidate: &mut [i64],
+    distances: &Distances,
     budget: u64,
     scribe: &mut S,
 ) -> Result<Found, ScribeFailed>
@@ -52,7 +55,7 @@ pub fn find_times<S: Scribe>(
         return Ok(Found::Inconsistent);
     }
     'cases: loop {
-        match try_times(net, search, candidate, scribe)? {
+        match try_times(net, search, candidate, distances, scribe)? {
             None => return Ok(Found::Consistent),
             Some(Entry::AllClosed) => return Ok(Found::Inconsistent),
             Some(Entry::Stopped) => return Ok(Found::Unsettled),
@@ -66,6 +69,7 @@ fn try_times<S: Scribe>(
     net: &Network,
     search: &mut Search,
     candidate: &mut [i64],
+    distances: &Distances,
     scribe: &mut S,
 ) -> Result<Option<Entry>, ScribeFailed>
     requires net { IsNet net.now }
@@ -84,7 +88,7 @@ fn try_times<S: Scribe>(
         < work_left net.now search.old.budget search.old.leaves search.old.cases.chosen) }
 {
     times_in(net, search, candidate);
-    match net.broken(candidate) {
+    match first_broken(net, candidate, distances) {
         None => {
             search.leaves += 1;
             Ok(None)

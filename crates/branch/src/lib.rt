@@ -7,6 +7,7 @@ mod answer;
 mod best;
 mod bounding;
 mod choice;
+mod choice_edge;
 mod choose;
 mod decisions;
 mod distances;
@@ -15,9 +16,13 @@ mod levels;
 mod look;
 mod raise;
 mod search;
+mod splittable;
 mod trial;
 mod work;
 
 pub use answer::{Answer, Found, Root};
 pub use event_graph::{Quiet, Scribe, ScribeFailed};
 pub use work::{Work, find, greatest, root_bound};
+
+#[cfg(test)]
+mod tests;

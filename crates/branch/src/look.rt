@@ -8,7 +8,7 @@ ghost use Rattle.branch.specs.Step.Searched.{IsTrialFor, Looks};
 ghost use Rattle.branch.specs.Step.Standing.{HasNoUpper, HasUpper, IsUpperIn, StandsOn};
 
 use crate::best::Aim;
-use crate::choose::{nearest_broken, nearest_open};
+use crate::choose::{first_broken, nearest_broken, nearest_open};
 use crate::levels::{ray_in, times_in, upper_in};
 use crate::raise::raise;
 use crate::search::Search;
@@ -62,16 +62,15 @@ fn look_at_bound(net: &Network, search: &Search, trial: &mut Trial, aim: Aim, up
     ensures looks { (best : ℤ) → best <ℤ upper → Looks net.now aim best search.now trial.new result }
 {
     times_in(net, search, &mut trial.candidate);
-    match net.broken(&trial.candidate) {
+    match nearest_broken(
+        net,
+        &trial.candidate,
+        &search.cases,
+        aim.to,
+        &mut trial.distances,
+    ) {
         None => Look::Attained(upper),
-        Some(first) => Look::Splits(nearest_broken(
-            net,
-            &trial.candidate,
-            first,
-            &search.cases,
-            aim.to,
-            &mut trial.distances,
-        )),
+        Some(number) => Look::Splits(number),
     }
 }
 
@@ -105,7 +104,7 @@ fn look_at_ray(net: &Network, search: &Search, trial: &mut Trial, aim: Aim) -> L
         aim.to,
         aim.known,
     );
-    match net.broken(&trial.candidate) {
+    match first_broken(net, &trial.candidate, &trial.distances) {
         None => Look::Unbounded,
         Some(first) => Look::Splits(nearest_open(
             net,

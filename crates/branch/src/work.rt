@@ -61,7 +61,7 @@ impl Work {
         Ok(Work {
             search: Search {
                 bounds: Bounds::new(alloc, net)?,
-                cases: Decisions::new(alloc, net.splittable_count())?,
+                cases: Decisions::new(alloc, net.splittable_count(), net.len())?,
                 leaves: 0,
                 budget: 0,
             },
@@ -146,6 +146,7 @@ pub fn find<S: Scribe>(
         net,
         &mut work.search,
         &mut work.trial.candidate,
+        &work.trial.distances,
         budget,
         scribe,
     )?;

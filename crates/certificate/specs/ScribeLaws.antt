@@ -2,7 +2,7 @@
 use Rattle.std.specs.Prelude.{◌≡◌, List, [], ◌∷◌, ◌++◌, refl}
 use Rattle.std.proofs.Common.{sym, ap, subst, ◌∙◌, append_assoc, append-nil}
 use Rattle.event_graph.specs.Proof.{ProofLine}
-use Rattle.itv_base.specs.Outside.{CutShort, SinkTold, grown}
+use Rattle.itv_base.specs.Outside.{CutShort, SinkTold, grown, raised}
 use Rattle.itv_base.proofs.Written.{cut_then, grown-append, grown-nil}
 use Rattle.certificate.specs.Text.{proof_line_text, proof_text}
 use Rattle.certificate.specs.Scribing.{SinkGrew, SinkWasCut, Tree, TreeGrew, TreeWasCut}
@@ -41,6 +41,7 @@ tree_cut s t u xs ys p q = record {
   kept = q.kept ∙ ap (λ (x : Tree). x.lines ++ q.before) p ∙ append_assoc s.lines xs q.before;
   line_room = q.line_room ∙ ap (λ (x : Tree). x.line_room) p;
   edge_room = q.edge_room ∙ ap (λ (x : Tree). x.edge_room) p;
+  faults = q.faults ∙ ap (λ (x : Tree). raised x.faults) p;
   full = q.full;
 }
 

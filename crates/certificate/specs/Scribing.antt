@@ -2,7 +2,7 @@
 use Rattle.std.specs.Prelude.{◌≡◌, ◌≤◌, ℕ, List, [], ◌∷◌, ◌++◌, length}
 use Rattle.std.specs.List.{sum_by}
 use Rattle.event_graph.specs.Proof.{Loop, Path, ProofLine, Split}
-use Rattle.itv_base.specs.Outside.{CutShort, SinkTold, grown}
+use Rattle.itv_base.specs.Outside.{CutShort, SinkTold, grown, raised}
 use Rattle.certificate.specs.Text.{proof_text}
 
 -- ---- writing them
@@ -37,7 +37,7 @@ FitsTree line_room edge_room lines = (length lines ≤ line_room) × (sum_by edg
 abbrev pub TreeGrew : Tree → List ProofLine → Tree → Type 0
 TreeGrew old lines new = new ≡ record old { lines = old.lines ++ lines }
 
--- all lines but the last were appended, and that one did not fit beside the lines then kept
+-- all lines but the last were appended, that one did not fit beside the lines then kept, and the count of faults rose by one
 pub record TreeWasCut (old : Tree) (lines : List ProofLine) (new : Tree) : Type 0 where
   pub before : List ProofLine
   pub last : ProofLine
@@ -45,4 +45,5 @@ pub record TreeWasCut (old : Tree) (lines : List ProofLine) (new : Tree) : Type 
   pub kept : new.lines ≡ old.lines ++ before
   pub line_room : new.line_room ≡ old.line_room
   pub edge_room : new.edge_room ≡ old.edge_room
+  pub faults : new.faults ≡ raised old.faults
   pub full : FitsTree new.line_room new.edge_room (new.lines ++ last ∷ []) → ⊥

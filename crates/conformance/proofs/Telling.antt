@@ -2,8 +2,12 @@
 use Rattle.std.proofs.Common.{◌≡◌, ◌<◌, ◌∙◌, ◌⊎◌, inl, inr, ℕ, Bool, true, false, List, [], ◌++◌, take, Option, Some, None, IfSome, refl, sym, ap, subst}
 use Rattle.std.proofs.lemmas.Option.{same_Some}
 use Rattle.std.specs.Option.{option_map_or}
+use Rattle.event_graph.specs.Bounds.{IsInconsistent}
 use Rattle.event_graph.specs.Edges.{cause_choices}
 use Rattle.event_graph.specs.Network.{Net}
+use Rattle.fall_report.specs.Fall.{AnswersFall}
+use Rattle.fall_report.proofs.Ending.{inconsistent_has_no_times, undecided_has_few_turns}
+use Rattle.falling.specs.Cap.{enough_turns}
 use Rattle.itv_base.specs.Memory.{MemSink, sink_told}
 use Rattle.itv_base.specs.Outside.{Files, Rose, ShelfTold, SinkTold, file_of, grown}
 use Rattle.job_answer.specs.declared.answer.Answer.{Answer}
@@ -15,15 +19,16 @@ use Rattle.slack_report.proofs.RightOrder.{reads_weaker}
 use Rattle.unroll.specs.Drawn.{Drawn}
 use Rattle.unroll.specs.Reported.{reported}
 use Rattle.reading.specs.declared.place.Place.{Place}
+use Rattle.reading.specs.declared.place.Place.TheVariants.{Design}
 use Rattle.reading.specs.declared.refusal.Refusal.{Refusal}
 use Rattle.reading.specs.Design.{design_at}
 use Rattle.reading.specs.Opening.{Opening, gives, refuses, fetches, ◌>>=◌, End, ready, refused, unread, told_end}
 use Rattle.reading.specs.Refusal.{refusal_text}
 use Rattle.reading.proofs.Opens.{told_ready, told_refused}
-use Rattle.itv_cli.specs.Task.{Task, bounds, taken, task}
+use Rattle.itv_cli.specs.Task.{Task, bounds, fall, taken, task}
 use Rattle.bounds_report.specs.Written.{written}
 use Rattle.itv_cli.specs.Bounds.{AnswersBounds}
-use Rattle.itv_cli.specs.Job.{Answers, is_made, opening}
+use Rattle.itv_cli.specs.Job.{Answers, fall_at, is_made, mixed_in, opening}
 use Rattle.itv_cli.specs.Run.{Call, CameTo, Completes, EndsBy, EndsOver, FilesDecide, HasAnswered, IsRefused, Means, call_of}
 use Rattle.itv_cli.specs.declared.outcome.Outcome.{Outcome}
 use Rattle.itv_cli.specs.declared.outcome.Outcome.TheVariants as ends
@@ -31,21 +36,24 @@ use Rattle.itv_cli.specs.declared.ready.Ready.{Ready}
 use Rattle.itv_cli.specs.declared.ready.Ready.TheVariants as given
 use Rattle.conformance.specs.Clients.{Asks, Draws, IsAnswerOf, IsRefusalOf, IsRightReportOf}
 
--- a reading that goes on with what it gives comes to its end with that
-then_by : {A B : Type 0} (files : Files) (next : List ℕ → Opening A) (f : A → B) (most : ℕ) (place : Place) (name : List ℕ) (y : B) (file : Option (List ℕ))
-    → ((bytes : List ℕ) → told_end files (next bytes >>= (λ x. gives (f x))) ≡ ready y → (x : A) × (told_end files (next bytes) ≡ ready x) × (f x ≡ y))
-    → option_map_or (λ bytes. told_end files (next (take most bytes) >>= (λ x. gives (f x)))) file (unread place name) ≡ ready y
-    → (x : A) × (option_map_or (λ bytes. told_end files (next (take most bytes))) file (unread place name) ≡ ready x) × (f x ≡ y)
-then_by files next f most place name y None more e = absurd (cc e)
-then_by files next f most place name y (Some bytes) more e = more (take most bytes) e
+-- a reading that comes to something behind another one comes to it by what that one gives
+then_by : {A B : Type 0} (files : Files) (next : List ℕ → Opening A) (k : A → Opening B) (most : ℕ) (place : Place) (name : List ℕ) (y : B) (file : Option (List ℕ))
+    → ((bytes : List ℕ) → told_end files (next bytes >>= k) ≡ ready y → (x : A) × (told_end files (next bytes) ≡ ready x) × (told_end files (k x) ≡ ready y))
+    → option_map_or (λ bytes. told_end files (next (take most bytes) >>= k)) file (unread place name) ≡ ready y
+    → (x : A) × (option_map_or (λ bytes. told_end files (next (take most bytes))) file (unread place name) ≡ ready x) × (told_end files (k x) ≡ ready y)
+then_by files next k most place name y None more e = absurd (cc e)
+then_by files next k most place name y (Some bytes) more e = more (take most bytes) e
+
+told_behind : {A B : Type 0} (files : Files) (o : Opening A) (k : A → Opening B) (y : B) → told_end files (o >>= k) ≡ ready y → (x : A) × (told_end files o ≡ ready x) × (told_end files (k x) ≡ ready y)
+told_behind files (gives x) k y e = (x, refl, e)
+told_behind files (refuses place why) k y e = absurd (cc e)
+told_behind files (fetches place name most next) k y e = then_by files next k most place name y (file_of files name) (λ bytes h. told_behind files (next bytes) k y h) e
 
 same_ready : {A : Type 0} (x y : A) → ready x ≡ ready y → x ≡ y
 same_ready x y e = cc
 
 told_then : {A B : Type 0} (files : Files) (o : Opening A) (f : A → B) (y : B) → told_end files (o >>= (λ x. gives (f x))) ≡ ready y → (x : A) × (told_end files o ≡ ready x) × (f x ≡ y)
-told_then files (gives x) f y e = (x, refl, same_ready (f x) y e)
-told_then files (refuses place why) f y e = absurd (cc e)
-told_then files (fetches place name most next) f y e = then_by files next f most place name y (file_of files name) (λ bytes h. told_then files (next bytes) f y h) e
+told_then files o f y e = let (x, comes, is) = told_behind files o (λ x. gives (f x)) y e in (x, comes, same_ready (f x) y is)
 
 -- over told files the end of a run's reading is theirs
 over_shelf : (made : Bool) (old new : ShelfTold) (asked : Task) (end : End Ready) → made ≡ false → EndsOver made old new asked end → EndsOver false old new asked end
@@ -113,6 +121,30 @@ pub below_over : (files : Files) (design : List ℕ) (budget : ℕ) (cert : Bool
 below_over files design budget cert bytes drawn h draws =
     subst (λ (d : Drawn). budget < cause_choices d.net.constraints) (same_ready h.drawn drawn (sym h.draws ∙ draws)) (h.answers.decides refl)
 
+-- ---- job fall
+
+-- what job fall answered, over told files
+pub record HasFallen (files : Files) (design : List ℕ) (budget : ℕ) (cert : Bool) (answer : Answer) (bytes : List ℕ) : Type 0 where
+  pub drawn : Drawn
+  pub draws : Draws files design drawn
+  pub answers : AnswersFall (reported drawn) budget cert answer bytes
+
+-- a network that is not refused is given
+given_unmixed : (files : Files) (mixed : Option Refusal) (given given' : Ready) → told_end files (option_map_or (refuses Design) mixed (gives given)) ≡ ready given' → given ≡ given'
+given_unmixed files None given given' e = same_ready given given' e
+given_unmixed files (Some why) given given' e = absurd (cc e)
+
+fallen_over : (files : Files) (design : List ℕ) (budget : ℕ) (cert : Bool) (answer : Answer) (bytes : List ℕ) → IsAnswerOf files (fall design budget cert) answer bytes → HasFallen files design budget cert answer bytes
+fallen_over files design budget cert answer bytes h =
+    let (drawn, draws, comes) = told_behind files (design_at design) (fall_at budget cert) h.given h.reads in
+    record { drawn = drawn; draws = draws; answers = subst (λ g. Answers g answer bytes) (sym (given_unmixed files (mixed_in drawn.net) (given.Fall drawn budget cert) h.given comes)) h.answers }
+
+-- what was fallen of a network that is drawn
+fallen_of : (files : Files) (design : List ℕ) (budget : ℕ) (cert : Bool) (answer : Answer) (bytes : List ℕ) (drawn : Drawn) → HasFallen files design budget cert answer bytes → Draws files design drawn
+    → AnswersFall (reported drawn) budget cert answer bytes
+fallen_of files design budget cert answer bytes drawn h draws =
+    subst (λ (d : Drawn). AnswersFall (reported d) budget cert answer bytes) (same_ready h.drawn drawn (sym h.draws ∙ draws)) h.answers
+
 -- ---- runs
 
 -- what a sink in memory holds behind a text
@@ -179,3 +211,26 @@ decided call files result asked told completes asks quiet silent = by_files (is_
     by_files true own h = absurd (cc own)
     by_files false own (inl none) = inl none
     by_files false own (inr by) = inr (some_files call.shelf_before.files told by)
+
+-- a run of job fall that answered
+fall_answered : (call : Call) (files : Files) (answer : Answer) (design : List ℕ) (budget : ℕ) (cert : Bool) (drawn : Drawn) → call.shelf_before.files ≡ Some files → HasAnswered call answer
+    → taken call.words ≡ task (fall design budget cert) → Draws files design drawn → (bytes : List ℕ) × AnswersFall (reported drawn) budget cert answer bytes
+fall_answered call files answer design budget cert drawn told m is draws = (
+  m.text,
+  fallen_of files design budget cert answer m.text drawn
+      (fallen_over files design budget cert answer m.text (answer_over call files (fall design budget cert) answer m.text told m refl (record { words = is; own = refl }))) draws,
+)
+
+-- one that ends undecided
+pub fall_below : (call : Call) (files : Files) (result : Outcome) (design : List ℕ) (budget : ℕ) (cert : Bool) (drawn : Drawn) → call.shelf_before.files ≡ Some files → Means call result
+    → taken call.words ≡ task (fall design budget cert) → Draws files design drawn → result ≡ ends.Undecided → budget < enough_turns drawn.net
+fall_below call files result design budget cert drawn told means is draws e =
+    let (bytes, a) = fall_answered call files answers.Undecided design budget cert drawn told (subst (λ end. Means call end) e means) is draws in
+    undecided_has_few_turns (reported drawn) budget cert bytes a
+
+-- one that ends inconsistent
+pub fall_none : (call : Call) (files : Files) (result : Outcome) (design : List ℕ) (budget : ℕ) (cert : Bool) (drawn : Drawn) → call.shelf_before.files ≡ Some files → Means call result
+    → taken call.words ≡ task (fall design budget cert) → Draws files design drawn → result ≡ ends.Inconsistent → IsInconsistent drawn.net
+fall_none call files result design budget cert drawn told means is draws e =
+    let (bytes, a) = fall_answered call files answers.Inconsistent design budget cert drawn told (subst (λ end. Means call end) e means) is draws in
+    inconsistent_has_no_times (reported drawn) budget cert bytes a

@@ -2,12 +2,14 @@
 //! that a weaker clause leaves its caller without a proof.
 
 ghost use Rattle.std.specs.Prelude.{◌≡◌, ◌<◌, ◌⊎◌, ℕ, Bool, List, IfOk, IfSome};
+ghost use Rattle.event_graph.specs.Bounds.{IsInconsistent};
 ghost use Rattle.event_graph.specs.Edges.{cause_choices};
+ghost use Rattle.falling.specs.Cap.{enough_turns};
 ghost use Rattle.itv_base.specs.Outside.{Rose};
 ghost use Rattle.job_answer.specs.declared.answer.Answer.TheVariants as answers;
 ghost use Rattle.reading.specs.Opening.{told_end};
 ghost use Rattle.unroll.specs.Drawn.{Drawn};
-ghost use Rattle.itv_cli.specs.Task.{Task, bad_words, bounds, help, taken, task};
+ghost use Rattle.itv_cli.specs.Task.{Task, bad_words, bounds, fall, help, taken, task};
 ghost use Rattle.itv_cli.specs.Job.{opening};
 ghost use Rattle.itv_cli.specs.Run.{EndsBy};
 ghost use Rattle.conformance.specs.Clients.{Asks, Draws, IsAnswerOf, IsRefusalOf, IsRightReportOf};
@@ -87,6 +89,19 @@ pub fn bounds_of(alloc: Global, words: &Texts, shelf: &mut ShelfMem, sink: &mut 
     ensures decides { (design : List ℕ) (budget : ℕ) (cert : Bool) (drawn : Drawn)
         → taken words.now ≡ task (bounds design budget cert) → Draws shelf.old.files design drawn
         → result ≡ Outcome.Undecided → budget < cause_choices drawn.net.constraints }
+{
+    run(alloc, words, shelf, sink)
+}
+
+/// A run of job fall: it ends undecided only where its turns are fewer than are enough, and inconsistent only where no times
+/// satisfy the network.
+pub fn fall_of(alloc: Global, words: &Texts, shelf: &mut ShelfMem, sink: &mut SinkMem) -> Outcome
+    ensures decides { (design : List ℕ) (budget : ℕ) (cert : Bool) (drawn : Drawn)
+        → taken words.now ≡ task (fall design budget cert) → Draws shelf.old.files design drawn
+        → result ≡ Outcome.Undecided → budget < enough_turns drawn.net }
+    ensures none { (design : List ℕ) (budget : ℕ) (cert : Bool) (drawn : Drawn)
+        → taken words.now ≡ task (fall design budget cert) → Draws shelf.old.files design drawn
+        → result ≡ Outcome.Inconsistent → IsInconsistent drawn.net }
 {
     run(alloc, words, shelf, sink)
 }

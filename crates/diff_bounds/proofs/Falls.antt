@@ -55,6 +55,7 @@ pub placed_on : (net : Net) (s : Scope) (run : Run) (a b : Stack) (u v : Waiting
 placed_on net s run a b u v placed falls = record {
   is_net = placed.is_net;
   slots = rw falls.count placed.slots;
+  halves = rw falls.count placed.halves;
   most = rw falls.count placed.most;
   marks = falls.marks ∙ placed.marks;
 }

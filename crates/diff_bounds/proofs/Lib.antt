@@ -15,3 +15,5 @@ pub mod Starting
 pub mod Standings
 pub mod Lifting
 pub mod Descending
+pub mod Linking
+pub mod Tracing

@@ -93,6 +93,7 @@ pub runs_placed : (net : Net) (s : Scope) (run : Run) (a b : Stack) (u v : Waiti
 runs_placed net s run a b u v placed runs = record {
   is_net = placed.is_net;
   slots = rw runs.count placed.slots;
+  halves = rw runs.count placed.halves;
   most = rw runs.count placed.most;
   marks = runs.marks ∙ placed.marks;
 }

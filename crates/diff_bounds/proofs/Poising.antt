@@ -98,7 +98,7 @@ pub placed_of : (net : Net) (out : List (List Arc)) (arcs : List Arc) (run : Run
 placed_of net out arcs run from start st w ready base =
     let slots = ready.slots in
     let few = ready.is_net.events in
-    record { is_net = ready.is_net; slots = omega arith; most = omega arith; marks = ready.marks }
+    record { is_net = ready.is_net; slots = omega arith; halves = omega arith; most = omega arith; marks = ready.marks }
 
 pub feasible_running : (net : Net) (out : List (List Arc)) (arcs : List Arc) (from : EventId) (first : ℕ) (st : Stack) (w : Waiting) → IsReady net out arcs (feasible_run net from first) from zeros st w
     → IsRunning (scope_from net st first) (feasible_run net from first) st.current.stamps

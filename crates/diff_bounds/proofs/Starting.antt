@@ -78,15 +78,15 @@ next_others net chosen first first' is name e among =
       | inr off ↦ inr (record { is = among.is; current = among.current; from = omega arith })
     ]
 
-pub no_arcs : (net : Net) → AreChosenArcs net [] []
-no_arcs net = record { each = All-nil (IsArc net); names = refl }
+pub no_arcs : (net : Net) (arcs : List Arc) → arcs ≡ [] → AreChosenArcs net [] arcs
+no_arcs net arcs none = subst (AreChosenArcs net []) (sym none) (record { each = All-nil (IsArc net); names = refl })
 
-pub ready_next : (net : Net) (out : List (List Arc)) (first first' : ℕ) (st : Stack) (w : Waiting) → IsNet net → AreAlwaysArcs net out → st.current.edges ≡ [] → first ≡ first' + 1 → first ≤ net.events → AreNear st.current.stamps
-    → IsFeasible (scope_from net st first) st.current.stamps → length w.marks ≡ net.events → IsReady net out [] (feasible_run net (record { 0 = first' }) first') (record { 0 = first' }) zeros st w
-ready_next net out first first' st w is_net always edges is most near feasible marks = record {
+pub ready_next : (net : Net) (out : List (List Arc)) (arcs : List Arc) (first first' : ℕ) (st : Stack) (w : Waiting) → IsNet net → AreAlwaysArcs net out → arcs ≡ [] → st.current.edges ≡ [] → first ≡ first' + 1 → first ≤ net.events → AreNear st.current.stamps
+    → IsFeasible (scope_from net st first) st.current.stamps → length w.marks ≡ net.events → IsReady net out arcs (feasible_run net (record { 0 = first' }) first') (record { 0 = first' }) zeros st w
+ready_next net out arcs first first' st w is_net always none edges is most near feasible marks = record {
   is_net = is_net;
   out_edges = always;
-  chosen = let P : List EdgeName → Type 0 = λ names. AreChosenArcs net names [] in subst P (sym edges) (no_arcs net);
+  chosen = let P : List EdgeName → Type 0 = λ names. AreChosenArcs net names arcs in subst P (sym edges) (no_arcs net arcs none);
   within = omega arith;
   slots = feasible.slots;
   near = near;
@@ -203,10 +203,10 @@ seeded_at net old mid source within cleared v below =
           (label_zero (set mid source.0 zero_stamp) v ∙ ap (λ (x : Stamp). x.label) here ∙ sym (cond-false (nat_eq v source.0) (Some (pos 0)) None (ne_eqb v source.0 off)), parent_zero (set mid source.0 zero_stamp) v ∙ ap (λ (x : Stamp). x.parent) here)
     ]
 
-pub seeded_ready : (net : Net) (out : List (List Arc)) (old : List Stamp) (mid st : Stack) (source : EventId) (w : Waiting) → IsNet net → AreAlwaysArcs net out → mid.current.edges ≡ [] → source.0 < net.events → HasCleared net.events old mid.current.stamps
-    → IsFeasible (whole net mid.current.edges) mid.current.stamps → st ≡ with_stamps mid (set mid.current.stamps source.0 zero_stamp) → length w.marks ≡ net.events → IsReady net out [] upper_run source (at_source source) st w
-seeded_ready net out old mid st source w is_net always edges within cleared feasible is marks =
-    let P : Stack → Type 0 = λ x. IsReady net out [] upper_run source (at_source source) x w in
+pub seeded_ready : (net : Net) (out : List (List Arc)) (arcs : List Arc) (old : List Stamp) (mid st : Stack) (source : EventId) (w : Waiting) → IsNet net → AreAlwaysArcs net out → arcs ≡ [] → mid.current.edges ≡ [] → source.0 < net.events → HasCleared net.events old mid.current.stamps
+    → IsFeasible (whole net mid.current.edges) mid.current.stamps → st ≡ with_stamps mid (set mid.current.stamps source.0 zero_stamp) → length w.marks ≡ net.events → IsReady net out arcs upper_run source (at_source source) st w
+seeded_ready net out arcs old mid st source w is_net always none edges within cleared feasible is marks =
+    let P : Stack → Type 0 = λ x. IsReady net out arcs upper_run source (at_source source) x w in
     let new : List Stamp = set mid.current.stamps source.0 zero_stamp in
     let s : Scope = whole net mid.current.edges in
     let slots = feasible.slots in
@@ -214,7 +214,7 @@ seeded_ready net out old mid st source w is_net always edges within cleared feas
     subst P (sym is) (record {
       is_net = is_net;
       out_edges = always;
-      chosen = let Q : List EdgeName → Type 0 = λ names. AreChosenArcs net names [] in subst Q (sym edges) (no_arcs net);
+      chosen = let Q : List EdgeName → Type 0 = λ names. AreChosenArcs net names arcs in subst Q (sym edges) (no_arcs net arcs none);
       within = within;
       slots = length-set mid.current.stamps source.0 zero_stamp ∙ feasible.slots;
       near = seeded_near net mid.current.edges old mid.current.stamps source within cleared feasible;

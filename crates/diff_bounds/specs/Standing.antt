@@ -1,5 +1,5 @@
 -- What bounds are, what stands, and what their calls do.
-use Rattle.std.specs.Prelude.{◌≡◌, ◌+◌, ◌<◌, ◌≤◌, ℕ, ℤ, ◌+ℤ◌, ◌≤ℤ◌, Bool, List, ◌∷◌, length, take, Option, Some, None, is_none, IsTrue, slice_get, vec_capacity}
+use Rattle.std.specs.Prelude.{◌≡◌, ◌+◌, ◌<◌, ◌≤◌, ℕ, ℤ, ◌+ℤ◌, ◌≤ℤ◌, Bool, List, ◌∷◌, length, take, Option, Some, None, is_none, IsTrue, slice_get}
 use Rattle.itv_base.specs.declared.limits.TheConstants.{MAX_EVENTS}
 use Rattle.itv_base.specs.declared.names.EdgeName.{EdgeName}
 use Rattle.itv_base.specs.declared.names.EventId.{EventId}
@@ -29,7 +29,7 @@ abbrev pub standing_in : Inside → Standing
 standing_in b = record {
   events = b.events;
   out = b.out;
-  arcs = b.chosen.items;
+  arcs = b.chosen.arcs;
   trail = b.trail;
   waiting = length b.pending.marks;
   settled = b.settled;
@@ -41,7 +41,8 @@ standing_in b = record {
 pub record HasRoom (b : Inside) : Type 0 where
   pub walk : length b.walk.items ≡ b.events
   pub count : b.count ≤ b.events
-  pub chosen : b.trail.levels ≤ vec_capacity b.chosen
+  pub chosen : b.trail.levels ≤ b.chosen.room
+  pub starts : b.chosen.events ≡ b.events
   pub events : b.events ≤ MAX_EVENTS
 
 -- the bounds were made for a network: the trail has two slots for each of its events, and a level for each constraint to split

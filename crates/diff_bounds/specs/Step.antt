@@ -1,5 +1,6 @@
 pub mod Listing
 pub mod Waiting
+pub mod Chosen
 pub mod Falling
 pub mod Poised
 pub mod Walking

@@ -14,6 +14,7 @@ ghost use Rattle.diff_bounds.specs.contracts.bounds.Bounds.{the_row};
 ghost use Rattle.diff_bounds.specs.Standing.{AreTimesOf, HasDescended, IsMadeFor, IsRayOf, Stands, chosen_of, upper_of};
 
 use crate::arc::Arc;
+use crate::chosen_edges::ChosenEdges;
 use crate::falling::label_in;
 use crate::fit::Fit;
 use crate::out_edges::OutEdges;
@@ -33,13 +34,13 @@ use trail::Trail;
 /// They are made for one network, and a graph stands from a [`start`](Bounds::start) that fits until the next one. A
 /// [`descend`](Bounds::descend) adds an edge, and a [`retreat`](Bounds::retreat) gives the graph back as it stood before. The graphs
 /// are kept in one [`Trail`], with the labels of each event from the source in the first half of its slots, and feasible times in the
-/// second half: so a level costs what it changes. Labels fall along edges by the algorithm of Bellman and Ford with a queue, and the
-/// feasible times, as potentials, show in advance that they settle.
+/// second half: so a level costs what it changes. Labels fall along edges, those first that have fallen furthest, and the feasible
+/// times, as potentials, show in advance that they settle.
 #[derive(Debug, Drop)]
 pub struct Bounds {
     events: u32,
     out: OutEdges,
-    chosen: Vec<Arc>,
+    chosen: ChosenEdges,
     trail: Trail,
     pending: Pending,
     // Whether the feasible times of the first graph have settled.
@@ -77,7 +78,7 @@ impl Bounds {
         Ok(Bounds {
             events,
             out: OutEdges::of_network(alloc, net)?,
-            chosen: Vec::with_capacity(alloc, levels as usize)?,
+            chosen: ChosenEdges::new(alloc, events, levels)?,
             trail: Trail::new(alloc, events + events, levels)?,
             pending: Pending::new(alloc, events)?,
             settled: false,
@@ -101,11 +102,12 @@ impl Bounds {
         ensures network { IsMadeFor net.now self.new }
     {
         self.source = source;
-        self.chosen.clear();
+        self.chosen.truncate(0);
         let closing = settle_root(
             self.settled,
             net,
             &self.out,
+            &self.chosen,
             &mut self.trail,
             &mut self.pending,
         );
@@ -114,7 +116,14 @@ impl Bounds {
             return Fit::Loop;
         }
         self.settled = true;
-        reach(net, &self.out, source, &mut self.trail, &mut self.pending);
+        reach(
+            net,
+            &self.out,
+            &self.chosen,
+            source,
+            &mut self.trail,
+            &mut self.pending,
+        );
         Fit::Fits
     }
 
@@ -136,7 +145,7 @@ impl Bounds {
             return Fit::Fits;
         };
         self.trail.add_edge(choice);
-        self.chosen.push_reserved(Arc { name: choice, edge });
+        self.chosen.push(Arc { name: choice, edge });
         let closing = settle_feasible(
             net,
             &self.out,

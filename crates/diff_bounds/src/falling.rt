@@ -4,15 +4,20 @@ ghost use Rattle.std.specs.Prelude.{◌≡◌, ◌+◌, ◌*◌, ◌<◌, ◌≤
 ghost use Rattle.diff_bounds.specs.Arcs.{AreAlwaysArcs, AreChosenArcs, IsArc};
 ghost use Rattle.diff_bounds.specs.Labels.{HaveSettled, IsAmong, IsWithin, is_lower, labels_from, stamp_at};
 ghost use Rattle.diff_bounds.specs.Limits.{IsNear, weight_limit};
-ghost use Rattle.diff_bounds.specs.Step.Falling.{AllDone, Closes, Falls, IsAmongFrom, IsDone, IsDoneFrom, IsPlaced, IsRunning, Offers, Relaxes, RunsOn, scope_of};
+ghost use Rattle.diff_bounds.specs.Step.Chosen.{StartsAt};
+ghost use Rattle.diff_bounds.specs.Step.Falling.{AllDone, Closes, Falls, IsAmongFrom, IsDone, IsDoneFrom, IsPlaced, IsRunning, Relaxes, RunsOn, scope_of};
 ghost use Rattle.diff_bounds.specs.Step.Waiting.{Pushes};
 
 use crate::arc::Arc;
+use crate::chosen_edges::ChosenEdges;
 use crate::out_edges::OutEdges;
 use crate::pending::Pending;
-use event_graph::{Edge, Network};
+use event_graph::Network;
 use itv_base::{EventId, MAX_EVENTS};
 use trail::{Stamp, Trail};
+
+// More than any two labels differ by.
+const FAR: i64 = 1 << 60;
 
 /// What one fall of labels works on.
 #[derive(Clone, Copy, Debug)]
@@ -30,8 +35,8 @@ pub struct Run {
 pub enum Step {
     /// The label at the end is low enough.
     Kept,
-    /// The label at the end has fallen.
-    Fell,
+    /// The label at the end has fallen, by this number: it is less than 0.
+    Fell(i64),
     /// The label at the end, which is that at the stop, would fall.
     Stops,
 }
@@ -39,12 +44,11 @@ pub enum Step {
 /// Lets labels fall until all edges are followed, where each edge is followed or waits at first. The answer is an edge that would
 /// lower the label at the stop, if there is one.
 ///
-/// The events whose labels have fallen wait in a queue for their edges to be followed, as in the algorithm of Bellman and Ford with
-/// a queue.
+/// The events whose labels have fallen wait in a queue for their edges to be followed, as in the algorithm of Bellman and Ford.
 pub fn fall(
     net: &Network,
     out: &OutEdges,
-    chosen: &[Arc],
+    chosen: &ChosenEdges,
     run: Run,
     trail: &mut Trail,
     pending: &mut Pending,
@@ -52,7 +56,8 @@ pub fn fall(
     requires placed { IsPlaced net.now run trail.old pending.old }
     requires running { IsRunning (scope_of net.now trail.old run) run trail.old.current.stamps }
     requires out { AreAlwaysArcs net.now out.now }
-    requires chosen { AreChosenArcs net.now trail.old.current.edges chosen.now }
+    requires chosen { AreChosenArcs net.now trail.old.current.edges chosen.now.arcs }
+    requires events { chosen.now.events ≡ net.now.events }
     requires waits { AllDone (scope_of net.now trail.old run) run trail.old.current.stamps pending.old.marks }
     ensures runs { RunsOn (scope_of net.now trail.old run) run trail.old trail.new pending.old pending.new }
     ensures settled { IfNone result (HaveSettled (scope_of net.now trail.old run) (labels_from trail.new.current.stamps run.base)) }
@@ -65,14 +70,14 @@ pub fn fall(
         if let Some(arc) = relax_from(net, run, event, out.from(event), trail, pending) {
             return Some(arc);
         }
-        if let Some(arc) = relax_from(net, run, event, chosen, trail, pending) {
+        if let Some(arc) = relax_chosen(net, run, event, chosen, trail, pending) {
             return Some(arc);
         }
     }
     None
 }
 
-// Relaxes those of some edges that start at an event. The answer is the first one that would lower the label at the stop.
+// Relaxes edges that all start at one event. The answer is the first one that would lower the label at the stop.
 fn relax_from(
     net: &Network,
     run: Run,
@@ -83,73 +88,144 @@ fn relax_from(
 ) -> Option<Arc>
     requires placed { IsPlaced net.now run trail.old pending.old }
     requires running { IsRunning (scope_of net.now trail.old run) run trail.old.current.stamps }
+    requires from { from.0 < net.now.events }
     requires arcs { All (IsArc net.now) arcs.now }
+    requires starts { All (StartsAt from.0) arcs.now }
     requires among { All (IsAmongFrom (scope_of net.now trail.old run) from.0) arcs.now }
     ensures falls { Falls (scope_of net.now trail.old run) run trail.old trail.new pending.old pending.new }
     ensures done { IfNone result (All (IsDoneFrom run from.0 trail.new.current.stamps pending.new.marks) arcs.now) }
     ensures closes { IfSome result (Closes (scope_of net.now trail.old run) run trail.new.current.stamps) }
 {
+    let near = label_in(trail, run.base + from.0)?;
     for arc in arcs {
-        if arc.edge.from == from && follow(net, run, *arc, trail, pending) {
+        if follow(net, run, near, arc, trail, pending) {
             return Some(*arc);
         }
     }
     None
 }
 
-// Relaxes an edge of the scope, and lets the event at its end wait where its label has fallen. The answer is whether it would lower
-// the label at the stop.
-fn follow(net: &Network, run: Run, arc: Arc, trail: &mut Trail, pending: &mut Pending) -> bool
+// Relaxes the chosen edges that start at an event, the latest one first. The answer is the first one that would lower the label at
+// the stop.
+fn relax_chosen(
+    net: &Network,
+    run: Run,
+    from: EventId,
+    chosen: &ChosenEdges,
+    trail: &mut Trail,
+    pending: &mut Pending,
+) -> Option<Arc>
     requires placed { IsPlaced net.now run trail.old pending.old }
     requires running { IsRunning (scope_of net.now trail.old run) run trail.old.current.stamps }
-    requires arc { IsArc net.now arc }
-    requires among { IsAmong (scope_of net.now trail.old run) arc.name arc.edge }
+    requires from { from.0 < net.now.events }
+    requires events { chosen.now.events ≡ net.now.events }
+    requires arcs { All (IsArc net.now) chosen.now.arcs }
+    requires among { All (IsAmongFrom (scope_of net.now trail.old run) from.0) chosen.now.arcs }
     ensures falls { Falls (scope_of net.now trail.old run) run trail.old trail.new pending.old pending.new }
-    ensures done { MatchBool result
-        (Closes (scope_of net.now trail.old run) run trail.new.current.stamps arc)
-        (IsDone run trail.new.current.stamps pending.new.marks arc.edge) }
+    ensures done { IfNone result (All (IsDoneFrom run from.0 trail.new.current.stamps pending.new.marks) chosen.now.arcs) }
+    ensures closes { IfSome result (Closes (scope_of net.now trail.old run) run trail.new.current.stamps) }
 {
-    match relax(run, arc, trail) {
+    let near = label_in(trail, run.base + from.0)?;
+    let mut next = chosen.latest(from);
+    while let Some(place) = next {
+        let arc = chosen.arc(place);
+        if follow(net, run, near, arc, trail, pending) {
+            return Some(*arc);
+        }
+        next = chosen.earlier(place);
+    }
+    None
+}
+
+// Relaxes an edge of the scope, given the label at its start, and lets the event at its end wait where its label has fallen. The
+// answer is whether it would lower the label at the stop.
+fn follow(
+    net: &Network,
+    run: Run,
+    near: i64,
+    arc: &Arc,
+    trail: &mut Trail,
+    pending: &mut Pending,
+) -> bool
+    requires placed { IsPlaced net.now run trail.old pending.old }
+    requires running { IsRunning (scope_of net.now trail.old run) run trail.old.current.stamps }
+    requires arc { IsArc net.now arc.now }
+    requires among { IsAmong (scope_of net.now trail.old run) arc.now.name arc.now.edge }
+    requires near { labels_from trail.old.current.stamps run.base arc.now.edge.from.0 ≡ Some near }
+    ensures falls { Falls (scope_of net.now trail.old run) run trail.old trail.new pending.old pending.new }
+    ensures near { labels_from trail.new.current.stamps run.base arc.now.edge.from.0 ≡ Some near }
+    ensures done { MatchBool result
+        (Closes (scope_of net.now trail.old run) run trail.new.current.stamps arc.now)
+        (IsDone run trail.new.current.stamps pending.new.marks arc.now.edge) }
+{
+    match relax(net, run, near, arc, trail) {
         Step::Kept => false,
-        Step::Fell => {
-            wait(run.first, arc.edge.to, pending);
+        Step::Fell(by) => {
+            wait(run.first, arc.edge.to, by, pending);
             false
         }
         Step::Stops => true,
     }
 }
 
-// Lets an event wait, if its edges count.
-fn wait(first: u32, event: EventId, pending: &mut Pending)
+// Lets an event whose label has fallen wait, if its edges count.
+fn wait(first: u32, event: EventId, by: i64, pending: &mut Pending)
     requires { event.0 < length pending.old.marks }
     ensures { Pushes first event.0 pending.old pending.new }
 {
     if first <= event.0 {
-        pending.push(event);
+        pending.push(event, by);
     }
 }
 
-// Lowers the label at the end of an edge to the label at its start and the weight, unless it is at the stop.
-fn relax(run: Run, arc: Arc, trail: &mut Trail) -> Step
-    requires within { IsWithin MAX_EVENTS arc.edge }
-    requires from { run.base + arc.edge.from.0 < length trail.old.current.stamps }
-    requires to { run.base + arc.edge.to.0 < length trail.old.current.stamps }
+// Lowers the label at the end of an edge to the label at its start, which is given, and the weight, unless it is at the stop.
+fn relax(net: &Network, run: Run, near: i64, arc: &Arc, trail: &mut Trail) -> Step
+    requires within { IsWithin net.now.events arc.now.edge }
+    requires slots { run.base + net.now.events ≤ length trail.old.current.stamps }
+    requires halves { net.now.events + net.now.events ≤ length trail.old.current.stamps }
     requires most { length trail.old.current.stamps ≤ 2 * MAX_EVENTS }
-    requires labels { IfSome (stamp_at trail.old.current.stamps (run.base + arc.edge.from.0)).label IsNear }
-    ensures { Relaxes run arc trail.old trail.new result }
+    requires near { labels_from trail.old.current.stamps run.base arc.now.edge.from.0 ≡ Some near }
+    requires range { IsNear near }
+    ensures { Relaxes run arc.now trail.old trail.new result }
 {
-    let Some(sum) = offer(run.base, arc.edge, trail) else {
+    let to = arc.edge.to;
+    let sum = delayed(near, arc.edge.weight);
+    let standing = label_in(trail, run.base + to.0);
+    if !lowers(sum, standing) {
         return Step::Kept;
-    };
-    if is_stop(run.stop, arc.edge.to) {
+    }
+    if is_stop(run.stop, to) {
         return Step::Stops;
     }
+    let by = fall_between(net, trail, to, standing, sum);
     let stamp = Stamp {
         label: Some(sum),
         parent: Some(arc.name),
     };
-    trail.set_label(run.base + arc.edge.to.0, stamp);
-    Step::Fell
+    trail.set_label(run.base + to.0, stamp);
+    Step::Fell(by)
+}
+
+// By how much a label of an event falls to another one. A first label falls from far above the feasible time. Only the order in which
+// events wait rests on this number.
+fn fall_between(
+    net: &Network,
+    trail: &Trail,
+    event: EventId,
+    standing: Option<i64>,
+    label: i64,
+) -> i64
+    requires event { event.0 < net.now.events }
+    requires slots { net.now.events + net.now.events ≤ length trail.now.current.stamps }
+    requires most { length trail.now.current.stamps ≤ 2 * MAX_EVENTS }
+{
+    match standing {
+        Some(number) => label.wrapping_sub(number),
+        None => {
+            let feasible = label_in(trail, net.events() + event.0).unwrap_or(0);
+            label.wrapping_sub(feasible).wrapping_sub(FAR)
+        }
+    }
 }
 
 // Whether the stop is this event.
@@ -157,24 +233,6 @@ fn is_stop(stop: Option<EventId>, event: EventId) -> bool
     ensures { MatchBool result (stop ≡ Some event) (stop ≡ Some event → ⊥) }
 {
     stop == Some(event)
-}
-
-// The label at the start of an edge and the weight, where it is less than the label at the end, or the first there.
-fn offer(base: u32, edge: Edge, trail: &Trail) -> Option<i64>
-    requires within { IsWithin MAX_EVENTS edge }
-    requires from { base + edge.from.0 < length trail.now.current.stamps }
-    requires to { base + edge.to.0 < length trail.now.current.stamps }
-    requires most { length trail.now.current.stamps ≤ 2 * MAX_EVENTS }
-    requires labels { IfSome (stamp_at trail.now.current.stamps (base + edge.from.0)).label IsNear }
-    ensures { Offers (labels_from trail.now.current.stamps base) edge result }
-{
-    let near = label_in(trail, base + edge.from.0)?;
-    let sum = delayed(near, edge.weight);
-    if lowers(sum, label_in(trail, base + edge.to.0)) {
-        Some(sum)
-    } else {
-        None
-    }
 }
 
 /// The label in a slot.

@@ -5,8 +5,10 @@
 
 mod arc;
 mod bounds;
+mod chosen_edges;
 mod falling;
 mod fit;
+mod heap;
 mod out_edges;
 mod pending;
 mod settling;

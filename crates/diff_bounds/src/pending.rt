@@ -3,16 +3,21 @@
 ghost use Rattle.std.specs.Prelude.{◌≡◌, ◌+◌, ◌<◌, ◌≤◌, ℕ, true, false, length, replicate, slice_set, IfOk, MatchOption};
 ghost use Rattle.diff_bounds.specs.Step.Waiting.{is_waiting};
 
+use crate::heap::{Waiter, lower, rise, sink};
 use itv_base::{EventId, NoMemory};
 use std::alloc::Global;
-use std::collections::VecDeque;
 use std::marker::Model;
 
-/// The events that wait for their edges to be followed, in the order in which they came. An event waits once at most. Contracts see
-/// a flag for each event, which tells that it waits, and how many entries the queue has.
+/// The events that wait for their edges to be followed, of which the one comes first whose label has fallen furthest since it began to
+/// wait. An event waits once at most. Contracts see a flag for each event, which tells that it waits, and how many events wait.
+///
+/// Where the labels were settled before some edges that start at one event were added, that is the order of Dijkstra's algorithm with
+/// the old labels as potentials (Johnson 1977): an event that was taken does not fall again. Nothing rests on this but the time.
 #[derive(Debug, Drop)]
 pub struct Pending {
-    queue: VecDeque<EventId>,
+    heap: Vec<Waiter>,
+    // The place of each event that waits in the heap.
+    places: Vec<usize>,
     marks: Vec<bool>,
 }
 
@@ -33,7 +38,8 @@ impl Pending {
     {
         let count = events as usize;
         Ok(Pending {
-            queue: VecDeque::with_capacity(alloc, count)?,
+            heap: Vec::with_capacity(alloc, count)?,
+            places: Vec::from_elem(alloc, 0, count)?,
             marks: Vec::from_elem(alloc, false, count)?,
         })
     }
@@ -46,19 +52,23 @@ impl Pending {
         while let Some(_event) = self.pop() {}
     }
 
-    /// Lets an event wait, if it does not yet.
-    pub fn push(&mut self, event: EventId)
+    /// Lets an event wait whose label has fallen by a number, which is not above 0. Where it waits already it has fallen further.
+    pub fn push(&mut self, event: EventId, by: i64)
         requires { event.0 < length self.old.marks }
         ensures marks { self.new.marks ≡ slice_set self.old.marks event.0 true }
         ensures count { self.new.count ≤ self.old.count + 1 }
     {
-        if !self.marks[event.0 as usize] {
+        if self.marks[event.0 as usize] {
+            lower(&mut self.heap, &mut self.places, event, by);
+        } else {
             self.marks[event.0 as usize] = true;
-            self.queue.push_back_reserved(event);
+            let place = self.heap.len();
+            self.heap.push_reserved(Waiter { event, fall: by });
+            rise(&mut self.heap, &mut self.places, place);
         }
     }
 
-    /// Takes the event that has waited longest, if there is one.
+    /// Takes the event whose label has fallen furthest, if there is one.
     pub fn pop(&mut self) -> Option<EventId>
         ensures marks { length self.new.marks ≡ length self.old.marks }
         ensures event { MatchOption result
@@ -66,12 +76,14 @@ impl Pending {
             (λ event. (event.0 < length self.old.marks) × (self.new.marks ≡ slice_set self.old.marks event.0 false)
             × (self.new.count < self.old.count)) }
     {
-        match self.queue.pop_front() {
-            None => None,
-            Some(event) => {
-                self.marks[event.0 as usize] = false;
-                Some(event)
-            }
+        if self.heap.is_empty() {
+            return None;
         }
+        let first = self.heap.swap_remove(0);
+        self.marks[first.event.0 as usize] = false;
+        if !self.heap.is_empty() {
+            sink(&mut self.heap, &mut self.places);
+        }
+        Some(first.event)
     }
 }

@@ -13,6 +13,7 @@ ghost use Rattle.diff_bounds.specs.Step.Poised.{AreLow, AreOthersFollowed, HasBe
 ghost use Rattle.diff_bounds.specs.Step.Walking.{HasLoop};
 
 use crate::arc::Arc;
+use crate::chosen_edges::ChosenEdges;
 use crate::falling::{Run, fall};
 use crate::out_edges::OutEdges;
 use crate::pending::Pending;
@@ -36,11 +37,14 @@ pub fn settle_root(
     settled: bool,
     net: &Network,
     out: &OutEdges,
+    chosen: &ChosenEdges,
     trail: &mut Trail,
     pending: &mut Pending,
 ) -> Option<Arc>
     requires net { IsNet net.now }
     requires out { AreAlwaysArcs net.now out.now }
+    requires chosen { chosen.now.arcs ≡ [] }
+    requires events { chosen.now.events ≡ net.now.events }
     requires slots { length trail.old.current.stamps ≡ net.now.events + net.now.events }
     requires marks { length pending.old.marks ≡ net.now.events }
     requires root { IsTrue settled → IsRoot net.now (bottom trail.old.current trail.old.below) }
@@ -58,7 +62,7 @@ pub fn settle_root(
     }
     trail.reset();
     begin(trail, net.events());
-    settle_all(net, out, trail, pending)
+    settle_all(net, out, chosen, trail, pending)
 }
 
 // Takes all levels back.
@@ -91,11 +95,14 @@ fn begin(trail: &mut Trail, events: u32)
 fn settle_all(
     net: &Network,
     out: &OutEdges,
+    chosen: &ChosenEdges,
     trail: &mut Trail,
     pending: &mut Pending,
 ) -> Option<Arc>
     requires net { IsNet net.now }
     requires out { AreAlwaysArcs net.now out.now }
+    requires chosen { chosen.now.arcs ≡ [] }
+    requires events { chosen.now.events ≡ net.now.events }
     requires edges { trail.old.current.edges ≡ [] }
     requires near { AreNear trail.old.current.stamps }
     requires feasible { IsFeasible (scope_from net.now trail.old net.now.events) trail.old.current.stamps }
@@ -110,7 +117,7 @@ fn settle_all(
     while first > 0 {
         first -= 1;
         let from = EventId(first);
-        if let Some(arc) = settle_feasible(net, out, &[], from, first, trail, pending) {
+        if let Some(arc) = settle_feasible(net, out, chosen, from, first, trail, pending) {
             return Some(arc);
         }
     }
@@ -122,13 +129,14 @@ fn settle_all(
 pub fn settle_feasible(
     net: &Network,
     out: &OutEdges,
-    chosen: &[Arc],
+    chosen: &ChosenEdges,
     from: EventId,
     first: u32,
     trail: &mut Trail,
     pending: &mut Pending,
 ) -> Option<Arc>
-    requires ready { IsReady net.now out.now chosen.now (feasible_run net.now from first) from zeros trail.old pending.old }
+    requires ready { IsReady net.now out.now chosen.now.arcs (feasible_run net.now from first) from zeros trail.old pending.old }
+    requires events { chosen.now.events ≡ net.now.events }
     requires low { AreLow net.now.events trail.old.current.stamps }
     ensures ran { HasRun (scope_from net.now trail.old first) (feasible_run net.now from first) trail.old.current.stamps trail.new.current.stamps }
     ensures stack { trail.new ≡ with_stamps trail.old trail.new.current.stamps }
@@ -148,12 +156,15 @@ pub fn settle_feasible(
 pub fn reach(
     net: &Network,
     out: &OutEdges,
+    chosen: &ChosenEdges,
     source: Option<EventId>,
     trail: &mut Trail,
     pending: &mut Pending,
 )
     requires net { IsNet net.now }
     requires out { AreAlwaysArcs net.now out.now }
+    requires chosen { chosen.now.arcs ≡ [] }
+    requires events { chosen.now.events ≡ net.now.events }
     requires first { IsFirst net.now trail.old }
     requires source { IfSome source (λ s. s.0 < net.now.events) }
     requires marks { length pending.old.marks ≡ net.now.events }
@@ -164,7 +175,7 @@ pub fn reach(
     clear_uppers(trail, net.events());
     if let Some(event) = source {
         trail.set_label(event.0, ZERO);
-        settle_uppers(net, out, &[], event, trail, pending);
+        settle_uppers(net, out, chosen, event, trail, pending);
     }
 }
 
@@ -184,18 +195,19 @@ fn clear_uppers(trail: &mut Trail, events: u32)
 pub fn settle_uppers(
     net: &Network,
     out: &OutEdges,
-    chosen: &[Arc],
+    chosen: &ChosenEdges,
     from: EventId,
     trail: &mut Trail,
     pending: &mut Pending,
 )
     requires ready { (source : EventId) × (source.0 < net.now.events)
-        × IsReady net.now out.now chosen.now upper_run from (at_source source) trail.old pending.old }
+        × IsReady net.now out.now chosen.now.arcs upper_run from (at_source source) trail.old pending.old }
+    requires events { chosen.now.events ≡ net.now.events }
     requires feasible { IsFeasible (scope_from net.now trail.old 0) trail.old.current.stamps }
     ensures stack { trail.new ≡ with_stamps trail.old trail.new.current.stamps }
     ensures fallen { (slot : ℕ) → HasFallen (stamp_at trail.old.current.stamps slot) (stamp_at trail.new.current.stamps slot) }
     ensures settled { (source : EventId) → source.0 < net.now.events
-        → IsReady net.now out.now chosen.now upper_run from (at_source source) trail.old pending.old
+        → IsReady net.now out.now chosen.now.arcs upper_run from (at_source source) trail.old pending.old
         → IsSettled (scope_from net.now trail.old 0) (Some source) trail.new.current.stamps }
     ensures marks { length pending.new.marks ≡ length pending.old.marks }
 {
@@ -215,7 +227,7 @@ pub fn settle_uppers(
 fn fall_from(
     net: &Network,
     out: &OutEdges,
-    chosen: &[Arc],
+    chosen: &ChosenEdges,
     run: Run,
     from: EventId,
     trail: &mut Trail,
@@ -224,7 +236,8 @@ fn fall_from(
     requires placed { IsPlaced net.now run trail.old pending.old }
     requires running { IsRunning (scope_of net.now trail.old run) run trail.old.current.stamps }
     requires out { AreAlwaysArcs net.now out.now }
-    requires chosen { AreChosenArcs net.now trail.old.current.edges chosen.now }
+    requires chosen { AreChosenArcs net.now trail.old.current.edges chosen.now.arcs }
+    requires events { chosen.now.events ≡ net.now.events }
     requires from { from.0 < net.now.events }
     requires others { AreOthersFollowed (scope_of net.now trail.old run) from (labels_from trail.old.current.stamps run.base) }
     ensures runs { RunsOn (scope_of net.now trail.old run) run trail.old trail.new pending.old pending.new }
@@ -232,6 +245,6 @@ fn fall_from(
     ensures closes { IfSome result (Closes (scope_of net.now trail.old run) run trail.new.current.stamps) }
 {
     pending.clear();
-    pending.push(from);
+    pending.push(from, 0);
     fall(net, out, chosen, run, trail, pending)
 }

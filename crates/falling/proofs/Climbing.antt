@@ -1,9 +1,10 @@
 -- Climbing from value to value to a gap.
-use Rattle.std.proofs.Common.{◌≡◌, ◌+◌, ◌-◌, ◌*◌, ◌^◌, ◌<◌, ◌≤◌, inl, inr, ℕ, zero, suc, ℤ, pos, ◌+ℤ◌, ◌≤ℤ◌, ◌<ℤ◌, Bool, true, false, if◌then◌else◌, int_lt, List, [], ◌∷◌, length, get_or, sym, ◌∙◌, refl, subst, arith}
+use Rattle.std.proofs.Common.{◌≡◌, ◌+◌, ◌-◌, ◌*◌, ◌^◌, ◌<◌, ◌≤◌, ◌⊎◌, inl, inr, ℕ, zero, suc, ℤ, pos, ◌+ℤ◌, ◌≤ℤ◌, ◌<ℤ◌, Bool, true, false, if◌then◌else◌, int_lt, List, [], ◌∷◌, length, get_or, sym, ap, ◌∙◌, refl, subst, arith}
 use Rattle.std.proofs.lemmas.Int.{ints}
+use Rattle.std.proofs.lemmas.Bool.{cases_eq}
 use Rattle.event_graph.specs.Network.{Net}
 use Rattle.falling.specs.Cap.{cap, far_line, widest_end}
-use Rattle.falling.specs.Rays.{IsReached, above}
+use Rattle.falling.specs.Rays.{IsClimbed, IsStepTo, above}
 use Rattle.falling.proofs.Within.{room_below}
 
 -- a truth as a number
@@ -68,45 +69,77 @@ mul_most zero b w le = omega arith
 mul_most (suc a) zero w le = absurd (omega arith)
 mul_most (suc a) (suc b) w le = let rest : a * w ≤ b * w = mul_most a b w (omega arith) in grind arith
 
--- what a step to another value gives
-pub record IsStep (values : List ℤ) (width : ℕ) (level next : ℤ) : Type 0 where
-  pub falls : above next values < above level values
-  pub low : pos 0 ≤ℤ next
-  pub high : next ≤ℤ pos ((above (pos 0) values - above next values) * width)
-
 high_of : (level next w : ℤ) (width steps more : ℕ) → w ≡ pos width → level ≤ℤ pos (steps * width) → next ≤ℤ (level +ℤ w) → steps * width + width ≤ more * width → next ≤ℤ pos (more * width)
 high_of level next w width steps more is high most le = omega (arith, ints)
 
-pub step_up : (values : List ℤ) (width : ℕ) (w level next : ℤ) → w ≡ pos width → pos 0 ≤ℤ level → level ≤ℤ pos ((above (pos 0) values - above level values) * width)
-    → IsReached w level values next → (next ≡ level → ⊥) → IsStep values width level next
-step_up values width w level next is low high reached other = elim reached.either [
-  | inl same ↦ absurd (other same)
-  | inr (i, value, within, here, is_next) ↦
-      let at : get_or values i (pos 0) ≡ next = default_same values i (pos 0) value within ∙ (here ∙ is_next) in
-      let up : level <ℤ next = above_of level next reached.least other in
-      let fewer : above next values < above level values =
-      subst (λ z. above z values < above level values) at (above_lower values i level within (subst (λ z. level <ℤ z) (sym at) up)) in
-      let most : above level values ≤ above (pos 0) values = above_falls values (pos 0) level low in
+default_same : (xs : List ℤ) (i : ℕ) (d e : ℤ) → i < length xs → get_or xs i d ≡ get_or xs i e
+default_same [] i d e within = absurd (omega arith)
+default_same (x ∷ xs) zero d e within = refl
+default_same (x ∷ xs) (suc i) d e within = default_same xs i d e (omega arith)
+
+-- what a step to a value gives
+step_up : (net : Net) (values : List ℤ) (w level next : ℤ) (i : ℕ) → w ≡ pos (widest_end net) → i < length values → get_or values i (pos 0) ≡ next → level <ℤ next
+    → next ≤ℤ (level +ℤ w) → IsClimbed net values level → IsClimbed net values next × (above next values < above level values)
+step_up net values w level next i is within at up most climbed =
+    let fewer : above next values < above level values =
+    subst (λ z. above z values < above level values) at (above_lower values i level within (subst (λ z. level <ℤ z) (sym at) up)) in
+    let all : above level values ≤ above (pos 0) values = above_falls values (pos 0) level climbed.low in (
       record {
-        falls = fewer;
-        low = low_of level next low reached.least;
-        high = high_of level next w width (above (pos 0) values - above level values) (above (pos 0) values - above next values) is high reached.most
-            (mul_more (above (pos 0) values - above level values) (above (pos 0) values - above next values) width (omega arith));
-      }
-] where
-  default_same : (xs : List ℤ) (i : ℕ) (d e : ℤ) → i < length xs → get_or xs i d ≡ get_or xs i e
-  default_same [] i d e within = absurd (omega arith)
-  default_same (x ∷ xs) zero d e within = refl
-  default_same (x ∷ xs) (suc i) d e within = default_same xs i d e (omega arith)
+        low = low_of level next climbed.low up;
+        high = high_of level next w (widest_end net) (above (pos 0) values - above level values) (above (pos 0) values - above next values) is climbed.high most
+            (mul_more (above (pos 0) values - above level values) (above (pos 0) values - above next values) (widest_end net) (omega arith));
+      },
+      fewer,
+    ) where
+      low_of : (a b : ℤ) → pos 0 ≤ℤ a → a <ℤ b → pos 0 ≤ℤ b
+      low_of a b p q = omega (arith, ints)
 
-  above_of : (a b : ℤ) → a ≤ℤ b → (b ≡ a → ⊥) → a <ℤ b
-  above_of a b le not = by_test (int_lt a b) refl where
-    by_test : (t : Bool) → int_lt a b ≡ t → a <ℤ b
-    by_test true e = omega (arith, ints)
-    by_test false e = absurd (not (omega (arith, ints)))
+-- a pass over some of the values from a level to the best one so far
+pub record IsPass (net : Net) (values : List ℤ) (w level : ℤ) (count : ℕ) (best : ℤ) : Type 0 where
+  pub climbed : IsClimbed net values best
+  pub fewer : (best ≡ level) ⊎ ((level <ℤ best) × (above best values < above level values))
+  pub gap : best ≡ level → (k : ℕ) (d : ℤ) → k < count → k < length values → (get_or values k d ≤ℤ level) ⊎ ((level +ℤ w) <ℤ get_or values k d)
 
-  low_of : (a b : ℤ) → pos 0 ≤ℤ a → a ≤ℤ b → pos 0 ≤ℤ b
-  low_of a b p q = omega (arith, ints)
+pub pass_first : (net : Net) (values : List ℤ) (w level : ℤ) → IsClimbed net values level → IsPass net values w level 0 level
+pass_first net values w level climbed = record { climbed = climbed; fewer = inl refl; gap = λ same k d below within. absurd (omega arith) }
+
+pass_next_at : (net : Net) (values : List ℤ) (w level best value result : ℤ) (count : ℕ) → w ≡ pos (widest_end net) → count < length values → get_or values count (pos 0) ≡ value
+    → IsStepTo best (best +ℤ w) value result → IsPass net values w level count best → IsPass net values w level (count + 1) result
+pass_next_at net values w level best value result count is within at (inl (same, up, most)) pass =
+    let (climbed, fewer) = step_up net values w best value count is within at up most pass.climbed in
+    subst (IsPass net values w level (count + 1)) (sym same) (record {
+      climbed = climbed;
+      fewer = elim pass.fewer [
+        | inl first ↦ inr (subst (λ z. z <ℤ value) first up, subst (λ z. above value values < above z values) first fewer)
+        | inr (more, less) ↦ inr (through level best value more up, omega arith)
+      ];
+      gap = λ back. absurd (elim pass.fewer [ inl first ↦ apart level best value first up back | inr (more, less) ↦ apart level level value refl (through level best value more up) back ]);
+    }) where
+      through : (a b c : ℤ) → a <ℤ b → b <ℤ c → a <ℤ c
+      through a b c p q = omega (arith, ints)
+
+      apart : (a b c : ℤ) → b ≡ a → b <ℤ c → c ≡ a → ⊥
+      apart a b c p q r = omega (arith, ints)
+pass_next_at net values w level best value result count is within at (inr (same, off)) pass =
+    subst (IsPass net values w level (count + 1)) (sym same) (record {
+      climbed = pass.climbed;
+      fewer = pass.fewer;
+      gap = λ first k d below inside. elim (cases_eq k count) [
+        | inl last ↦
+            let here : get_or values k d ≡ value = default_same values k d (pos 0) inside ∙ (ap (λ (i : ℕ). get_or values i (pos 0)) last ∙ at) in
+            subst (λ z. (z ≤ℤ level) ⊎ ((level +ℤ w) <ℤ z)) (sym here) (subst (λ z. (value ≤ℤ z) ⊎ ((z +ℤ w) <ℤ value)) first off)
+        | inr apart ↦ pass.gap first k d (less k count below apart) inside
+      ];
+    }) where
+      less : (k n : ℕ) → k < n + 1 → (k ≡ n → ⊥) → k < n
+      less k n below other = elim (either k n below) [ inl same ↦ absurd (other same) | inr lower ↦ lower ] where
+        either : (k n : ℕ) → k < n + 1 → (k ≡ n) ⊎ (k < n)
+        either k n below = grind arith
+
+pub pass_next : (net : Net) (values : List ℤ) (w level best most value result : ℤ) (count : ℕ) → w ≡ pos (widest_end net) → count < length values → get_or values count (pos 0) ≡ value
+    → most ≡ (best +ℤ w) → IsStepTo best most value result → IsPass net values w level count best → IsPass net values w level (count + 1) result
+pass_next net values w level best most value result count is within at is_most step pass =
+    pass_next_at net values w level best value result count is within at (subst (λ m. IsStepTo best m value result) is_most step) pass
 
 -- how high a level is
 pub level_within : (net : Net) (values : List ℤ) (level : ℤ) → length values ≡ net.events → level ≤ℤ pos ((above (pos 0) values - above level values) * widest_end net)

@@ -17,3 +17,8 @@ pub mod Begun
 pub mod NegatedNets
 pub mod Turning
 pub mod Faults
+pub mod Flags
+pub mod Following
+pub mod Waking
+pub mod Single
+pub mod Ordering

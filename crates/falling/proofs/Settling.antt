@@ -57,10 +57,10 @@ any_later P c cs (i, d, within, here, h) = (suc i, d, omega arith, here, h)
 any_here : (P : Cause → Type 0) (c : Cause) (cs : List Cause) → P c → Any P (c ∷ cs)
 any_here P c cs h = (0, c, omega arith, refl, h)
 
-none_all : (P : Cause → Type 0) → All P []
+pub none_all : (P : Cause → Type 0) → All P []
 none_all P i d within = absurd (omega arith)
 
-abbrev IsMost : List ℤ → ℤ → Cause → Type 0
+abbrev pub IsMost : List ℤ → ℤ → Cause → Type 0
 IsMost values value c = IfSome c.range.high (λ high. (time_of values c.event +ℤ high) ≤ℤ value)
 
 abbrev IsAttained : List ℤ → ℤ → Cause → Type 0
@@ -75,7 +75,7 @@ raised_most values low high c le = by_high (time_of values c.event) c.range.high
   by_high a None h = tt
   by_high a (Some e) h = omega (arith, ints)
 
-latest_one : (values : List ℤ) (c : Cause) (cs : List Cause) (h : ℤ) → c.range.high ≡ Some h → All (IsMost values (time_of values c.event +ℤ h)) cs
+pub latest_one : (values : List ℤ) (c : Cause) (cs : List Cause) (h : ℤ) → c.range.high ≡ Some h → All (IsMost values (time_of values c.event +ℤ h)) cs
     → IsLatestHigh values (c ∷ cs) (time_of values c.event +ℤ h)
 latest_one values c cs h is rest = record {
   most = all_cons (IsMost values (time_of values c.event +ℤ h)) c cs (if_is c.range.high _ h is (omega (arith, ints))) rest;
@@ -111,7 +111,7 @@ has_latest values c (d ∷ cs) finite =
     latest_more values c (d ∷ cs) h value is latest
 
 -- some cause has an open high end, or all are finite
-is_some : (o : Option ℤ) (h : ℤ) → o ≡ Some h → IsSome o
+pub is_some : (o : Option ℤ) (h : ℤ) → o ≡ Some h → IsSome o
 is_some o h is = rw is refl
 
 open_or_finite : (cs : List Cause) → ((i : ℕ) × (c : Cause) × (i < length cs) × (slice_get cs i ≡ Some c) × (c.range.high ≡ None)) ⊎ All (λ (x : Cause). IsSome x.range.high) cs

@@ -30,7 +30,7 @@ pub counted_is : (f : Constraint → ℕ) (o : Option Constraint) (k : Constrain
 counted_is f o k count counted is = same_Some (f k) count (rw is at counted)
 
 -- an edge that is there is of a cause that a loop over the named causes, or over one, has seen
-cause_below : (net : Net) (number : ℕ) (name : EdgeName) (e : Edge) (count : ℕ) → IsNet net → name.constraint ≡ number → edge net name ≡ Some e
+pub cause_below : (net : Net) (number : ℕ) (name : EdgeName) (e : Edge) (count : ℕ) → IsNet net → name.constraint ≡ number → edge net name ≡ Some e
     → option_map cause_count_of (slice_get net.constraints number) ≡ Some count → name.cause < max count 1
 cause_below net number name e count is_net is_number is_edge counted =
     let (k, at_k, rest) = then_some _ (slice_get net.constraints name.constraint) e is_edge in

@@ -3,6 +3,8 @@ pub mod Kinds
 pub mod Gaps
 pub mod Derivation
 pub mod Turns
+pub mod Agenda
+pub mod Words
 pub mod Course
 pub mod Fallen
 pub mod Rays

@@ -12,6 +12,7 @@ use Rattle.falling.specs.declared.fault.FallFault.{FallFault}
 use Rattle.falling.specs.declared.fault.FallFault.TheVariants.{Mixed, NoMemory}
 use Rattle.falling.specs.declared.limits.Limits.{Limits}
 use Rattle.falling.specs.declared.line.FallLine.{FallLine}
+use Rattle.falling.specs.Agenda.{Agenda, IsAgendaFor}
 use Rattle.falling.specs.Cap.{enough_turns}
 use Rattle.falling.specs.Course.{AreLimits, IsSpent}
 use Rattle.falling.specs.Derivation.{IsDerivation, IsEnded}
@@ -19,11 +20,12 @@ use Rattle.falling.specs.Fallen.{Answers}
 use Rattle.falling.specs.Kinds.{IsFirstChoice, IsNegatable, IsPlain, negated, negated_times}
 
 -- what a solver is at: the negation that it solves, if the network is not plain, its limits, a number of turns that is enough,
--- the times, the ray, and the turns of the last answer
+-- its agenda, the times, the ray, and the turns of the last answer
 pub record Solving : Type 0 where
   pub negation : Option Net
   pub limits : Limits
   pub enough : ℕ
+  pub agenda : Agenda
   pub times : List ℤ
   pub ray : List Bool
   pub turns : ℕ
@@ -33,11 +35,17 @@ abbrev pub IsNegationOf : Net → Option Net → Type 0
 IsNegationOf net None = IsPlain net
 IsNegationOf net (Some negation) = (negation ≡ negated net) × IsNegatable net × (IsPlain net → ⊥)
 
+-- the network that is solved: the negation, where there is one
+abbrev pub solved : Net → Option Net → Net
+solved net None = net
+solved net (Some negation) = negation
+
 -- a solver made for a network
 pub record IsMadeFor (net : Net) (solving : Solving) : Type 0 where
   pub negation : IsNegationOf net solving.negation
   pub limits : AreLimits net solving.limits
   pub enough : solving.enough ≡ enough_turns net
+  pub agenda : IsAgendaFor (solved net solving.negation) solving.agenda
   pub times : length solving.times ≡ net.events
   pub ray : length solving.ray ≡ net.events
 

@@ -3,13 +3,14 @@
 ghost use Rattle.std.specs.Prelude.{◌≡◌, ◌<◌, ◌↔◌, ℤ, pos, List, [], ◌∷◌, set, replicate, IsTrue, OnOk, OnErr, IfOk, length};
 ghost use Rattle.itv_base.specs.Outside.{Rose};
 ghost use Rattle.falling.specs.declared.line.FallLine.{FallLine};
+ghost use Rattle.falling.specs.Agenda.{IsAgendaFor};
 ghost use Rattle.falling.specs.Course.{AreLimits, Ends, IsCourse};
 ghost use Rattle.falling.specs.Derivation.{IsDerivation, fallen};
 
+use crate::agenda::Agenda;
 use crate::limits::Limits;
 use crate::line::{FallLine, Reason};
 use crate::notes::{Notes, NotesFailed};
-use crate::turn::first_line;
 use event_graph::Network;
 use itv_base::EventId;
 
@@ -34,12 +35,14 @@ pub fn derive<N: Notes>(
     from: EventId,
     limits: Limits,
     turns: u64,
+    agenda: &mut Agenda,
     values: &mut [i64],
     notes: &mut N,
 ) -> Result<Descent, NotesFailed>
     requires from { from.0 < net.now.events }
     requires count { length values.old ≡ net.now.events }
     requires limits { AreLimits net.now limits }
+    requires agenda { IsAgendaFor net.now agenda.old }
     ensures lines { IfOk result (λ descent. (lines : List FallLine) × N.Grew notes.old lines notes.new
         × (length lines ≡ descent.turns)
         × IsCourse net.now from turns lines values.new descent.course) }
@@ -47,11 +50,13 @@ pub fn derive<N: Notes>(
         × (after : List ℤ) × IsDerivation net.now from lines after) }
     ensures rose { OnErr result (Rose (N.faults notes.old) (N.faults notes.new)) }
     ensures count { length values.new ≡ length values.old }
+    ensures agenda { IsAgendaFor net.now agenda.new }
 {
     prove!(net.events() as usize == values.len());
     start(values, from, limits);
+    agenda.begin();
     let mut taken: u64 = 0;
-    'turns: while let Some(line) = first_line(net, values) {
+    'turns: while let Some(line) = agenda.next_line(net, values) {
         if taken == turns {
             return Ok(Descent {
                 course: Course::Spent,
@@ -69,6 +74,7 @@ pub fn derive<N: Notes>(
                 turns: taken,
             });
         }
+        agenda.wake(line.event);
     }
     Ok(Descent {
         course: Course::Settled,

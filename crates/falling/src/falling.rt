@@ -4,13 +4,15 @@ ghost use Rattle.std.specs.Prelude.{◌≡◌, ◌<◌, ◌↔◌, ℤ, List, Al
 ghost use Rattle.itv_base.specs.Outside.{Rose};
 ghost use Rattle.event_graph.specs.Network.{Net};
 ghost use Rattle.falling.specs.declared.line.FallLine.{FallLine};
+ghost use Rattle.falling.specs.Agenda.{IsAgendaFor};
 ghost use Rattle.falling.specs.Cap.{enough_turns};
 ghost use Rattle.falling.specs.Course.{AreLimits};
 ghost use Rattle.falling.specs.Derivation.{IsDerivation};
 ghost use Rattle.falling.specs.Kinds.{IsNegatable, IsPlain, negated, negated_times};
-ghost use Rattle.falling.specs.Solving.{AnswersAs, AnswersByNegation, IsDerivationAs, IsFallFault, IsMadeFor, IsNegationOf};
+ghost use Rattle.falling.specs.Solving.{AnswersAs, AnswersByNegation, IsDerivationAs, IsFallFault, IsMadeFor, IsNegationOf, solved};
 ghost use Rattle.falling.specs.Turns.{IsNearValue};
 
+use crate::agenda::Agenda;
 use crate::answer::{Fallen, Told};
 use crate::fault::FallFault;
 use crate::greatest::greatest;
@@ -19,7 +21,7 @@ use crate::limits::{Limits, limits_of};
 use crate::negation::negation_of;
 use crate::notes::{Notes, NotesFailed};
 use event_graph::Network;
-use itv_base::{EventId, RuleKind};
+use itv_base::{EventId, NoMemory, RuleKind};
 use std::alloc::Global;
 use std::marker::Model;
 
@@ -32,6 +34,7 @@ pub struct Falling {
     negation: Option<Network>,
     limits: Limits,
     enough: u128,
+    agenda: Agenda,
     times: Vec<i64>,
     ray: Vec<bool>,
     turns: u64,
@@ -42,7 +45,7 @@ impl Model for Falling {
 
     ghost Value = { Solving };
 
-    ghost view = { λ f. record { negation = f.negation; limits = f.limits; enough = f.enough; times = f.times.items; ray = f.ray.items; turns = f.turns } };
+    ghost view = { λ f. record { negation = f.negation; limits = f.limits; enough = f.enough; agenda = f.agenda; times = f.times.items; ray = f.ray.items; turns = f.turns } };
 }
 
 impl Falling {
@@ -53,12 +56,14 @@ impl Falling {
         ensures fault { IfErr result (IsFallFault net.now) }
     {
         let negation = negation_for(alloc, net)?;
+        let agenda = agenda_for(alloc, net, &negation)?;
         let limits = limits_of(net);
         let count = net.events() as usize;
         Ok(Falling {
             negation,
             limits,
             enough: enough_for(net, limits),
+            agenda,
             times: vec![in alloc; 0; count]?,
             ray: vec![in alloc; false; count]?,
             turns: 0,
@@ -109,6 +114,7 @@ impl Falling {
             to,
             self.limits,
             turns,
+            &mut self.agenda,
             &mut self.times,
             &mut self.ray,
             notes,
@@ -164,6 +170,16 @@ fn negation_for(alloc: Global, net: &Network) -> Result<Option<Network>, FallFau
     }
 }
 
+// The agenda for the network that is solved.
+fn agenda_for(alloc: Global, net: &Network, negation: &Option<Network>) -> Result<Agenda, NoMemory>
+    ensures { IfOk result (IsAgendaFor (solved net.now negation.now)) }
+{
+    match negation {
+        None => Agenda::new(alloc, net),
+        Some(negation) => Agenda::new(alloc, negation),
+    }
+}
+
 // A number of turns in which every derivation ends or settles.
 fn enough_for(net: &Network, limits: Limits) -> u128
     requires limits { AreLimits net.now limits }
@@ -181,6 +197,7 @@ fn solve<N: Notes>(
     to: EventId,
     limits: Limits,
     turns: u64,
+    agenda: &mut Agenda,
     times: &mut [i64],
     ray: &mut [bool],
     notes: &mut N,
@@ -191,6 +208,7 @@ fn solve<N: Notes>(
     requires count { length times.old ≡ net.now.events }
     requires ray { length ray.old ≡ net.now.events }
     requires limits { AreLimits net.now limits }
+    requires agenda { IsAgendaFor (solved net.now negation.now) agenda.old }
     ensures lines { IfOk result (λ told. (lines : List FallLine) × N.Grew notes.old lines notes.new
         × (length lines ≡ told.turns)
         × AnswersAs negation.now net.now from to turns lines times.new ray.new told.fallen) }
@@ -199,11 +217,14 @@ fn solve<N: Notes>(
     ensures rose { OnErr result (Rose (N.faults notes.old) (N.faults notes.new)) }
     ensures times { length times.new ≡ length times.old }
     ensures ray { length ray.new ≡ length ray.old }
+    ensures agenda { IsAgendaFor (solved net.now negation.now) agenda.new }
 {
     match negation {
-        None => greatest(net, from, to, limits, turns, times, ray, notes),
+        None => greatest(net, from, to, limits, turns, agenda, times, ray, notes),
         Some(negation) => {
-            greatest_by_negation(net, negation, from, to, limits, turns, times, ray, notes)
+            greatest_by_negation(
+                net, negation, from, to, limits, turns, agenda, times, ray, notes,
+            )
         }
     }
 }
@@ -216,6 +237,7 @@ fn greatest_by_negation<N: Notes>(
     to: EventId,
     limits: Limits,
     turns: u64,
+    agenda: &mut Agenda,
     times: &mut [i64],
     ray: &mut [bool],
     notes: &mut N,
@@ -227,6 +249,7 @@ fn greatest_by_negation<N: Notes>(
     requires count { length times.old ≡ net.now.events }
     requires ray { length ray.old ≡ net.now.events }
     requires limits { AreLimits net.now limits }
+    requires agenda { IsAgendaFor negation.now agenda.old }
     ensures lines { IfOk result (λ told. (lines : List FallLine) × N.Grew notes.old lines notes.new
         × (length lines ≡ told.turns)
         × AnswersByNegation net.now from to turns lines times.new ray.new told.fallen) }
@@ -235,10 +258,11 @@ fn greatest_by_negation<N: Notes>(
     ensures rose { OnErr result (Rose (N.faults notes.old) (N.faults notes.new)) }
     ensures times { length times.new ≡ length times.old }
     ensures ray { length ray.new ≡ length ray.old }
+    ensures agenda { IsAgendaFor negation.now agenda.new }
 {
     let events = net.events();
     prove!(negation.events() == events);
-    let told = match greatest(negation, to, from, limits, turns, times, ray, notes) {
+    let told = match greatest(negation, to, from, limits, turns, agenda, times, ray, notes) {
         Ok(told) => told,
         Err(failed) => return Err(failed),
     };

@@ -1,9 +1,9 @@
 //! A gap among values.
 
-ghost use Rattle.std.specs.Prelude.{◌≡◌, ◌*◌, ◌^◌, ◌⊎◌, pos, ◌+ℤ◌, ◌≤ℤ◌, ◌<ℤ◌, length};
+ghost use Rattle.std.specs.Prelude.{◌≡◌, ◌*◌, ◌^◌, ◌⊎◌, ◌<◌, pos, ◌+ℤ◌, ◌≤ℤ◌, length};
 ghost use Rattle.falling.specs.Cap.{widest_end};
 ghost use Rattle.falling.specs.Course.{AreLimits};
-ghost use Rattle.falling.specs.Rays.{IsGapAt, IsReached};
+ghost use Rattle.falling.specs.Rays.{IsClimbed, IsGapAt, IsStepTo, above};
 
 use crate::limits::Limits;
 use event_graph::Network;
@@ -15,7 +15,7 @@ pub struct Level {
 }
 
 /// A level that no value is beyond by at most the widest end. It is reached from 0 in steps of at most that
-/// width, each to a value.
+/// width, each to a value, by passes over the values.
 pub fn gap_level(net: &Network, values: &[i64], limits: Limits) -> Level
     requires limits { AreLimits net.now limits }
     requires count { length values.now ≡ net.now.events }
@@ -24,8 +24,8 @@ pub fn gap_level(net: &Network, values: &[i64], limits: Limits) -> Level
     ensures high { result.value ≤ℤ pos (net.now.events * widest_end net.now) }
 {
     let mut level = Level { value: 0 };
-    'steps: loop {
-        let next = reach(values, level, limits);
+    'passes: loop {
+        let next = climb(net, values, level, limits);
         if next.value == level.value {
             return level;
         }
@@ -33,18 +33,19 @@ pub fn gap_level(net: &Network, values: &[i64], limits: Limits) -> Level
     }
 }
 
-// The greatest value that is beyond a level by at most a width, or the level itself where there is none.
-fn reach(values: &[i64], level: Level, limits: Limits) -> Level
-    requires low { pos 0 ≤ℤ level.value }
-    requires high { level.value ≤ℤ pos (2 ^ 60) }
-    requires width_low { pos 0 ≤ℤ limits.width }
-    requires width { limits.width ≤ℤ pos (2 ^ 60) }
-    ensures { IsReached limits.width level.value values.now result.value }
+// The level after a pass over the values, in which each becomes the level that is beyond it by at most the width.
+fn climb(net: &Network, values: &[i64], level: Level, limits: Limits) -> Level
+    requires limits { AreLimits net.now limits }
+    requires count { length values.now ≡ net.now.events }
+    requires climbed { IsClimbed net.now values.now level.value }
+    ensures climbed { IsClimbed net.now values.now result.value }
+    ensures fewer { (result.value ≡ level.value)
+        ⊎ (above result.value values.now < above level.value values.now) }
+    ensures gap { result.value ≡ level.value → IsGapAt limits.width level.value values.now }
 {
-    let most = widened(level, limits);
     let mut best = level;
     for value in values {
-        best = nearer(best, Level { value: *value }, most);
+        best = step(best, widened(best, limits), Level { value: *value });
     }
     best
 }
@@ -62,17 +63,15 @@ fn widened(level: Level, limits: Limits) -> Level
     }
 }
 
-// The other level, where it is beyond the best one and at most the greatest that is allowed.
-fn nearer(best: Level, other: Level, most: Level) -> Level
-    requires { best.value ≤ℤ most.value }
-    ensures least { best.value ≤ℤ result.value }
-    ensures most { result.value ≤ℤ most.value }
-    ensures either { (result.value ≡ best.value) ⊎ (result.value ≡ other.value) }
-    ensures beyond { (other.value ≤ℤ result.value) ⊎ (most.value <ℤ other.value) }
+// The other level, where it is beyond the first and at most the greatest that is allowed, or else the first.
+fn step(level: Level, most: Level, other: Level) -> Level
+    ensures { IsStepTo level.value most.value other.value result.value }
 {
-    if best.value < other.value && other.value <= most.value {
-        other
-    } else {
-        best
+    if other.value <= level.value {
+        return level;
     }
+    if most.value < other.value {
+        return level;
+    }
+    other
 }

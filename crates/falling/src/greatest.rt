@@ -6,12 +6,14 @@ ghost use Rattle.itv_base.specs.Outside.{Rose};
 ghost use Rattle.event_graph.specs.Times.{time_of};
 ghost use Rattle.falling.specs.declared.answer.Fallen.TheVariants.{Closed};
 ghost use Rattle.falling.specs.declared.line.FallLine.{FallLine};
+ghost use Rattle.falling.specs.Agenda.{IsAgendaFor};
 ghost use Rattle.falling.specs.Course.{AreLimits, HasSettled};
 ghost use Rattle.falling.specs.Derivation.{IsDerivation};
 ghost use Rattle.falling.specs.Fallen.{Answers};
 ghost use Rattle.falling.specs.Kinds.{IsPlain};
 ghost use Rattle.falling.specs.Rays.{HaveAbove};
 
+use crate::agenda::Agenda;
 use crate::answer::{Fallen, Told};
 use crate::course::{Course, derive};
 use crate::gap::{Level, gap_level};
@@ -28,6 +30,7 @@ pub fn greatest<N: Notes>(
     to: EventId,
     limits: Limits,
     turns: u64,
+    agenda: &mut Agenda,
     values: &mut [i64],
     ray: &mut [bool],
     notes: &mut N,
@@ -38,6 +41,7 @@ pub fn greatest<N: Notes>(
     requires count { length values.old ≡ net.now.events }
     requires ray { length ray.old ≡ net.now.events }
     requires limits { AreLimits net.now limits }
+    requires agenda { IsAgendaFor net.now agenda.old }
     ensures lines { IfOk result (λ told. (lines : List FallLine) × N.Grew notes.old lines notes.new
         × (length lines ≡ told.turns)
         × Answers net.now from to turns lines values.new ray.new told.fallen) }
@@ -46,9 +50,10 @@ pub fn greatest<N: Notes>(
     ensures rose { OnErr result (Rose (N.faults notes.old) (N.faults notes.new)) }
     ensures values { length values.new ≡ length values.old }
     ensures ray { length ray.new ≡ length ray.old }
+    ensures agenda { IsAgendaFor net.now agenda.new }
 {
     prove!(net.events() as usize == values.len());
-    let descent = match derive(net, from, limits, turns, values, notes) {
+    let descent = match derive(net, from, limits, turns, agenda, values, notes) {
         Ok(descent) => descent,
         Err(failed) => return Err(failed),
     };

@@ -6,12 +6,14 @@
 //! [`FallChecker`] takes a line exactly where a derivation allows it.
 #![tactic(auto)]
 
+mod agenda;
 mod answer;
 mod check;
 mod checker;
 mod course;
 mod falling;
 mod fault;
+mod followers;
 mod gap;
 mod greatest;
 mod kinds;
@@ -20,6 +22,7 @@ mod limits;
 mod line;
 mod negation;
 mod notes;
+mod pending;
 #[cfg(test)]
 mod tests;
 mod turn;

@@ -3,27 +3,39 @@
 ghost use Rattle.std.specs.Prelude.{◌≡◌, ◌<◌, ◌⊎◌, ◌+ℤ◌, ◌≤ℤ◌, All, IsSome, Some, IfSome, IfNone, length, option_map};
 ghost use Rattle.itv_base.specs.Range.{IsEnd};
 ghost use Rattle.itv_base.specs.declared.names.RuleKind.TheVariants as RuleKind;
+ghost use Rattle.itv_base.specs.declared.names.Side.TheVariants as Side;
 ghost use Rattle.event_graph.specs.Network.{IsNet, cause_at};
 ghost use Rattle.falling.specs.declared.line.Reason.TheVariants.{ByEdge, ByLatest};
+ghost use Rattle.falling.specs.Agenda.{AreOthersTried};
 ghost use Rattle.falling.specs.Derivation.{IsAllowed, IsSettled};
-ghost use Rattle.falling.specs.Turns.{HasOpenHigh, IsConstraintTried, IsHighOf, IsKind, IsLatestValue, IsNearValue, IsSideTried, IsTried};
+ghost use Rattle.falling.specs.Turns.{HasOpenHigh, HoldsSide, IsConstraintTried, IsHighOf, IsKind, IsFirstOf, IsFirstOnSide, IsLatestValue, IsNearValue, IsSideTried, IsTried, IsTurnLine};
 
 use crate::line::{FallLine, Reason};
+use crate::pending::Pending;
 use event_graph::Network;
 use itv_base::{EdgeName, RuleKind, Side};
 
-/// The line of the constraint of least number that allows one.
-pub fn first_line(net: &Network, values: &[i64]) -> Option<FallLine>
+/// The first line of the constraint of least number that allows one, where a constraint without a flag allows none.
+/// Each that is looked at in vain loses its flag.
+pub fn next_line(net: &Network, values: &[i64], pending: &mut Pending) -> Option<FallLine>
     requires count { length values.now ≡ net.now.events }
     requires near { All IsNearValue values.now }
+    requires tried { AreOthersTried net.now values.now pending.old }
     ensures line { IfSome result (IsAllowed net.now values.now) }
+    ensures turn { IfSome result (IsTurnLine net.now values.now) }
     ensures none { IfNone result (IsSettled net.now values.now) }
+    ensures flags { length pending.new ≡ length pending.old }
+    ensures tried { AreOthersTried net.now values.now pending.new }
 {
     prove!(net.events() as usize == values.len());
-    for number in 0..net.len() {
+    'looks: while let Some(number) = pending.first() {
+        if net.len() <= number {
+            return None;
+        }
         if let Some(line) = constraint_line(net, number, values) {
             return Some(line);
         }
+        pending.remove(number);
     }
     None
 }
@@ -35,6 +47,7 @@ fn constraint_line(net: &Network, number: u32, values: &[i64]) -> Option<FallLin
     requires count { length values.now ≡ net.now.events }
     requires near { All IsNearValue values.now }
     ensures line { IfSome result (IsAllowed net.now values.now) }
+    ensures first { IfSome result (IsFirstOf net.now values.now number) }
     ensures none { IfNone result (IsConstraintTried net.now values.now number) }
 {
     match net.kind(number) {
@@ -52,6 +65,7 @@ fn linear_line(net: &Network, number: u32, values: &[i64]) -> Option<FallLine>
     requires count { length values.now ≡ net.now.events }
     requires near { All IsNearValue values.now }
     ensures line { IfSome result (IsAllowed net.now values.now) }
+    ensures first { IfSome result (IsFirstOf net.now values.now number) }
     ensures none { IfNone result (IsConstraintTried net.now values.now number) }
 {
     if let Some(line) = side_line(net, number, Side::Upper, values) {
@@ -60,7 +74,7 @@ fn linear_line(net: &Network, number: u32, values: &[i64]) -> Option<FallLine>
     side_line(net, number, Side::Lower, values)
 }
 
-// The line of an earliest constraint: the lower side comes first.
+// The line of an earliest constraint: the lower side of a single cause comes first.
 fn early_line(net: &Network, number: u32, values: &[i64]) -> Option<FallLine>
     requires net { IsNet net.now }
     requires number { number < length net.now.constraints }
@@ -68,15 +82,33 @@ fn early_line(net: &Network, number: u32, values: &[i64]) -> Option<FallLine>
     requires count { length values.now ≡ net.now.events }
     requires near { All IsNearValue values.now }
     ensures line { IfSome result (IsAllowed net.now values.now) }
+    ensures first { IfSome result (IsFirstOf net.now values.now number) }
     ensures none { IfNone result (IsConstraintTried net.now values.now number) }
 {
-    if let Some(line) = side_line(net, number, Side::Lower, values) {
+    if let Some(line) = single_line(net, number, values) {
         return Some(line);
     }
     side_line(net, number, Side::Upper, values)
 }
 
-// The line of a latest constraint: the lower sides come first. The upper sides come last; they lower nothing
+// The line by the lower side of an earliest constraint, which is always met where there is a single cause.
+fn single_line(net: &Network, number: u32, values: &[i64]) -> Option<FallLine>
+    requires net { IsNet net.now }
+    requires number { number < length net.now.constraints }
+    requires kind { IsKind net.now number RuleKind.Early }
+    requires count { length values.now ≡ net.now.events }
+    requires near { All IsNearValue values.now }
+    ensures line { IfSome result (IsAllowed net.now values.now) }
+    ensures first { IfSome result (IsFirstOnSide net.now values.now number Side.Lower) }
+    ensures none { IfNone result (IsSideTried net.now values.now number Side.Lower) }
+{
+    if net.cause_count(number) != 1 {
+        return None;
+    }
+    side_line(net, number, Side::Lower, values)
+}
+
+// The line of a latest constraint: the lower sides come first. The upper side of a single cause lowers nothing
 // that the latest line does not.
 fn late_line(net: &Network, number: u32, values: &[i64]) -> Option<FallLine>
     requires net { IsNet net.now }
@@ -85,15 +117,13 @@ fn late_line(net: &Network, number: u32, values: &[i64]) -> Option<FallLine>
     requires count { length values.now ≡ net.now.events }
     requires near { All IsNearValue values.now }
     ensures line { IfSome result (IsAllowed net.now values.now) }
+    ensures first { IfSome result (IsFirstOf net.now values.now number) }
     ensures none { IfNone result (IsConstraintTried net.now values.now number) }
 {
     if let Some(line) = side_line(net, number, Side::Lower, values) {
         return Some(line);
     }
-    if let Some(line) = latest_line(net, number, values) {
-        return Some(line);
-    }
-    side_line(net, number, Side::Upper, values)
+    latest_line(net, number, values)
 }
 
 // The first line by an edge of a constraint on a side.
@@ -102,7 +132,9 @@ fn side_line(net: &Network, number: u32, side: Side, values: &[i64]) -> Option<F
     requires number { number < length net.now.constraints }
     requires count { length values.now ≡ net.now.events }
     requires near { All IsNearValue values.now }
+    requires always { HoldsSide net.now number side }
     ensures line { IfSome result (IsAllowed net.now values.now) }
+    ensures first { IfSome result (IsFirstOnSide net.now values.now number side) }
     ensures none { IfNone result (IsSideTried net.now values.now number side) }
 {
     let count = net.cause_count(number);
@@ -119,16 +151,15 @@ fn side_line(net: &Network, number: u32, side: Side, values: &[i64]) -> Option<F
     None
 }
 
-// The line by an edge, if it is an always-edge that lowers its to-event.
+// The line by an edge on a side that is always met, if it is there and lowers its to-event.
 fn edge_line(net: &Network, name: EdgeName, values: &[i64]) -> Option<FallLine>
     requires count { length values.now ≡ net.now.events }
     requires near { All IsNearValue values.now }
+    requires always { HoldsSide net.now name.constraint name.side }
     ensures line { IfSome result (IsAllowed net.now values.now) }
+    ensures reason { IfSome result (λ line. line.reason ≡ ByEdge name) }
     ensures none { IfNone result (IsTried net.now values.now (ByEdge name)) }
 {
-    if !net.is_always(name) {
-        return None;
-    }
     let edge = net.edge(name)?;
     let value = moved(values[edge.from.0 as usize], edge.weight);
     if value < values[edge.to.0 as usize] {
@@ -150,6 +181,7 @@ fn latest_line(net: &Network, number: u32, values: &[i64]) -> Option<FallLine>
     requires count { length values.now ≡ net.now.events }
     requires near { All IsNearValue values.now }
     ensures line { IfSome result (IsAllowed net.now values.now) }
+    ensures reason { IfSome result (λ line. line.reason ≡ ByLatest number) }
     ensures none { IfNone result (IsTried net.now values.now (ByLatest number)) }
 {
     let due = latest_value(net, number, values)?;

@@ -1,19 +1,25 @@
 -- The jobs: what each reads, what it answers, and what it may have begun to write.
-use Rattle.std.specs.Prelude.{ℕ, nat_lt, if◌then◌else◌, Bool, true, false, List, codes}
+use Rattle.std.specs.Prelude.{ℕ, nat_lt, if◌then◌else◌, Bool, true, false, List, Option, option_and_then, option_map, codes}
+use Rattle.std.specs.Option.{option_map_or}
 use Rattle.itv_base.specs.declared.limits.TheConstants.{MAX_MATRIX_EVENTS, REPORT_LIMIT}
 use Rattle.itv_base.specs.Outside.{Files}
+use Rattle.itv_base.specs.declared.names.RuleKind.TheVariants.{Late, Early}
 use Rattle.design_gen.specs.Files.{AreFiles, design_files}
+use Rattle.event_graph.specs.Network.{Net}
 use Rattle.job_answer.specs.declared.answer.Answer.{Answer}
 use Rattle.unroll.specs.Drawn.{Drawn}
 use Rattle.unroll.specs.Reported.{reported}
 use Rattle.unroll.specs.declared.fault.UnrollFault.TheVariants.{TooMany}
 use Rattle.unroll.specs.declared.limit.Limit.TheVariants.{MatrixEvents}
 use Rattle.reading.specs.declared.place.Place.TheVariants.{Design, Report}
-use Rattle.reading.specs.declared.refusal.Refusal.TheVariants.{Limits}
+use Rattle.reading.specs.declared.refusal.Refusal.{Refusal}
+use Rattle.reading.specs.declared.refusal.Refusal.TheVariants.{Limits, Mixed}
 use Rattle.reading.specs.Design.{design_at}
 use Rattle.reading.specs.Opening.{Opening, gives, refuses, ◌>>=◌, file_at}
-use Rattle.words.specs.Task.{Task, bounds, matrix, check, generated}
+use Rattle.words.specs.Task.{Task, bounds, fall, matrix, check, generated}
 use Rattle.bounds_report.specs.Reports.{BeginsReport}
+use Rattle.fall_report.specs.Fall.{AnswersFall, BeginsFall}
+use Rattle.fall_report.specs.Kinds.{first_choice}
 use Rattle.matrix_report.specs.Matrix.{AnswersMatrix, BeginsMatrix}
 use Rattle.report_check.specs.Check.{AnswersCheck, BeginsCheck}
 use Rattle.summary_report.specs.Summary.{AnswersSummary, BeginsSummary}
@@ -27,10 +33,21 @@ use Rattle.itv_cli.specs.declared.ready.Ready.TheVariants as ready
 abbrev pub matrix_at : Drawn → Opening Ready
 matrix_at drawn = if nat_lt MAX_MATRIX_EVENTS drawn.net.events then refuses Design (Limits (TooMany MatrixEvents drawn.net.events)) else gives (ready.Matrix drawn)
 
+-- the refusal of choices of both kinds: the first latest constraint with two or more causes, and the first such earliest one
+abbrev pub mixed_in : Net → Option Refusal
+mixed_in net = option_and_then (λ late. option_map (Mixed late) (first_choice Early net)) (first_choice Late net)
+
+-- a drawn network for falling values, which is refused where it has choices of both kinds
+abbrev pub fall_at : ℕ → Bool → Drawn → Opening Ready
+fall_at budget cert drawn = option_map_or (refuses Design) (mixed_in drawn.net) (gives (ready.Fall drawn budget cert))
+
 abbrev pub opening : Task → Opening Ready
 opening (bounds design budget cert) = do
   drawn ← design_at design
   gives (ready.Bounds drawn budget cert)
+opening (fall design budget cert) = do
+  drawn ← design_at design
+  fall_at budget cert drawn
 opening (matrix design) = do
   drawn ← design_at design
   matrix_at drawn
@@ -45,6 +62,7 @@ opening (generated size budget) = do
 -- whether the files of a task are made for it, and not those of the shelf
 abbrev pub is_made : Task → Bool
 is_made (bounds design budget cert) = false
+is_made (fall design budget cert) = false
 is_made (matrix design) = false
 is_made (check design report) = false
 is_made (generated size budget) = true
@@ -52,6 +70,7 @@ is_made (generated size budget) = true
 -- these files are made for a task
 abbrev pub AreMade : Task → Files → Type 0
 AreMade (bounds design budget cert) files = ⊥
+AreMade (fall design budget cert) files = ⊥
 AreMade (matrix design) files = ⊥
 AreMade (check design report) files = ⊥
 AreMade (generated size budget) files = AreFiles files (design_files size)
@@ -60,6 +79,7 @@ AreMade (generated size budget) files = AreFiles files (design_files size)
 
 abbrev pub Answers : Ready → Answer → List ℕ → Type 0
 Answers (ready.Bounds drawn budget cert) answer text = AnswersBounds drawn budget cert answer text
+Answers (ready.Fall drawn budget cert) answer text = AnswersFall (reported drawn) budget cert answer text
 Answers (ready.Matrix drawn) answer text = AnswersMatrix (reported drawn) answer text
 Answers (ready.Check drawn report) answer text = AnswersCheck (reported drawn) report answer text
 Answers (ready.Generated drawn size budget) answer text = AnswersSummary (reported drawn) size budget answer text × DecidesWithin drawn budget answer
@@ -67,6 +87,7 @@ Answers (ready.Generated drawn size budget) answer text = AnswersSummary (report
 -- what it may have begun to write
 abbrev pub Begins : Ready → List ℕ → Type 0
 Begins (ready.Bounds drawn budget cert) text = BeginsReport (reported drawn) budget cert text
+Begins (ready.Fall drawn budget cert) text = BeginsFall (reported drawn) budget cert text
 Begins (ready.Matrix drawn) text = BeginsMatrix (reported drawn) text
 Begins (ready.Check drawn report) text = BeginsCheck (reported drawn) report text
 Begins (ready.Generated drawn size budget) text = BeginsSummary (reported drawn) size budget text

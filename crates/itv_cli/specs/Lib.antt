@@ -9,6 +9,7 @@ pub use Rattle.reading.specs.Refusal
 pub use Rattle.reading.specs.Opening
 pub use Rattle.reading.specs.Design
 pub use Rattle.bounds_report.specs.Reports
+pub use Rattle.fall_report.specs.Fall
 pub use Rattle.matrix_report.specs.Matrix
 pub use Rattle.report_check.specs.Check
 pub use Rattle.summary_report.specs.Summary

@@ -2,6 +2,7 @@
 use Rattle.std.specs.Prelude.{◌≡◌, ◌≤◌, ◌⊎◌, ℕ, ⊤, List, length, Result, Ok, Err}
 use Rattle.itv_base.specs.declared.limits.TheConstants.{MAX_MATRIX_EVENTS, MAX_ROWS}
 use Rattle.itv_base.specs.Outside.{ShelfTold, SinkTold, grown, CutShort}
+use Rattle.falling.specs.Kinds.{IsNegatable, IsPlain}
 use Rattle.job_answer.specs.declared.answer.Answer.{Answer}
 use Rattle.job_answer.specs.declared.unanswered.Unanswered.{Unanswered}
 use Rattle.job_answer.specs.declared.unanswered.Unanswered.TheVariants as unanswered
@@ -25,6 +26,7 @@ IsBoundable drawn budget = IsBudget budget × (length drawn.rows ≤ MAX_ROWS)
 -- what a job may be given
 abbrev pub IsAllowed : Ready → Type 0
 IsAllowed (given.Bounds drawn budget cert) = IsBoundable drawn budget
+IsAllowed (given.Fall drawn budget cert) = (IsPlain drawn.net ⊎ IsNegatable drawn.net) × (length drawn.rows ≤ MAX_ROWS)
 IsAllowed (given.Matrix drawn) = drawn.net.events ≤ MAX_MATRIX_EVENTS
 IsAllowed (given.Check drawn report) = Unit {0}
 IsAllowed (given.Generated drawn size budget) = IsBoundable drawn budget

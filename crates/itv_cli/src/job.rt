@@ -9,6 +9,7 @@ ghost use Rattle.itv_cli.specs.Step.{IsAllowed, IsBoundable};
 
 use crate::ready::Ready;
 use bounds_report::write_bounds;
+use fall_report::write_fall;
 use itv_base::Sink;
 use job_answer::{Answer, Unanswered};
 use matrix_report::write_matrix;
@@ -28,6 +29,11 @@ pub fn answer<K: Sink>(alloc: Global, given: &Ready, sink: &mut K) -> Result<Ans
             budget,
             cert,
         } => answer_bounds(alloc, drawn, *budget, *cert, sink),
+        Ready::Fall {
+            drawn,
+            budget,
+            cert,
+        } => write_fall(alloc, drawn, *budget, *cert, sink),
         Ready::Matrix { drawn } => write_matrix(alloc, drawn, sink),
         Ready::Check { drawn, report } => answer_check(alloc, drawn, report.as_slice(), sink),
         Ready::Generated {

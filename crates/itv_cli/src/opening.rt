@@ -1,17 +1,21 @@
 //! What each job reads before it writes.
 
-ghost use Rattle.std.specs.Prelude.{◌≡◌, ◌≤◌, IfOk, codes};
+ghost use Rattle.std.specs.Prelude.{◌≡◌, ◌≤◌, ◌⊎◌, IfNone, IfOk, codes, length};
 ghost use Rattle.design_gen.specs.Files.{IsSize};
+ghost use Rattle.falling.specs.Kinds.{IsNegatable, IsPlain};
+ghost use Rattle.itv_base.specs.declared.limits.TheConstants.{MAX_ROWS};
 ghost use Rattle.reading.specs.Step.{Opens, Reads};
 ghost use Rattle.words.specs.Task.{IsBudget, IsWithinLimits};
 ghost use Rattle.words.specs.Task as said;
 ghost use Rattle.words.specs.View.{task_view};
-ghost use Rattle.itv_cli.specs.Job.{matrix_at, opening};
+ghost use Rattle.itv_cli.specs.Job.{fall_at, matrix_at, mixed_in, opening};
 ghost use Rattle.itv_cli.specs.Step.{IsAllowed, OpensFor, OpensMade};
 
 use crate::ready::Ready;
 use design_gen::{GenFault, make};
-use itv_base::{MAX_MATRIX_EVENTS, REPORT_LIMIT, Shelf};
+use event_graph::Network;
+use fall_report::first_choice;
+use itv_base::{MAX_MATRIX_EVENTS, REPORT_LIMIT, RuleKind, Shelf};
 use reading::{Place, Refusal, Stop, fetch_file, open_design};
 use std::alloc::Global;
 use unroll::{Limit, UnrollFault, Unrolled};
@@ -30,6 +34,11 @@ pub fn open<H: Shelf>(alloc: Global, task: Task<'_>, shelf: &mut H) -> Result<Re
             budget,
             cert,
         } => open_bounds(alloc, design, budget, cert, shelf),
+        Task::Fall {
+            design,
+            budget,
+            cert,
+        } => open_fall(alloc, design, budget, cert, shelf),
         Task::Matrix { design } => open_matrix(alloc, design, shelf),
         Task::Check { design, report } => open_check(alloc, design, report, shelf),
         Task::Generated { size, budget } => open_generated(alloc, size, budget),
@@ -55,6 +64,48 @@ fn open_bounds<H: Shelf>(
         budget,
         cert,
     })
+}
+
+// What job fall reads.
+fn open_fall<H: Shelf>(
+    alloc: Global,
+    design: &str,
+    budget: u64,
+    cert: bool,
+    shelf: &mut H,
+) -> Result<Ready, Stop>
+    ensures opens { Opens (λ given. given) (H.told shelf.old) (H.told shelf.new)
+        (opening (said.fall design.now budget cert)) result }
+    ensures allowed { IfOk result IsAllowed }
+{
+    let drawn = open_design(alloc, design, shelf)?;
+    for_fall(drawn, budget, cert)
+}
+
+// A drawn network whose choices are all of one kind.
+fn for_fall(drawn: Unrolled, budget: u64, cert: bool) -> Result<Ready, Stop>
+    requires rows { length drawn.rows ≤ MAX_ROWS }
+    ensures reads { Reads (λ given. given) (fall_at budget cert drawn) result }
+    ensures allowed { IfOk result IsAllowed }
+{
+    match mixed_in(drawn.network()) {
+        Some(why) => Err(Stop::Refused(Place::Design, why)),
+        None => Ok(Ready::Fall {
+            drawn,
+            budget,
+            cert,
+        }),
+    }
+}
+
+// The refusal of a network with choices of both kinds.
+fn mixed_in(net: &Network) -> Option<Refusal>
+    ensures mixed { result ≡ mixed_in net.now }
+    ensures kinds { IfNone result (IsPlain net.now ⊎ IsNegatable net.now) }
+{
+    let late = first_choice(net, RuleKind::Late)?;
+    let early = first_choice(net, RuleKind::Early)?;
+    Some(Refusal::Mixed(late, early))
 }
 
 // What job matrix reads.

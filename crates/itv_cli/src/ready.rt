@@ -12,6 +12,13 @@ pub enum Ready {
         budget: u64,
         cert: bool,
     },
+    /// To bound the rows of a drawn network whose choices are all of one kind by falling values: the lines that each derivation may
+    /// have, and whether they are written.
+    Fall {
+        drawn: Unrolled,
+        budget: u64,
+        cert: bool,
+    },
     /// To print the matrix of a drawn network.
     Matrix {
         drawn: Unrolled,

@@ -20,9 +20,9 @@ use words::{Answer as Words, Task, read_words};
 /// Does what the words ask for: reads the files of a job, and writes what it answers.
 ///
 /// The words name a job and a design. The files of the design are fetched, each once, and what they draw is unrolled; the first
-/// refusal ends the run with its line, and a file that can't be read with another. Then the job writes its report, its matrix,
-/// whether a report is right, or a summary. Bad words get a line of their own, and the wish for help the text of help. All memory
-/// is taken before the first put, and after a put that failed nothing more is put.
+/// refusal ends the run with its line, and a file that can't be read with another. Then the job writes its report, its bounds, its
+/// matrix, whether a report is right, or a summary. Bad words get a line of their own, and the wish for help the text of help. All
+/// memory is taken before the first put, and after a put that failed nothing more is put.
 ///
 /// Want of memory may come in place of any end, and nothing is written then.
 pub fn run<H: Shelf, K: Sink>(alloc: Global, words: &Texts, shelf: &mut H, sink: &mut K) -> Outcome

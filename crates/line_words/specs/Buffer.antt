@@ -1,6 +1,6 @@
 -- What a buffer for a line has gathered.
-use Rattle.std.specs.Prelude.{ℕ, List, Some}
-use Rattle.itv_base.specs.Outside.{SinkTold}
+use Rattle.std.specs.Prelude.{ℕ, ◌+◌, Bool, nat_le, if◌then◌else◌, List, ◌++◌, length, Some}
+use Rattle.itv_base.specs.Outside.{SinkTold, raised}
 
 -- the bytes, how many there may be, and how often a piece did not fit
 pub record Gathered : Type 0 where
@@ -10,3 +10,11 @@ pub record Gathered : Type 0 where
 
 abbrev pub buffer_told : Gathered → SinkTold
 buffer_told b = record { written = Some b.bytes; faults = b.faults }
+
+-- a piece fits beside the bytes
+abbrev pub fits : Gathered → List ℕ → Bool
+fits b piece = nat_le (length b.bytes + length piece) b.room
+
+-- what a put leaves: the bytes with the piece where it fits, and else the same bytes and one fault more
+abbrev pub after_put : Gathered → List ℕ → Gathered
+after_put b piece = if fits b piece then record b { bytes = b.bytes ++ piece } else record b { faults = raised b.faults }

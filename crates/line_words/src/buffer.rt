@@ -1,8 +1,8 @@
 //! A line that is gathered before it is put.
 
-ghost use Rattle.std.specs.Prelude.{◌≡◌, [], IfOk};
+ghost use Rattle.std.specs.Prelude.{◌≡◌, [], IfOk, is_ok};
 ghost use Rattle.itv_base.specs.Outside.{Puts};
-ghost use Rattle.line_words.specs.Buffer.{buffer_told};
+ghost use Rattle.line_words.specs.Buffer.{after_put, buffer_told, fits};
 
 use itv_base::{NoMemory, PutFailed, Sink};
 use std::alloc::Global;
@@ -61,6 +61,8 @@ impl Sink for LineBuffer {
 
     fn put(&mut self, piece: &[u8]) -> Result<(), PutFailed>
         ensures puts { Puts (buffer_told self.old) (buffer_told self.new) piece.now result }
+        ensures exact { self.new ≡ after_put self.old piece.now }
+        ensures answer { is_ok result ≡ fits self.old piece.now }
     {
         if self.room - self.bytes.len() < piece.len() {
             self.faults = self.faults.saturating_add(1);

@@ -6,4 +6,5 @@
 mod lines;
 mod write;
 
+pub use lines::put_events;
 pub use write::write_matrix;

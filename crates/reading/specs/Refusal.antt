@@ -20,7 +20,7 @@ use Rattle.unroll.specs.declared.fault.UnrollFault.{UnrollFault}
 use Rattle.unroll.specs.declared.fault.UnrollFault.TheVariants as unroll
 use Rattle.reading.specs.declared.place.Place.{Place}
 use Rattle.reading.specs.declared.refusal.Refusal.{Refusal}
-use Rattle.reading.specs.declared.refusal.Refusal.TheVariants.{TooLong, NotJson, Diagram, Sheet, Netlist, Joins, Limits}
+use Rattle.reading.specs.declared.refusal.Refusal.TheVariants.{TooLong, NotJson, Diagram, Sheet, Netlist, Joins, Limits, Mixed}
 use Rattle.reading.specs.Place.{place_text}
 
 -- A fault is its name, and then what it keeps, each behind a space: a number in decimal, a mark as its character, and a fault within
@@ -120,6 +120,7 @@ fault_parts (Sheet fault) = sheet_fault_parts fault
 fault_parts (Netlist fault) = netlist_fault_parts fault
 fault_parts (Joins fault) = join_fault_parts fault
 fault_parts (Limits fault) = limit_fault_parts fault
+fault_parts (Mixed late early) = two_numbers (codes "Mixed") late early
 
 -- the end of the line of a refusal
 unfoldable pub why_text : Refusal → List ℕ

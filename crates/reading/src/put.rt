@@ -79,6 +79,9 @@ fn put_fault<K: Sink>(why: Refusal, sink: &mut K) -> Result<(), PutFailed>
         Refusal::Netlist(fault) => put_netlist_fault(fault, sink),
         Refusal::Joins(fault) => put_join_fault(fault, sink),
         Refusal::Limits(fault) => put_limit_fault(fault, sink),
+        Refusal::Mixed(late, early) => {
+            put_two_numbers(b"Mixed", u64::from(late), u64::from(early), sink)
+        }
     }
 }
 

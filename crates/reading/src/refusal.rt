@@ -23,4 +23,7 @@ pub enum Refusal {
     Joins(JoinFault),
     /// The design draws more than a limit allows.
     Limits(UnrollFault),
+    /// What the design draws has choices of both kinds: these are the least numbers of a latest and of an earliest constraint with
+    /// two or more causes.
+    Mixed(u32, u32),
 }

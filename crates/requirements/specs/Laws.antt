@@ -1,14 +1,16 @@
 -- What verdicts say of all times that satisfy a network.
-use Rattle.std.specs.Prelude.{◌≡◌, ◌↔◌, ℤ, ◌<ℤ◌, ◌⊎◌, List, IsSomeAnd}
+use Rattle.std.specs.Prelude.{◌≡◌, ◌↔◌, ℤ, ◌+ℤ◌, ◌-ℤ◌, ◌<ℤ◌, ◌⊎◌, List, Some, IsSome, IsSomeAnd}
 use Rattle.itv_base.specs.Range.{Allows, Ends}
 use Rattle.itv_base.specs.declared.names.EventId.{EventId}
 use Rattle.event_graph.specs.Times.{separation}
 use Rattle.event_graph.specs.Network.{Net}
 use Rattle.event_graph.specs.Satisfying.{Satisfies}
+use Rattle.event_graph.specs.Bounds.{IsGreatest, IsLeast}
 use Rattle.requirements.specs.declared.bound.Bound.{Bound}
 use Rattle.requirements.specs.declared.bound.Bound.TheVariants.{Closed, Unbounded, Within}
 use Rattle.requirements.specs.declared.verdict.Verdict.TheVariants.{Pass, FailHigh, FailLow, Undecided}
 use Rattle.requirements.specs.Bounds.{IsGreatestBound, IsLeastBound, reversed}
+use Rattle.requirements.specs.Slacks.{slack_of}
 use Rattle.requirements.specs.Verdicts.{verdict_of}
 
 -- a requirement is met where every satisfying separation lies in the range
@@ -52,6 +54,23 @@ IsWithin (Within limit attained) = Unit {0}
 -- only a bound that the search left open leaves a verdict undecided
 abbrev pub UndecidedIsWithin : Type 0
 UndecidedIsWithin = (range : Ends) (least greatest : Bound) → verdict_of range least greatest ≡ Undecided → IsWithin least ⊎ IsWithin greatest
+
+-- the low end and a low slack more is the least separation, by a right bound
+abbrev pub LowSlackIsDistance : Type 0
+LowSlackIsDistance = (net : Net) (from to : EventId) (range : Ends) (least greatest : Bound) (slack : ℤ) → IsLeastBound net from to least
+    → (slack_of range least greatest).low ≡ Some slack → IsSomeAnd range.low (λ low. IsLeast net from to (low +ℤ slack))
+
+-- and the high end less a high slack is the greatest one
+abbrev pub HighSlackIsDistance : Type 0
+HighSlackIsDistance = (net : Net) (from to : EventId) (range : Ends) (least greatest : Bound) (slack : ℤ) → IsGreatestBound net from to greatest
+    → (slack_of range least greatest).high ≡ Some slack → IsSomeAnd range.high (λ high. IsGreatest net from to (high -ℤ slack))
+
+-- an end that is not open has a slack where its bound is closed
+abbrev pub ClosedLowHasSlack : Type 0
+ClosedLowHasSlack = (range : Ends) (value : ℤ) (greatest : Bound) → IsSome range.low → IsSome (slack_of range (Closed value) greatest).low
+
+abbrev pub ClosedHighHasSlack : Type 0
+ClosedHighHasSlack = (range : Ends) (least : Bound) (value : ℤ) → IsSome range.high → IsSome (slack_of range least (Closed value)).high
 
 -- a bound is the greatest of a pair exactly where, negated, it is the least of the reversed pair
 abbrev pub ReversedGreatestIsLeast : Type 0

@@ -180,5 +180,7 @@ fn laws_take_nothing() {
     laws::fail_high_is_broken();
     laws::fail_low_is_broken();
     laws::undecided_is_within();
+    laws::slack_is_distance();
+    laws::closed_has_slack();
     laws::reversed_greatest_is_least();
 }

@@ -10,7 +10,7 @@ use Rattle.clap.specs.declared.error.kind.ErrorKind.{ErrorKind}
 use Rattle.clap.specs.declared.error.kind.ErrorKind.TheVariants.{DisplayHelp}
 use Rattle.itv_base.specs.declared.limits.TheConstants.{DEFAULT_BUDGET, MAX_BUDGET, MAX_SELF_SIZE}
 use Rattle.words.specs.Command.{command}
-use Rattle.words.specs.Task.{IsBudget, IsSize, IsWithinLimits, KeepsLimits, Task, answer_by, answer_for, bounds, bounds_of, budget_of, check, check_of, generated, generated_of, matrix, matrix_of, number_in, refusal_for, size_of, taken, task_named, task_of, wants_proofs}
+use Rattle.words.specs.Task.{IsBudget, IsSize, IsWithinLimits, KeepsLimits, Task, answer_by, answer_for, bounds, bounds_of, budget_of, check, check_of, fall, fall_of, generated, generated_of, matrix, matrix_of, number_in, refusal_for, size_of, taken, task_named, task_of, wants_proofs}
 use Rattle.words.proofs.Numbers.{number_limits}
 
 budget_limits : (given : Option Text) → IfSome (option_map_or (number_in MAX_BUDGET) given (Some DEFAULT_BUDGET)) IsBudget
@@ -30,11 +30,11 @@ size_limits (Some text) = go (number_in MAX_SELF_SIZE text) (number_limits MAX_S
     go (Some n) h = record { low = h.0; high = h.1 }
 
 -- ---- the tasks
-bounds_limits : (proofs : Bool) (design : Option Text) (budget : Option ℕ) → IfSome budget IsBudget
-    → IfSome (option_and_then (λ (d : Text). option_map (λ (b : ℕ). bounds d b proofs) budget) design) IsWithinLimits
-bounds_limits proofs None budget within = tt
-bounds_limits proofs (Some d) None within = tt
-bounds_limits proofs (Some d) (Some b) within = within
+searching_limits : (job : Text → ℕ → Bool → Task) (proofs : Bool) (design : Option Text) (budget : Option ℕ) → ((d : Text) (b : ℕ) → IsBudget b → IsWithinLimits (job d b proofs))
+    → IfSome budget IsBudget → IfSome (option_and_then (λ (d : Text). option_map (λ (b : ℕ). job d b proofs) budget) design) IsWithinLimits
+searching_limits job proofs None budget by within = tt
+searching_limits job proofs (Some d) None by within = tt
+searching_limits job proofs (Some d) (Some b) by within = by d b within
 
 matrix_limits : (design : Option Text) → IfSome (option_map matrix design) IsWithinLimits
 matrix_limits None = tt
@@ -50,23 +50,19 @@ generated_limits None budget sized within = tt
 generated_limits (Some s) None sized within = tt
 generated_limits (Some s) (Some b) sized within = (sized, within)
 
-by_name : (a b c d : Bool) (w x y z : Option Task) → IfSome w IsWithinLimits → IfSome x IsWithinLimits → IfSome y IsWithinLimits → IfSome z IsWithinLimits
-    → IfSome (cond a w (cond b x (cond c y (cond d z None)))) IsWithinLimits
-by_name true b c d w x y z one two three four = one
-by_name false true c d w x y z one two three four = two
-by_name false false true d w x y z one two three four = three
-by_name false false false true w x y z one two three four = four
-by_name false false false false w x y z one two three four = tt
+by_name : (is_named : Bool) (task others : Option Task) → IfSome task IsWithinLimits → IfSome others IsWithinLimits → IfSome (cond is_named task others) IsWithinLimits
+by_name true task others one two = one
+by_name false task others one two = two
 
 named_limits : (rows : List Row) (name : Option Text) → IfSome (option_and_then (task_named rows) name) IsWithinLimits
 named_limits rows None = tt
 named_limits rows (Some name) =
-    by_name (bytes_eq name (codes "bounds")) (bytes_eq name (codes "matrix")) (bytes_eq name (codes "check")) (bytes_eq name (codes "self"))
-    (bounds_of rows) (matrix_of rows) (check_of rows) (generated_of rows)
-    (bounds_limits (wants_proofs rows) (first_of (codes "design") rows) (budget_of rows) (budget_limits (first_of (codes "budget") rows)))
-    (matrix_limits (first_of (codes "design") rows))
-    (check_limits (first_of (codes "design") rows) (first_of (codes "report") rows))
-    (generated_limits (size_of rows) (budget_of rows) (size_limits (first_of (codes "size") rows)) (budget_limits (first_of (codes "budget") rows)))
+    let budgets : IfSome (budget_of rows) IsBudget = budget_limits (first_of (codes "budget") rows) in
+    by_name (bytes_eq name (codes "bounds")) (bounds_of rows) _ (searching_limits bounds (wants_proofs rows) (first_of (codes "design") rows) (budget_of rows) (λ d b within. within) budgets)
+    (by_name (bytes_eq name (codes "matrix")) (matrix_of rows) _ (matrix_limits (first_of (codes "design") rows))
+    (by_name (bytes_eq name (codes "check")) (check_of rows) _ (check_limits (first_of (codes "design") rows) (first_of (codes "report") rows))
+    (by_name (bytes_eq name (codes "self")) (generated_of rows) _ (generated_limits (size_of rows) (budget_of rows) (size_limits (first_of (codes "size") rows)) budgets)
+    (by_name (bytes_eq name (codes "fall")) (fall_of rows) None (searching_limits fall (wants_proofs rows) (first_of (codes "design") rows) (budget_of rows) (λ d b within. within) budgets) tt))))
 
 task_limits : (task : Option Task) → IfSome task IsWithinLimits → KeepsLimits (answer_for task)
 task_limits None within = tt

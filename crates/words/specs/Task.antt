@@ -13,10 +13,11 @@ use Rattle.clap.specs.declared.error.kind.ErrorKind.{ErrorKind}
 use Rattle.clap.specs.declared.error.kind.ErrorKind.TheVariants.{DisplayHelp}
 use Rattle.words.specs.Command.{command}
 
--- a job with what it needs: the design's name, the budget of each search and whether proofs are wanted; the design's name; the names of
--- the design and of the report; the size of the generated design and the budget
+-- a job with what it needs: the design's name, the budget of each search and whether proofs are wanted, for two jobs; the design's name;
+-- the names of the design and of the report; the size of the generated design and the budget
 pub data Task : Type 0 where
   bounds : Text → ℕ → Bool → Task
+  fall : Text → ℕ → Bool → Task
   matrix : Text → Task
   check : Text → Text → Task
   generated : ℕ → ℕ → Task
@@ -42,8 +43,15 @@ size_of rows = option_and_then (number_in MAX_SELF_SIZE) (first_of (codes "size"
 abbrev pub wants_proofs : List Row → Bool
 wants_proofs rows = option_map_or (λ text. bytes_eq text (codes "true")) (first_of (codes "cert") rows) false
 
+-- a job with the design's name, the budget and whether proofs are wanted
+abbrev pub searching : (Text → ℕ → Bool → Task) → List Row → Option Task
+searching job rows = option_and_then (λ design. option_map (λ budget. job design budget (wants_proofs rows)) (budget_of rows)) (first_of (codes "design") rows)
+
 abbrev pub bounds_of : List Row → Option Task
-bounds_of rows = option_and_then (λ design. option_map (λ budget. bounds design budget (wants_proofs rows)) (budget_of rows)) (first_of (codes "design") rows)
+bounds_of rows = searching bounds rows
+
+abbrev pub fall_of : List Row → Option Task
+fall_of rows = searching fall rows
 
 abbrev pub matrix_of : List Row → Option Task
 matrix_of rows = option_map matrix (first_of (codes "design") rows)
@@ -61,7 +69,8 @@ task_named rows name =
     else (if bytes_eq name (codes "matrix") then matrix_of rows
     else (if bytes_eq name (codes "check") then check_of rows
     else (if bytes_eq name (codes "self") then generated_of rows
-    else None)))
+    else (if bytes_eq name (codes "fall") then fall_of rows
+    else None))))
 
 abbrev pub task_of : List Row → Option Task
 task_of rows = option_and_then (task_named rows) (first_of (codes "job") rows)
@@ -100,6 +109,7 @@ pub record IsSize (size : ℕ) : Type 0 where
 -- the numbers of a task are within their limits
 abbrev pub IsWithinLimits : Task → Type 0
 IsWithinLimits (bounds design budget proofs) = IsBudget budget
+IsWithinLimits (fall design budget proofs) = IsBudget budget
 IsWithinLimits (matrix design) = Unit {0}
 IsWithinLimits (check design report) = Unit {0}
 IsWithinLimits (generated size budget) = IsSize size × IsBudget budget

@@ -20,6 +20,7 @@ Jobs:
   matrix  Prints the bounds of all pairs of events that the constraints without a choice give
   check   Checks each claim of the report FILE against DESIGN
   self    Bounds the rows of a generated design of size N, and sums up
+  fall    Bounds the separation of each row of DESIGN without cases, where all choices are latest or all are earliest
 
 Exit statuses:
   0  All is well: every requirement passes, the matrix is printed, the report is accepted
@@ -66,7 +67,7 @@ fn job_option<'a>(alloc: Global) -> Arg<'a>
         alloc,
         "job",
         "JOB",
-        "What to do: bounds, matrix, check or self",
+        "What to do: bounds, matrix, check, self or fall",
     )
     .default_value("bounds")
 }
@@ -110,7 +111,7 @@ pub fn command<'a>(alloc: Global) -> Result<Command<'a>, AllocError>
             alloc,
             "budget",
             MAX_BUDGET,
-            "Cases that each search may close [default: 100000]",
+            "Cases that each search may close, or lines of each derivation [default: 100000]",
         ))?
         .arg(cert_flag(alloc))?
         .arg(text_option(alloc, "report", "FILE", "The report to check"))?

@@ -10,6 +10,13 @@ pub enum Task<'a> {
         budget: u64,
         cert: bool,
     },
+    /// To bound the rows of a design by falling values: the name of its file, the lines that each derivation
+    /// may have, and whether they are written.
+    Fall {
+        design: &'a str,
+        budget: u64,
+        cert: bool,
+    },
     /// To print the matrix of a design: the name of its file.
     Matrix {
         design: &'a str,

@@ -21,6 +21,11 @@ fn task_line(alloc: Global, task: Task<'_>) -> Result<String, AllocError> {
             budget,
             cert,
         } => format!(in alloc; "bounds {design} {budget} {cert}"),
+        Task::Fall {
+            design,
+            budget,
+            cert,
+        } => format!(in alloc; "fall {design} {budget} {cert}"),
         Task::Matrix { design } => format!(in alloc; "matrix {design}"),
         Task::Check { design, report } => format!(in alloc; "check {design} {report}"),
         Task::Generated { size, budget } => format!(in alloc; "self {size} {budget}"),
@@ -43,6 +48,12 @@ const TABLE: &[(&[&str], &str)] = &[
     (&["--job", "self", "--size", "3"], "self 3 100000"),
     (&["--job=self", "--size=2", "--budget=7"], "self 2 7"),
     (&["--job", "self"], "bad words"),
+    (&["--job", "fall", "x"], "fall x 100000 false"),
+    (
+        &["--job=fall", "--cert", "--budget=7", "x"],
+        "fall x 7 true",
+    ),
+    (&["--job=fall"], "bad words"),
     (&["--job", "nope", "x"], "bad words"),
     (&["--job=", "x"], "bad words"),
     (&["--job"], "bad words"),
@@ -56,6 +67,10 @@ const TABLE: &[(&[&str], &str)] = &[
     (
         &["--job=self", "--size=3", "--report=r", "x"],
         "self 3 100000",
+    ),
+    (
+        &["--job=fall", "--size=3", "--report=r", "x"],
+        "fall x 100000 false",
     ),
     // Numbers.
     (&["--size", "65", "x"], "bad words"),
@@ -126,6 +141,7 @@ fn help_tells_what_a_person_needs(rt: HostRuntime) -> Result<(), Fail> {
                 "Usage: itv [OPTIONS] [DESIGN]",
                 "--budget <N>",
                 "  matrix  Prints",
+                "  fall    Bounds",
                 "  10 The system",
                 "Example:",
             ] {

@@ -33,15 +33,10 @@ with_stamps stack stamps = record stack { current = record { edges = stack.curre
 abbrev pub fallen_stamp : EdgeName → ℤ → Stamp
 fallen_stamp name label = record { label = Some label; parent = Some name }
 
--- the label that an edge gives, where it undercuts; else it is followed
-abbrev pub Offers : Labels → Edge → Option ℤ → Type 0
-Offers label e None = Follows label e
-Offers label e (Some sum) = (u : Undercuts label e) × (sum ≡ u.near +ℤ e.weight)
-
 -- what relaxing an edge does
 abbrev pub Relaxes : Run → Arc → Stack → Stack → Step → Type 0
 Relaxes run a old new Kept = (new ≡ old) × Follows (labels_from old.current.stamps run.base) a.edge
-Relaxes run a old new Fell =
+Relaxes run a old new (Fell by) =
     (u : Undercuts (labels_from old.current.stamps run.base) a.edge) × (run.stop ≡ Some a.edge.to → ⊥)
     × (new ≡ record old { current = with_stamp old.current (run.base + a.edge.to.0) (fallen_stamp a.name (u.near +ℤ a.edge.weight)) })
 Relaxes run a old new Stops = (new ≡ old) × Undercuts (labels_from old.current.stamps run.base) a.edge × (run.stop ≡ Some a.edge.to)
@@ -122,6 +117,7 @@ pub record Falls (s : Scope) (run : Run) (old new : Stack) (waited waits : Waiti
 pub record IsPlaced (net : Net) (run : Run) (stack : Stack) (waiting : Waiting) : Type 0 where
   pub is_net : IsNet net
   pub slots : run.base + net.events ≤ length stack.current.stamps
+  pub halves : net.events + net.events ≤ length stack.current.stamps
   pub most : length stack.current.stamps ≤ 2 * MAX_EVENTS
   pub marks : length waiting.marks ≡ net.events
 

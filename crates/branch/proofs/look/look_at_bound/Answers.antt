@@ -16,15 +16,10 @@ written c =
     let same : length c.times_in.new.out ≡ length c.args.trial.now.candidate.items = c.times_in.auto.out ∙ ap (λ (xs : List ℤ). length xs) c.deref_mut.ensures.value in
     with_items_is c.args.trial.now.candidate c.times_in.new.out (same ∙ sym c.args.trial.now.candidate.ok.0)
 
-pub broken-requires-clause-times : goal.broken-requires-clause-times
-broken-requires-clause-times c =
-    let at = (goal.at.broken-requires-clause-times c).After-times_in in
-    subst (λ (xs : List ℤ). All IsTime xs) (sym (c.deref.ensures.value ∙ written at)) (near_times c.times_in.new.out c.times_in.ensures.near)
-
 pub nearest_broken-requires-clause-times : goal.nearest_broken-requires-clause-times
 nearest_broken-requires-clause-times c =
     let at = (goal.at.nearest_broken-requires-clause-times c).After-times_in in
-    subst (λ (xs : List ℤ). All IsTime xs) (sym (c.deref-in-Some.ensures.value ∙ written at)) (near_times c.times_in.new.out c.times_in.ensures.near)
+    subst (λ (xs : List ℤ). All IsTime xs) (sym (c.deref.ensures.value ∙ written at)) (near_times c.times_in.new.out c.times_in.ensures.near)
 
 pub returns-in-None-clause-looks : goal.returns-in-None-clause-looks
 returns-in-None-clause-looks c =
@@ -51,7 +46,7 @@ returns-in-Some-clause-looks c =
     let aim = c.args.aim in
     let out : List ℤ = c.times_in.new.out in
     let upper : ℤ = c.args.upper in
-    let breaks : Breaks out net c.nearest_broken.result =
-    subst (λ (xs : List ℤ). Breaks xs net c.nearest_broken.result) (c.deref-in-Some.ensures.value ∙ written at) c.nearest_broken.ensures in
+    let breaks : Breaks out net c.in-Some.number =
+    subst (λ (xs : List ℤ). Breaks xs net c.in-Some.number) (c.deref.ensures.value ∙ written at) c.in-Some.ensures in
     let attained : separation out aim.from aim.to ≡ upper = c.times_in.ensures.attained aim.from aim.to upper c.requires.source c.requires.to c.requires.value in
-    open_at_bound net aim.from aim.to best upper c.args.search.now.cases.chosen out c.nearest_broken.result c.requires.net c.requires.case c.requires.upper c.times_in.ensures.meets attained past breaks
+    open_at_bound net aim.from aim.to best upper c.args.search.now.cases.chosen out c.in-Some.number c.requires.net c.requires.case c.requires.upper c.times_in.ensures.meets attained past breaks

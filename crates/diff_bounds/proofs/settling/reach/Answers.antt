@@ -30,7 +30,7 @@ settle_uppers-requires-clause-ready c =
     let within = rw c.in-Some.is at c.requires.source in (
       c.in-Some.event,
       within,
-      seeded_ready c.args.net.now c.args.out.now c.args.trail.now.current.stamps c.clear_uppers.new.trail c.set_label.new.self c.in-Some.event c.args.pending.now c.requires.net c.requires.out
+      seeded_ready c.args.net.now c.args.out.now c.args.chosen.now.arcs c.args.trail.now.current.stamps c.clear_uppers.new.trail c.set_label.new.self c.in-Some.event c.args.pending.now c.requires.net c.requires.out c.requires.chosen
           (same_edges at ∙ c.requires.first.root.edges) within (cleared at) (feasible_mid at) c.set_label.ensures c.requires.marks,
     )
 
@@ -46,7 +46,7 @@ returns-in-Some-clause-settled c =
     let at = (goal.at.returns-in-Some-clause-settled c).After-clear_uppers in
     let within = rw c.in-Some.is at c.requires.source in
     let settled = c.settle_uppers.ensures.settled c.in-Some.event within
-    (seeded_ready c.args.net.now c.args.out.now c.args.trail.now.current.stamps c.clear_uppers.new.trail c.set_label.new.self c.in-Some.event c.args.pending.now c.requires.net c.requires.out
+    (seeded_ready c.args.net.now c.args.out.now c.args.chosen.now.arcs c.args.trail.now.current.stamps c.clear_uppers.new.trail c.set_label.new.self c.in-Some.event c.args.pending.now c.requires.net c.requires.out c.requires.chosen
     (same_edges at ∙ c.requires.first.root.edges) within (cleared at) (feasible_mid at) c.set_label.ensures c.requires.marks) in
     let same : c.set_label.new.self.current.edges ≡ c.args.trail.now.current.edges = ap (λ (t : Stack). t.current.edges) c.set_label.ensures ∙ same_edges at in
     let P : List EdgeName → Type 0 = λ names. IsSettled (whole c.args.net.now names) (Some c.in-Some.event) c.settle_uppers.new.trail.current.stamps in

@@ -10,7 +10,7 @@ use Rattle.diff_bounds.proofs.settling.settle_feasible.Goals.{After-fall_from}
 
 pub fall_from-requires-clause-running : goal.fall_from-requires-clause-running
 fall_from-requires-clause-running c =
-    rw c.events.ensures.count (feasible_running c.args.net.now c.args.out.now c.args.chosen.now c.args.from c.args.first c.args.trail.now c.args.pending.now c.requires.ready)
+    rw c.events.ensures.count (feasible_running c.args.net.now c.args.out.now c.args.chosen.now.arcs c.args.from c.args.first c.args.trail.now c.args.pending.now c.requires.ready)
 
 pub fall_from-requires-clause-others : goal.fall_from-requires-clause-others
 fall_from-requires-clause-others c = rw c.events.ensures.count c.requires.ready.poised.others
@@ -18,7 +18,7 @@ fall_from-requires-clause-others c = rw c.events.ensures.count c.requires.ready.
 ran : (c : After-fall_from) → HasRun (scope_from c.args.net.now c.args.trail.now c.args.first) (feasible_run c.args.net.now c.args.from c.args.first) c.args.trail.now.current.stamps c.fall_from.new.trail.current.stamps
 ran c =
     let runs = rw c.events.ensures.count at c.fall_from.ensures.runs in
-    feasible_ran c.args.net.now c.args.out.now c.args.chosen.now c.args.from c.args.first c.args.trail.now c.fall_from.new.trail c.args.pending.now c.args.pending.now c.fall_from.new.pending c.requires.ready runs
+    feasible_ran c.args.net.now c.args.out.now c.args.chosen.now.arcs c.args.from c.args.first c.args.trail.now c.fall_from.new.trail c.args.pending.now c.args.pending.now c.fall_from.new.pending c.requires.ready runs
 
 pub returns-clause-ran : goal.returns-clause-ran
 returns-clause-ran c = ran (goal.at.returns-clause-ran c).After-fall_from
@@ -28,7 +28,7 @@ returns-clause-feasible c =
     let at = (goal.at.returns-clause-feasible c).After-fall_from in
     let settled = rw c.events.ensures.count at c.fall_from.ensures.settled in
     if_none_then c.fall_from.result _ _ settled
-    (feasible_after c.args.net.now c.args.out.now c.args.chosen.now c.args.from c.args.first c.args.trail.now c.args.pending.now c.fall_from.new.trail.current.stamps c.requires.ready c.requires.low (ran at))
+    (feasible_after c.args.net.now c.args.out.now c.args.chosen.now.arcs c.args.from c.args.first c.args.trail.now c.args.pending.now c.fall_from.new.trail.current.stamps c.requires.ready c.requires.low (ran at))
 
 pub returns-clause-loops : goal.returns-clause-loops
 returns-clause-loops c =
@@ -37,4 +37,4 @@ returns-clause-loops c =
     IfSome_then c.fall_from.result closes
     (λ a here. let P : Stack → Type 0 = λ t. HasLoop c.args.net.now t a in
     subst P (sym c.fall_from.ensures.runs.stack)
-    (loop_of c.args.net.now c.args.out.now c.args.chosen.now c.args.from c.args.first c.args.trail.now c.args.pending.now c.fall_from.new.trail.current.stamps a c.requires.ready (ran at) here))
+    (loop_of c.args.net.now c.args.out.now c.args.chosen.now.arcs c.args.from c.args.first c.args.trail.now c.args.pending.now c.fall_from.new.trail.current.stamps a c.requires.ready (ran at) here))

@@ -1,6 +1,7 @@
-use Rattle.std.proofs.Common.{◌≡◌, ◌+◌, ◌<◌, ◌∙◌, ◌++◌, ◌∷◌, [], Bool, false, IsTrue, ap, arith}
+use Rattle.std.proofs.Common.{◌≡◌, ◌+◌, ◌<◌, ◌∙◌, ◌++◌, ◌∷◌, [], ℤ, List, Bool, false, IsTrue, ap, subst, sym, arith}
 use Rattle.falling.proofs.Counting.{due_within}
 use Rattle.falling.proofs.Deriving.{has_ended, leads_more, length-more, under_way_first, under_way_next}
+use Rattle.falling.specs.Agenda.{AreOthersTried}
 use Rattle.falling.specs.Derivation.{fallen, starting_values}
 use Rattle.falling.proofs.course.derive.Goals as goal
 
@@ -11,6 +12,8 @@ pub turns-init : goal.turns-init
 turns-init g c = record {
   lines = ([], g.met.N.Notes.grew_none _, under_way_first c.args.net.now c.args.from c.start.new.values c.requires.from (rw (c.requires.count, c.requires.limits.cap_is) at c.start.ensures));
   left = omega arith;
+  agenda = c.begin.ensures.made c.args.net.now c.requires.agenda;
+  tried = c.begin.ensures.tried c.args.net.now c.start.new.values c.requires.agenda;
 }
 
 pub lower-requires : goal.lower-requires
@@ -57,4 +60,7 @@ turns-preserved g c =
             inv.2 c.in-Some.ensures.line (not_ending c.ends.result _ c.ends.ensures.1 c.if-ends.false)),
       );
       left = omega (arith, c.turns.invariant.left);
+      agenda = c.wake.ensures.made c.args.net.now c.in-Some.ensures.made;
+      tried = subst (λ (values : List ℤ). AreOthersTried c.args.net.now values c.wake.new.self.pending) (sym c.lower.ensures)
+          (c.wake.ensures.tried c.args.net.now c.turns.values c.in-Some.line.value c.in-Some.ensures.made c.in-Some.ensures.line.lower c.in-Some.ensures.tried);
     }

@@ -1,13 +1,16 @@
 use Rattle.std.proofs.Common.{◌≤◌, ◌-◌, List}
 use Rattle.falling.specs.declared.line.FallLine.{FallLine}
+use Rattle.falling.specs.Agenda.{AreOthersTried, IsAgendaFor}
 use Rattle.falling.proofs.Deriving.{IsUnderWay}
 use Rattle.falling.proofs.course.derive.Given as goal
 
--- the lines so far are a derivation of as many lines as turns were taken, which has not ended
+-- the lines so far are a derivation of as many lines as turns were taken, which has not ended, and a constraint without a flag allows none
 abbrev pub invariant-turns : goal.invariant-turns
 invariant-turns g l = record {
   lines : (lines : List FallLine) × g.N.Notes.Grew l.fn.notes lines l.notes × IsUnderWay l.net l.from lines l.values l.taken;
   left : l.taken ≤ l.turns;
+  agenda : IsAgendaFor l.net l.agenda;
+  tried : AreOthersTried l.net l.values l.agenda.pending;
 }
 
 abbrev pub decreases-turns : goal.decreases-turns

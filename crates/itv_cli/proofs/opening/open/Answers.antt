@@ -1,5 +1,5 @@
 use Rattle.std.proofs.Common.{refl}
-use Rattle.words.specs.Task.{bounds, matrix, check, generated}
+use Rattle.words.specs.Task.{bounds, fall, matrix, check, generated}
 use Rattle.itv_cli.proofs.Fetching.{opens_made, opens_shelf}
 use Rattle.itv_cli.proofs.opening.open.Goals as goal
 
@@ -7,6 +7,11 @@ pub returns-in-Bounds-clause-opens : goal.returns-in-Bounds-clause-opens
 returns-in-Bounds-clause-opens g c =
     rw c.in-Bounds.is
     (opens_shelf (g.H.Shelf.told c.args.shelf.now) (g.H.Shelf.told c.open_bounds.new.shelf) (bounds c.in-Bounds.design.now c.in-Bounds.budget c.in-Bounds.cert) c.open_bounds.result refl c.open_bounds.ensures.opens)
+
+pub returns-in-Fall-clause-opens : goal.returns-in-Fall-clause-opens
+returns-in-Fall-clause-opens g c =
+    rw c.in-Fall.is
+    (opens_shelf (g.H.Shelf.told c.args.shelf.now) (g.H.Shelf.told c.open_fall.new.shelf) (fall c.in-Fall.design.now c.in-Fall.budget c.in-Fall.cert) c.open_fall.result refl c.open_fall.ensures.opens)
 
 pub returns-in-Matrix-clause-opens : goal.returns-in-Matrix-clause-opens
 returns-in-Matrix-clause-opens g c =

@@ -17,6 +17,7 @@ returns-then-not-has_room-clause-failed c =
       kept = sym (append-nil (stored_lines 0 s.stored.items s.edges.items));
       line_room = refl;
       edge_room = refl;
+      faults = c.saturating_add-self-inside.ensures;
       full = too_full s.stored.items s.edges.items c.args.edges.now c.args.kind s.line_room s.edge_room c.self.invariant.0 c.requires
           (λ room. let lines = room.0 in let most = room.1 in false≢true (c.if-not-has_room.ensures.1 (omega arith, omega arith)));
     })

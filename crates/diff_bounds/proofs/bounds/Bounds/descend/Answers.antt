@@ -32,11 +32,11 @@ add_edge-requires c =
     let at = (goal.at.add_edge-requires c).After-push_level in
     edges_room c.args.net.now (standing_in c.self.inside) c.push_level.new.self (inside_stands at) c.push_level.ensures (room at)
 
-pub push_reserved-requires : goal.push_reserved-requires
-push_reserved-requires c =
-    let at = (goal.at.push_reserved-requires c).After-push_level in
+pub push-requires-clause-room : goal.push-requires-clause-room
+push-requires-clause-room c =
+    let at = (goal.at.push-requires-clause-room c).After-push_level in
     let few = arcs_room c.args.net.now (standing_in c.self.inside) (inside_stands at) (room at) in
-    omega (arith, few, c.self.inside.chosen.ok.0, c.self.invariant.chosen)
+    omega (arith, few, c.self.invariant.chosen)
 
 -- the stack with the choice
 with_choice_is : (c : After-add_edge) → c.add_edge.new.self ≡ chosen_stack (standing_in c.self.inside) c.args.choice
@@ -48,9 +48,9 @@ settle_feasible-closing-requires-clause-ready c =
     let down = (goal.at.settle_feasible-closing-requires-clause-ready c).After-push_level in
     let b : Standing = standing_in c.self.inside in
     let stands = inside_stands down in
-    let P : Stack → Type 0 = λ st. IsReady c.args.net.now c.self.inside.out c.deref.result.now (feasible_run c.args.net.now c.in-Some.edge.from 0) c.in-Some.edge.from zeros st c.self.inside.pending in
+    let P : Stack → Type 0 = λ st. IsReady c.args.net.now c.self.inside.out c.push.new.self.arcs (feasible_run c.args.net.now c.in-Some.edge.from 0) c.in-Some.edge.from zeros st c.self.inside.pending in
     subst P (sym (with_choice_is at))
-    (rw (c.deref.ensures.value, c.push_reserved.ensures.items)
+    (rw c.push.ensures
     (choice_ready c.args.net.now b c.args.choice c.in-Some.edge c.self.inside.pending stands (sym c.in-Some.ensures.edge) stands.made.waiting))
 
 pub settle_feasible-closing-requires-clause-low : goal.settle_feasible-closing-requires-clause-low
@@ -92,7 +92,7 @@ returns-then-is_none-clause-stands c =
     let from : is_none c.self.inside.source ≡ true = search rules in
     let settled = unsourced_settled c.args.net.now b c.args.choice c.in-Some.edge c.settle_feasible-closing.new.trail.current.stamps stands (none_there c.self.inside.source from) added.ran
     (added_feasible c.args.net.now b c.args.choice c.add_edge.new.self c.settle_feasible-closing.new.trail.current.stamps (with_choice_is at) done.feasible) in
-    rw c.push_reserved.ensures.items
+    rw c.push.ensures
     (choice_stands c.args.net.now b c.args.choice c.in-Some.edge c.settle_feasible-closing.new.trail (length c.settle_feasible-closing.new.pending.marks) stands added.is done.marks added.stack settled)
 
 pub returns-then-is_none-clause-no_times : goal.returns-then-is_none-clause-no_times
@@ -117,7 +117,7 @@ settle_uppers-requires-clause-ready c =
     let from : is_none c.self.inside.source ≡ false = search rules in
     let source = some_there c.self.inside.source from in
     let ready = uppers_ready c.args.net.now b c.args.choice c.in-Some.edge source.0 c.settle_feasible-closing.new.trail c.settle_feasible-closing.new.pending stands added.is source.1 (done.marks ∙ stands.made.waiting) added.stack added.ran in
-    rw (c.deref-2.ensures.value, c.push_reserved.ensures.items) (source.0, ready.0, ready.1)
+    rw c.push.ensures (source.0, ready.0, ready.1)
 
 pub returns-clause-stands : goal.returns-clause-stands
 returns-clause-stands c =
@@ -130,9 +130,9 @@ returns-clause-stands c =
     let from : is_none c.self.inside.source ≡ false = search rules in
     let source = some_there c.self.inside.source from in
     let ready = uppers_ready c.args.net.now b c.args.choice c.in-Some.edge source.0 c.settle_feasible-closing.new.trail c.settle_feasible-closing.new.pending stands added.is source.1 (done.marks ∙ stands.made.waiting) added.stack added.ran in
-    let settles = rw (c.deref-2.ensures.value, c.push_reserved.ensures.items) at c.settle_uppers.ensures.settled in
+    let settles = rw c.push.ensures at c.settle_uppers.ensures.settled in
     let settled = sunk_settled c.args.net.now b c.args.choice source.0 c.settle_feasible-closing.new.trail c.settle_uppers.new.trail.current.stamps source.1 added.stack (settles source.0 ready.0 ready.1) in
-    rw c.push_reserved.ensures.items
+    rw c.push.ensures
     (choice_stands c.args.net.now b c.args.choice c.in-Some.edge c.settle_uppers.new.trail (length c.settle_uppers.new.pending.marks) stands added.is (c.settle_uppers.ensures.marks ∙ done.marks)
     (sunk_stack b c.args.choice c.settle_feasible-closing.new.trail c.settle_uppers.new.trail added.stack c.settle_uppers.ensures.stack) settled)
 

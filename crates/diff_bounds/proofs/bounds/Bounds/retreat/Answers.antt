@@ -1,5 +1,6 @@
 use Rattle.std.proofs.Common.{◌∙◌, ◌<◌, ap, length, subst, sym, take}
 use Rattle.diff_bounds.specs.Standing.{Standing, Stands, standing_in}
+use Rattle.diff_bounds.specs.Step.Chosen.{Chosen}
 use Rattle.diff_bounds.proofs.Descending.{retreat_stands}
 use Rattle.diff_bounds.proofs.bounds.Bounds.retreat.Goals as goal
 
@@ -8,5 +9,5 @@ returns-clause-stands c =
     λ net stands.
     let P : Standing → Type 0 = λ b. Stands net b in
     let L : Standing → Type 0 = λ b. 0 < length b.trail.below in
-    retreat_stands net (standing_in c.self.inside) c.pop_level.new.self c.truncate.new.self.items (subst P (sym c.self.view_is) stands) (subst L (sym c.self.view_is) c.requires.level) c.pop_level.ensures.below
-    (c.truncate.ensures.items ∙ ap (λ n. take n c.self.inside.chosen.items) c.edge_count-count.ensures.count)
+    retreat_stands net (standing_in c.self.inside) c.pop_level.new.self c.truncate.new.self.arcs (subst P (sym c.self.view_is) stands) (subst L (sym c.self.view_is) c.requires.level) c.pop_level.ensures.below
+    (ap (λ (x : Chosen). x.arcs) c.truncate.ensures ∙ ap (λ n. take n c.self.inside.chosen.arcs) c.edge_count-count.ensures.count)

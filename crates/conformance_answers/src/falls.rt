@@ -1,0 +1,294 @@
+//! Job fall: the worked rows, spent turns, refusals, and the numbers of job bounds.
+
+use conformance_kit::{run_ends, shelf_of, shelf_with, written_by};
+use itv_base::ShelfMem;
+use itv_cli::Outcome;
+use std::alloc::Global;
+use std::process::Abort;
+use std::test::Fail;
+
+// A sheet with three nodes on lanes of their own.
+fn sheet_of(alloc: Global, nodes: &str, edges: &str) -> Result<String, Fail> {
+    let mut lanes = String::new(alloc);
+    for node in nodes.chars() {
+        if !lanes.is_empty() {
+            lanes.push_str(",")?;
+        }
+        lanes.push_str(format!(in alloc; r#"{{"node":"{node}"}}"#)?.as_str())?;
+    }
+    Ok(format!(in alloc; r#"{{"signal":[{lanes}],"edge":[{edges}]}}"#)?)
+}
+
+// What the job writes of a sheet with these nodes behind its view.
+fn text_of(alloc: Global, view: &str, nodes: &str, rest: &str) -> Result<String, Fail> {
+    let mut text = format!(in alloc; "itv fall 1\nview {view}\nevents {}\n", nodes.len())?;
+    for (number, node) in nodes.chars().enumerate() {
+        text.push_str(format!(in alloc; "event {number} U.{node}@0\n")?.as_str())?;
+    }
+    text.push_str(rest)?;
+    Ok(text)
+}
+
+// The job on a sheet with these nodes, edges and words ends so, and writes just this behind the events.
+fn falls(
+    alloc: Global,
+    sheet: (&str, &str),
+    words: &[&str],
+    wanted: (Outcome, &str, &str),
+) -> Result<(), Fail> {
+    let (nodes, edges) = sheet;
+    let (end, view, rest) = wanted;
+    let file = sheet_of(alloc, nodes, edges)?;
+    let text = text_of(alloc, view, nodes, rest)?;
+    let mut shelf = shelf_with(alloc, "s", file.as_bytes())?;
+    run_ends(alloc, words, &mut shelf, (end, text.as_str()))
+}
+
+// ---- the worked rows
+
+// The latest of two causes, one of them a range behind the other.
+#[test]
+fn the_latest_of_two_causes(rt: HostRuntime) -> Result<(), Fail> {
+    falls(
+        rt.alloc(),
+        (
+            "abj",
+            r#""a->b @lin [100,300]","a->j @late [500,700]","b->j @late [200,400]","a->j @ask","b->j @ask""#,
+        ),
+        &["--job", "fall", "s"],
+        (
+            Outcome::AllPass,
+            "plain",
+            "finding consistent\ntimes ?\nrows 2\n\
+            row 0 ask U.a@0 U.j@0\nmax 700\ntimes ?\nmin 500\ntimes ?\n\
+            row 1 ask U.b@0 U.j@0\nmax 600\ntimes -100 0 600\nmin 200\ntimes -300 0 200\nend pass\n",
+        ),
+    )
+}
+
+// The earliest of the two.
+#[test]
+fn the_earliest_of_two_causes(rt: HostRuntime) -> Result<(), Fail> {
+    falls(
+        rt.alloc(),
+        (
+            "abj",
+            r#""a->b @lin [100,300]","a->j @early [500,700]","b->j @early [200,400]","a->j @ask","b->j @ask""#,
+        ),
+        &["--job", "fall", "s"],
+        (
+            Outcome::AllPass,
+            "negated",
+            "finding consistent\ntimes ?\nrows 2\n\
+            row 0 ask U.a@0 U.j@0\nmax 700\ntimes ?\nmin 300\ntimes ?\n\
+            row 1 ask U.b@0 U.j@0\nmax 400\ntimes ?\nmin 200\ntimes ?\nend pass\n",
+        ),
+    )
+}
+
+// A cause that follows its own target: the values fall by 5 from the cap of 36.
+const FOLLOWS: &str = r#""i->y @late [*,0]","k->y @late [*,0]","y->k @lin [*,-5]","i->y @ask""#;
+
+// The lines that fall from event 0 of it, which are 17.
+const FALLING: &str =
+    "fall 2 31 1.0u\nlate 1 31 0\nfall 2 26 1.0u\nlate 1 26 0\nfall 2 21 1.0u\nlate 1 21 0\n\
+    fall 2 16 1.0u\nlate 1 16 0\nfall 2 11 1.0u\nlate 1 11 0\nfall 2 6 1.0u\nlate 1 6 0\nfall 2 1 1.0u\nlate 1 1 0\n\
+    fall 2 -4 1.0u\nlate 1 0 0\n";
+
+#[test]
+fn a_cause_that_follows_its_target(rt: HostRuntime) -> Result<(), Fail> {
+    let alloc = rt.alloc();
+    let rest =
+        "finding consistent\ntimes 0 0 -5\nrows 1\nrow 0 ask U.i@0 U.y@0\nmax 0\ntimes 0 0 -5\n\
+        min unbounded\ntimes 0 -36 -41\nraise 0\nend pass\n";
+    let pass = (Outcome::AllPass, "plain", rest);
+    let enough = ["--job=fall", "--budget=17", "s"];
+    falls(alloc, ("iyk", FOLLOWS), &enough, pass)?;
+    let default = ["--job=fall", "--size=3", "--report=r", "s"];
+    falls(alloc, ("iyk", FOLLOWS), &default, pass)?;
+    let few = ["--job=fall", "--budget=16", "s"];
+    let spent = "finding spent\nend undecided\n";
+    let undecided = (Outcome::Undecided, "plain", spent);
+    falls(alloc, ("iyk", FOLLOWS), &few, undecided)
+}
+
+#[test]
+fn the_lines_of_its_derivations(rt: HostRuntime) -> Result<(), Fail> {
+    let alloc = rt.alloc();
+    let rest = format!(in alloc;
+        "{FALLING}fall 2 -5 1.0u\nfinding consistent\ntimes 0 0 -5\nrows 1\nrow 0 ask U.i@0 U.y@0\n\
+        {FALLING}fall 2 -5 1.0u\nmax 0\ntimes 0 0 -5\nfall 2 -5 1.0u\nmin unbounded\ntimes 0 -36 -41\nraise 0\nend pass\n"
+    )?;
+    let pass = (Outcome::AllPass, "plain", rest.as_str());
+    let enough = ["--job=fall", "--cert", "--budget=17", "s"];
+    falls(alloc, ("iyk", FOLLOWS), &enough, pass)?;
+    let rest = format!(in alloc; "{FALLING}finding spent\nend undecided\n")?;
+    let undecided = (Outcome::Undecided, "plain", rest.as_str());
+    let few = ["--job=fall", "--cert", "--budget=16", "s"];
+    falls(alloc, ("iyk", FOLLOWS), &few, undecided)
+}
+
+// ---- other ends
+
+// From the target one line is enough, so that the finding is told and the greatest separation is not.
+#[test]
+fn a_bound_may_be_spent(rt: HostRuntime) -> Result<(), Fail> {
+    let alloc = rt.alloc();
+    let spent = "fall 2 -5 1.0u\nfinding consistent\ntimes 0 36 -5\nrows 1\nrow 0 ask U.i@0 U.y@0\n\
+        fall 2 31 1.0u\nlate 0 31 0\nmax spent\nfall 2 -5 1.0u\nmin unbounded\ntimes -36 0 -41\nraise 1\nend undecided\n";
+    let undecided = (Outcome::Undecided, "plain", spent);
+    let few = ["--job=fall", "--cert", "--budget=2", "s"];
+    falls(alloc, ("yik", FOLLOWS), &few, undecided)?;
+    let told = "finding consistent\ntimes 0 36 -5\nrows 1\nrow 0 ask U.i@0 U.y@0\n\
+        max 0\ntimes 0 0 -5\nmin unbounded\ntimes -36 0 -41\nraise 1\nend pass\n";
+    let pass = (Outcome::AllPass, "plain", told);
+    let enough = ["--job=fall", "--budget=17", "s"];
+    falls(alloc, ("yik", FOLLOWS), &enough, pass)
+}
+
+// The same turned round, with a requirement, which has no verdict.
+#[test]
+fn a_target_that_follows_its_cause(rt: HostRuntime) -> Result<(), Fail> {
+    let alloc = rt.alloc();
+    let edges = r#""i->y @early [0,*]","k->y @early [0,*]","y->k @lin [5,*]","i->y @req [1,*]""#;
+    let rest = "finding consistent\ntimes 0 0 5\nrows 1\nrow 0 req U.i@0 U.y@0 [1,*]\n\
+        max unbounded\ntimes 0 36 41\nraise 1 2\nmin 0\ntimes 0 0 5\nend pass\n";
+    let pass = (Outcome::AllPass, "negated", rest);
+    let words = ["--job=fall", "--budget=17", "s"];
+    falls(alloc, ("iyk", edges), &words, pass)?;
+    let few = ["--job=fall", "--budget=16", "s"];
+    let spent = "finding spent\nend undecided\n";
+    let undecided = (Outcome::Undecided, "negated", spent);
+    falls(alloc, ("iyk", edges), &few, undecided)
+}
+
+// The third line brings event 0 below 0.
+#[test]
+fn rules_that_contradict_each_other(rt: HostRuntime) -> Result<(), Fail> {
+    let alloc = rt.alloc();
+    let edges = r#""a->b @lin [100,200]","b->a @lin [0,50]","a->b @ask""#;
+    let lines =
+        "fall 1 200 0.0u\nfall 1 0 1.0l\nfall 0 -100 0.0l\nfinding inconsistent\nend inconsistent\n";
+    let words = ["--job=fall", "--cert", "--budget=3", "s"];
+    let end = (Outcome::Inconsistent, "plain", lines);
+    falls(alloc, ("ab", edges), &words, end)?;
+    let words = ["--job=fall", "--budget=2", "s"];
+    let spent = "finding spent\nend undecided\n";
+    let end = (Outcome::Undecided, "plain", spent);
+    falls(alloc, ("ab", edges), &words, end)
+}
+
+#[test]
+fn designs_of_few_events(rt: HostRuntime) -> Result<(), Fail> {
+    let alloc = rt.alloc();
+    let words = ["--job=fall", "--cert", "--budget=1", "s"];
+    let none = "finding consistent\ntimes\nrows 0\nend pass\n";
+    let pass = (Outcome::AllPass, "plain", none);
+    falls(alloc, ("", ""), &words, pass)?;
+    let itself =
+        "finding consistent\ntimes 0\nrows 1\nrow 0 ask U.a@0 U.a@0\nmax 0\ntimes 0\nmin 0\ntimes 0\nend pass\n";
+    let pass = (Outcome::AllPass, "plain", itself);
+    falls(alloc, ("a", r#""a->a @ask""#), &words, pass)
+}
+
+// The numbers are those of the first latest and of the first earliest rule with two causes.
+#[test]
+fn choices_of_both_kinds_are_refused(rt: HostRuntime) -> Result<(), Fail> {
+    let alloc = rt.alloc();
+    let mixed =
+        r#""a->b @early [0,5]","a->b @late [1,9]","a->c @early [0,5]","b->c @early [1,9]","a->d @late [0,5]","b->d @late [1,9]""#;
+    let file = sheet_of(alloc, "abcd", mixed)?;
+    let words = ["--job=fall", "s"];
+    let mut shelf = shelf_with(alloc, "s", file.as_bytes())?;
+    let refused = (Outcome::Refused, "refused design Mixed 3 2\n");
+    run_ends(alloc, &words, &mut shelf, refused)?;
+    let one_kind = r#""a->b @early [0,5]","a->c @late [0,5]","b->c @late [1,9]","a->c @ask""#;
+    falls(
+        alloc,
+        ("abc", one_kind),
+        &words,
+        (
+            Outcome::AllPass,
+            "plain",
+            "finding consistent\ntimes ?\nrows 1\nrow 0 ask U.a@0 U.c@0\nmax 14\ntimes ?\nmin 1\ntimes ?\nend pass\n",
+        ),
+    )?;
+    let mut nothing = shelf_of(alloc, &[])?;
+    let unread = (Outcome::ReadFault, "cannot read file 0\n");
+    run_ends(alloc, &words, &mut nothing, unread)?;
+    let bad_words = (Outcome::BadWords, "bad words\n");
+    run_ends(alloc, &["--job=fall"], &mut nothing, bad_words)
+}
+
+// ---- beside job bounds
+
+// The lines of the bounds of a text, without times.
+fn bounds_in(alloc: Global, text: &str) -> Result<String, Fail> {
+    let mut lines = String::new(alloc);
+    for line in text.lines() {
+        if line.starts_with("row ") || line.starts_with("max ") || line.starts_with("min ") {
+            lines.push_str(format!(in alloc; "{line}\n")?.as_str())?;
+        }
+    }
+    Ok(lines)
+}
+
+// Both jobs tell the same bounds of a design, of which there are some.
+fn agree(rt: &impl Abort, alloc: Global, shelf: &mut ShelfMem) -> Result<(), Fail> {
+    let fallen = written_by(alloc, &["--job=fall", "d"], shelf)?;
+    let searched = written_by(alloc, &["d"], shelf)?;
+    let bounds = bounds_in(alloc, fallen.as_str())?;
+    assert!(rt; fallen.as_str().ends_with("end pass\n"), "{fallen}");
+    assert!(rt; bounds.as_str().contains("\nmax "), "{fallen}");
+    assert_eq!(rt;
+        bounds.as_str(),
+        bounds_in(alloc, searched.as_str())?.as_str()
+    );
+    Ok(())
+}
+
+// A part that asks for data, and one that answers at the latest of two delays.
+const ASKS: &str =
+    r#"{"signal":[{"name":"CLK","wave":"p","node":"c"},{"name":"ADDR","wave":"x=","node":".a"},{"name":"CE","wave":"10","node":".e"},{"name":"DATA","wave":"x=","node":".d"}],"edge":["c~>a @lin [2000,8000]","c~>e @lin [2000,7000]","d->c @req+1 [3000,*]","a->d @ask"]}"#;
+
+const ANSWERS: &str =
+    r#"{"signal":[{"name":"ADDR","wave":"x=","node":".a"},{"name":"CE","wave":"10","node":".e"},{"name":"DQ","wave":"z=","node":".q"}],"edge":["a~>q @late [3000,12000]","e~>q @late [2000,10000]","a->q @ask","e->q @ask"]}"#;
+
+#[test]
+fn buses_have_the_numbers_of_job_bounds(rt: HostRuntime) -> Result<(), Fail> {
+    let alloc = rt.alloc();
+    let clock = r#""edges":["M.c M.c @lin+1 [25000,25000]","M.c M.c @ask+1"]"#;
+    let one = format!(in alloc;
+        r#"{{"itv":1,"cycles":2,"parts":[{{"name":"M","sheet":"m"}},{{"name":"S0","sheet":"s"}}],"nets":[{{"pins":["M.ADDR","S0.ADDR"],"delay":[100,300]}},{{"pins":["M.CE","S0.CE"],"delay":[100,300]}},{{"pins":["S0.DQ","M.DATA"],"delay":[100,300]}}],{clock}}}"#
+    )?;
+    let two = format!(in alloc;
+        r#"{{"itv":1,"cycles":2,"parts":[{{"name":"M","sheet":"m"}},{{"name":"S0","sheet":"s"}},{{"name":"S1","sheet":"s"}}],"nets":[{{"pins":["M.ADDR","S0.ADDR","S1.ADDR"],"delay":[100,300]}},{{"pins":["M.CE","S0.CE","S1.CE"],"delay":[0,500]}},{{"pins":["S0.DQ","M.DATA"],"delay":[100,300]}}],{clock}}}"#
+    )?;
+    for netlist in [one, two] {
+        let files = [("d", netlist.as_str()), ("m", ASKS), ("s", ANSWERS)];
+        agree(&rt, alloc, &mut shelf_of(alloc, &files)?)?;
+    }
+    Ok(())
+}
+
+// Each event comes at the latest, or at the earliest, of the two before it.
+#[test]
+fn chains_have_the_numbers_of_job_bounds(rt: HostRuntime) -> Result<(), Fail> {
+    let alloc = rt.alloc();
+    let nodes = "abcdefgh";
+    for kind in ["late", "early"] {
+        let mut edges = format!(in alloc; r#""a->b @lin [0,7]""#)?;
+        for (first, (second, third)) in nodes
+            .chars()
+            .zip(nodes.chars().skip(1).zip(nodes.chars().skip(2)))
+        {
+            let rule = format!(in alloc;
+                r#","{first}->{third} @{kind} [3,9]","{second}->{third} @{kind} [1,4]","a->{third} @ask""#
+            )?;
+            edges.push_str(rule.as_str())?;
+        }
+        let file = sheet_of(alloc, nodes, edges.as_str())?;
+        agree(&rt, alloc, &mut shelf_with(alloc, "d", file.as_bytes())?)?;
+    }
+    Ok(())
+}

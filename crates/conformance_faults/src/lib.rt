@@ -1,0 +1,16 @@
+//! What a run makes of its surroundings: words, files that can't be read, output that can't be written, designs at and past each limit,
+//! and the jobs beside the report, by `run` over files and sinks in memory and over the real ones.
+#![tactic(auto)]
+
+#[cfg(test)]
+mod codes;
+#[cfg(test)]
+mod faults;
+#[cfg(test)]
+mod jobs;
+#[cfg(test)]
+mod limits;
+#[cfg(test)]
+mod outside;
+#[cfg(test)]
+mod word_lists;

@@ -1,0 +1,27 @@
+//! What the tests of the whole program share: example files, files and words in memory, the lines that reports of a design have in
+//! common, and runs that are held to the end and the bytes that are wanted of them. A helper answers a `Fail` that tells the first line
+//! that differs, so a test hands it on by `?`.
+#![tactic(auto)]
+
+mod again;
+mod edits;
+mod examples;
+mod files;
+mod frames;
+mod likeness;
+mod runs;
+mod tables;
+
+pub use again::is_written_again;
+pub use edits::{edited, edits_end, reports_end};
+pub use examples::{
+    BOARD, CIRCLE, CONTRADICTS, CONTRADICTS_PROVED, EARLIEST, FIRST, FIRST_PROVED, FIRST_REPORT,
+    LATEST, MEMORY, MET, MISSED, OPEN_ABOVE, OUT, PAIR, PROCESSOR, RISES, SETTLES, UNMET,
+};
+pub use files::{shelf_of, shelf_with, words_of};
+pub use frames::{end_of, events_of, inconsistent_of, lone_names, report_of};
+pub use likeness::{Difference, first_difference, lines_are};
+pub use runs::{
+    ROOM, bytes_end, ended, files_end, is_accepted, is_accepted_under, run_ends, written_by,
+};
+pub use tables::{Joined, all_answered, all_refused, contradicts, edges_end, joined};

@@ -1,0 +1,16 @@
+//! What bounds, searches and checkers of proofs answer, on networks in memory: by hand, and beside plain programs that work every label out
+//! anew and try every choice of causes.
+#![tactic(auto)]
+
+#[cfg(test)]
+mod bounds;
+#[cfg(test)]
+mod chance;
+#[cfg(test)]
+mod networks;
+#[cfg(test)]
+mod plain;
+#[cfg(test)]
+mod proofs;
+#[cfg(test)]
+mod searches;

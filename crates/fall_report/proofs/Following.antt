@@ -1,0 +1,115 @@
+-- Which pieces may follow in the text of a job, and which lines begin what comes next.
+use Rattle.std.proofs.Common.{◌≡◌, ◌<◌, ◌+◌, ◌||◌, ◌≤◌, ℕ, zero, suc, ℤ, Bool, true, false, List, [], ◌∷◌, ◌++◌, drop, length, map, Option, Some, slice_get, refl, sym, subst, ap, ◌∙◌, add-one, arith}
+use Rattle.itv_base.specs.Outside.{SinkTold}
+use Rattle.event_graph.specs.Network.{Net}
+use Rattle.falling.specs.declared.answer.Fallen.{Fallen}
+use Rattle.falling.specs.declared.answer.Fallen.TheVariants.{Closed, Inconsistent, Spent, Unbounded}
+use Rattle.falling.specs.declared.line.FallLine.{FallLine}
+use Rattle.falling.specs.Derivation.{IsDerivation}
+use Rattle.fall_notes.specs.Text.{fall_text}
+use Rattle.itv_base.specs.declared.names.EventId.{EventId}
+use Rattle.slack_report.specs.declared.words.Which.{Which}
+use Rattle.slack_report.specs.Right.Drawn as drawing
+use Rattle.unroll.specs.Drawn.{Drawn}
+use Rattle.unroll.specs.Reported.{row_told}
+use Rattle.unroll.specs.declared.row.Row.{Row}
+use Rattle.fall_report.specs.declared.desk.Desk.{Desk}
+use Rattle.fall_report.specs.declared.finding.Found.{Found}
+use Rattle.fall_report.specs.declared.finding.Found.TheVariants as founds
+use Rattle.fall_report.specs.declared.view.View.{View}
+use Rattle.fall_report.specs.declared.wanted.Wanted.{Wanted}
+use Rattle.fall_report.specs.Fall.{AreBegun, Job, MayFollow, Place, Telling, at_bound, at_finding, at_rows, before_rows, behind_bound, behind_finding, is_spent}
+use Rattle.fall_report.specs.Shows.{IsBound, IsFinding, first_event}
+use Rattle.fall_report.specs.Step.{BeginsFrom, IsJobOf, IsSet, ShowsFinding, Told, asked, behind_found, told_bound, told_finding, was_spent}
+use Rattle.fall_report.specs.Text.{Bound, Finding, bound_text, finding_text, printed}
+use Rattle.fall_report.specs.View.{IsViewOf, seen, source}
+
+module _ {net : Net} {wanted : Wanted} {job : Job} (of : IsJobOf net wanted job) where
+  in_job : (lines : List FallLine) → printed wanted.cert lines ≡ printed job.cert lines
+  in_job lines = ap (λ cert. printed cert lines) (sym of.cert)
+
+  -- ---- the finding
+
+  pub begun_finding : (lines : List FallLine) → BeginsFrom net (λ _. first_event) lines → AreBegun job at_finding (printed wanted.cert lines)
+  begun_finding lines begin =
+      let (values, d) = begin job.view of.view in
+      (lines, in_job lines, values, subst (λ (n : Net). IsDerivation (seen job.view n) first_event lines values) (sym of.net_is) d)
+
+  pub finding_may : (lines : List FallLine) (found : Finding) → ShowsFinding net wanted.turns lines found
+      → MayFollow job at_finding (fall_text (printed wanted.cert lines) ++ finding_text found) (behind_finding found)
+  finding_may lines found shows = (
+    lines,
+    found,
+    subst (λ (n : Net). IsFinding job.view n job.turns lines found) (sym of.net_is) (subst (λ turns. IsFinding job.view net turns lines found) (sym of.turns) (shows job.view of.view)),
+    ap (λ (ls : List FallLine). fall_text ls ++ finding_text found) (in_job lines),
+    refl,
+  )
+
+  -- ---- a bound of a row
+
+  pub begun_bound : (told : Telling) (which : Which) (r : drawing.Row) (lines : List FallLine) → told.row ≡ r → BeginsFrom net (λ view. source view which r) lines
+      → AreBegun job (at_bound told which) (printed wanted.cert lines)
+  begun_bound told which r lines same begin =
+      let (values, d) = begin job.view of.view in (
+        lines,
+        in_job lines,
+        values,
+        subst (λ (n : Net). IsDerivation (seen job.view n) (source job.view which told.row) lines values) (sym of.net_is)
+            (subst (λ (row : drawing.Row). IsDerivation (seen job.view net) (source job.view which row) lines values) (sym same) d),
+      )
+
+  pub bound_may : (told : Telling) (which : Which) (r : drawing.Row) (lines : List FallLine) (value : Bound) → told.row ≡ r → IsBound job.view net wanted.turns which r lines value
+      → MayFollow job (at_bound told which) (fall_text (printed wanted.cert lines) ++ bound_text which value) (behind_bound told which (is_spent value))
+  bound_may told which r lines value same shows = (
+    lines,
+    value,
+    subst (λ (n : Net). IsBound job.view n job.turns which told.row lines value) (sym of.net_is)
+        (subst (λ turns. IsBound job.view net turns which told.row lines value) (sym of.turns) (subst (λ (row : drawing.Row). IsBound job.view net wanted.turns which row lines value) (sym same) shows)),
+    ap (λ (ls : List FallLine). fall_text ls ++ bound_text which value) (in_job lines),
+    refl,
+  )
+
+pub behind_told : (found : Found) (times : List ℤ) → behind_finding (told_finding found times) ≡ behind_found found
+behind_told founds.Consistent times = refl
+behind_told founds.Inconsistent times = refl
+behind_told founds.Spent times = refl
+
+pub spent_told : (which : Which) (from : EventId) (times : List ℤ) (ray : List Bool) (fallen : Fallen) → (fallen ≡ Inconsistent → ⊥) → is_spent (told_bound which from times ray fallen) ≡ was_spent fallen
+spent_told which from times ray (Closed value) other = refl
+spent_told which from times ray Unbounded other = refl
+spent_told which from times ray Inconsistent other = absurd (other refl)
+spent_told which from times ray Spent other = refl
+
+-- ---- rows
+
+-- whether a bound was spent, behind both bounds of a row
+pub spent_in : (spent greatest least either : Bool) → either ≡ (greatest || least) → ((spent || greatest) || least) ≡ (spent || either)
+spent_in true greatest least either e = refl
+spent_in false greatest least either e = sym e
+
+pub job_of : (drawn : Drawn) (wanted : Wanted) (view : View) (net : Net) → net ≡ drawn.net → IsViewOf drawn.net view → IsJobOf net wanted (asked drawn view wanted)
+job_of drawn wanted view net same v = record { net_is = sym same; view = subst (λ (n : Net). IsViewOf n view) (sym same) v; turns = refl; cert = refl }
+
+-- rows up to a number were told
+pub record RowsTold (drawn : Drawn) (wanted : Wanted) (number : ℕ) (spent : Bool) (desk : Desk) (old now : SinkTold) : Type 0 where
+  pub set : IsSet drawn.net desk
+  pub pieces : (view : View) → IsViewOf drawn.net view → Told (asked drawn view wanted) at_rows (before_rows spent number (drop number (map row_told drawn.rows))) old now
+
+-- the next row
+pub rows_more : (rows : List Row) (number : ℕ) (row : Row) → slice_get rows number ≡ Some row → drop number (map row_told rows) ≡ row_told row ∷ drop (number + 1) (map row_told rows)
+rows_more rows number row e = rw add-one (more rows number row e)
+  where
+    more : (rows : List Row) (number : ℕ) (row : Row) → slice_get rows number ≡ Some row → drop number (map row_told rows) ≡ row_told row ∷ drop (suc number) (map row_told rows)
+    more [] number row e = absurd (cc e)
+    more (x ∷ rows) zero row e = one x row rows e
+      where
+        one : (x row : Row) (rows : List Row) → ◌≡◌ {A = Option Row} (Some x) (Some row) → row_told x ∷ map row_told rows ≡ row_told row ∷ map row_told rows
+        one x row rows e = ap (λ (r : Row). row_told r ∷ map row_told rows) (cc e)
+    more (x ∷ rows) (suc number) row e = more rows number row e
+
+-- none is left
+pub rows_none : (rows : List Row) (number : ℕ) → length rows ≤ number → drop number (map row_told rows) ≡ []
+rows_none [] zero h = refl
+rows_none [] (suc number) h = refl
+rows_none (row ∷ rows) zero h = absurd (omega arith)
+rows_none (row ∷ rows) (suc number) h = rows_none rows number (omega arith)

@@ -1,0 +1,8 @@
+pub mod Negation
+pub mod Moving
+pub mod Viewing
+pub mod Choosing
+pub mod Going
+pub mod Following
+pub mod Whole
+pub mod Ending

@@ -1,0 +1,281 @@
+-- What an answer of a solver says in the view of the network.
+use Rattle.std.proofs.Common.{◌≡◌, ◌<◌, ◌^◌, ◌≤◌, ℕ, ℤ, pos, neg_ℤ, ◌-ℤ◌, Bool, true, false, List, [], ◌∷◌, length, get_or, All, Option, Some, None, refl, sym, subst, ap, ◌∙◌, arith}
+use Rattle.std.proofs.lemmas.Int.{ints}
+use Rattle.itv_base.specs.declared.names.EventId.{EventId}
+use Rattle.event_graph.specs.Bounds.{IsGreatest, IsRay}
+use Rattle.event_graph.specs.Network.{IsNet, Net}
+use Rattle.event_graph.specs.Satisfying.{Satisfies}
+use Rattle.event_graph.specs.Times.{separation, time_of}
+use Rattle.event_graph.proofs.Reversing.{least_is_reversed_greatest}
+use Rattle.falling.specs.declared.answer.Fallen.{Fallen}
+use Rattle.falling.specs.declared.answer.Fallen.TheVariants.{Closed, Unbounded, Inconsistent, Spent}
+use Rattle.falling.specs.declared.limits.Limits.{Limits}
+use Rattle.falling.specs.declared.line.FallLine.{FallLine}
+use Rattle.falling.specs.Course.{AreLimits}
+use Rattle.falling.specs.Derivation.{IsDerivation, starting_values}
+use Rattle.falling.specs.Kinds.{IsPlain, negated, negated_times}
+use Rattle.falling.specs.Solving.{AnswersAs, IsDerivationAs, IsNegationOf}
+use Rattle.falling.specs.Turns.{IsNearValue}
+use Rattle.falling.proofs.Bounding.{length-starting}
+use Rattle.falling.proofs.Negating.{all_map, length-mapped, negated_twice, satisfies_turns, time_of-negated}
+use Rattle.falling.proofs.NegatedNets.{HasTimes, limits_negated, satisfying_near}
+use Rattle.slack_report.specs.declared.words.Which.{Which}
+use Rattle.slack_report.specs.declared.words.Which.TheVariants.{Max, Min}
+use Rattle.slack_report.specs.Right.Drawn.{Row}
+use Rattle.slack_report.specs.Right.Facts.{AreTimes}
+use Rattle.fall_report.specs.declared.finding.Found.TheVariants as founds
+use Rattle.fall_report.specs.declared.view.View.{View}
+use Rattle.fall_report.specs.declared.view.View.TheVariants.{Plain, Negated}
+use Rattle.fall_report.specs.Shows.{CanRise, IsBound, IsExtreme, IsFinding, first_event, shown_by}
+use Rattle.fall_report.specs.Step.{BeginsFrom, HasFound, ShowsFinding, found_by, told_bound, told_finding}
+use Rattle.fall_report.specs.Text.{consistent}
+use Rattle.fall_report.specs.View.{IsViewOf, moved, seen, source, target, times_seen}
+use Rattle.fall_report.proofs.Moving.{ray-moved, satisfies-moved, separation-moved, zero-moved}
+use Rattle.fall_report.proofs.Negation.{is_net_negated}
+
+-- ---- views
+
+-- a plain network is plain where it can't be otherwise
+pub plain_stable : (net : Net) → ((IsPlain net → ⊥) → ⊥) → IsPlain net
+plain_stable net stable = λ k d within choice. stable (λ plain. plain k d within choice)
+
+-- lines that begin a derivation, in the view
+pub begins_finding : (net : Net) (negation : Option Net) (lines : List FallLine) (after : List ℤ) → IsNegationOf net negation
+    → IsDerivationAs negation net first_event first_event lines after → BeginsFrom net (λ _. first_event) lines
+begins_finding net None lines after is d Plain v = (after, d)
+begins_finding net None lines after is d Negated v = absurd (v is)
+begins_finding net (Some n) lines after is d Plain v = absurd (is.2 v)
+begins_finding net (Some n) lines after is d Negated v = (after, d)
+
+pub begins_row : (net : Net) (negation : Option Net) (which : Which) (r : Row) (lines : List FallLine) (after : List ℤ) → IsNegationOf net negation
+    → IsDerivationAs negation net (source Plain which r) (target Plain which r) lines after → BeginsFrom net (λ view. source view which r) lines
+begins_row net None which r lines after is d Plain v = (after, d)
+begins_row net None which r lines after is d Negated v = absurd (v is)
+begins_row net (Some n) which r lines after is d Plain v = absurd (is.2 v)
+begins_row net (Some n) which r lines after is d Negated v = (after, d)
+
+-- ---- findings
+
+no_ray : (net : Net) (event : EventId) (times : List ℤ) (ray : List Bool) → IsRay net event event times ray → ⊥
+no_ray net event times ray r = cc (r.holds, r.lacks)
+
+at_itself : (time value : ℤ) → (time -ℤ time) ≡ value → value ≡ pos 0
+at_itself time value e = omega (arith, ints)
+
+minus_zero : (time value : ℤ) → time ≡ value → value ≡ pos 0 → neg_ℤ time ≡ pos 0
+minus_zero time value e z = omega (arith, ints)
+
+no_events : {n : ℕ} → 0 < n → n ≡ 0 → ⊥
+no_events some none = omega arith
+
+-- what is found of a network with events, by the answer on event 0 and itself
+pub shows_finding : (net : Net) (negation : Option Net) (turns : ℕ) (lines : List FallLine) (times : List ℤ) (ray : List Bool) (fallen : Fallen) → 0 < net.events
+    → IsNegationOf net negation → AnswersAs negation net first_event first_event turns lines times ray fallen → ShowsFinding net turns lines (told_finding (found_by fallen) times)
+shows_finding net None turns lines times ray fallen some is a Negated v = absurd (v is)
+shows_finding net (Some n) turns lines times ray fallen some is a Plain v = absurd (is.2 v)
+shows_finding net None turns lines times ray (Closed value) some is a Plain v = record {
+  satisfied = a.satisfies;
+  at_zero = a.derived ∙ at_itself (time_of times first_event) value a.attained;
+  derived = (times, a.derivation, refl);
+  empty = λ none. absurd (no_events some none);
+}
+shows_finding net None turns lines times ray Unbounded some is a Plain v = absurd (no_ray net first_event times ray a.raised)
+shows_finding net None turns lines times ray Inconsistent some is a Plain v = record { none = a.none; derived = a.derivation }
+shows_finding net None turns lines times ray Spent some is a Plain v = record { spent = (times, a.spent); few = a.few }
+shows_finding net (Some n) turns lines times ray (Closed value) some is a Negated v =
+    let (values, d, turned, at) = a.derivation in record {
+      satisfied = a.satisfies;
+      at_zero = ap (λ (list : List ℤ). time_of list first_event) turned ∙ time_of-negated values first_event
+          ∙ minus_zero (time_of values first_event) value at (at_itself (time_of times first_event) value a.attained);
+      derived = (values, d, turned);
+      empty = λ none. absurd (no_events some none);
+    }
+shows_finding net (Some n) turns lines times ray Unbounded some is a Negated v = absurd (no_ray net first_event times ray a.raised)
+shows_finding net (Some n) turns lines times ray Inconsistent some is a Negated v = record { none = a.none; derived = a.derivation }
+shows_finding net (Some n) turns lines times ray Spent some is a Negated v = record { spent = a.spent; few = a.few }
+
+-- no events: the times of none satisfy, and no line is needed
+nothing : (xs ys : List ℤ) → length xs ≡ 0 → length ys ≡ 0 → xs ≡ ys
+nothing [] [] e f = refl
+nothing [] (y ∷ ys) e f = absurd (omega arith)
+nothing (x ∷ xs) ys e f = absurd (omega arith)
+
+at_nothing : (times : List ℤ) (event : EventId) → length times ≡ 0 → time_of times event ≡ pos 0
+at_nothing [] event e = refl
+at_nothing (time ∷ times) event e = absurd (omega arith)
+
+length_seen : (view : View) (values : List ℤ) → length (times_seen view values) ≡ length values
+length_seen Plain values = refl
+length_seen Negated values = length-mapped neg_ℤ values
+
+events_seen : (view : View) (net : Net) → (seen view net).events ≡ net.events
+events_seen Plain net = refl
+events_seen Negated net = refl
+
+none_satisfied : (net : Net) (times : List ℤ) → IsNet net → net.events ≡ 0 → length times ≡ net.events → Satisfies times net
+none_satisfied net times is_net none count = record {
+  count = count;
+  each = λ k d within. absurd (below_none (is_net.constraints k d within).target none);
+}
+  where
+    below_none : {k n : ℕ} → k < n → n ≡ 0 → ⊥
+    below_none h e = omega arith
+
+pub found_empty : (net : Net) (times : List ℤ) → IsNet net → net.events ≡ 0 → length times ≡ net.events → HasFound net founds.Consistent
+found_empty net times is_net none count = (times, none_satisfied net times is_net none count)
+
+pub shows_empty : (net : Net) (turns : ℕ) (times : List ℤ) → IsNet net → net.events ≡ 0 → length times ≡ net.events → ShowsFinding net turns [] (consistent times)
+shows_empty net turns times is_net none count view v =
+    let values : List ℤ = starting_values (seen view net) first_event in
+    let empty : length values ≡ 0 = length-starting (seen view net) first_event ∙ events_seen view net ∙ none in record {
+      satisfied = none_satisfied net times is_net none count;
+      at_zero = at_nothing times first_event (count ∙ none);
+      derived = (values, refl, nothing times (times_seen view values) (count ∙ none) (length_seen view values ∙ empty));
+      empty = λ _. refl;
+    }
+
+-- what is found of a network that is consistent
+pub has_found : (net : Net) (negation : Option Net) (turns : ℕ) (lines : List FallLine) (times : List ℤ) (ray : List Bool) (fallen : Fallen)
+    → AnswersAs negation net first_event first_event turns lines times ray fallen → HasFound net (found_by fallen)
+has_found net None turns lines times ray (Closed value) a = (times, a.satisfies)
+has_found net None turns lines times ray Unbounded a = (times, a.satisfies)
+has_found net None turns lines times ray Inconsistent a = tt
+has_found net None turns lines times ray Spent a = tt
+has_found net (Some n) turns lines times ray (Closed value) a = (times, a.satisfies)
+has_found net (Some n) turns lines times ray Unbounded a = (times, a.satisfies)
+has_found net (Some n) turns lines times ray Inconsistent a = tt
+has_found net (Some n) turns lines times ray Spent a = tt
+
+pub not_unbounded : (net : Net) (negation : Option Net) (turns : ℕ) (lines : List FallLine) (times : List ℤ) (ray : List Bool) (fallen : Fallen)
+    → AnswersAs negation net first_event first_event turns lines times ray fallen → fallen ≡ Unbounded → ⊥
+not_unbounded net negation turns lines times ray fallen a is = go negation (subst (AnswersAs negation net first_event first_event turns lines times ray) is a)
+  where
+    go : (negation : Option Net) → AnswersAs negation net first_event first_event turns lines times ray Unbounded → ⊥
+    go None a = no_ray net first_event times ray a.raised
+    go (Some n) a = no_ray net first_event times ray a.raised
+
+-- ---- bounds
+
+neg_twice : (value : ℤ) → neg_ℤ (neg_ℤ value) ≡ value
+neg_twice value = omega (arith, ints)
+
+shown_twice : (which : Which) (value : ℤ) → shown_by which (shown_by which value) ≡ value
+shown_twice Max value = refl
+shown_twice Min value = neg_twice value
+
+extreme : (net : Net) (which : Which) (r : Row) (value : ℤ) → IsGreatest net (source Plain which r) (target Plain which r) value → IsExtreme which net r (shown_by which value)
+extreme net Max r value greatest = greatest
+extreme net Min r value greatest =
+    (least_is_reversed_greatest net r.from r.to (neg_ℤ value)).1 (subst (IsGreatest net r.to r.from) (sym (neg_twice value)) greatest)
+
+turned : (a b value : ℤ) → (a -ℤ b) ≡ value → (b -ℤ a) ≡ neg_ℤ value
+turned a b value e = omega (arith, ints)
+
+attained : (which : Which) (r : Row) (times : List ℤ) (value : ℤ) → separation times (source Plain which r) (target Plain which r) ≡ value → separation times r.from r.to ≡ shown_by which value
+attained Max r times value e = e
+attained Min r times value e = turned (time_of times r.from) (time_of times r.to) value e
+
+can_rise : (net : Net) (which : Which) (r : Row) (times : List ℤ) (ray : List Bool) → IsNet net → IsRay net (source Plain which r) (target Plain which r) times ray
+    → CanRise which net r (moved r.from times) ray
+can_rise net Max r times ray is_net shown = ray-moved net r.from r.from r.to times ray is_net shown
+can_rise net Min r times ray is_net shown = ray-moved net r.from r.to r.from times ray is_net shown
+
+module _ (net : Net) (which : Which) (r : Row) (is_net : IsNet net) (in_from : r.from.0 < net.events) (in_to : r.to.0 < net.events) where
+  are_times : (times : List ℤ) → Satisfies times net → AreTimes net r (moved r.from times)
+  are_times times satisfied = record {
+    satisfied = satisfies-moved net r.from times is_net satisfied;
+    at_zero = zero-moved r.from times (subst (λ n. r.from.0 < n) (sym satisfied.count) in_from);
+  }
+
+  attained_moved : (times : List ℤ) (value : ℤ) → Satisfies times net → separation times (source Plain which r) (target Plain which r) ≡ value
+      → separation (moved r.from times) r.from r.to ≡ shown_by which value
+  attained_moved times value satisfied e =
+      separation-moved r.from r.from r.to times (subst (λ n. r.from.0 < n) (sym satisfied.count) in_from) (subst (λ n. r.to.0 < n) (sym satisfied.count) in_to)
+      ∙ attained which r times value e
+
+  -- what an answer on the searched pair of a row says of its bound, where some times satisfy
+  pub shows_row : (negation : Option Net) (turns : ℕ) (lines : List FallLine) (times : List ℤ) (ray : List Bool) (fallen : Fallen) (view : View) → IsViewOf net view
+      → IsNegationOf net negation → (some : List ℤ) → Satisfies some net → AnswersAs negation net (source Plain which r) (target Plain which r) turns lines times ray fallen
+      → IsBound view net turns which r lines (told_bound which r.from times ray fallen)
+  shows_row None turns lines times ray fallen Negated v is some satisfied a = absurd (v is)
+  shows_row (Some n) turns lines times ray fallen Plain v is some satisfied a = absurd (is.2 v)
+  shows_row None turns lines times ray (Closed value) Plain v is some satisfied a = record {
+    extreme = extreme net which r value a.greatest;
+    times = are_times times a.satisfies;
+    attained = attained_moved times value a.satisfies a.attained;
+    derived = (times, a.derivation, (a.derived ∙ sym (shown_twice which value), refl));
+  }
+  shows_row None turns lines times ray Unbounded Plain v is some satisfied a = record {
+    times = are_times times a.satisfies;
+    raised = can_rise net which r times ray is_net a.raised;
+    derived = (times, a.derivation, refl);
+  }
+  shows_row None turns lines times ray Inconsistent Plain v is some satisfied a = absurd (a.none some satisfied)
+  shows_row None turns lines times ray Spent Plain v is some satisfied a = record { spent = (times, a.spent); few = a.few }
+  shows_row (Some n) turns lines times ray (Closed value) Negated v is some satisfied a =
+      let (values, d, turn, at) = a.derivation in record {
+        extreme = extreme net which r value a.greatest;
+        times = are_times times a.satisfies;
+        attained = attained_moved times value a.satisfies a.attained;
+        derived = (values, d, (at ∙ sym (shown_twice which value), ap (moved r.from) turn));
+      }
+  shows_row (Some n) turns lines times ray Unbounded Negated v is some satisfied a =
+      let (values, d, turn) = a.derivation in record {
+        times = are_times times a.satisfies;
+        raised = can_rise net which r times ray is_net a.raised;
+        derived = (values, d, ap (moved r.from) turn);
+      }
+  shows_row (Some n) turns lines times ray Inconsistent Negated v is some satisfied a = absurd (a.none some satisfied)
+  shows_row (Some n) turns lines times ray Spent Negated v is some satisfied a = record { spent = a.spent; few = a.few }
+
+pub not_inconsistent : (net : Net) (negation : Option Net) (from to : EventId) (turns : ℕ) (lines : List FallLine) (times : List ℤ) (ray : List Bool) (fallen : Fallen) (some : List ℤ)
+    → Satisfies some net → AnswersAs negation net from to turns lines times ray fallen → fallen ≡ Inconsistent → ⊥
+not_inconsistent net negation from to turns lines times ray fallen some satisfied a is = go negation (subst (AnswersAs negation net from to turns lines times ray) is a)
+  where
+    go : (negation : Option Net) → AnswersAs negation net from to turns lines times ray Inconsistent → ⊥
+    go None a = a.none some satisfied
+    go (Some n) a = a.none some satisfied
+
+-- the searched pair of a row is there where its events are
+pub in_pair : (which : Which) (r : Row) (events : ℕ) → r.from.0 < events → r.to.0 < events → ((source Plain which r).0 < events) × ((target Plain which r).0 < events)
+in_pair Max r events in_from in_to = (in_from, in_to)
+in_pair Min r events in_from in_to = (in_to, in_from)
+
+-- ---- how great the times of an answer are
+
+near_negated : (values : List ℤ) → All IsNearValue values → All IsNearValue (negated_times values)
+near_negated values near = all_map neg_ℤ IsNearValue IsNearValue values (λ value h. (omega (arith, ints, h.0, h.1), omega (arith, ints, h.0, h.1))) near
+
+near_by_negation : (net : Net) (limits : Limits) (to : EventId) (lines : List FallLine) (values times : List ℤ) → IsNet net → AreLimits net limits → to.0 < net.events
+    → IsDerivation (negated net) to lines values → times ≡ negated_times values → Satisfies times net → All IsNearValue values
+near_by_negation net limits to lines values times is_net limited in_to d turn satisfied =
+    satisfying_near (negated net) to lines values (is_net_negated net is_net) in_to (limits_negated net limits limited).small d
+    (subst (λ ts. Satisfies ts (negated net)) (ap negated_times turn ∙ negated_twice values) (satisfies_turns net times satisfied))
+
+-- the times of an answer that has some, and its number
+pub near_times : (net : Net) (limits : Limits) (negation : Option Net) (from to : EventId) (turns : ℕ) (lines : List FallLine) (times : List ℤ) (ray : List Bool) (fallen : Fallen)
+    → IsNet net → AreLimits net limits → IsNegationOf net negation → from.0 < net.events → to.0 < net.events → AnswersAs negation net from to turns lines times ray fallen
+    → HasTimes fallen → All IsNearValue times
+near_times net limits None from to turns lines times ray (Closed value) is_net limited is in_from in_to a has = satisfying_near net from lines times is_net in_from limited.small a.derivation a.satisfies
+near_times net limits None from to turns lines times ray Unbounded is_net limited is in_from in_to a has = satisfying_near net from lines times is_net in_from limited.small a.derivation a.satisfies
+near_times net limits negation from to turns lines times ray Inconsistent is_net limited is in_from in_to a has = absurd has
+near_times net limits negation from to turns lines times ray Spent is_net limited is in_from in_to a has = absurd has
+near_times net limits (Some n) from to turns lines times ray (Closed value) is_net limited is in_from in_to a has =
+    let (values, d, turn, at) = a.derivation in
+    subst (All IsNearValue) (sym turn) (near_negated values (near_by_negation net limits to lines values times is_net limited in_to d turn a.satisfies))
+near_times net limits (Some n) from to turns lines times ray Unbounded is_net limited is in_from in_to a has =
+    let (values, d, turn) = a.derivation in
+    subst (All IsNearValue) (sym turn) (near_negated values (near_by_negation net limits to lines values times is_net limited in_to d turn a.satisfies))
+
+near_at : (values : List ℤ) (event : EventId) (value : ℤ) → event.0 < length values → time_of values event ≡ value → All IsNearValue values → IsNearValue value
+near_at values event value within e near = subst IsNearValue e (near event.0 (pos 0) within)
+
+pub near_value : (net : Net) (limits : Limits) (negation : Option Net) (from to : EventId) (turns : ℕ) (lines : List FallLine) (times : List ℤ) (ray : List Bool) (value : ℤ)
+    → IsNet net → AreLimits net limits → IsNegationOf net negation → from.0 < net.events → to.0 < net.events → AnswersAs negation net from to turns lines times ray (Closed value)
+    → IsNearValue value
+near_value net limits None from to turns lines times ray value is_net limited is in_from in_to a =
+    near_at times to value (subst (λ n. to.0 < n) (sym a.satisfies.count) in_to) a.derived (satisfying_near net from lines times is_net in_from limited.small a.derivation a.satisfies)
+near_value net limits (Some n) from to turns lines times ray value is_net limited is in_from in_to a =
+    let (values, d, turn, at) = a.derivation in
+    let count : length values ≡ net.events = sym (length-mapped neg_ℤ values) ∙ sym (ap length turn) ∙ a.satisfies.count in
+    near_at values from value (subst (λ n. from.0 < n) (sym count) in_from) at (near_by_negation net limits to lines values times is_net limited in_to d turn a.satisfies)

@@ -1,0 +1,39 @@
+use Rattle.std.proofs.Common.{Bool, ap, ◌∙◌, sym}
+use Rattle.unroll.specs.Reported.{row_told}
+use Rattle.fall_report.specs.Fall.{behind_bound}
+use Rattle.fall_report.specs.Step.{told_bound}
+use Rattle.fall_report.specs.Text.{bound_text, printed}
+use Rattle.fall_report.proofs.Following.{begun_bound, bound_may, spent_told}
+use Rattle.fall_report.proofs.Going.{goes_up, stopped_search, stopped_shown, told_at, told_shown}
+use Rattle.fall_report.proofs.Viewing.{not_inconsistent, shows_row}
+use Rattle.fall_report.proofs.bounding.tell_bound.Goals as goal
+
+pub returns-in_err-fallen-clause-goes : goal.returns-in_err-fallen-clause-goes
+returns-in_err-fallen-clause-goes g c = λ job told of same.
+    let (lines, cut, begin) = c.in_err-fallen.ensures.cut in
+    goes_up (behind_bound told c.args.which) c.from_residual.result c.from_residual.ensures.0
+    (stopped_search (printed c.args.wanted.cert lines) (begun_bound of told c.args.which (row_told c.args.row.now) lines same begin) cut)
+
+pub returns-in_err-put_bound-clause-goes : goal.returns-in_err-put_bound-clause-goes
+returns-in_err-put_bound-clause-goes g c = λ job told of same.
+    let (lines, grew, a) = c.in_ok-fallen.ensures.answers in
+    let solver = c.search_bound.new.solver in
+    let (some, satisfied) = c.requires.consistent in
+    let value = told_bound c.args.which c.args.row.now.from solver.times solver.ray c.in_ok-fallen.fallen in
+    let shows = shows_row c.args.net.now c.args.which (row_told c.args.row.now) c.requires.set.is_net c.requires.row.0 c.requires.row.1 solver.negation c.args.wanted.turns lines solver.times solver.ray
+    c.in_ok-fallen.fallen job.view of.view c.in_ok-fallen.ensures.made.negation some satisfied a in
+    goes_up (behind_bound told c.args.which) c.from_residual-in_err-put_bound.result c.from_residual-in_err-put_bound.ensures.0
+    (stopped_shown _ (printed c.args.wanted.cert lines) (bound_text c.args.which value) (bound_may of told c.args.which (row_told c.args.row.now) lines value same shows) grew c.in_err-put_bound.ensures.puts)
+
+pub returns-clause-goes : goal.returns-clause-goes
+returns-clause-goes g c = λ job told of same.
+    let (lines, grew, a) = c.in_ok-fallen.ensures.answers in
+    let solver = c.search_bound.new.solver in
+    let (some, satisfied) = c.requires.consistent in
+    let value = told_bound c.args.which c.args.row.now.from solver.times solver.ray c.in_ok-fallen.fallen in
+    let shows = shows_row c.args.net.now c.args.which (row_told c.args.row.now) c.requires.set.is_net c.requires.row.0 c.requires.row.1 solver.negation c.args.wanted.turns lines solver.times solver.ray
+    c.in_ok-fallen.fallen job.view of.view c.in_ok-fallen.ensures.made.negation some satisfied a in
+    let spent = spent_told c.args.which c.args.row.now.from solver.times solver.ray c.in_ok-fallen.fallen
+    (not_inconsistent c.args.net.now solver.negation _ _ c.args.wanted.turns lines solver.times solver.ray c.in_ok-fallen.fallen some satisfied a) in
+    told_at (ap (λ (is : Bool). behind_bound told c.args.which is) (spent ∙ sym c.was_spent.ensures))
+    (told_shown _ (printed c.args.wanted.cert lines) (bound_text c.args.which value) (bound_may of told c.args.which (row_told c.args.row.now) lines value same shows) grew c.in_ok-put_bound.ensures.puts)

@@ -1,0 +1,121 @@
+-- What job fall answers and writes.
+use Rattle.std.specs.Prelude.{◌≡◌, ◌||◌, ◌+◌, ℕ, ℤ, Bool, true, false, if◌then◌else◌, List, [], ◌∷◌, ◌++◌, length}
+use Rattle.std.specs.List.{concat}
+use Rattle.itv_base.specs.declared.names.EventId.{EventId}
+use Rattle.falling.specs.Derivation.{IsDerivation}
+use Rattle.falling.specs.declared.line.FallLine.{FallLine}
+use Rattle.fall_notes.specs.Text.{fall_text}
+use Rattle.job_answer.specs.declared.answer.Answer.{Answer}
+use Rattle.job_answer.specs.declared.answer.Answer.TheVariants as answers
+use Rattle.slack_report.specs.declared.words.EndWord.{EndWord}
+use Rattle.slack_report.specs.declared.words.EndWord.TheVariants.{Pass, Fail, Inconsistent, Undecided}
+use Rattle.slack_report.specs.declared.words.Which.{Which}
+use Rattle.slack_report.specs.declared.words.Which.TheVariants.{Max, Min}
+use Rattle.slack_report.specs.Entry as line
+use Rattle.slack_report.specs.Right.Drawn.{Drawn, Row, name_of}
+use Rattle.slack_report.specs.Text.{entry_text}
+use Rattle.fall_report.specs.declared.view.View.{View}
+use Rattle.fall_report.specs.Shows.{IsBound, IsFinding, first_event}
+use Rattle.fall_report.specs.Text.{Bound, Finding, bound_spent, bound_text, consistent, finding_spent, finding_text, front_text, inconsistent, closed, printed, unbounded}
+use Rattle.fall_report.specs.View.{IsViewOf, seen, source}
+
+-- what is asked: of which drawn network, in which view, with how many turns, and whether derivations are printed
+pub record Job : Type 0 where
+  pub drawn : Drawn
+  pub view : View
+  pub turns : ℕ
+  pub cert : Bool
+
+-- a row that comes next or is being told, its number, whether a bound before it was spent, and the rows behind it
+pub record Telling : Type 0 where
+  pub spent : Bool
+  pub number : ℕ
+  pub row : Row
+  pub later : List Row
+
+-- where a text stands between two pieces, behind its front
+pub data Place : Type 0 where
+  at_finding : Place
+  at_rows : Place
+  at_row : Telling → Place
+  at_bound : Telling → Which → Place
+  at_end : EndWord → Place
+  at_last : EndWord → Place
+
+-- before the rows from a number on: at the end where there are none, which is undecided where a bound was spent
+abbrev pub before_rows : Bool → ℕ → List Row → Place
+before_rows spent number [] = at_end (if spent then Undecided else Pass)
+before_rows spent number (r ∷ later) = at_row (record { spent = spent; number = number; row = r; later = later })
+
+abbrev pub behind_finding : Finding → Place
+behind_finding (consistent list) = at_rows
+behind_finding inconsistent = at_end Inconsistent
+behind_finding finding_spent = at_end Undecided
+
+abbrev pub is_spent : Bound → Bool
+is_spent (closed value list) = false
+is_spent (unbounded list set) = false
+is_spent bound_spent = true
+
+-- the least bound of a row comes behind the greatest, and behind that the rows that are left
+abbrev pub behind_bound : Telling → Which → Bool → Place
+behind_bound told Max spent = at_bound (record told { spent = told.spent || spent }) Min
+behind_bound told Min spent = before_rows (told.spent || spent) (told.number + 1) told.later
+
+-- a piece of text leads from a place to another
+abbrev pub MayFollow : Job → Place → List ℕ → Place → Type 0
+MayFollow job at_finding piece next =
+    (lines : List FallLine) × (found : Finding) × IsFinding job.view job.drawn.net job.turns lines found
+    × (piece ≡ fall_text (printed job.cert lines) ++ finding_text found) × (next ≡ behind_finding found)
+MayFollow job at_rows piece next = (piece ≡ entry_text (line.rows (length job.drawn.rows))) × (next ≡ before_rows false 0 job.drawn.rows)
+MayFollow job (at_row told) piece next =
+    (piece ≡ entry_text (line.row told.number told.row.kind (name_of job.drawn told.row.from) (name_of job.drawn told.row.to))) × (next ≡ at_bound told Max)
+MayFollow job (at_bound told which) piece next =
+    (lines : List FallLine) × (value : Bound) × IsBound job.view job.drawn.net job.turns which told.row lines value
+    × (piece ≡ fall_text (printed job.cert lines) ++ bound_text which value) × (next ≡ behind_bound told which (is_spent value))
+MayFollow job (at_end word) piece next = (piece ≡ entry_text (line.ending word)) × (next ≡ at_last word)
+MayFollow job (at_last word) piece next = ⊥
+
+-- pieces lead one after another from a place to another
+abbrev pub Reads : Job → Place → List (List ℕ) → Place → Type 0
+Reads job at [] last = at ≡ last
+Reads job at (piece ∷ pieces) last = (next : Place) × MayFollow job at piece next × Reads job next pieces last
+
+-- these lines are printed of some that begin a derivation
+abbrev pub BeginAt : Job → EventId → List FallLine → Type 0
+BeginAt job from begun =
+    (lines : List FallLine) × (begun ≡ printed job.cert lines) × (values : List ℤ) × IsDerivation (seen job.view job.drawn.net) from lines values
+
+-- these lines are printed of the derivation that comes at a place, if one does
+abbrev pub AreBegun : Job → Place → List FallLine → Type 0
+AreBegun job at_finding begun = BeginAt job first_event begun
+AreBegun job (at_bound told which) begun = BeginAt job (source job.view which told.row) begun
+AreBegun job _ begun = begun ≡ []
+
+-- what the job answers by the word at the end
+abbrev pub answer_of : EndWord → Answer
+answer_of Pass = answers.AllPass
+answer_of Fail = answers.SomeFail
+answer_of Inconsistent = answers.Inconsistent
+answer_of Undecided = answers.Undecided
+
+-- what the job answers and writes: the front, and pieces up to the last one, whose word is the answer
+pub record AnswersFall (drawn : Drawn) (turns : ℕ) (cert : Bool) (answer : Answer) (text : List ℕ) : Type 0 where
+  pub view : View
+  pub is_view : IsViewOf drawn.net view
+  pub pieces : List (List ℕ)
+  pub word : EndWord
+  pub reads : Reads (record { drawn = drawn; view = view; turns = turns; cert = cert }) at_finding pieces (at_last word)
+  pub is_text : text ≡ front_text drawn view ++ concat pieces
+  pub is_answer : answer ≡ answer_of word
+
+-- what it may have begun to write: the front, pieces up to some place, and lines of the derivation that comes there
+pub record BeginsFall (drawn : Drawn) (turns : ℕ) (cert : Bool) (text : List ℕ) : Type 0 where
+  pub view : View
+  pub is_view : IsViewOf drawn.net view
+  pub pieces : List (List ℕ)
+  pub last : Place
+  pub reads : Reads (record { drawn = drawn; view = view; turns = turns; cert = cert }) at_finding pieces last
+  pub begun : List FallLine
+  pub are_begun : AreBegun (record { drawn = drawn; view = view; turns = turns; cert = cert }) last begun
+  pub is_text : text ≡ front_text drawn view ++ (concat pieces ++ fall_text begun)

@@ -1,0 +1,7 @@
+pub mod View
+pub mod Kinds
+pub mod Text
+pub mod Shows
+pub mod Fall
+pub mod Step
+pub mod Laws

@@ -1,0 +1,83 @@
+-- What a finding or a bound says of the network, and what the lines of its derivation show.
+use Rattle.std.specs.Prelude.{◌≡◌, ◌<◌, ℕ, ℤ, pos, neg_ℤ, Bool, List, []}
+use Rattle.itv_base.specs.declared.names.EventId.{EventId}
+use Rattle.event_graph.specs.Bounds.{IsGreatest, IsInconsistent, IsLeast, IsRay}
+use Rattle.event_graph.specs.Network.{Net}
+use Rattle.event_graph.specs.Satisfying.{Satisfies}
+use Rattle.event_graph.specs.Times.{separation, time_of}
+use Rattle.falling.specs.Cap.{enough_turns}
+use Rattle.falling.specs.Course.{IsSpent}
+use Rattle.falling.specs.Derivation.{IsDerivation, IsEnded}
+use Rattle.falling.specs.declared.line.FallLine.{FallLine}
+use Rattle.slack_report.specs.declared.words.Which.{Which}
+use Rattle.slack_report.specs.declared.words.Which.TheVariants.{Max, Min}
+use Rattle.slack_report.specs.Right.Drawn.{Row}
+use Rattle.slack_report.specs.Right.Facts.{AreTimes}
+use Rattle.fall_report.specs.declared.view.View.{View}
+use Rattle.fall_report.specs.View.{moved, seen, source, target, times_seen}
+use Rattle.fall_report.specs.Text.{Bound, Finding, bound_spent, consistent, finding_spent, inconsistent, closed, unbounded}
+
+-- the derivation of the finding starts at event 0
+abbrev pub first_event : EventId
+first_event = record { 0 = 0 }
+
+-- the lines are a derivation from an event in the network that is solved, and something is said of the values that they give
+abbrev pub Derives : View → Net → EventId → List FallLine → (List ℤ → Type 0) → Type 0
+Derives view net from lines Says = (values : List ℤ) × IsDerivation (seen view net) from lines values × Says values
+
+-- the lines are a derivation of as many lines as turns, which are not enough; it has not ended, and one more line is allowed
+pub record AreSpent (view : View) (net : Net) (from : EventId) (turns : ℕ) (lines : List FallLine) : Type 0 where
+  pub spent : (values : List ℤ) × IsSpent (seen view net) from turns lines values
+  pub few : turns < enough_turns net
+
+-- the times satisfy with event 0 at 0; they are those of the derivation's values, and where there are no events it has no lines
+pub record IsConsistentBy (view : View) (net : Net) (lines : List FallLine) (list : List ℤ) : Type 0 where
+  pub satisfied : Satisfies list net
+  pub at_zero : time_of list first_event ≡ pos 0
+  pub derived : Derives view net first_event lines (λ values. list ≡ times_seen view values)
+  pub empty : net.events ≡ 0 → lines ≡ []
+
+-- no times satisfy, and the derivation ends
+pub record IsInconsistentBy (view : View) (net : Net) (lines : List FallLine) : Type 0 where
+  pub none : IsInconsistent net
+  pub derived : Derives view net first_event lines (IsEnded (seen view net) first_event)
+
+abbrev pub IsFinding : View → Net → ℕ → List FallLine → Finding → Type 0
+IsFinding view net turns lines (consistent list) = IsConsistentBy view net lines list
+IsFinding view net turns lines inconsistent = IsInconsistentBy view net lines
+IsFinding view net turns lines finding_spent = AreSpent view net first_event turns lines
+
+-- the number is the greatest or the least separation of a row
+abbrev pub IsExtreme : Which → Net → Row → ℤ → Type 0
+IsExtreme Max net r value = IsGreatest net r.from r.to value
+IsExtreme Min net r value = IsLeast net r.from r.to value
+
+-- the value that a derivation gives for it: for a least separation minus the number
+abbrev pub shown_by : Which → ℤ → ℤ
+shown_by Max value = value
+shown_by Min value = neg_ℤ value
+
+-- the set can be raised without end: for a greatest separation with the to-event, and for a least one with the from-event
+abbrev pub CanRise : Which → Net → Row → List ℤ → List Bool → Type 0
+CanRise Max net r list set = IsRay net r.from r.to list set
+CanRise Min net r list set = IsRay net r.to r.from list set
+
+-- the number is the bound, and the times satisfy and attain it with the from-event at 0; they are those of the derivation's values, which
+-- give the number
+pub record IsNumberBy (view : View) (net : Net) (which : Which) (r : Row) (lines : List FallLine) (value : ℤ) (list : List ℤ) : Type 0 where
+  pub extreme : IsExtreme which net r value
+  pub times : AreTimes net r list
+  pub attained : separation list r.from r.to ≡ value
+  pub derived : Derives view net (source view which r) lines
+      (λ values. (time_of values (target view which r) ≡ shown_by which value) × (list ≡ moved r.from (times_seen view values)))
+
+-- the times satisfy with the from-event at 0, and the set can be raised from them; they are those of the derivation's values
+pub record IsUnboundedBy (view : View) (net : Net) (which : Which) (r : Row) (lines : List FallLine) (list : List ℤ) (set : List Bool) : Type 0 where
+  pub times : AreTimes net r list
+  pub raised : CanRise which net r list set
+  pub derived : Derives view net (source view which r) lines (λ values. list ≡ moved r.from (times_seen view values))
+
+abbrev pub IsBound : View → Net → ℕ → Which → Row → List FallLine → Bound → Type 0
+IsBound view net turns which r lines (closed value list) = IsNumberBy view net which r lines value list
+IsBound view net turns which r lines (unbounded list set) = IsUnboundedBy view net which r lines list set
+IsBound view net turns which r lines bound_spent = AreSpent view net (source view which r) turns lines

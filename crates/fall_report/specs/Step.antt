@@ -1,0 +1,151 @@
+-- What the steps of job fall promise one another.
+use Rattle.std.specs.Prelude.{◌≡◌, ◌^◌, ◌||◌, ◌+◌, ℕ, ℤ, pos, neg_ℤ, ◌≤ℤ◌, Bool, false, true, if◌then◌else◌, List, ◌++◌, length, Result, Ok, Err}
+use Rattle.std.specs.List.{concat}
+use Rattle.itv_base.specs.declared.names.EventId.{EventId}
+use Rattle.itv_base.specs.Outside.{CutShort, SinkTold, grown}
+use Rattle.event_graph.specs.Network.{IsNet, Net}
+use Rattle.event_graph.specs.Satisfying.{Satisfies}
+use Rattle.falling.specs.declared.answer.Fallen.{Fallen}
+use Rattle.falling.specs.declared.answer.Fallen.TheVariants as fallen
+use Rattle.falling.specs.declared.line.FallLine.{FallLine}
+use Rattle.falling.specs.Derivation.{IsDerivation}
+use Rattle.falling.specs.Solving.{AnswersAs, IsMadeFor, Solving}
+use Rattle.fall_notes.specs.Noting.{SinkGrew, SinkWasCut}
+use Rattle.fall_notes.specs.Text.{fall_text}
+use Rattle.slack_report.specs.declared.words.EndWord.{EndWord}
+use Rattle.slack_report.specs.declared.words.EndWord.TheVariants as endings
+use Rattle.slack_report.specs.declared.words.Which.{Which}
+use Rattle.slack_report.specs.declared.words.Which.TheVariants.{Max, Min}
+use Rattle.slack_report.specs.Right.Drawn.{Row}
+use Rattle.unroll.specs.Drawn as drawing
+use Rattle.unroll.specs.Reported.{reported, row_told}
+use Rattle.unroll.specs.declared.row.Row.{Row as UnrolledRow}
+use Rattle.fall_report.specs.declared.desk.Desk.{Desk}
+use Rattle.fall_report.specs.declared.finding.Found.{Found}
+use Rattle.fall_report.specs.declared.finding.Found.TheVariants as founds
+use Rattle.fall_report.specs.declared.view.View.{View}
+use Rattle.fall_report.specs.declared.view.View.TheVariants.{Plain}
+use Rattle.fall_report.specs.declared.wanted.Wanted.{Wanted}
+use Rattle.fall_report.specs.Fall.{AreBegun, Job, Place, Reads, Telling, at_end, at_rows, before_rows}
+use Rattle.fall_report.specs.Shows.{IsFinding, shown_by}
+use Rattle.fall_report.specs.Text.{Bound, Finding, bound_spent, consistent, finding_spent, inconsistent, closed, printed, unbounded}
+use Rattle.fall_report.specs.View.{IsViewOf, moved, seen, source, target}
+
+-- a time from which another can be taken
+abbrev pub IsNear : ℤ → Type 0
+IsNear time = (neg_ℤ (pos (2 ^ 61)) ≤ℤ time) × (time ≤ℤ pos (2 ^ 61))
+
+-- the memory is made for a network
+pub record IsSet (net : Net) (desk : Desk) : Type 0 where
+  pub is_net : IsNet net
+  pub made : IsMadeFor net desk.solver
+  pub times : length desk.times.items ≡ net.events
+
+-- ---- searches
+
+-- a search told the lines of a derivation to a sink, where they are printed, and what they show
+abbrev pub Tells : Bool → SinkTold → SinkTold → (List FallLine → Type 0) → Type 0
+Tells cert old new Shows = (lines : List FallLine) × SinkGrew old (printed cert lines) new × Shows lines
+
+-- a search was cut short in lines that begin a derivation
+abbrev pub WasCut : Bool → SinkTold → SinkTold → (List FallLine → Type 0) → Type 0
+WasCut cert old new Begin = (lines : List FallLine) × SinkWasCut old (printed cert lines) new × Begin lines
+
+-- the lines begin a derivation from the event that a view names
+abbrev pub BeginsFrom : Net → (View → EventId) → List FallLine → Type 0
+BeginsFrom net from lines = (view : View) → IsViewOf net view → (values : List ℤ) × IsDerivation (seen view net) (from view) lines values
+
+-- the lines show a finding
+abbrev pub ShowsFinding : Net → ℕ → List FallLine → Finding → Type 0
+ShowsFinding net turns lines found = (view : View) → IsViewOf net view → IsFinding view net turns lines found
+
+-- what a solver says of the searched pair of a row
+abbrev pub AnswersRow : Net → Which → Row → ℕ → List FallLine → Solving → Fallen → Type 0
+AnswersRow net which r turns lines solver answer = AnswersAs solver.negation net (source Plain which r) (target Plain which r) turns lines solver.times solver.ray answer
+
+-- ---- what is told
+
+-- what an answer on event 0 and itself says; that pair is not unbounded
+abbrev pub found_by : Fallen → Found
+found_by (fallen.Closed value) = founds.Consistent
+found_by fallen.Unbounded = founds.Consistent
+found_by fallen.Inconsistent = founds.Inconsistent
+found_by fallen.Spent = founds.Spent
+
+abbrev pub told_finding : Found → List ℤ → Finding
+told_finding founds.Consistent list = consistent list
+told_finding founds.Inconsistent list = inconsistent
+told_finding founds.Spent list = finding_spent
+
+-- some times satisfy where this is found
+abbrev pub HasFound : Net → Found → Type 0
+HasFound net founds.Consistent = (times : List ℤ) × Satisfies times net
+HasFound net founds.Inconsistent = Unit {0}
+HasFound net founds.Spent = Unit {0}
+
+-- what an answer says of a bound of a row with this from-event; of a consistent network none says that it is inconsistent
+abbrev pub told_bound : Which → EventId → List ℤ → List Bool → Fallen → Bound
+told_bound which from times ray (fallen.Closed value) = closed (shown_by which value) (moved from times)
+told_bound which from times ray fallen.Unbounded = unbounded (moved from times) ray
+told_bound which from times ray fallen.Inconsistent = bound_spent
+told_bound which from times ray fallen.Spent = bound_spent
+
+abbrev pub was_spent : Fallen → Bool
+was_spent (fallen.Closed value) = false
+was_spent fallen.Unbounded = false
+was_spent fallen.Inconsistent = false
+was_spent fallen.Spent = true
+
+-- ---- pieces of text
+
+-- a job on a drawn network
+abbrev pub asked : drawing.Drawn → View → Wanted → Job
+asked drawn view wanted = record { drawn = reported drawn; view = view; turns = wanted.turns; cert = wanted.cert }
+
+-- a job is on a network, in its view, and asks for this
+pub record IsJobOf (net : Net) (wanted : Wanted) (job : Job) : Type 0 where
+  pub net_is : job.drawn.net ≡ net
+  pub view : IsViewOf net job.view
+  pub turns : job.turns ≡ wanted.turns
+  pub cert : job.cert ≡ wanted.cert
+
+-- a row that is told
+abbrev pub telling : Bool → ℕ → UnrolledRow → List Row → Telling
+telling spent number r later = record { spent = spent; number = number; row = row_told r; later = later }
+
+-- pieces were put whole that lead from a place to another
+pub record Told (job : Job) (here last : Place) (old new : SinkTold) : Type 0 where
+  pub pieces : List (List ℕ)
+  pub reads : Reads job here pieces last
+  pub grew : new ≡ grown old (concat pieces)
+
+-- a put failed: of pieces that lead from a place to some other, and of the lines of a derivation that begin there, a front was put
+pub record Stopped (job : Job) (here : Place) (old new : SinkTold) : Type 0 where
+  pub pieces : List (List ℕ)
+  pub last : Place
+  pub reads : Reads job here pieces last
+  pub begun : List FallLine
+  pub are_begun : AreBegun job last begun
+  pub cut : CutShort old new (concat pieces ++ fall_text begun)
+
+-- a step puts pieces that lead to a place that its answer names, or a front of such
+abbrev pub Goes : {B E : Type 0} → Job → Place → (B → Place) → SinkTold → SinkTold → Result B E → Type 0
+Goes job here to old new (Ok x) = Told job here (to x) old new
+Goes job here to old new (Err e) = Stopped job here old new
+
+-- behind a finding
+abbrev pub behind_found : Found → Place
+behind_found founds.Consistent = at_rows
+behind_found founds.Inconsistent = at_end endings.Inconsistent
+behind_found founds.Spent = at_end endings.Undecided
+
+-- behind both bounds of a row, by whether one of them was spent
+abbrev pub behind_row : Telling → Bool → Place
+behind_row told spent = before_rows (told.spent || spent) (told.number + 1) told.later
+
+-- behind all rows
+abbrev pub end_word : Bool → EndWord
+end_word spent = if spent then endings.Undecided else endings.Pass
+
+abbrev pub before_end : Bool → Place
+before_end spent = at_end (end_word spent)

@@ -1,0 +1,86 @@
+//! Searches by falling values, whose lines are printed where they are wanted.
+
+ghost use Rattle.std.specs.Prelude.{◌≡◌, ◌<◌, List, IfOk, OnErr, true, ℤ};
+ghost use Rattle.falling.specs.declared.line.FallLine.{FallLine};
+ghost use Rattle.falling.specs.Solving.{AnswersAs, IsDerivationAs, IsMadeFor};
+ghost use Rattle.fall_report.specs.Step.{Tells, WasCut};
+
+use crate::wanted::Wanted;
+use event_graph::Network;
+use fall_notes::SinkNotes;
+use falling::{Fallen, Falling, NoNotes, NotesFailed};
+use itv_base::{EventId, PutFailed, Sink};
+
+/// Finds the greatest separation of a pair of events, and prints the lines of its derivation where they are wanted.
+pub fn greatest_of<K: Sink>(
+    solver: &mut Falling,
+    net: &Network,
+    from: EventId,
+    to: EventId,
+    wanted: Wanted,
+    sink: &mut K,
+) -> Result<Fallen, PutFailed>
+    requires made { IsMadeFor net.now solver.old }
+    requires from { from.0 < net.now.events }
+    requires to { to.0 < net.now.events }
+    ensures made { IsMadeFor net.now solver.new }
+    ensures negation { solver.new.negation ≡ solver.old.negation }
+    ensures answers { IfOk result (λ fallen. Tells wanted.cert (K.told sink.old) (K.told sink.new)
+        (λ lines. AnswersAs solver.old.negation net.now from to wanted.turns lines solver.new.times solver.new.ray fallen)) }
+    ensures cut { OnErr result (WasCut wanted.cert (K.told sink.old) (K.told sink.new)
+        (λ lines. (after : List ℤ) × IsDerivationAs solver.old.negation net.now from to lines after)) }
+{
+    if wanted.cert {
+        greatest_printing(solver, net, from, to, wanted.turns, sink)
+    } else {
+        Ok(greatest_quietly(solver, net, from, to, wanted.turns))
+    }
+}
+
+// The same with the lines.
+fn greatest_printing<K: Sink>(
+    solver: &mut Falling,
+    net: &Network,
+    from: EventId,
+    to: EventId,
+    turns: u64,
+    sink: &mut K,
+) -> Result<Fallen, PutFailed>
+    requires made { IsMadeFor net.now solver.old }
+    requires from { from.0 < net.now.events }
+    requires to { to.0 < net.now.events }
+    ensures made { IsMadeFor net.now solver.new }
+    ensures negation { solver.new.negation ≡ solver.old.negation }
+    ensures answers { IfOk result (λ fallen. Tells true (K.told sink.old) (K.told sink.new)
+        (λ lines. AnswersAs solver.old.negation net.now from to turns lines solver.new.times solver.new.ray fallen)) }
+    ensures cut { OnErr result (WasCut true (K.told sink.old) (K.told sink.new)
+        (λ lines. (after : List ℤ) × IsDerivationAs solver.old.negation net.now from to lines after)) }
+{
+    let mut notes = SinkNotes { sink };
+    match solver.greatest(net, from, to, turns, &mut notes) {
+        Ok(fallen) => Ok(fallen),
+        Err(NotesFailed) => Err(PutFailed),
+    }
+}
+
+// The same without them.
+fn greatest_quietly(
+    solver: &mut Falling,
+    net: &Network,
+    from: EventId,
+    to: EventId,
+    turns: u64,
+) -> Fallen
+    requires made { IsMadeFor net.now solver.old }
+    requires from { from.0 < net.now.events }
+    requires to { to.0 < net.now.events }
+    ensures made { IsMadeFor net.now solver.new }
+    ensures negation { solver.new.negation ≡ solver.old.negation }
+    ensures answers { (lines : List FallLine)
+        × AnswersAs solver.old.negation net.now from to turns lines solver.new.times solver.new.ray result }
+{
+    match solver.greatest(net, from, to, turns, &mut NoNotes) {
+        Ok(fallen) => fallen,
+        Err(NotesFailed) => unreachable!(),
+    }
+}
