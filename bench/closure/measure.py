@@ -6,18 +6,15 @@
 Builds the Rust program of this folder with the machine's cargo three times: for the processors that cargo builds for if it is told
 nothing, for those that the toolchain builds for (x86-64-v2), and for this machine's. Builds the proved program of lanes/ on a copy of
 the crates below it in FOLDER, a new one if none is named, which takes some minutes. Then all programs run one after another, RUNS
-times (15 if left out), and of each time that they tell the least counts, in milliseconds.
-
-The files of lanes/ have `.txt` behind their names, because the gate wants each source in a crate that crates.txt lists."""
+times (15 if left out), and of each time that they tell the least counts, in milliseconds."""
 import os
-import shutil
 import subprocess
 import sys
 import tempfile
 
 HERE = os.path.dirname(os.path.abspath(__file__))
-TOP = os.path.dirname(os.path.dirname(HERE))
-LINES = "itv_base: itoa thiserror\nevent_graph: itv_base\nminplus: itv_base event_graph\nlanes: itv_base event_graph minplus anyhow\n"
+sys.path.append(os.path.dirname(HERE))
+import proved
 
 
 def build_rust(cpu):
@@ -28,28 +25,10 @@ def build_rust(cpu):
     return os.path.join(target, "release", "closure")
 
 
-def build_proved(folder):
-    for crate in ("itv_base", "event_graph", "minplus"):
-        if not os.path.exists(os.path.join(folder, "crates", crate)):
-            shutil.copytree(os.path.join(TOP, "crates", crate), os.path.join(folder, "crates", crate))
-    own = os.path.join(folder, "crates", "lanes")
-    for place, _, names in os.walk(os.path.join(HERE, "lanes")):
-        for name in names:
-            path = os.path.join(own, os.path.relpath(place, os.path.join(HERE, "lanes")), name[: -len(".txt")])
-            os.makedirs(os.path.dirname(path), exist_ok=True)
-            shutil.copyfile(os.path.join(place, name), path)
-    with open(os.path.join(folder, "crates.txt"), "w") as file:
-        file.write(LINES)
-    done = subprocess.run(["rt", "run"], cwd=own, capture_output=True, text=True, stdin=subprocess.DEVNULL)
-    if done.returncode:
-        sys.exit(done.stdout[-3000:] + done.stderr[-3000:])
-    return os.path.join(own, "out", "lanes")
-
-
 def main():
     folder = os.path.abspath(sys.argv[1]) if len(sys.argv) > 1 else tempfile.mkdtemp()
     runs = int(sys.argv[2]) if len(sys.argv) > 2 else 15
-    programs = {"proved": build_proved(folder), "Rust": build_rust(None),
+    programs = {"proved": proved.build(folder, "lanes", os.path.join(HERE, "lanes"), ["itv_base", "event_graph", "minplus"], ["anyhow"]), "Rust": build_rust(None),
                 "Rust, x86-64-v2": build_rust("x86-64-v2"), "Rust, native": build_rust("native")}
     least, ends = {}, {}
     for _ in range(runs):

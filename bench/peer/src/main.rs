@@ -2,6 +2,9 @@
 //! greatest and the least separation of each row with times that attain it.
 //!
 //! `events N`, `lin FROM TO LOW HIGH`, `late TARGET COUNT (EVENT LOW HIGH)..`, `early ..`, `row FROM TO`; `*` is an open end.
+//! With the word `levels` it reads nothing, and times levels of a graph.
+
+mod levels;
 
 use std::collections::hash_map::{Entry, HashMap};
 use std::collections::VecDeque;
@@ -293,6 +296,11 @@ impl<'n> Search<'n> {
         Some((level.constraint, level.cause))
     }
 
+    /// The label of an event from the source, if it is a number.
+    fn label(&self, event: usize) -> Option<i64> {
+        Some(self.labels.value[event]).filter(|label| *label != OPEN)
+    }
+
     /// Times that attain each label that is a number; the other events are put off.
     fn times(&self, out: &mut [i64]) {
         let mut off = i64::MIN / 4;
@@ -513,6 +521,10 @@ fn put_bound(out: &mut String, word: &str, end: End, sign: i64) {
 }
 
 fn main() -> io::Result<()> {
+    if std::env::args().nth(1).is_some_and(|word| word == "levels") {
+        levels::time_all();
+        return Ok(());
+    }
     let mut text = String::new();
     io::stdin().read_to_string(&mut text)?;
     let net = read(&text);
