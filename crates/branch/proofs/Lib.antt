@@ -10,5 +10,6 @@ mod Signs
 mod UsableEdges
 mod CaseLevels
 mod BrokenSplits
+mod MetSplits
 mod Looking
 mod KnownTimes

@@ -1,5 +1,6 @@
 pub mod Lines
 pub mod Needed
 pub mod Answers
+pub mod Splits
 pub mod Work
 pub mod Step

@@ -1,17 +1,22 @@
 //! The choice of the constraint on which a case is split.
 
-ghost use Rattle.std.specs.Prelude.{◌≡◌, ◌⊎◌, IsTrue, MatchOption, All, length};
+ghost use Rattle.std.specs.Prelude.{◌≡◌, ◌⊎◌, IsTrue, MatchOption, All};
+ghost use Rattle.event_graph.specs.Network.{IsNet};
+ghost use Rattle.event_graph.specs.RootBound.{MeetsAlways};
 ghost use Rattle.event_graph.specs.Satisfying.{Breaks, Satisfies};
 ghost use Rattle.event_graph.specs.Times.{IsTime};
+ghost use Rattle.branch.specs.Splits.{AreSplits};
 ghost use Rattle.branch.specs.Step.Cases.{IsFree};
 
+use crate::breaking::{breaks, is_broken};
 use crate::decisions::Decisions;
 use crate::distances::{Distances, Wanted};
 use event_graph::Network;
 use itv_base::EventId;
 
 /// The constraint nearest to an event among those that the times break, or none exactly where they satisfy the network. Of several at
-/// one distance it is the one of least number; where none is reached it is the least of all.
+/// one distance it is the one of least number; where none is reached it is the least of all. The times meet all always-edges, and so
+/// each constraint of one cause.
 pub fn nearest_broken(
     net: &Network,
     times: &[i64],
@@ -19,26 +24,48 @@ pub fn nearest_broken(
     to: EventId,
     distances: &mut Distances,
 ) -> Option<u32>
-    requires count { length times.now ≡ net.now.events }
+    requires net { IsNet net.now }
+    requires splits { AreSplits net.now distances.old }
+    requires always { MeetsAlways times.now net.now }
     requires times { All IsTime times.now }
-    ensures { MatchOption result (Satisfies times.now net.now) (λ number. Breaks times.now net.now number) }
+    ensures same { distances.new ≡ distances.old }
+    ensures broken { MatchOption result (Satisfies times.now net.now) (λ number. Breaks times.now net.now number) }
 {
     match distances.nearest(Wanted::Broken(times), cases, to) {
         Some(nearest) if is_broken(net, times, nearest) => Some(nearest),
-        _ => net.broken(times),
+        _ => broken_of(net, times, distances.splits()),
     }
 }
 
-/// The least number of a constraint that the times break, or none exactly where they satisfy the network.
+/// The least number of a constraint that the times break, or none exactly where they satisfy the network. The times meet all
+/// always-edges.
 pub fn first_broken(net: &Network, times: &[i64], distances: &Distances) -> Option<u32>
-    requires count { length times.now ≡ net.now.events }
+    requires net { IsNet net.now }
+    requires splits { AreSplits net.now distances.now }
+    requires always { MeetsAlways times.now net.now }
     requires times { All IsTime times.now }
     ensures { MatchOption result (Satisfies times.now net.now) (λ number. Breaks times.now net.now number) }
 {
     match distances.first_broken(times) {
         Some(first) if is_broken(net, times, first) => Some(first),
-        _ => net.broken(times),
+        _ => broken_of(net, times, distances.splits()),
     }
+}
+
+// The first of the constraints with two or more causes that the times break, or none exactly where they satisfy the network.
+fn broken_of(net: &Network, times: &[i64], splits: &[u32]) -> Option<u32>
+    requires net { IsNet net.now }
+    requires splits { AreSplits net.now splits.now }
+    requires always { MeetsAlways times.now net.now }
+    requires times { All IsTime times.now }
+    ensures { MatchOption result (Satisfies times.now net.now) (λ number. Breaks times.now net.now number) }
+{
+    for number in splits {
+        if breaks(net, times, *number) {
+            return Some(*number);
+        }
+    }
+    None
 }
 
 /// The constraint nearest to an event among those that can be split, or one that the times break where none is reached. Of several at
@@ -52,21 +79,13 @@ pub fn nearest_open(
     distances: &mut Distances,
 ) -> u32
     requires first { Breaks times.now net.now first }
-    ensures { Breaks times.now net.now result ⊎ IsFree net.now cases.now.chosen result }
+    ensures same { distances.new ≡ distances.old }
+    ensures open { Breaks times.now net.now result ⊎ IsFree net.now cases.now.chosen result }
 {
     match distances.nearest(Wanted::Open, cases, to) {
         Some(nearest) if is_free(net, cases, nearest) => nearest,
         _ => first,
     }
-}
-
-// Whether the times break a constraint.
-fn is_broken(net: &Network, times: &[i64], constraint: u32) -> bool
-    requires count { length times.now ≡ net.now.events }
-    requires times { All IsTime times.now }
-    ensures { IsTrue result → Breaks times.now net.now constraint }
-{
-    net.broken_from(times, constraint) == Some(constraint)
 }
 
 // Whether a constraint has two or more causes and none of them is chosen.

@@ -1,20 +1,24 @@
 //! How far constraints are from an event, counted in edges.
 
-ghost use Rattle.std.specs.Prelude.{◌<◌, ◌≤◌, length};
+ghost use Rattle.std.specs.Prelude.{◌≡◌, ◌<◌, ◌≤◌, IfOk, length};
+ghost use Rattle.branch.specs.Splits.{AreSplits};
 
 use crate::decisions::Decisions;
 use crate::splittable::Splittable;
 use event_graph::Network;
 use itv_base::{EdgeName, EventId, NoMemory, Side};
 use std::alloc::Global;
+use std::marker::Model;
 
 /// Looks for the nearest of some constraints with two or more causes: backwards from an event, over the always-edges and the edges of
 /// the choices, for the first event that one of them enters by its choice side. That is the target of a latest constraint, and any
 /// cause of an earliest one. What it answers decides which split is tried, and nothing else: who asks tests the answer, and so no
-/// contract speaks of it.
+/// contract speaks of it. Contracts see the numbers of the constraints with two or more causes.
 #[derive(Debug, Drop)]
 pub struct Distances {
-    // The constraints with two or more causes, by their numbers.
+    // The numbers of the constraints with two or more causes.
+    splits: Vec<u32>,
+    // Those constraints, in the same order.
     rules: Vec<Splittable>,
     // For each event the places of those that enter it, in the same order.
     entering: Vec<Vec<usize>>,
@@ -24,6 +28,14 @@ pub struct Distances {
     reached: Vec<bool>,
     // The events that were reached, in their order.
     queue: Vec<EventId>,
+}
+
+impl Model for Distances {
+    ghost use Rattle.std.specs.Prelude.{List, ℕ};
+
+    ghost Value = { List ℕ };
+
+    ghost view = { λ d. d.splits.items };
 }
 
 /// Which constraints are looked for.
@@ -37,9 +49,12 @@ pub enum Wanted<'a> {
 
 impl Distances {
     /// Room for a network. Takes all memory that is ever needed.
-    pub fn new(alloc: Global, net: &Network) -> Result<Distances, NoMemory> {
+    pub fn new(alloc: Global, net: &Network) -> Result<Distances, NoMemory>
+        ensures { IfOk result (AreSplits net.now) }
+    {
         let events = net.events();
         let count = net.splittable_count() as usize;
+        let mut splits = Vec::with_capacity(alloc, count)?;
         let mut rules = Vec::with_capacity(alloc, count)?;
         let mut entering = empty_lists(alloc, events)?;
         let mut sources = empty_lists(alloc, events)?;
@@ -52,15 +67,24 @@ impl Distances {
                 let rule = Splittable::new(alloc, net, number)?;
                 add_entering(&rule, rules.len(), &mut entering)?;
                 rules.push(rule)?;
+                splits.push(number)?;
             }
         }
         Ok(Distances {
+            splits,
             rules,
             entering,
             sources,
             reached: Vec::from_elem(alloc, false, events as usize)?,
             queue: Vec::from_elem(alloc, EventId(0), events as usize)?,
         })
+    }
+
+    /// The numbers of the constraints with two or more causes.
+    pub fn splits(&self) -> &[u32]
+        ensures { result.now ≡ self.now }
+    {
+        &self.splits
     }
 
     /// The least number of a constraint that times break, which meet all always-edges.
@@ -75,7 +99,9 @@ impl Distances {
 
     /// The nearest of the constraints that are looked for, and of several at one distance the one of least number. There is no answer
     /// where none is reached.
-    pub fn nearest(&mut self, wanted: Wanted<'_>, cases: &Decisions, to: EventId) -> Option<u32> {
+    pub fn nearest(&mut self, wanted: Wanted<'_>, cases: &Decisions, to: EventId) -> Option<u32>
+        ensures { self.new ≡ self.old }
+    {
         if self.rules.is_empty() {
             return None;
         }

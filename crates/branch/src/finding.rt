@@ -11,6 +11,7 @@ ghost use Rattle.event_graph.specs.Reading.{AtEachSplit};
 ghost use Rattle.event_graph.specs.Network.{splittable_count};
 ghost use Rattle.branch.specs.Lines.{IsAccepted};
 ghost use Rattle.branch.specs.Needed.{IsNeededToFind};
+ghost use Rattle.branch.specs.Splits.{AreSplits};
 ghost use Rattle.branch.specs.Step.Cases.{work_left};
 ghost use Rattle.diff_bounds.specs.Limits.{IsNear};
 ghost use Rattle.branch.specs.Step.Searched.{EndsAs, FindAdvances, IsAtCase, IsFindCutAfter, IsTrialFor, Keeps};
@@ -37,6 +38,7 @@ pub fn find_times<S: Scribe>(
     requires net { IsNet net.now }
     requires room { splittable_count net.now ≤ search.old.cases.room }
     requires candidate { length candidate.old ≡ net.now.events }
+    requires splits { AreSplits net.now distances.now }
     requires budget { 0 < budget }
     ensures made { IsMadeFor net.now search.new.bounds }
     ensures room { search.new.cases.room ≡ search.old.cases.room }
@@ -75,6 +77,7 @@ fn try_times<S: Scribe>(
     requires net { IsNet net.now }
     requires case { IsAtCase net.now search.old }
     requires candidate { length candidate.old ≡ net.now.events }
+    requires splits { AreSplits net.now distances.now }
     ensures same { Keeps net.now search.old search.new }
     ensures always { (times : List ℤ) × MeetsAlways times net.now }
     ensures ends { IfOk result (λ end. IfSome end (EndsAs net.now search.new)) }

@@ -132,8 +132,8 @@ pub fn find_path(net: &Network, search: &mut Search, to: EventId)
     search.bounds.find_path(net, to)
 }
 
-// The edge of a choice, on the choice side of its constraint.
-fn name_of(net: &Network, choice: Choice) -> EdgeName
+/// The edge of a choice, on the choice side of its constraint.
+pub fn name_of(net: &Network, choice: Choice) -> EdgeName
     requires { choice.constraint < length net.now.constraints }
     ensures { result ≡ choice_name net.now choice }
 {

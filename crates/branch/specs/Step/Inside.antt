@@ -8,6 +8,7 @@ abbrev pub view_in : Inside → View
 view_in w = record {
   bounds = w.search.bounds;
   room = w.search.cases.room;
+  splits = w.trial.distances;
   known = cond w.has_known (Some w.known.items) None;
   times = w.best.times.items;
   ray = w.trial.ray.items;

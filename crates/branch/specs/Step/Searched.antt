@@ -12,6 +12,7 @@ use Rattle.event_graph.specs.Network.{splittable_count}
 use Rattle.branch.specs.Lines.{IsAccepted}
 use Rattle.branch.specs.Work.{IsClose}
 use Rattle.branch.specs.Needed.{IsNeededToBound, IsNeededToFind}
+use Rattle.branch.specs.Splits.{AreSplits}
 use Rattle.branch.specs.Step.Cases.{IsCase, IsFree, open_cases, siblings}
 use Rattle.diff_bounds.specs.Limits.{IsNear}
 use Rattle.branch.specs.Step.Raising.{IsNearSeparation}
@@ -102,10 +103,11 @@ pub record IsOpen (net : Net) (from to : EventId) (best : ℤ) (chosen : Case) (
   pub broken : (greatest : ℤ) → IsGreatestAmong (λ times. MeetsUsable net chosen times) from to greatest
       → (times : List ℤ) × MeetsUsable net chosen times × (separation times from to ≡ greatest) × Breaks times net number
 
--- there is a place for each event
+-- there is a place for each event, and the constraints with two or more causes are known
 pub record IsTrialFor (net : Net) (trial : Trial) : Type 0 where
   pub candidate : length trial.candidate.items ≡ net.events
   pub ray : length trial.ray.items ≡ net.events
+  pub splits : AreSplits net trial.distances
 
 -- what a look at a case comes to, by the best separation so far and that of the known times
 abbrev pub Looks : Net → Aim → ℤ → Search → Trial → Look → Type 0

@@ -3,7 +3,11 @@ use Rattle.event_graph.specs.Proof.{Nothing, Split}
 use Rattle.branch.proofs.Advancing.{find_cut, find_goes}
 use Rattle.branch.proofs.BrokenSplits.{broken_is_free}
 use Rattle.branch.proofs.Results.{on_err}
+use Rattle.branch.proofs.UsableEdges.{meets_always}
 use Rattle.branch.proofs.finding.try_times.Goals as goal
+
+pub first_broken-requires-clause-always : goal.first_broken-requires-clause-always
+first_broken-requires-clause-always g c = meets_always c.args.net.now c.args.search.now.cases.chosen c.times_in.new.out c.times_in.ensures.meets
 
 pub split_case-requires-clause-free : goal.split_case-requires-clause-free
 split_case-requires-clause-free g c =

@@ -2,11 +2,13 @@ use Rattle.std.proofs.Common.{◌≡◌, ◌∙◌, ◌<ℤ◌, ℤ, List, lengt
 use Rattle.std.specs.Vec.{with_items}
 use Rattle.std.proofs.lemmas.Int.{to_z-of_z}
 use Rattle.std.proofs.lemmas.List.{with_items_is}
+use Rattle.event_graph.specs.RootBound.{MeetsAlways}
 use Rattle.event_graph.specs.Satisfying.{Breaks, Satisfies}
 use Rattle.event_graph.specs.Times.{IsTime, separation}
 use Rattle.diff_bounds.specs.Limits.{IsNear}
 use Rattle.branch.specs.Step.Standing.{HasUpper}
 use Rattle.branch.proofs.Looking.{near_times, open_at_bound}
+use Rattle.branch.proofs.UsableEdges.{meets_always}
 use Rattle.branch.proofs.look.look_at_bound.Goals as goal
 use Rattle.branch.proofs.look.look_at_bound.Goals.{After-times_in}
 
@@ -20,6 +22,13 @@ pub nearest_broken-requires-clause-times : goal.nearest_broken-requires-clause-t
 nearest_broken-requires-clause-times c =
     let at = (goal.at.nearest_broken-requires-clause-times c).After-times_in in
     subst (λ (xs : List ℤ). All IsTime xs) (sym (c.deref.ensures.value ∙ written at)) (near_times c.times_in.new.out c.times_in.ensures.near)
+
+pub nearest_broken-requires-clause-always : goal.nearest_broken-requires-clause-always
+nearest_broken-requires-clause-always c =
+    let at = (goal.at.nearest_broken-requires-clause-always c).After-times_in in
+    let net = c.args.net.now in
+    let always = meets_always net c.args.search.now.cases.chosen c.times_in.new.out c.times_in.ensures.meets in
+    subst (λ (xs : List ℤ). MeetsAlways xs net) (sym (c.deref.ensures.value ∙ written at)) always
 
 pub returns-in-None-clause-looks : goal.returns-in-None-clause-looks
 returns-in-None-clause-looks c =
@@ -47,6 +56,6 @@ returns-in-Some-clause-looks c =
     let out : List ℤ = c.times_in.new.out in
     let upper : ℤ = c.args.upper in
     let breaks : Breaks out net c.in-Some.number =
-    subst (λ (xs : List ℤ). Breaks xs net c.in-Some.number) (c.deref.ensures.value ∙ written at) c.in-Some.ensures in
+    subst (λ (xs : List ℤ). Breaks xs net c.in-Some.number) (c.deref.ensures.value ∙ written at) c.in-Some.ensures.broken in
     let attained : separation out aim.from aim.to ≡ upper = c.times_in.ensures.attained aim.from aim.to upper c.requires.source c.requires.to c.requires.value in
     open_at_bound net aim.from aim.to best upper c.args.search.now.cases.chosen out c.in-Some.number c.requires.net c.requires.case c.requires.upper c.times_in.ensures.meets attained past breaks

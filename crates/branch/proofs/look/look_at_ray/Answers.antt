@@ -2,6 +2,7 @@ use Rattle.std.proofs.Common.{◌≡◌, ◌∙◌, ◌⊎◌, ◌≤ℤ◌, ℤ
 use Rattle.std.specs.Vec.{with_items}
 use Rattle.std.proofs.lemmas.List.{with_items_is}
 use Rattle.event_graph.specs.Bounds.{IsRay}
+use Rattle.event_graph.specs.RootBound.{MeetsAlways}
 use Rattle.event_graph.specs.Satisfying.{Breaks, Satisfies}
 use Rattle.event_graph.specs.Times.{separation}
 use Rattle.branch.specs.Step.Cases.{IsFree}
@@ -9,6 +10,7 @@ use Rattle.branch.specs.Step.Raising.{AreRaised}
 use Rattle.branch.specs.Work.{IsClose}
 use Rattle.branch.proofs.Looking.{open_at_ray, raised_meets, ray_at}
 use Rattle.branch.proofs.Signs.{passed_separation}
+use Rattle.branch.proofs.UsableEdges.{meets_always}
 use Rattle.branch.proofs.look.look_at_ray.Goals as goal
 use Rattle.branch.proofs.look.look_at_ray.Goals.{After-raise}
 
@@ -39,6 +41,16 @@ raised c =
     (subst (λ (old : List ℤ). AreRaised c.ray_in.new.ray aim.from aim.to (to_z w64 (of_z w64 aim.known)) old times) (c.deref_mut-3.ensures.value ∙ first_written c)
     (subst (λ (set : List Bool). AreRaised set aim.from aim.to (to_z w64 (of_z w64 aim.known)) c.deref_mut-3.result.now times) (c.deref.ensures.value ∙ ray_written c) c.raise.ensures))
 
+pub first_broken-requires-clause-always : goal.first_broken-requires-clause-always
+first_broken-requires-clause-always c =
+    let at = (goal.at.first_broken-requires-clause-always c).After-raise in
+    let net = c.args.net.now in
+    let aim = c.args.aim in
+    let chosen = c.args.search.now.cases.chosen in
+    let times : List ℤ = c.raise.new.times in
+    let meets = raised_meets net chosen aim.from aim.to aim.known c.ray_in.new.out times c.ray_in.new.ray c.ray_in.ensures (raised at) in
+    subst (λ (xs : List ℤ). MeetsAlways xs net) (sym (c.deref-2.ensures.value ∙ written at)) (meets_always net chosen times meets)
+
 pub returns-in-None-clause-looks : goal.returns-in-None-clause-looks
 returns-in-None-clause-looks c =
     λ best.
@@ -66,5 +78,5 @@ returns-in-Some-clause-looks c =
     let times : List ℤ = c.raise.new.times in
     let meets = raised_meets net chosen aim.from aim.to aim.known c.ray_in.new.out times c.ray_in.new.ray c.ray_in.ensures (raised at) in
     let splits : Breaks times net c.nearest_open.result ⊎ IsFree net chosen c.nearest_open.result =
-    subst (λ (xs : List ℤ). Breaks xs net c.nearest_open.result ⊎ IsFree net chosen c.nearest_open.result) (c.deref-in-Some.ensures.value ∙ written at) c.nearest_open.ensures in
+    subst (λ (xs : List ℤ). Breaks xs net c.nearest_open.result ⊎ IsFree net chosen c.nearest_open.result) (c.deref-in-Some.ensures.value ∙ written at) c.nearest_open.ensures.open in
     open_at_ray net aim.from aim.to best chosen times c.nearest_open.result c.requires.net c.requires.case c.requires.upper meets splits
