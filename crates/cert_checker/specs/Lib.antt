@@ -1,4 +1,5 @@
 pub mod Faults
+pub mod FaultText
 pub mod Checking
 pub mod Laws
 pub mod Step
