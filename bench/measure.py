@@ -1,13 +1,13 @@
 #!/usr/bin/env python3
 """Measures `itv` beside an unproved Rust program of the same rule, and beside z3, cbc and glpsol where they are installed.
 
-    bench/measure.py PATH_OF_THE_BUILT_PROGRAM [searches|bounds|readings|all]
+    bench/measure.py PATH_OF_THE_BUILT_PROGRAM [searches|falls|bounds|readings|all]
 
 Builds bench/peer with the machine's cargo. Each time is the least of three runs of the whole program, in seconds; a run of more
 than 5 seconds is made once. The line of a network is a row of a table of docs/speed.md: its name, the seconds of `itv`, those of the
-Rust program, their ratio, what became of the two answers, and for searches the seconds of the solvers. That of a design that is read
-alone has the seconds of job matrix, which reads and draws it and then refuses it for its number of events, and those of a report
-without a row."""
+Rust program, their ratio, what became of the two answers, and for searches the seconds of the solvers. For falls it has the seconds of
+job bounds, of job fall and of z3, and what both jobs say. That of a design that is read alone has the seconds of job matrix, which
+reads and draws it and then refuses it for its number of events, and those of a report without a row."""
 import os
 import re
 import shutil
@@ -19,16 +19,20 @@ import time
 import networks
 
 HERE = os.path.dirname(os.path.abspath(__file__))
+# The seconds for each side of a row, and those for both.
 LIMIT = 20
+BOTH = 2 * LIMIT
+# The lines that each derivation of job fall may have.
+FALL_BUDGET = 1_000_000_000
 
 
-def seconds(command, folder, stdin=None, runs=3):
+def seconds(command, folder, stdin=None, runs=3, limit=BOTH):
     """The least time of some runs, of one alone if it takes more than 5 seconds, and what the program printed; None past the limit."""
     best, out = None, b""
     for _ in range(runs):
         begin = time.perf_counter()
         try:
-            done = subprocess.run(command, cwd=folder, input=stdin, capture_output=True, timeout=LIMIT)
+            done = subprocess.run(command, cwd=folder, input=stdin, capture_output=True, timeout=limit)
         except subprocess.TimeoutExpired:
             return None, b""
         took = time.perf_counter() - begin
@@ -107,13 +111,15 @@ SOLVERS = (
 )
 
 
-def solver_cells(net, folder, told):
+def there(solvers):
+    return [solver for solver in solvers if shutil.which(solver[0])]
+
+
+def solver_cells(net, folder, told, solvers=SOLVERS):
     """For each solver that is there the seconds for both sides of the first row, with a mark where its numbers are others than those told."""
-    wanted = [re.fullmatch(r"(?:max|min) (-?\d+)", line) for line in told[:2]]
+    wanted = [re.fullmatch(r"(?:max|min) (-?\d+)", line) for line in told[:2]] or [None, None]
     cells = []
-    for name, suffix, make, command, pattern in SOLVERS:
-        if not shutil.which(name):
-            continue
+    for name, suffix, make, command, pattern in there(solvers):
         total, differs = 0.0, False
         for sign, number in zip((1, -1), wanted):
             if total is None:
@@ -121,13 +127,13 @@ def solver_cells(net, folder, told):
             path = os.path.join(folder, f"side{sign}.{suffix}")
             with open(path, "w") as file:
                 file.write(make(net, sign))
-            took, out = seconds(command(path), folder, runs=1)
+            took, out = seconds(command(path), folder, runs=1, limit=LIMIT)
             total = None if took is None else total + took
             found = re.search(pattern, out.decode())
             if took is not None and number:
                 # A solver may tell the greatest of a number as the least of its opposite.
                 differs |= found is None or round(abs(float(re.sub(r"[() ]", "", found.group(1))))) != abs(int(number.group(1)))
-        cells.append(show(total) + (" DIFFERENT" if differs else ""))
+        cells.append(show(total, LIMIT) + (" DIFFERENT" if differs else ""))
     return cells
 
 
@@ -137,8 +143,8 @@ def lay_out(files, folder):
             file.write(text)
 
 
-def show(took):
-    return f"more than {LIMIT}" if took is None else f"{took:.3f}"
+def show(took, limit=BOTH):
+    return f"more than {limit}" if took is None else f"{took:.3f}"
 
 
 def row(cells):
@@ -166,6 +172,15 @@ def measure_network(program, peer, net, is_search):
         row([net.name, show(took), show(took_peer), ratio, outcome(report, told)] + solvers)
 
 
+def measure_fall(program, net):
+    with tempfile.TemporaryDirectory() as folder:
+        lay_out(net.files(), folder)
+        took, report = seconds([program, "main.json"], folder)
+        took_fall, fallen = seconds([program, "--job=fall", f"--budget={FALL_BUDGET}", "main.json"], folder)
+        told = [" and ".join(f"`{line}`" for line in bounds_told(text)) for text in (report, fallen)]
+        row([net.name, show(took), show(took_fall)] + solver_cells(net, folder, bounds_told(fallen), SOLVERS[:1]) + told)
+
+
 def measure_reading(program, name, files):
     with tempfile.TemporaryDirectory() as folder:
         lay_out(files, folder)
@@ -184,9 +199,13 @@ def main():
     subprocess.run(["cargo", "build", "--release", "--offline", "--quiet"], cwd=os.path.join(HERE, "peer"), check=True)
     peer = os.path.join(HERE, "peer", "target", "release", "peer")
     if which in ("searches", "all"):
-        row(["network", "itv", "Rust", "itv / Rust", "bounds"] + [name for name, *_ in SOLVERS if shutil.which(name)])
+        row(["network", "itv", "Rust", "itv / Rust", "bounds"] + [name for name, *_ in there(SOLVERS)])
         for net in networks.searches():
             measure_network(program, peer, net, True)
+    if which in ("falls", "all"):
+        row(["network", "job bounds", "job fall"] + [name for name, *_ in there(SOLVERS[:1])] + ["job bounds says", "job fall says"])
+        for net in networks.falls():
+            measure_fall(program, net)
     if which in ("bounds", "all"):
         row(["network", "itv", "Rust", "itv / Rust", "bounds"])
         for net in networks.bounds():

@@ -160,6 +160,11 @@ def searches():
     return nets
 
 
+def falls():
+    """Those of the searches whose choices are all latest, but for the buses, and one of 1,000 events more."""
+    return [latest_pairs(n) for n in (25, 93, 1000)] + [layered(n, ["late"], n) for n in (40, 100, 300, 1000)]
+
+
 def bounds():
     return [backward_chain(4096, 64), dense_linear(93, 60_000, 4096, 1), dense_linear(4000, 16_000, 64, 2)]
 
