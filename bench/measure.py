@@ -177,8 +177,8 @@ def measure_fall(program, net):
         lay_out(net.files(), folder)
         took, report = seconds([program, "main.json"], folder)
         took_fall, fallen = seconds([program, "--job=fall", f"--budget={FALL_BUDGET}", "main.json"], folder)
-        told = [" and ".join(f"`{line}`" for line in bounds_told(text)) for text in (report, fallen)]
-        row([net.name, show(took), show(took_fall)] + solver_cells(net, folder, bounds_told(fallen), SOLVERS[:1]) + told)
+        told = [", ".join(f"`{line}`" for line in bounds_told(text)) for text in (report, fallen)]
+        row([net.name, show(took), show(took_fall)] + solver_cells(net, folder, bounds_told(fallen), SOLVERS[:1]) + [told[0], "the same" if told[0] == told[1] else told[1]])
 
 
 def measure_reading(program, name, files):
