@@ -109,6 +109,8 @@ struct Level {
 
 struct Search<'n> {
     net: &'n Network,
+    /// The numbers of the constraints with two or more causes. Times that meet all arcs meet the others.
+    splits: Vec<usize>,
     arcs: Vec<Vec<Arc>>,
     into: Vec<Vec<usize>>,
     feasible: Labels,
@@ -162,6 +164,7 @@ impl<'n> Search<'n> {
         }
         let mut search = Search {
             net,
+            splits: (0..net.constraints.len()).filter(|&n| net.constraints[n].can_split()).collect(),
             arcs,
             into,
             feasible: Labels { value: vec![0; net.events], log: Vec::new() },
@@ -320,8 +323,9 @@ impl<'n> Search<'n> {
         at.fill(usize::MAX);
         reached.fill(false);
         queue.clear();
-        for (number, c) in self.net.constraints.iter().enumerate() {
-            if c.can_split() && wanted(number) {
+        for &number in &self.splits {
+            let c = &self.net.constraints[number];
+            if wanted(number) {
                 if c.kind == Kind::Early {
                     for cause in &c.causes {
                         at[cause.event] = at[cause.event].min(number);
@@ -354,8 +358,9 @@ impl<'n> Search<'n> {
         None
     }
 
+    /// The first constraint that times break, which meet all arcs.
     fn first_broken(&self, times: &[i64]) -> Option<usize> {
-        self.net.constraints.iter().position(|c| !c.is_met(times))
+        self.splits.iter().copied().find(|&n| !self.net.constraints[n].is_met(times))
     }
 
     /// Goes on to the next open case: false where none is left.
