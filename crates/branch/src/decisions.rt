@@ -44,6 +44,9 @@ impl Decisions {
     pub fn clear(&mut self)
         ensures { self.new ≡ record self.old { chosen = [] } }
     {
+        if self.choices.is_empty() {
+            return;
+        }
         self.choices.clear();
         self.causes.fill(None);
     }
