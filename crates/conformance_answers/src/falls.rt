@@ -1,6 +1,7 @@
 //! Job fall: the worked rows, spent turns, refusals, and the numbers of job bounds.
 
 use conformance_kit::{run_ends, shelf_of, shelf_with, written_by};
+use design_gen::make;
 use itv_base::ShelfMem;
 use itv_cli::Outcome;
 use std::alloc::Global;
@@ -233,10 +234,15 @@ fn bounds_in(alloc: Global, text: &str) -> Result<String, Fail> {
     Ok(lines)
 }
 
-// Both jobs tell the same bounds of a design, of which there are some.
-fn agree(rt: &impl Abort, alloc: Global, shelf: &mut ShelfMem) -> Result<(), Fail> {
-    let fallen = written_by(alloc, &["--job=fall", "d"], shelf)?;
-    let searched = written_by(alloc, &["d"], shelf)?;
+// Both jobs tell the same bounds of a design, of which there are some. The answer is the lines of these.
+fn agree(
+    rt: &impl Abort,
+    alloc: Global,
+    design: &str,
+    shelf: &mut ShelfMem,
+) -> Result<String, Fail> {
+    let fallen = written_by(alloc, &["--job=fall", design], shelf)?;
+    let searched = written_by(alloc, &[design], shelf)?;
     let bounds = bounds_in(alloc, fallen.as_str())?;
     assert!(rt; fallen.as_str().ends_with("end pass\n"), "{fallen}");
     assert!(rt; bounds.as_str().contains("\nmax "), "{fallen}");
@@ -244,7 +250,7 @@ fn agree(rt: &impl Abort, alloc: Global, shelf: &mut ShelfMem) -> Result<(), Fai
         bounds.as_str(),
         bounds_in(alloc, searched.as_str())?.as_str()
     );
-    Ok(())
+    Ok(bounds)
 }
 
 // A part that asks for data, and one that answers at the latest of two delays.
@@ -266,7 +272,7 @@ fn buses_have_the_numbers_of_job_bounds(rt: HostRuntime) -> Result<(), Fail> {
     )?;
     for netlist in [one, two] {
         let files = [("d", netlist.as_str()), ("m", ASKS), ("s", ANSWERS)];
-        agree(&rt, alloc, &mut shelf_of(alloc, &files)?)?;
+        agree(&rt, alloc, "d", &mut shelf_of(alloc, &files)?)?;
     }
     Ok(())
 }
@@ -288,7 +294,26 @@ fn chains_have_the_numbers_of_job_bounds(rt: HostRuntime) -> Result<(), Fail> {
             edges.push_str(rule.as_str())?;
         }
         let file = sheet_of(alloc, nodes, edges.as_str())?;
-        agree(&rt, alloc, &mut shelf_with(alloc, "d", file.as_bytes())?)?;
+        agree(
+            &rt,
+            alloc,
+            "d",
+            &mut shelf_with(alloc, "d", file.as_bytes())?,
+        )?;
     }
+    Ok(())
+}
+
+// The generated bus of size 16 has 33 rows. A slave answers at most 9000 after its request, which comes at most 8000 + 400 - 100 after
+// its clock, and at least 3000 after its clock. All have answered from 3100 to 17400 + 1000 after the clock of the master, and the next
+// clock comes from 100100 to 100300 after it.
+#[test]
+fn a_generated_bus_has_the_numbers_of_job_bounds(rt: HostRuntime) -> Result<(), Fail> {
+    let alloc = rt.alloc();
+    let bounds = agree(&rt, alloc, "bus.json", &mut make(alloc, 16)?)?;
+    let text = bounds.as_str();
+    assert_eq!(rt; text.lines().count(), 99);
+    assert!(rt; text.contains("\nmax 17300\nmin 3000\nrow 15 "), "{text}");
+    assert!(rt; text.ends_with("\nmax 97200\nmin 81700\n"), "{text}");
     Ok(())
 }
