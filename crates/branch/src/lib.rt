@@ -24,6 +24,3 @@ mod work;
 pub use answer::{Answer, Found, Root};
 pub use event_graph::{Quiet, Scribe, ScribeFailed};
 pub use work::{Work, find, greatest, root_bound};
-
-#[cfg(test)]
-mod tests;

@@ -16,6 +16,3 @@ pub use check_fault::CheckFault;
 pub use checker::Checker;
 pub use goal::Goal;
 pub use ray::check_ray;
-
-#[cfg(test)]
-mod tests;

@@ -18,6 +18,3 @@ pub use reading::{proof_in, read_line};
 pub use sink_scribe::SinkScribe;
 pub use tree_scribe::TreeScribe;
 pub use writing::write_line;
-
-#[cfg(test)]
-mod tests;

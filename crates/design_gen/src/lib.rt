@@ -7,8 +7,6 @@ mod design;
 mod fault;
 mod netlist;
 mod sheets;
-#[cfg(test)]
-mod tests;
 
 pub use design::make;
 pub use fault::GenFault;

@@ -18,6 +18,3 @@ pub use line::Line;
 pub use network::Network;
 pub use push_fault::PushFault;
 pub use scribe::{Quiet, Scribe, ScribeFailed};
-
-#[cfg(test)]
-mod tests;

@@ -8,6 +8,3 @@ mod writing;
 
 pub use sink_notes::SinkNotes;
 pub use writing::write_line;
-
-#[cfg(test)]
-mod tests;

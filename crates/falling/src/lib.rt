@@ -23,8 +23,6 @@ mod line;
 mod negation;
 mod notes;
 mod pending;
-#[cfg(test)]
-mod tests;
 mod turn;
 
 pub use answer::Fallen;

@@ -18,6 +18,3 @@ pub use laws::{reading_inverts_spelling, spellings_differ};
 pub use reading::read_label;
 pub use wire::{WireText, read_wire};
 pub use writing::write_label;
-
-#[cfg(test)]
-mod tests;

@@ -10,8 +10,6 @@ mod lanes;
 mod matrix;
 mod row;
 mod rows;
-#[cfg(test)]
-mod tests;
 
 pub use fault::MatrixFault;
 pub use lanes::row_lanes;

@@ -13,6 +13,3 @@ pub use bound::{BothBounds, Bound, Slack};
 pub use raising::raise_past;
 pub use slacks::slack;
 pub use verdict::{Verdict, judge};
-
-#[cfg(test)]
-mod tests;

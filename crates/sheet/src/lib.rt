@@ -17,8 +17,6 @@ mod row;
 mod rows;
 mod rule;
 mod sheet;
-#[cfg(test)]
-mod tests;
 
 pub use fault::SheetFault;
 pub use groups::{Group, GroupFault, Places, push_link};

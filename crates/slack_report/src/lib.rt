@@ -25,6 +25,3 @@ pub use place::{Place, Spot};
 pub use report::{Report, read_report};
 pub use words::{EndWord, FindingWord, Which};
 pub use write::{LINE_ROOM, write_item};
-
-#[cfg(test)]
-mod tests;

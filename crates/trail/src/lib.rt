@@ -4,8 +4,6 @@
 #![tactic(auto)]
 
 mod stamp;
-#[cfg(test)]
-mod tests;
 mod trail;
 mod undo;
 

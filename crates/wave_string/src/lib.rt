@@ -5,8 +5,6 @@
 
 mod class;
 mod mark_kind;
-#[cfg(test)]
-mod tests;
 mod wave;
 
 pub use mark_kind::{MarkKind, may_join};

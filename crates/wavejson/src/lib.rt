@@ -8,8 +8,6 @@ mod edges;
 mod fault;
 mod lane_text;
 mod lanes;
-#[cfg(test)]
-mod tests;
 
 pub use diagram::{Diagram, read_diagram};
 pub use fault::DiagramFault;

@@ -6,8 +6,6 @@
 mod command;
 mod read;
 mod task;
-#[cfg(test)]
-mod tests;
 
 pub use read::read_words;
 pub use task::{Answer, Task};

@@ -1,49 +1,20 @@
-use super::*;
+//! Which times satisfy a network, and which edges it has.
+
+use crate::building::{Ends, add, cause, of_two_causes};
 use RuleKind::{Early, Late, Lin};
 use Side::{Lower, Upper};
+use event_graph::{Cause, Network, PushFault, ScribeFailed};
 use itv_base::{EdgeName, EventId, Range, RuleKind, Side};
 use std::alloc::Global;
 use std::process::Abort;
 use std::test::Fail;
 
-// The low and the high end of a range, where `None` is an open one.
-type Bounds = (Option<i64>, Option<i64>);
-
-// A cause from an event with a range.
-fn cause(event: u32, (low, high): Bounds) -> Result<Cause, Fail> {
-    Ok(Cause {
-        event: EventId(event),
-        range: Range::new(low, high)?,
-    })
-}
-
-// Adds a constraint, after a test of what the network requires.
-fn add(
-    alloc: Global,
-    net: &mut Network,
-    kind: RuleKind,
-    target: u32,
-    causes: &[Cause],
-) -> Result<(), Fail> {
-    let events = net.events();
-    let are_there = causes.iter().all(|cause| cause.event.0 < events);
-    if events <= target || causes.is_empty() || 64 < causes.len() || !are_there {
-        Err("no such constraint")?;
-    }
-    match kind {
-        Lin => net.push_linear(alloc, causes[0].event, EventId(target), causes[0].range)?,
-        Late => net.push_late(alloc, EventId(target), causes)?,
-        Early => net.push_early(alloc, EventId(target), causes)?,
-    }
-    Ok(())
-}
-
 // A network of three events with one constraint, of event 2 by two causes at event 0.
 fn of_two_ranges(
     alloc: Global,
     kind: RuleKind,
-    first: Bounds,
-    second: Bounds,
+    first: Ends,
+    second: Ends,
 ) -> Result<Network, Fail> {
     let mut net = Network::new(alloc, 3)?;
     let causes = [cause(0, first)?, cause(0, second)?];
@@ -56,20 +27,6 @@ fn of_own_event(alloc: Global, low: i64, high: i64) -> Result<Network, Fail> {
     let mut net = Network::new(alloc, 1)?;
     let causes = [cause(0, (Some(low), Some(high)))?];
     add(alloc, &mut net, Lin, 0, &causes)?;
-    Ok(net)
-}
-
-// The events a, b and j, with `a->b @lin [100,300]` and a second constraint of the causes `a->j [500,700]`
-// and `b->j [200,400]`.
-fn of_two_causes(alloc: Global, kind: RuleKind) -> Result<Network, Fail> {
-    let mut net = Network::new(alloc, 3)?;
-    let first = [cause(0, (Some(100), Some(300)))?];
-    add(alloc, &mut net, Lin, 1, &first)?;
-    let causes = [
-        cause(0, (Some(500), Some(700)))?,
-        cause(1, (Some(200), Some(400)))?,
-    ];
-    add(alloc, &mut net, kind, 2, &causes)?;
     Ok(net)
 }
 

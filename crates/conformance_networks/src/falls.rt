@@ -1,45 +1,14 @@
+//! Greatest separations by falling values, and the check of their lines.
+
 ghost use Rattle.std.specs.Prelude.{◌≡◌};
 ghost use Rattle.falling.specs.Checking.{IsBegun};
 
-use super::*;
-use event_graph::{Cause, Network};
-use itv_base::{EdgeName, EventId, Range, RuleKind, Side};
+use crate::building::{add, cause, of_two_causes};
+use event_graph::Network;
+use falling::{FallCheckFault, FallChecker, FallFault, Fallen, Falling, NoNotes};
+use itv_base::{EdgeName, EventId, RuleKind, Side};
 use std::alloc::Global;
 use std::test::Fail;
-
-// The low and the high end of a range, where `None` is an open one.
-type Bounds = (Option<i64>, Option<i64>);
-
-// A cause from an event with a range.
-fn cause(event: u32, (low, high): Bounds) -> Result<Cause, Fail> {
-    Ok(Cause {
-        event: EventId(event),
-        range: Range::new(low, high)?,
-    })
-}
-
-// Adds a constraint, after a test of what the network requires.
-fn add(
-    alloc: Global,
-    net: &mut Network,
-    kind: RuleKind,
-    target: u32,
-    causes: &[Cause],
-) -> Result<(), Fail> {
-    let events = net.events();
-    let are_there = causes.iter().all(|cause| cause.event.0 < events);
-    if events <= target || causes.is_empty() || 64 < causes.len() || !are_there {
-        Err("no such constraint")?;
-    }
-    match kind {
-        RuleKind::Lin => {
-            net.push_linear(alloc, causes[0].event, EventId(target), causes[0].range)?
-        }
-        RuleKind::Late => net.push_late(alloc, EventId(target), causes)?,
-        RuleKind::Early => net.push_early(alloc, EventId(target), causes)?,
-    }
-    Ok(())
-}
 
 // The events i, y and k, with `i->y @late [*,0]`, `k->y @late [*,0]` and `y->k @lin [*,-5]`: n is 3 and W is 5,
 // so the cap is 36 and the far line 18.
@@ -49,20 +18,6 @@ fn lone(alloc: Global) -> Result<Network, Fail> {
     add(alloc, &mut net, RuleKind::Late, 1, &causes)?;
     let back = [cause(1, (None, Some(-5)))?];
     add(alloc, &mut net, RuleKind::Lin, 2, &back)?;
-    Ok(net)
-}
-
-// The events a, b and j, with `a->b @lin [100,300]` and a second constraint of the causes `a->j [500,700]` and
-// `b->j [200,400]`.
-fn of_two_causes(alloc: Global, kind: RuleKind) -> Result<Network, Fail> {
-    let mut net = Network::new(alloc, 3)?;
-    let first = [cause(0, (Some(100), Some(300)))?];
-    add(alloc, &mut net, RuleKind::Lin, 1, &first)?;
-    let causes = [
-        cause(0, (Some(500), Some(700)))?,
-        cause(1, (Some(200), Some(400)))?,
-    ];
-    add(alloc, &mut net, kind, 2, &causes)?;
     Ok(net)
 }
 

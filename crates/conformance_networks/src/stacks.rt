@@ -1,9 +1,11 @@
+//! A stack of graphs beside whole copies of them.
+
 ghost use Rattle.std.specs.Prelude.{◌≡◌, length};
 
-use crate::{Stamp, Trail};
 use itv_base::{EdgeName, Side};
 use std::process::Abort;
 use std::test::Fail;
+use trail::{Stamp, Trail};
 
 const EMPTY: Stamp = Stamp {
     label: None,

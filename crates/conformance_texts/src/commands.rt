@@ -1,9 +1,9 @@
 //! Lists of words, and what each is taken for, as it was worked out by hand.
 
-use crate::{Answer, Task, read_words};
 use itv_base::Texts;
 use std::alloc::{AllocError, Global};
 use std::test::Fail;
+use words::{Answer, Task, read_words};
 
 // An answer on one line: the job with what it needs, or `help` or `bad words`.
 fn line(alloc: Global, answer: &Answer<'_>) -> Result<String, AllocError> {

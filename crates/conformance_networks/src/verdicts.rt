@@ -1,9 +1,11 @@
+//! Verdicts and slacks by two bounds, and times that are raised past an end.
+
 ghost use Rattle.std.specs.Prelude.{IsTrue, All};
 ghost use Rattle.event_graph.specs.Times.{IsTime};
 ghost use Rattle.requirements.specs.Bounds.{HasTimes};
 
-use super::*;
 use itv_base::{EventId, Range};
+use requirements::{BothBounds, Bound, Slack, Verdict, judge, laws, raise_past, slack};
 use std::test::Fail;
 
 // Whether a number is below 2^61 in absolute value.

@@ -1,6 +1,6 @@
 //! The files of small designs, as they are written down by hand, and the sizes that there are.
 
-use crate::{GenFault, make};
+use design_gen::{GenFault, make};
 use itv_base::{FILE_LIMIT, FetchFault, Shelf};
 use std::test::Fail;
 

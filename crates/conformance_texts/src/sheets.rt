@@ -1,7 +1,9 @@
-use super::*;
+//! The marks, pins, rules and rows of a sheet.
+
 use itv_base::{Range, RuleKind};
 use label_grammar::LabelFault;
 use serde_json::Value;
+use sheet::{Mark, Pin, RowKind, Rule, Sheet, SheetFault, SheetRow, read_sheet};
 use std::alloc::{AllocError, Global};
 use std::fmt::Write;
 use std::test::Fail;

@@ -1,14 +1,17 @@
+//! Proofs line by line: which are taken, and the fault of each other line.
+
 ghost use Rattle.std.specs.Prelude.{◌≡◌};
 ghost use Rattle.cert_checker.specs.Checking.{StandsFor};
 
-use super::*;
+use crate::building::of_two_causes;
 use CheckFault::{
     AfterEnd, AlreadySplit, BadEdge, Broken, NoSuchConstraint, NotChosen, NotNegative, PathHere,
     SumTooGreat, TooLong,
 };
 use Side::{Lower, Upper};
-use event_graph::{Cause, Line, Network};
-use itv_base::{EdgeName, EventId, Range, Side};
+use cert_checker::{CheckFault, Checker, Goal};
+use event_graph::{Line, Network};
+use itv_base::{EdgeName, EventId, Range, RuleKind, Side};
 use std::alloc::Global;
 use std::process::Abort;
 use std::test::Fail;
@@ -25,24 +28,6 @@ fn edge(constraint: u32, cause: u32, side: Side) -> EdgeName {
         cause,
         side,
     }
-}
-
-fn cause(event: EventId, low: i64, high: i64) -> Result<Cause, Fail> {
-    Ok(Cause {
-        event,
-        range: Range::new(Some(low), Some(high))?,
-    })
-}
-
-// The events a, b and j, with `a->b @lin [100,300]`, and j at the latest of `a->j [500,700]` and `b->j [200,400]`.
-fn of_two_causes(alloc: Global) -> Result<Network, Fail> {
-    let mut net = Network::new(alloc, 3)?;
-    net.push_linear(alloc, A, B, Range::new(Some(100), Some(300))?)?;
-    let causes = [cause(A, 500, 700)?, cause(B, 200, 400)?];
-    if causes[0].event.0 < net.events() && causes[1].event.0 < net.events() {
-        net.push_late(alloc, J, &causes)?;
-    }
-    Ok(net)
 }
 
 // The events a and b, with `a->b @lin [100,300]` and `b->a @lin [low,50]`.
@@ -72,7 +57,7 @@ fn take_each(
 // b, since it comes at most 700 after a, which is at least 100 before b, or at most 400 after b.
 #[test]
 fn a_bound_is_shown_by_cases(rt: HostRuntime) -> Result<(), Fail> {
-    let net = of_two_causes(rt.alloc())?;
+    let net = of_two_causes(rt.alloc(), RuleKind::Late)?;
     let mut checker = Checker::new(rt.alloc(), &net)?;
     assert!(rt; checker.is_done());
     checker.begin(

@@ -3,8 +3,10 @@
 ghost use Rattle.std.specs.Prelude.{◌<◌, ◌^◌, length};
 ghost use Rattle.label_grammar.specs.Label.{label_view, IsProper};
 
-use super::*;
 use itv_base::{NoMemory, SinkMem};
+use label_grammar::{
+    Label, WireText, read_label, read_wire, reading_inverts_spelling, spellings_differ, write_label,
+};
 use std::process::Abort;
 use std::test::Fail;
 

@@ -1,4 +1,6 @@
-use super::*;
+//! The lines of derivations.
+
+use fall_notes::SinkNotes;
 use falling::Notes;
 use itv_base::{EdgeName, EventId, Side, SinkMem};
 use std::test::Fail;

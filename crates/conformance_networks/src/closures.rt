@@ -3,9 +3,10 @@
 ghost use Rattle.std.specs.Prelude.{◌≡◌, ◌<◌, ◌≤◌, IfOk, All, length};
 ghost use Rattle.minplus.specs.Rows.{IsEntry};
 
-use crate::{ABSENT, MatrixFault, closure, row_lanes, row_plain};
-use event_graph::{Cause, Network};
-use itv_base::{EventId, MAX_CAUSES, NoMemory, Range};
+use crate::building::{add, cause, of_two_causes};
+use event_graph::Network;
+use itv_base::{EventId, NoMemory, RuleKind};
+use minplus::{ABSENT, MatrixFault, closure, row_lanes, row_plain};
 use std::alloc::Global;
 use std::process::Abort;
 use std::test::Fail;
@@ -83,65 +84,6 @@ fn lanes_do_what_plain_rows_do(rt: HostRuntime) -> Result<(), Fail> {
     Ok(())
 }
 
-// Adds the constraint that the separation of two events lies in a range.
-fn lin(
-    rt: &impl Abort,
-    net: &mut Network,
-    alloc: Global,
-    ends: (u32, u32),
-    low: i64,
-    high: i64,
-) -> Result<(), Fail> {
-    assert!(rt; ends.0 < net.events());
-    assert!(rt; ends.1 < net.events());
-    net.push_linear(
-        alloc,
-        EventId(ends.0),
-        EventId(ends.1),
-        Range::new(Some(low), Some(high))?,
-    )?;
-    Ok(())
-}
-
-// Two events a and b, b from 100 to 300 after a, and a target j of both of them.
-fn network(rt: &impl Abort, alloc: Global, is_late: bool) -> Result<Network, Fail> {
-    let mut net = Network::new(alloc, 3)?;
-    lin(rt, &mut net, alloc, (0, 1), 100, 300)?;
-    let causes = [
-        Cause {
-            event: EventId(0),
-            range: Range::new(Some(500), Some(700))?,
-        },
-        Cause {
-            event: EventId(1),
-            range: Range::new(Some(200), Some(400))?,
-        },
-    ];
-    push(rt, &mut net, alloc, is_late, &causes)?;
-    Ok(net)
-}
-
-// Adds the constraint that event 2 comes at the latest or at the earliest of some causes.
-fn push(
-    rt: &impl Abort,
-    net: &mut Network,
-    alloc: Global,
-    is_late: bool,
-    causes: &[Cause],
-) -> Result<(), Fail> {
-    let events = net.events();
-    assert!(rt; 2 < events);
-    assert!(rt; causes.iter().all(|cause| cause.event.0 < events));
-    assert!(rt; 1 <= causes.len());
-    assert!(rt; causes.len() <= MAX_CAUSES);
-    if is_late {
-        net.push_late(alloc, EventId(2), causes)?;
-    } else {
-        net.push_early(alloc, EventId(2), causes)?;
-    }
-    Ok(())
-}
-
 // Compares each entry of the closure of a network with what is wanted.
 fn check(
     rt: &impl Abort,
@@ -164,7 +106,7 @@ fn check(
 // Of latest causes the lower sides always hold, and of earliest ones the upper sides.
 #[test]
 fn sides_that_always_hold(rt: HostRuntime) -> Result<(), Fail> {
-    let latest = network(&rt, rt.alloc(), true)?;
+    let latest = of_two_causes(rt.alloc(), RuleKind::Late)?;
     check(
         &rt,
         rt.alloc(),
@@ -175,7 +117,7 @@ fn sides_that_always_hold(rt: HostRuntime) -> Result<(), Fail> {
             &[Some(-500), Some(-200), Some(0)],
         ],
     )?;
-    let earliest = network(&rt, rt.alloc(), false)?;
+    let earliest = of_two_causes(rt.alloc(), RuleKind::Early)?;
     check(
         &rt,
         rt.alloc(),
@@ -196,7 +138,8 @@ fn loops_and_limits(rt: HostRuntime) -> Result<(), Fail> {
     for events in [1, 2, 3] {
         let mut net = Network::new(alloc, events)?;
         for event in 0..events {
-            lin(&rt, &mut net, alloc, (event, (event + 1) % events), 1, 2)?;
+            let one = [cause(event, (Some(1), Some(2)))?];
+            add(alloc, &mut net, RuleKind::Lin, (event + 1) % events, &one)?;
         }
         assert_eq!(rt; closure(alloc, &net).err(), Some(MatrixFault::Loop));
     }

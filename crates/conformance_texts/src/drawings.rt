@@ -1,8 +1,10 @@
-use super::*;
+//! The lanes and the edge texts of a tree.
+
 use itv_base::Text;
 use serde_json::Value;
 use std::alloc::Global;
 use std::test::Fail;
+use wavejson::{DiagramFault, read_diagram};
 
 // A lane as `name,wave,node;` and after all of them each edge text behind a bar; `-` stands for what is absent.
 fn spelled(alloc: Global, tree: &str) -> Result<String, Fail> {

@@ -1,6 +1,8 @@
-use super::*;
+//! Reports as texts, both ways.
+
 use itv_base::{NoMemory, SinkMem};
 use line_words::LineBuffer;
+use slack_report::{LINE_ROOM, ReportFault, laws, read_report, write_item};
 use std::alloc::Global;
 use std::process::Abort;
 use std::test::Fail;

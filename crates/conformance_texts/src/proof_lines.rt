@@ -1,9 +1,11 @@
+//! The lines of proofs as texts, and two scribes.
+
 ghost use Rattle.std.specs.Prelude.{◌≡◌, ◌∷◌, [], OnErr, OnOk};
 ghost use Rattle.itv_base.specs.Outside.{grown};
 ghost use Rattle.event_graph.specs.Proof.{Split};
 ghost use Rattle.certificate.specs.Text.{proof_text};
 
-use super::*;
+use certificate::{LineFault, SinkScribe, TreeScribe, laws, read_line, write_line};
 use event_graph::{Line, Scribe, ScribeFailed};
 use itv_base::{EdgeName, Side, Sink, SinkMem};
 use line_words::LineBuffer;

@@ -1,5 +1,7 @@
-use super::*;
+//! What a wave draws at a place.
+
 use MarkKind::{Bare, Change, Fall, Rise, Steady};
+use wave_string::{MarkKind, kind_at, may_join};
 
 #[test]
 fn kinds_follow_the_rules(rt: HostRuntime) {

@@ -1,9 +1,10 @@
 //! Which constraints are split, in which order: no clause speaks of it.
 
-use super::*;
+use crate::building::{add, cause};
 use RuleKind::{Early, Late, Lin};
-use event_graph::{Cause, Network};
-use itv_base::{EdgeName, EventId, Range, RuleKind};
+use branch::{Answer, Found, Quiet, Scribe, ScribeFailed, Work, find, greatest};
+use event_graph::Network;
+use itv_base::{EdgeName, EventId, RuleKind};
 use std::alloc::Global;
 use std::process::Abort;
 use std::test::Fail;
@@ -49,35 +50,6 @@ impl Scribe for Splits {
     ghost grew_faults = { λ s t xs p. refl };
 }
 
-// A cause with a low end and a high end.
-fn cause(event: u32, low: i64, high: i64) -> Result<Cause, Fail> {
-    Ok(Cause {
-        event: EventId(event),
-        range: Range::new(Some(low), Some(high))?,
-    })
-}
-
-// Adds a constraint, after a test of what the network requires.
-fn add(
-    alloc: Global,
-    net: &mut Network,
-    kind: RuleKind,
-    target: u32,
-    causes: &[Cause],
-) -> Result<(), Fail> {
-    let events = net.events();
-    let are_there = causes.iter().all(|cause| cause.event.0 < events);
-    if events <= target || causes.is_empty() || 64 < causes.len() || !are_there {
-        Err("no such constraint")?;
-    }
-    match kind {
-        Lin => net.push_linear(alloc, causes[0].event, EventId(target), causes[0].range)?,
-        Late => net.push_late(alloc, EventId(target), causes)?,
-        Early => net.push_early(alloc, EventId(target), causes)?,
-    }
-    Ok(())
-}
-
 // Bounds the last event of a network from the first one: the answer, how many cases were closed, and the splits up to the eighth.
 fn bound(alloc: Global, net: &Network) -> Result<(Answer, u64, Splits), Fail> {
     let events = net.events();
@@ -114,21 +86,30 @@ fn splits_go_back_along_choices(rt: HostRuntime) -> Result<(), Fail> {
         &mut net,
         Late,
         1,
-        &[cause(0, 0, 10)?, cause(0, 0, 5)?],
+        &[
+            cause(0, (Some(0), Some(10)))?,
+            cause(0, (Some(0), Some(5)))?,
+        ],
     )?;
     add(
         alloc,
         &mut net,
         Late,
         2,
-        &[cause(1, 0, 10)?, cause(0, 0, 5)?],
+        &[
+            cause(1, (Some(0), Some(10)))?,
+            cause(0, (Some(0), Some(5)))?,
+        ],
     )?;
     add(
         alloc,
         &mut net,
         Late,
         3,
-        &[cause(2, 0, 10)?, cause(0, 0, 5)?],
+        &[
+            cause(2, (Some(0), Some(10)))?,
+            cause(0, (Some(0), Some(5)))?,
+        ],
     )?;
     let (answer, leaves, splits) = bound(alloc, &net)?;
     assert_eq!(&rt; answer, Answer::Closed(30));
@@ -148,19 +129,19 @@ fn the_nearest_broken_constraint_is_split(rt: HostRuntime) -> Result<(), Fail> {
         &mut net,
         Late,
         1,
-        &[cause(0, 0, 2)?, cause(3, 0, 2)?],
+        &[cause(0, (Some(0), Some(2)))?, cause(3, (Some(0), Some(2)))?],
     )?;
     add(
         alloc,
         &mut net,
         Late,
         4,
-        &[cause(1, 0, 5)?, cause(2, 0, 5)?],
+        &[cause(1, (Some(0), Some(5)))?, cause(2, (Some(0), Some(5)))?],
     )?;
-    add(alloc, &mut net, Lin, 4, &[cause(0, 0, 100)?])?;
-    add(alloc, &mut net, Lin, 1, &[cause(0, 0, 10)?])?;
-    add(alloc, &mut net, Lin, 2, &[cause(0, 0, 20)?])?;
-    add(alloc, &mut net, Lin, 3, &[cause(0, 0, 3)?])?;
+    add(alloc, &mut net, Lin, 4, &[cause(0, (Some(0), Some(100)))?])?;
+    add(alloc, &mut net, Lin, 1, &[cause(0, (Some(0), Some(10)))?])?;
+    add(alloc, &mut net, Lin, 2, &[cause(0, (Some(0), Some(20)))?])?;
+    add(alloc, &mut net, Lin, 3, &[cause(0, (Some(0), Some(3)))?])?;
     let (answer, leaves, splits) = bound(alloc, &net)?;
     assert_eq!(&rt; answer, Answer::Closed(25));
     assert_eq!(&rt; leaves, 4);
@@ -175,16 +156,25 @@ fn the_nearest_broken_constraint_is_split(rt: HostRuntime) -> Result<(), Fail> {
 fn of_the_nearest_the_least_is_split(rt: HostRuntime) -> Result<(), Fail> {
     let alloc = rt.alloc();
     let mut net = Network::new(alloc, 5)?;
-    let first = [cause(0, 0, 40)?, cause(3, 0, 20)?];
+    let first = [
+        cause(0, (Some(0), Some(40)))?,
+        cause(3, (Some(0), Some(20)))?,
+    ];
     add(alloc, &mut net, Late, 2, &first)?;
-    let second = [cause(2, 10, 90)?, cause(4, 10, 90)?];
+    let second = [
+        cause(2, (Some(10), Some(90)))?,
+        cause(4, (Some(10), Some(90)))?,
+    ];
     add(alloc, &mut net, Early, 1, &second)?;
-    let third = [cause(0, 0, 60)?, cause(3, 0, 20)?];
+    let third = [
+        cause(0, (Some(0), Some(60)))?,
+        cause(3, (Some(0), Some(20)))?,
+    ];
     add(alloc, &mut net, Late, 4, &third)?;
-    add(alloc, &mut net, Lin, 1, &[cause(0, 0, 50)?])?;
-    add(alloc, &mut net, Lin, 2, &[cause(0, 0, 100)?])?;
-    add(alloc, &mut net, Lin, 3, &[cause(0, 0, 50)?])?;
-    add(alloc, &mut net, Lin, 4, &[cause(0, 0, 100)?])?;
+    add(alloc, &mut net, Lin, 1, &[cause(0, (Some(0), Some(50)))?])?;
+    add(alloc, &mut net, Lin, 2, &[cause(0, (Some(0), Some(100)))?])?;
+    add(alloc, &mut net, Lin, 3, &[cause(0, (Some(0), Some(50)))?])?;
+    add(alloc, &mut net, Lin, 4, &[cause(0, (Some(0), Some(100)))?])?;
     let (answer, leaves, splits) = bound(alloc, &net)?;
     assert_eq!(&rt; answer, Answer::Closed(60));
     assert_eq!(&rt; leaves, 3);

@@ -1,5 +1,5 @@
 use Rattle.cert_checker.specs.Checking.{StandsFor}
-use Rattle.cert_checker.proofs.tests.take_each.Given as goal
+use Rattle.conformance_networks.proofs.checking.take_each.Given as goal
 
 -- the checker stands in a proof for the network
 abbrev pub invariant-loop-line : goal.invariant-loop-line
