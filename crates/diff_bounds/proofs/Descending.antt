@@ -1,6 +1,7 @@
 -- What stands after a descent and after a retreat.
 use Rattle.std.proofs.Common.{◌≡◌, ℕ, ◌+◌, ◌<◌, inl, inr, true, false, List, [], ◌∷◌, ◌++◌, length, reverse, take, Option, Some, None, is_none, is_some, cond, sym, ◌∙◌, ap, subst, refl, arith}
 use Rattle.std.proofs.lemmas.List.{length-map}
+use Rattle.std.proofs.lemmas.List.Elements.{Contains-push}
 use Rattle.itv_base.specs.declared.names.EdgeName.{EdgeName}
 use Rattle.itv_base.specs.declared.names.EventId.{EventId}
 use Rattle.event_graph.specs.declared.edge.Edge.{Edge}
@@ -11,16 +12,16 @@ use Rattle.trail.specs.Stack.{Graph, Stack, after_pop, after_push, with_edge}
 use Rattle.diff_bounds.specs.declared.arc.Arc.{Arc}
 use Rattle.diff_bounds.specs.Arcs.{AreChosenArcs, IsArc}
 use Rattle.diff_bounds.specs.Current.{HasNoTimes, IsLoop, with_choice}
-use Rattle.diff_bounds.specs.Labels.{HasFallen, stamp_at}
+use Rattle.diff_bounds.specs.Labels.{HasFallen, IsAmong, stamp_at}
 use Rattle.diff_bounds.specs.Settled.{AreSettled, IsFeasible, IsSettled, at_source, whole, zeros}
 use Rattle.diff_bounds.specs.Standing.{HasDescended, Standing, Stands, chosen_of}
 use Rattle.diff_bounds.specs.Step.Falling.{HasRun, with_stamps}
-use Rattle.diff_bounds.specs.Step.Poised.{IsReady, feasible_run, upper_run}
+use Rattle.diff_bounds.specs.Step.Poised.{IsAdded, feasible_run, upper_run}
 use Rattle.diff_bounds.specs.Step.Waiting.{Waiting}
 use Rattle.diff_bounds.specs.Step.Walking.{HasLoop}
 use Rattle.diff_bounds.proofs.Networks.{edge_within}
 use Rattle.diff_bounds.proofs.Poising.{labels_stay}
-use Rattle.diff_bounds.proofs.Starting.{choice_poised}
+use Rattle.diff_bounds.proofs.Starting.{choice_poised, choice_rest}
 use Rattle.diff_bounds.proofs.Standings.{arcs_below, chosen_more, edges_few, has_times, loop_is, loop_none, stands_on, stands_settled}
 
 -- ---- a retreat
@@ -75,43 +76,63 @@ arcs_room net b stands room =
 arc_is : (net : Net) (choice : EdgeName) (e : Edge) → IsNet net → edge net choice ≡ Some e → IsArc net (record { name = choice; edge = e })
 arc_is net choice e is_net is = record { is = is; within = edge_within net choice e is_net is }
 
+-- the arc of the choice
+abbrev pub choice_arc : EdgeName → Edge → Arc
+choice_arc choice e = record { name = choice; edge = e }
+
+-- the choice is of the scope
+choice_among : (net : Net) (edges : List EdgeName) (choice : EdgeName) (e : Edge) → edge net choice ≡ Some e → IsAmong (whole net (edges ++ choice ∷ [])) choice e
+choice_among net edges choice e is = record { is = is; current = inr (Contains-push edges choice); from = omega arith }
+
 -- before the feasible times fall
-pub choice_ready : (net : Net) (b : Standing) (choice : EdgeName) (e : Edge) (w : Waiting) → Stands net b → edge net choice ≡ Some e → length w.marks ≡ net.events
-    → IsReady net b.out (b.arcs ++ (record { name = choice; edge = e }) ∷ []) (feasible_run net e.from 0) e.from zeros (chosen_stack b choice) w
-choice_ready net b choice e w stands is marks =
+pub choice_added : (net : Net) (b : Standing) (choice : EdgeName) (e : Edge) (w : Waiting) → Stands net b → edge net choice ≡ Some e → length w.marks ≡ net.events
+    → IsAdded net b.out (b.arcs ++ (choice_arc choice e) ∷ []) (feasible_run net e.from 0) (choice_arc choice e) zeros (chosen_stack b choice) w
+choice_added net b choice e w stands is marks =
     let settled = stands_settled net b stands in
     let within = edge_within net choice e stands.made.is_net is in
+    let arc = arc_is net choice e stands.made.is_net is in
     record {
-      is_net = stands.made.is_net;
-      out_edges = stands.made.out;
-      chosen = chosen_more net (chosen_of b) b.arcs (record { name = choice; edge = e }) stands.chosen (arc_is net choice e stands.made.is_net is);
-      within = within.from;
-      slots = settled.feasible.slots;
-      near = settled.near;
-      marks = marks;
-      poised = choice_poised net (chosen_of b) choice e zeros b.trail.current.stamps net.events is settled.feasible.labels;
+      ready = record {
+        is_net = stands.made.is_net;
+        out_edges = stands.made.out;
+        chosen = chosen_more net (chosen_of b) b.arcs (choice_arc choice e) stands.chosen arc;
+        within = within.from;
+        slots = settled.feasible.slots;
+        near = settled.near;
+        marks = marks;
+        poised = choice_poised net (chosen_of b) choice e zeros b.trail.current.stamps net.events is settled.feasible.labels;
+      };
+      arc = arc;
+      among = choice_among net (chosen_of b) choice e is;
+      rest = choice_rest net (chosen_of b) choice e zeros b.trail.current.stamps net.events is settled.feasible.labels;
     }
 
 -- after it, before the labels from the source fall
-pub uppers_ready : (net : Net) (b : Standing) (choice : EdgeName) (e : Edge) (source : EventId) (st : Stack) (w : Waiting) → Stands net b → edge net choice ≡ Some e → b.source ≡ Some source → length w.marks ≡ net.events
+pub uppers_added : (net : Net) (b : Standing) (choice : EdgeName) (e : Edge) (source : EventId) (st : Stack) (w : Waiting) → Stands net b → edge net choice ≡ Some e → b.source ≡ Some source → length w.marks ≡ net.events
     → st ≡ with_stamps (chosen_stack b choice) st.current.stamps → HasRun (whole net (chosen_of b ++ choice ∷ [])) (feasible_run net e.from 0) b.trail.current.stamps st.current.stamps
-    → (source.0 < net.events) × IsReady net b.out (b.arcs ++ (record { name = choice; edge = e }) ∷ []) upper_run e.from (at_source source) st w
-uppers_ready net b choice e source st w stands is from marks stack ran =
+    → (source.0 < net.events) × IsAdded net b.out (b.arcs ++ (choice_arc choice e) ∷ []) upper_run (choice_arc choice e) (at_source source) st w
+uppers_added net b choice e source st w stands is from marks stack ran =
     let P : Option EventId → Type 0 = λ o. IsSettled (whole net (chosen_of b)) o b.trail.current.stamps in
     let settled = subst P from (stands_settled net b stands) in
     let within = edge_within net choice e stands.made.is_net is in
+    let arc = arc_is net choice e stands.made.is_net is in
     let labels = labels_stay (whole net (chosen_of b)) (at_source source) 0 b.trail.current.stamps st.current.stamps stands.made.is_net (λ v below. ran.before (0 + v) (omega arith)) settled.uppers.1 in
-    let Q : Stack → Type 0 = λ t. IsReady net b.out (b.arcs ++ (record { name = choice; edge = e }) ∷ []) upper_run e.from (at_source source) t w in (
+    let Q : Stack → Type 0 = λ t. IsAdded net b.out (b.arcs ++ (choice_arc choice e) ∷ []) upper_run (choice_arc choice e) (at_source source) t w in (
       settled.uppers.0,
       subst Q (sym stack) (record {
-        is_net = stands.made.is_net;
-        out_edges = stands.made.out;
-        chosen = chosen_more net (chosen_of b) b.arcs (record { name = choice; edge = e }) stands.chosen (arc_is net choice e stands.made.is_net is);
-        within = within.from;
-        slots = ran.count ∙ settled.feasible.slots;
-        near = ran.near;
-        marks = marks;
-        poised = choice_poised net (chosen_of b) choice e (at_source source) st.current.stamps 0 is labels;
+        ready = record {
+          is_net = stands.made.is_net;
+          out_edges = stands.made.out;
+          chosen = chosen_more net (chosen_of b) b.arcs (choice_arc choice e) stands.chosen arc;
+          within = within.from;
+          slots = ran.count ∙ settled.feasible.slots;
+          near = ran.near;
+          marks = marks;
+          poised = choice_poised net (chosen_of b) choice e (at_source source) st.current.stamps 0 is labels;
+        };
+        arc = arc;
+        among = choice_among net (chosen_of b) choice e is;
+        rest = choice_rest net (chosen_of b) choice e (at_source source) st.current.stamps 0 is labels;
       }),
     )
 

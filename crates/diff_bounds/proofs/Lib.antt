@@ -9,6 +9,7 @@ pub mod Settled
 pub mod Queue
 pub mod OutLists
 pub mod Poising
+pub mod OneMore
 pub mod Climbing
 pub mod Uppers
 pub mod Starting

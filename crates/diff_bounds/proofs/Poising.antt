@@ -13,8 +13,8 @@ use Rattle.diff_bounds.specs.declared.falling.Run.{Run}
 use Rattle.diff_bounds.specs.Labels.{Follows, HasFallen, HaveSettled, IsClimb, IsForest, IsRooted, Labels, Parents, Scope, is_lower, labels_from, number, parents_from, stamp_at}
 use Rattle.diff_bounds.specs.Limits.{weight_limit}
 use Rattle.diff_bounds.specs.Settled.{AreNear, HaveLabels, IsFeasible, IsSettled, at_source, zeros}
-use Rattle.diff_bounds.specs.Step.Falling.{AllDone, AreAbove, Closes, HasRun, IsPlaced, IsPotential, IsRunning, RunsOn, fresh, with_stamps}
-use Rattle.diff_bounds.specs.Step.Poised.{AreLow, AreOthersFollowed, IsPoised, IsReady, feasible_run, scope_from, upper_run}
+use Rattle.diff_bounds.specs.Step.Falling.{AllDone, AreAbove, Closes, Falls, HasRun, IsDone, IsPlaced, IsPotential, IsRunning, RunsOn, fresh, scope_of, with_stamps}
+use Rattle.diff_bounds.specs.Step.Poised.{AreLow, AreOthersFollowed, AreRestFollowed, IsPoised, IsReady, feasible_run, scope_from, upper_run}
 use Rattle.diff_bounds.specs.Step.Waiting.{Waiting, is_waiting}
 use Rattle.diff_bounds.specs.Step.Walking.{HasLoop}
 use Rattle.diff_bounds.proofs.NamedWalks.{event}
@@ -30,6 +30,15 @@ use Rattle.diff_bounds.proofs.Settled.{closing_climb, closing_walk, forest_on}
 pub all_done : (s : Scope) (run : Run) (from : EventId) (stamps : List Stamp) (marks : List Bool) → AreOthersFollowed s from (labels_from stamps run.base) → is_waiting marks from.0 ≡ true → AllDone s run stamps marks
 all_done s run from stamps marks others waits name e among =
     elim (others name e among) [ inl same ↦ inr (ap (is_waiting marks) same ∙ waits) | inr follows ↦ inl follows ]
+
+-- where an edge was followed, all edges are followed or wait, if the others were followed
+pub all_done_over : (net : Net) (run : Run) (a : Arc) (st st' : Stack) (u u' : Waiting) → AreRestFollowed (scope_of net st run) a.edge (labels_from st.current.stamps run.base) → Falls (scope_of net st run) run st st' u u'
+    → IsDone run st'.current.stamps u'.marks a.edge → AllDone (scope_of net st run) run st'.current.stamps u'.marks
+all_done_over net run a st st' u u' rest falls done name e among =
+    elim (rest name e among) [
+      | inl same ↦ let P : Edge → Type 0 = λ x. IsDone run st'.current.stamps u'.marks x in subst P (sym same) done
+      | inr follows ↦ falls.done e among.from (inl follows)
+    ]
 
 -- an event below which a climb leads to a label has one
 labelled_below : (s : Scope) (start label : Labels) (parent : Parents) → IsForest s start label parent → (v r : ℕ) (es : List EdgeName) (z : ℤ) → v < s.net.events → IsClimb s.net parent v es r → label r ≡ Some z → (y : ℤ) × (label v ≡ Some y)

@@ -18,7 +18,7 @@ use Rattle.diff_bounds.specs.Current.{IsCurrent}
 use Rattle.diff_bounds.specs.Labels.{Follows, IsAmong, IsForest, Labels, Parents, Scope, labels_from, parents_from, stamp_at}
 use Rattle.diff_bounds.specs.Settled.{AreNear, HaveLabels, IsFeasible, IsSettled, at_source, whole, zeros}
 use Rattle.diff_bounds.specs.Step.Falling.{with_stamps}
-use Rattle.diff_bounds.specs.Step.Poised.{AreLow, HasBegun, HasCleared, IsPoised, IsReady, feasible_run, scope_by, scope_from, upper_run, zero_stamp}
+use Rattle.diff_bounds.specs.Step.Poised.{AreLow, AreRestFollowed, HasBegun, HasCleared, IsPoised, IsReady, feasible_run, scope_by, scope_from, upper_run, zero_stamp}
 use Rattle.diff_bounds.specs.Step.Waiting.{Waiting}
 use Rattle.diff_bounds.proofs.Networks.{edge_within}
 use Rattle.diff_bounds.proofs.Poising.{feasible_stay}
@@ -234,16 +234,27 @@ seeded_ready net out arcs old mid st source w is_net always none edges within cl
 
 -- ---- a choice
 
-choice_others : (net : Net) (chosen : List EdgeName) (choice : EdgeName) (e : Edge) → edge net choice ≡ Some e → (name : EdgeName) (f : Edge) → IsAmong (scope_by net (chosen ++ choice ∷ []) 0) name f → (f.from.0 ≡ e.from.0) ⊎ IsAmong (scope_by net chosen 0) name f
-choice_others net chosen choice e is name f among = of_current among.current
+-- an edge is the choice, or is there without it
+choice_or_older : (net : Net) (chosen : List EdgeName) (choice : EdgeName) (e : Edge) → edge net choice ≡ Some e → (name : EdgeName) (f : Edge) → IsAmong (scope_by net (chosen ++ choice ∷ []) 0) name f → (f ≡ e) ⊎ IsAmong (scope_by net chosen 0) name f
+choice_or_older net chosen choice e is name f among = of_current among.current
   where
-    of_current : IsCurrent net (chosen ++ choice ∷ []) name → (f.from.0 ≡ e.from.0) ⊎ IsAmong (scope_by net chosen 0) name f
+    of_current : IsCurrent net (chosen ++ choice ∷ []) name → (f ≡ e) ⊎ IsAmong (scope_by net chosen 0) name f
     of_current (inl always) = inr (record { is = among.is; current = inl always; from = among.from })
     of_current (inr there) =
         elim (Contains-push_cases chosen choice name there) [
           | inl was ↦ inr (record { is = among.is; current = inr was; from = among.from })
-          | inr same ↦ let one : f ≡ e = same_Some f e (sym among.is ∙ ap (edge net) (sym same) ∙ is) in inl (ap (λ (x : Edge). x.from.0) one)
+          | inr same ↦ inl (same_Some f e (sym among.is ∙ ap (edge net) (sym same) ∙ is))
         ]
+
+choice_others : (net : Net) (chosen : List EdgeName) (choice : EdgeName) (e : Edge) → edge net choice ≡ Some e → (name : EdgeName) (f : Edge) → IsAmong (scope_by net (chosen ++ choice ∷ []) 0) name f → (f.from.0 ≡ e.from.0) ⊎ IsAmong (scope_by net chosen 0) name f
+choice_others net chosen choice e is name f among =
+    elim (choice_or_older net chosen choice e is name f among) [ inl same ↦ inl (ap (λ (x : Edge). x.from.0) same) | inr older ↦ inr older ]
+
+-- all edges but the choice are followed
+pub choice_rest : (net : Net) (chosen : List EdgeName) (choice : EdgeName) (e : Edge) (start : Labels) (stamps : List Stamp) (base : ℕ) → edge net choice ≡ Some e → HaveLabels (whole net chosen) start stamps base
+    → AreRestFollowed (whole net (chosen ++ choice ∷ [])) e (labels_from stamps base)
+choice_rest net chosen choice e start stamps base is labels name f among =
+    elim (choice_or_older net chosen choice e is name f among) [ inl same ↦ inl same | inr older ↦ inr (labels.settled name f older) ]
 
 pub choice_poised : (net : Net) (chosen : List EdgeName) (choice : EdgeName) (e : Edge) (start : Labels) (stamps : List Stamp) (base : ℕ) → edge net choice ≡ Some e → HaveLabels (whole net chosen) start stamps base
     → IsPoised (whole net (chosen ++ choice ∷ [])) e.from start stamps base

@@ -13,13 +13,14 @@ ghost use Rattle.diff_bounds.specs.Limits.{IsNear, IsReach};
 ghost use Rattle.diff_bounds.specs.contracts.bounds.Bounds.{the_row};
 ghost use Rattle.diff_bounds.specs.Standing.{AreTimesOf, HasDescended, IsMadeFor, IsRayOf, Stands, chosen_of, upper_of};
 
+use crate::adding::{add_to_feasible, add_to_uppers};
 use crate::arc::Arc;
 use crate::chosen_edges::ChosenEdges;
 use crate::falling::label_in;
 use crate::fit::Fit;
 use crate::out_edges::OutEdges;
 use crate::pending::Pending;
-use crate::settling::{reach, settle_feasible, settle_root, settle_uppers};
+use crate::settling::{reach, settle_root};
 use crate::times::{least_lift, write_ray, write_times};
 use crate::walks::{loop_into, path_into};
 use event_graph::Network;
@@ -145,18 +146,18 @@ impl Bounds {
             return Fit::Fits;
         };
         self.trail.add_edge(choice);
-        self.chosen.push(Arc { name: choice, edge });
-        let closing = settle_feasible(
+        let arc = Arc { name: choice, edge };
+        self.chosen.push(arc);
+        let closing = add_to_feasible(
             net,
             &self.out,
             &self.chosen,
-            edge.from,
-            0,
+            arc,
             &mut self.trail,
             &mut self.pending,
         );
-        if let Some(arc) = closing {
-            self.count = loop_into(net, &self.trail, arc, &mut self.walk);
+        if let Some(last) = closing {
+            self.count = loop_into(net, &self.trail, last, &mut self.walk);
             self.trail.pop_level();
             self.chosen.pop();
             return Fit::Loop;
@@ -164,11 +165,11 @@ impl Bounds {
         if self.source.is_none() {
             return Fit::Fits;
         }
-        settle_uppers(
+        add_to_uppers(
             net,
             &self.out,
             &self.chosen,
-            edge.from,
+            arc,
             &mut self.trail,
             &mut self.pending,
         );

@@ -137,9 +137,9 @@ fn relax_chosen(
     None
 }
 
-// Relaxes an edge of the scope, given the label at its start, and lets the event at its end wait where its label has fallen. The
-// answer is whether it would lower the label at the stop.
-fn follow(
+/// Relaxes an edge of the scope, given the label at its start, and lets the event at its end wait where its label has fallen. The
+/// answer is whether it would lower the label at the stop.
+pub fn follow(
     net: &Network,
     run: Run,
     near: i64,

@@ -3,6 +3,7 @@
 //! stands, `upper` is the greatest separation of an event, and `start` and `descend` answer `Loop` exactly where no times meet the edges.
 #![tactic(auto)]
 
+mod adding;
 mod arc;
 mod bounds;
 mod chosen_edges;

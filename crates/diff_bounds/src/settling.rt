@@ -124,9 +124,9 @@ fn settle_all(
     None
 }
 
-/// Lets the feasible times settle over the edges that start at an event, where all others are followed already. The edges of events
-/// below `first` do not count. The answer is an edge that closes a loop of negative sum through the event, if there is one.
-pub fn settle_feasible(
+// Lets the feasible times settle over the edges that start at an event, where all others are followed already. The edges of events
+// below `first` do not count. The answer is an edge that closes a loop of negative sum through the event, if there is one.
+fn settle_feasible(
     net: &Network,
     out: &OutEdges,
     chosen: &ChosenEdges,
@@ -190,9 +190,9 @@ fn clear_uppers(trail: &mut Trail, events: u32)
     }
 }
 
-/// Lets the labels from the source settle over the edges that start at an event, where all others are followed already and the
-/// feasible times have settled.
-pub fn settle_uppers(
+// Lets the labels from the source settle over the edges that start at an event, where all others are followed already and the
+// feasible times have settled.
+fn settle_uppers(
     net: &Network,
     out: &OutEdges,
     chosen: &ChosenEdges,

@@ -8,7 +8,7 @@ use Rattle.trail.specs.declared.stamp.Stamp.{Stamp}
 use Rattle.trail.specs.Stack.{Stack, empty_stamp}
 use Rattle.diff_bounds.specs.declared.arc.Arc.{Arc}
 use Rattle.diff_bounds.specs.declared.falling.Run.{Run}
-use Rattle.diff_bounds.specs.Arcs.{AreAlwaysArcs, AreChosenArcs}
+use Rattle.diff_bounds.specs.Arcs.{AreAlwaysArcs, AreChosenArcs, IsArc}
 use Rattle.diff_bounds.specs.Labels.{Follows, IsAmong, IsForest, Labels, Scope, labels_from, parents_from, stamp_at}
 use Rattle.diff_bounds.specs.Settled.{AreNear, IsRoot}
 use Rattle.diff_bounds.specs.Step.Falling.{scope_of}
@@ -51,6 +51,17 @@ pub record IsReady (net : Net) (out : List (List Arc)) (arcs : List Arc) (run : 
   pub near : AreNear stack.current.stamps
   pub marks : length waiting.marks ≡ net.events
   pub poised : IsPoised (scope_of net stack run) from start stack.current.stamps run.base
+
+-- all edges of a scope are followed, but for one
+abbrev pub AreRestFollowed : Scope → Edge → Labels → Type 0
+AreRestFollowed s added label = (name : EdgeName) (e : Edge) → IsAmong s name e → (e ≡ added) ⊎ Follows label e
+
+-- the same where one edge was added: all the others are followed
+pub record IsAdded (net : Net) (out : List (List Arc)) (arcs : List Arc) (run : Run) (a : Arc) (start : Labels) (stack : Stack) (waiting : Waiting) : Type 0 where
+  pub ready : IsReady net out arcs run a.edge.from start stack waiting
+  pub arc : IsArc net a
+  pub among : IsAmong (scope_of net stack run) a.name a.edge
+  pub rest : AreRestFollowed (scope_of net stack run) a.edge (labels_from stack.current.stamps run.base)
 
 -- no feasible time is above 0
 abbrev pub AreLow : ℕ → List Stamp → Type 0
