@@ -54,10 +54,10 @@ known_bound job told Max lines value shows few = spent_bound job Max told.row li
 known_bound job told Min lines value shows few = known_rows job (told.spent || is_spent value) (told.number + 1) told.later (spent_bound job Min told.row lines value told.spent shows few)
 
 known_next : (job : Job) (here next : Place) (piece : List ℕ) → IsKnown job here → MayFollow job here piece next → IsKnown job next
-known_next job at_finding next piece known (lines, found, shows, text, e) = subst (IsKnown job) (sym e) (known_finding job lines found shows)
+known_next job at_finding next piece known (lines, few, found, shows, text, e) = subst (IsKnown job) (sym e) (known_finding job lines found shows)
 known_next job at_rows next piece known (text, e) = subst (IsKnown job) (sym e) (known_rows job false 0 job.drawn.rows (λ e. absurd (cc e)))
 known_next job (at_row told) next piece known (text, e) = subst (IsKnown job) (sym e) known
-known_next job (at_bound told which) next piece known (lines, value, shows, text, e) = subst (IsKnown job) (sym e) (known_bound job told which lines value shows known)
+known_next job (at_bound told which) next piece known (lines, few, value, shows, text, e) = subst (IsKnown job) (sym e) (known_bound job told which lines value shows known)
 known_next job (at_end word) next piece known (text, e) = subst (IsKnown job) (sym e) known
 known_next job (at_last word) next piece known may = absurd may
 

@@ -28,40 +28,46 @@ module _ {net : Net} {wanted : Wanted} {job : Job} (of : IsJobOf net wanted job)
   in_job : (lines : List FallLine) → printed wanted.cert lines ≡ printed job.cert lines
   in_job lines = ap (λ cert. printed cert lines) (sym of.cert)
 
+  in_turns : (lines : List FallLine) → length lines ≤ wanted.turns → length lines ≤ job.turns
+  in_turns lines few = subst (λ turns. length lines ≤ turns) (sym of.turns) few
+
   -- ---- the finding
 
-  pub begun_finding : (lines : List FallLine) → BeginsFrom net (λ _. first_event) lines → AreBegun job at_finding (printed wanted.cert lines)
+  pub begun_finding : (lines : List FallLine) → BeginsFrom net wanted.turns (λ _. first_event) lines → AreBegun job at_finding (printed wanted.cert lines)
   begun_finding lines begin =
-      let (values, d) = begin job.view of.view in
-      (lines, in_job lines, values, subst (λ (n : Net). IsDerivation (seen job.view n) first_event lines values) (sym of.net_is) d)
+      let (values, d) = begin.1 job.view of.view in
+      (lines, in_turns lines begin.0, in_job lines, values, subst (λ (n : Net). IsDerivation (seen job.view n) first_event lines values) (sym of.net_is) d)
 
   pub finding_may : (lines : List FallLine) (found : Finding) → ShowsFinding net wanted.turns lines found
       → MayFollow job at_finding (fall_text (printed wanted.cert lines) ++ finding_text found) (behind_finding found)
   finding_may lines found shows = (
     lines,
+    in_turns lines shows.0,
     found,
-    subst (λ (n : Net). IsFinding job.view n job.turns lines found) (sym of.net_is) (subst (λ turns. IsFinding job.view net turns lines found) (sym of.turns) (shows job.view of.view)),
+    subst (λ (n : Net). IsFinding job.view n job.turns lines found) (sym of.net_is) (subst (λ turns. IsFinding job.view net turns lines found) (sym of.turns) (shows.1 job.view of.view)),
     ap (λ (ls : List FallLine). fall_text ls ++ finding_text found) (in_job lines),
     refl,
   )
 
   -- ---- a bound of a row
 
-  pub begun_bound : (told : Telling) (which : Which) (r : drawing.Row) (lines : List FallLine) → told.row ≡ r → BeginsFrom net (λ view. source view which r) lines
+  pub begun_bound : (told : Telling) (which : Which) (r : drawing.Row) (lines : List FallLine) → told.row ≡ r → BeginsFrom net wanted.turns (λ view. source view which r) lines
       → AreBegun job (at_bound told which) (printed wanted.cert lines)
   begun_bound told which r lines same begin =
-      let (values, d) = begin job.view of.view in (
+      let (values, d) = begin.1 job.view of.view in (
         lines,
+        in_turns lines begin.0,
         in_job lines,
         values,
         subst (λ (n : Net). IsDerivation (seen job.view n) (source job.view which told.row) lines values) (sym of.net_is)
             (subst (λ (row : drawing.Row). IsDerivation (seen job.view net) (source job.view which row) lines values) (sym same) d),
       )
 
-  pub bound_may : (told : Telling) (which : Which) (r : drawing.Row) (lines : List FallLine) (value : Bound) → told.row ≡ r → IsBound job.view net wanted.turns which r lines value
+  pub bound_may : (told : Telling) (which : Which) (r : drawing.Row) (lines : List FallLine) (value : Bound) → told.row ≡ r → length lines ≤ wanted.turns → IsBound job.view net wanted.turns which r lines value
       → MayFollow job (at_bound told which) (fall_text (printed wanted.cert lines) ++ bound_text which value) (behind_bound told which (is_spent value))
-  bound_may told which r lines value same shows = (
+  bound_may told which r lines value same few shows = (
     lines,
+    in_turns lines few,
     value,
     subst (λ (n : Net). IsBound job.view n job.turns which told.row lines value) (sym of.net_is)
         (subst (λ turns. IsBound job.view net turns which told.row lines value) (sym of.turns) (subst (λ (row : drawing.Row). IsBound job.view net wanted.turns which row lines value) (sym same) shows)),

@@ -1,5 +1,5 @@
 -- Steps of the writer, one after another.
-use Rattle.std.proofs.Common.{◌≡◌, ℕ, Bool, true, false, List, [], ◌∷◌, ◌++◌, Result, Ok, Err, IsErr, refl, sym, subst, ap, ◌∙◌, append-nil, append_assoc}
+use Rattle.std.proofs.Common.{◌≡◌, ◌≤◌, ℕ, Bool, true, false, List, [], ◌∷◌, ◌++◌, Result, Ok, Err, IsErr, refl, sym, subst, ap, ◌∙◌, append-nil, append_assoc, arith}
 use Rattle.std.specs.Bool.{⊤}
 use Rattle.std.specs.List.{concat}
 use Rattle.std.proofs.lemmas.List.Folds.{concat-append}
@@ -21,16 +21,19 @@ reads-append : (job : Job) (xs ys : List (List ℕ)) (here mid last : Place) →
 reads-append job [] ys here mid last e reads = subst (λ (at : Place). Reads job at ys last) (sym e) reads
 reads-append job (x ∷ xs) ys here mid last (next, may, rest) reads = (next, may, reads-append job xs ys next mid last rest reads)
 
+zero-≤ : (n : ℕ) → 0 ≤ n
+zero-≤ n = omega arith
+
 -- no line begins any derivation
 printed_none : (cert : Bool) → [] ≡ printed cert []
 printed_none true = refl
 printed_none false = refl
 
 pub none_begun : (job : Job) (place : Place) → AreBegun job place []
-none_begun job at_finding = ([], printed_none job.cert, starting_values (seen job.view job.drawn.net) first_event, refl)
+none_begun job at_finding = ([], zero-≤ job.turns, printed_none job.cert, starting_values (seen job.view job.drawn.net) first_event, refl)
 none_begun job at_rows = refl
 none_begun job (at_row told) = refl
-none_begun job (at_bound told which) = ([], printed_none job.cert, starting_values (seen job.view job.drawn.net) (source job.view which told.row), refl)
+none_begun job (at_bound told which) = ([], zero-≤ job.turns, printed_none job.cert, starting_values (seen job.view job.drawn.net) (source job.view which told.row), refl)
 none_begun job (at_end word) = refl
 none_begun job (at_last word) = refl
 

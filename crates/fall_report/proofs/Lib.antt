@@ -1,7 +1,6 @@
 pub mod Negation
 pub mod Moving
 pub mod Viewing
-pub mod Choosing
 pub mod Going
 pub mod Following
 pub mod Whole

@@ -2,6 +2,7 @@
 use Rattle.std.proofs.Common.{◌≡◌, ◌<◌, ◌^◌, ◌≤◌, ℕ, ℤ, pos, neg_ℤ, ◌-ℤ◌, Bool, true, false, List, [], ◌∷◌, length, get_or, All, Option, Some, None, refl, sym, subst, ap, ◌∙◌, arith}
 use Rattle.std.proofs.lemmas.Int.{ints}
 use Rattle.itv_base.specs.declared.names.EventId.{EventId}
+use Rattle.itv_base.specs.declared.names.RuleKind.TheVariants.{Early}
 use Rattle.event_graph.specs.Bounds.{IsGreatest, IsRay}
 use Rattle.event_graph.specs.Network.{IsNet, Net}
 use Rattle.event_graph.specs.Satisfying.{Satisfies}
@@ -13,7 +14,7 @@ use Rattle.falling.specs.declared.limits.Limits.{Limits}
 use Rattle.falling.specs.declared.line.FallLine.{FallLine}
 use Rattle.falling.specs.Course.{AreLimits}
 use Rattle.falling.specs.Derivation.{IsDerivation, starting_values}
-use Rattle.falling.specs.Kinds.{IsPlain, negated, negated_times}
+use Rattle.falling.specs.Kinds.{IsPlain, first_choice, negated, negated_times}
 use Rattle.falling.specs.Solving.{AnswersAs, IsDerivationAs, IsNegationOf}
 use Rattle.falling.specs.Turns.{IsNearValue}
 use Rattle.falling.proofs.Bounding.{length-starting}
@@ -37,22 +38,34 @@ use Rattle.fall_report.proofs.Negation.{is_net_negated}
 
 -- a plain network is plain where it can't be otherwise
 pub plain_stable : (net : Net) → ((IsPlain net → ⊥) → ⊥) → IsPlain net
-plain_stable net stable = λ k d within choice. stable (λ plain. plain k d within choice)
+plain_stable net stable = go (first_choice Early net) stable
+  where
+    go : (o : Option ℕ) → ((o ≡ None → ⊥) → ⊥) → o ≡ None
+    go None stable = refl
+    go (Some number) stable = absurd (stable (λ none. cc none))
 
 -- lines that begin a derivation, in the view
-pub begins_finding : (net : Net) (negation : Option Net) (lines : List FallLine) (after : List ℤ) → IsNegationOf net negation
-    → IsDerivationAs negation net first_event first_event lines after → BeginsFrom net (λ _. first_event) lines
-begins_finding net None lines after is d Plain v = (after, d)
-begins_finding net None lines after is d Negated v = absurd (v is)
-begins_finding net (Some n) lines after is d Plain v = absurd (is.2 v)
-begins_finding net (Some n) lines after is d Negated v = (after, d)
+pub begins_finding : (net : Net) (negation : Option Net) (turns : ℕ) (lines : List FallLine) (after : List ℤ) → IsNegationOf net negation → length lines ≤ turns
+    → IsDerivationAs negation net first_event first_event lines after → BeginsFrom net turns (λ _. first_event) lines
+begins_finding net negation turns lines after is few d = (few, λ view v. begins net negation view is d v)
+  where
+    begins : (net : Net) (negation : Option Net) (view : View) → IsNegationOf net negation → IsDerivationAs negation net first_event first_event lines after → IsViewOf net view
+        → (values : List ℤ) × IsDerivation (seen view net) first_event lines values
+    begins net None Plain is d v = (after, d)
+    begins net None Negated is d v = absurd (v is)
+    begins net (Some n) Plain is d v = absurd (is.2 v)
+    begins net (Some n) Negated is d v = (after, d)
 
-pub begins_row : (net : Net) (negation : Option Net) (which : Which) (r : Row) (lines : List FallLine) (after : List ℤ) → IsNegationOf net negation
-    → IsDerivationAs negation net (source Plain which r) (target Plain which r) lines after → BeginsFrom net (λ view. source view which r) lines
-begins_row net None which r lines after is d Plain v = (after, d)
-begins_row net None which r lines after is d Negated v = absurd (v is)
-begins_row net (Some n) which r lines after is d Plain v = absurd (is.2 v)
-begins_row net (Some n) which r lines after is d Negated v = (after, d)
+pub begins_row : (net : Net) (negation : Option Net) (which : Which) (r : Row) (turns : ℕ) (lines : List FallLine) (after : List ℤ) → IsNegationOf net negation → length lines ≤ turns
+    → IsDerivationAs negation net (source Plain which r) (target Plain which r) lines after → BeginsFrom net turns (λ view. source view which r) lines
+begins_row net negation which r turns lines after is few d = (few, λ view v. begins net negation view is d v)
+  where
+    begins : (net : Net) (negation : Option Net) (view : View) → IsNegationOf net negation → IsDerivationAs negation net (source Plain which r) (target Plain which r) lines after
+        → IsViewOf net view → (values : List ℤ) × IsDerivation (seen view net) (source view which r) lines values
+    begins net None Plain is d v = (after, d)
+    begins net None Negated is d v = absurd (v is)
+    begins net (Some n) Plain is d v = absurd (is.2 v)
+    begins net (Some n) Negated is d v = (after, d)
 
 -- ---- findings
 
@@ -68,21 +81,22 @@ minus_zero time value e z = omega (arith, ints)
 no_events : {n : ℕ} → 0 < n → n ≡ 0 → ⊥
 no_events some none = omega arith
 
--- what is found of a network with events, by the answer on event 0 and itself
-pub shows_finding : (net : Net) (negation : Option Net) (turns : ℕ) (lines : List FallLine) (times : List ℤ) (ray : List Bool) (fallen : Fallen) → 0 < net.events
-    → IsNegationOf net negation → AnswersAs negation net first_event first_event turns lines times ray fallen → ShowsFinding net turns lines (told_finding (found_by fallen) times)
-shows_finding net None turns lines times ray fallen some is a Negated v = absurd (v is)
-shows_finding net (Some n) turns lines times ray fallen some is a Plain v = absurd (is.2 v)
-shows_finding net None turns lines times ray (Closed value) some is a Plain v = record {
+-- what is found of a network with events in a view, by the answer on event 0 and itself
+finding_in : (net : Net) (negation : Option Net) (turns : ℕ) (lines : List FallLine) (times : List ℤ) (ray : List Bool) (fallen : Fallen) (view : View) → 0 < net.events
+    → IsNegationOf net negation → AnswersAs negation net first_event first_event turns lines times ray fallen → IsViewOf net view
+    → IsFinding view net turns lines (told_finding (found_by fallen) times)
+finding_in net None turns lines times ray fallen Negated some is a v = absurd (v is)
+finding_in net (Some n) turns lines times ray fallen Plain some is a v = absurd (is.2 v)
+finding_in net None turns lines times ray (Closed value) Plain some is a v = record {
   satisfied = a.satisfies;
   at_zero = a.derived ∙ at_itself (time_of times first_event) value a.attained;
   derived = (times, a.derivation, refl);
   empty = λ none. absurd (no_events some none);
 }
-shows_finding net None turns lines times ray Unbounded some is a Plain v = absurd (no_ray net first_event times ray a.raised)
-shows_finding net None turns lines times ray Inconsistent some is a Plain v = record { none = a.none; derived = a.derivation }
-shows_finding net None turns lines times ray Spent some is a Plain v = record { spent = (times, a.spent); few = a.few }
-shows_finding net (Some n) turns lines times ray (Closed value) some is a Negated v =
+finding_in net None turns lines times ray Unbounded Plain some is a v = absurd (no_ray net first_event times ray a.raised)
+finding_in net None turns lines times ray Inconsistent Plain some is a v = record { none = a.none; derived = a.derivation }
+finding_in net None turns lines times ray Spent Plain some is a v = record { spent = (times, a.spent); few = a.few }
+finding_in net (Some n) turns lines times ray (Closed value) Negated some is a v =
     let (values, d, turned, at) = a.derivation in record {
       satisfied = a.satisfies;
       at_zero = ap (λ (list : List ℤ). time_of list first_event) turned ∙ time_of-negated values first_event
@@ -90,9 +104,15 @@ shows_finding net (Some n) turns lines times ray (Closed value) some is a Negate
       derived = (values, d, turned);
       empty = λ none. absurd (no_events some none);
     }
-shows_finding net (Some n) turns lines times ray Unbounded some is a Negated v = absurd (no_ray net first_event times ray a.raised)
-shows_finding net (Some n) turns lines times ray Inconsistent some is a Negated v = record { none = a.none; derived = a.derivation }
-shows_finding net (Some n) turns lines times ray Spent some is a Negated v = record { spent = a.spent; few = a.few }
+finding_in net (Some n) turns lines times ray Unbounded Negated some is a v = absurd (no_ray net first_event times ray a.raised)
+finding_in net (Some n) turns lines times ray Inconsistent Negated some is a v = record { none = a.none; derived = a.derivation }
+finding_in net (Some n) turns lines times ray Spent Negated some is a v = record { spent = a.spent; few = a.few }
+
+-- the same in each view, by at most as many lines as turns
+pub shows_finding : (net : Net) (negation : Option Net) (turns : ℕ) (lines : List FallLine) (times : List ℤ) (ray : List Bool) (fallen : Fallen) → 0 < net.events
+    → IsNegationOf net negation → length lines ≤ turns → AnswersAs negation net first_event first_event turns lines times ray fallen
+    → ShowsFinding net turns lines (told_finding (found_by fallen) times)
+shows_finding net negation turns lines times ray fallen some is few a = (few, λ view v. finding_in net negation turns lines times ray fallen view some is a v)
 
 -- no events: the times of none satisfy, and no line is needed
 nothing : (xs ys : List ℤ) → length xs ≡ 0 → length ys ≡ 0 → xs ≡ ys
@@ -124,15 +144,18 @@ none_satisfied net times is_net none count = record {
 pub found_empty : (net : Net) (times : List ℤ) → IsNet net → net.events ≡ 0 → length times ≡ net.events → HasFound net founds.Consistent
 found_empty net times is_net none count = (times, none_satisfied net times is_net none count)
 
+no_lines : (turns : ℕ) → 0 ≤ turns
+no_lines turns = omega arith
+
 pub shows_empty : (net : Net) (turns : ℕ) (times : List ℤ) → IsNet net → net.events ≡ 0 → length times ≡ net.events → ShowsFinding net turns [] (consistent times)
-shows_empty net turns times is_net none count view v =
+shows_empty net turns times is_net none count = (no_lines turns, λ view v.
     let values : List ℤ = starting_values (seen view net) first_event in
     let empty : length values ≡ 0 = length-starting (seen view net) first_event ∙ events_seen view net ∙ none in record {
       satisfied = none_satisfied net times is_net none count;
       at_zero = at_nothing times first_event (count ∙ none);
       derived = (values, refl, nothing times (times_seen view values) (count ∙ none) (length_seen view values ∙ empty));
       empty = λ _. refl;
-    }
+    })
 
 -- what is found of a network that is consistent
 pub has_found : (net : Net) (negation : Option Net) (turns : ℕ) (lines : List FallLine) (times : List ℤ) (ray : List Bool) (fallen : Fallen)

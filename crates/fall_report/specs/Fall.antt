@@ -1,5 +1,5 @@
 -- What job fall answers and writes.
-use Rattle.std.specs.Prelude.{◌≡◌, ◌||◌, ◌+◌, ℕ, ℤ, Bool, true, false, if◌then◌else◌, List, [], ◌∷◌, ◌++◌, length}
+use Rattle.std.specs.Prelude.{◌≡◌, ◌≤◌, ◌||◌, ◌+◌, ℕ, ℤ, Bool, true, false, if◌then◌else◌, List, [], ◌∷◌, ◌++◌, length}
 use Rattle.std.specs.List.{concat}
 use Rattle.itv_base.specs.declared.names.EventId.{EventId}
 use Rattle.falling.specs.Derivation.{IsDerivation}
@@ -62,16 +62,16 @@ abbrev pub behind_bound : Telling → Which → Bool → Place
 behind_bound told Max spent = at_bound (record told { spent = told.spent || spent }) Min
 behind_bound told Min spent = before_rows (told.spent || spent) (told.number + 1) told.later
 
--- a piece of text leads from a place to another
+-- a piece of text leads from a place to another; a derivation has at most as many lines as there are turns
 abbrev pub MayFollow : Job → Place → List ℕ → Place → Type 0
 MayFollow job at_finding piece next =
-    (lines : List FallLine) × (found : Finding) × IsFinding job.view job.drawn.net job.turns lines found
+    (lines : List FallLine) × (length lines ≤ job.turns) × (found : Finding) × IsFinding job.view job.drawn.net job.turns lines found
     × (piece ≡ fall_text (printed job.cert lines) ++ finding_text found) × (next ≡ behind_finding found)
 MayFollow job at_rows piece next = (piece ≡ entry_text (line.rows (length job.drawn.rows))) × (next ≡ before_rows false 0 job.drawn.rows)
 MayFollow job (at_row told) piece next =
     (piece ≡ entry_text (line.row told.number told.row.kind (name_of job.drawn told.row.from) (name_of job.drawn told.row.to))) × (next ≡ at_bound told Max)
 MayFollow job (at_bound told which) piece next =
-    (lines : List FallLine) × (value : Bound) × IsBound job.view job.drawn.net job.turns which told.row lines value
+    (lines : List FallLine) × (length lines ≤ job.turns) × (value : Bound) × IsBound job.view job.drawn.net job.turns which told.row lines value
     × (piece ≡ fall_text (printed job.cert lines) ++ bound_text which value) × (next ≡ behind_bound told which (is_spent value))
 MayFollow job (at_end word) piece next = (piece ≡ entry_text (line.ending word)) × (next ≡ at_last word)
 MayFollow job (at_last word) piece next = ⊥
@@ -84,7 +84,7 @@ Reads job at (piece ∷ pieces) last = (next : Place) × MayFollow job at piece 
 -- these lines are printed of some that begin a derivation
 abbrev pub BeginAt : Job → EventId → List FallLine → Type 0
 BeginAt job from begun =
-    (lines : List FallLine) × (begun ≡ printed job.cert lines) × (values : List ℤ) × IsDerivation (seen job.view job.drawn.net) from lines values
+    (lines : List FallLine) × (length lines ≤ job.turns) × (begun ≡ printed job.cert lines) × (values : List ℤ) × IsDerivation (seen job.view job.drawn.net) from lines values
 
 -- these lines are printed of the derivation that comes at a place, if one does
 abbrev pub AreBegun : Job → Place → List FallLine → Type 0

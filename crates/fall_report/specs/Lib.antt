@@ -1,5 +1,4 @@
 pub mod View
-pub mod Kinds
 pub mod Text
 pub mod Shows
 pub mod Fall

@@ -1,5 +1,5 @@
 -- What the steps of job fall promise one another.
-use Rattle.std.specs.Prelude.{◌≡◌, ◌^◌, ◌||◌, ◌+◌, ℕ, ℤ, pos, neg_ℤ, ◌≤ℤ◌, Bool, false, true, if◌then◌else◌, List, ◌++◌, length, Result, Ok, Err}
+use Rattle.std.specs.Prelude.{◌≡◌, ◌≤◌, ◌^◌, ◌||◌, ◌+◌, ℕ, ℤ, pos, neg_ℤ, ◌≤ℤ◌, Bool, false, true, if◌then◌else◌, List, ◌++◌, length, Result, Ok, Err}
 use Rattle.std.specs.List.{concat}
 use Rattle.itv_base.specs.declared.names.EventId.{EventId}
 use Rattle.itv_base.specs.Outside.{CutShort, SinkTold, grown}
@@ -51,17 +51,18 @@ Tells cert old new Shows = (lines : List FallLine) × SinkGrew old (printed cert
 abbrev pub WasCut : Bool → SinkTold → SinkTold → (List FallLine → Type 0) → Type 0
 WasCut cert old new Begin = (lines : List FallLine) × SinkWasCut old (printed cert lines) new × Begin lines
 
--- the lines begin a derivation from the event that a view names
-abbrev pub BeginsFrom : Net → (View → EventId) → List FallLine → Type 0
-BeginsFrom net from lines = (view : View) → IsViewOf net view → (values : List ℤ) × IsDerivation (seen view net) (from view) lines values
+-- the lines, at most as many as turns, begin a derivation from the event that a view names
+abbrev pub BeginsFrom : Net → ℕ → (View → EventId) → List FallLine → Type 0
+BeginsFrom net turns from lines = (length lines ≤ turns) × ((view : View) → IsViewOf net view → (values : List ℤ) × IsDerivation (seen view net) (from view) lines values)
 
--- the lines show a finding
+-- the lines, at most as many as turns, show a finding
 abbrev pub ShowsFinding : Net → ℕ → List FallLine → Finding → Type 0
-ShowsFinding net turns lines found = (view : View) → IsViewOf net view → IsFinding view net turns lines found
+ShowsFinding net turns lines found = (length lines ≤ turns) × ((view : View) → IsViewOf net view → IsFinding view net turns lines found)
 
--- what a solver says of the searched pair of a row
+-- what a solver says of the searched pair of a row, by at most as many lines as turns
 abbrev pub AnswersRow : Net → Which → Row → ℕ → List FallLine → Solving → Fallen → Type 0
-AnswersRow net which r turns lines solver answer = AnswersAs solver.negation net (source Plain which r) (target Plain which r) turns lines solver.times solver.ray answer
+AnswersRow net which r turns lines solver answer =
+    (length lines ≤ turns) × AnswersAs solver.negation net (source Plain which r) (target Plain which r) turns lines solver.times solver.ray answer
 
 -- ---- what is told
 

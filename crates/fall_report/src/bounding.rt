@@ -70,7 +70,7 @@ fn search_bound<K: Sink>(
     ensures answers { IfOk result (λ fallen. Tells wanted.cert (K.told sink.old) (K.told sink.new)
         (λ lines. AnswersRow net.now which (row_told row.now) wanted.turns lines solver.new fallen)) }
     ensures cut { OnErr result (WasCut wanted.cert (K.told sink.old) (K.told sink.new)
-        (BeginsFrom net.now (λ view. source view which (row_told row.now)))) }
+        (BeginsFrom net.now wanted.turns (λ view. source view which (row_told row.now)))) }
 {
     match which {
         Which::Max => greatest_of(solver, net, row.from, row.to, wanted, sink),

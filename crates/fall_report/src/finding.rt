@@ -59,7 +59,7 @@ fn find<K: Sink>(
     ensures found { IfOk result (HasFound net.now) }
     ensures shows { IfOk result (λ found. Tells wanted.cert (K.told sink.old) (K.told sink.new)
         (λ lines. ShowsFinding net.now wanted.turns lines (told_finding found solver.new.times))) }
-    ensures cut { OnErr result (WasCut wanted.cert (K.told sink.old) (K.told sink.new) (BeginsFrom net.now (λ _. first_event))) }
+    ensures cut { OnErr result (WasCut wanted.cert (K.told sink.old) (K.told sink.new) (BeginsFrom net.now wanted.turns (λ _. first_event))) }
 {
     if net.events() == 0 {
         return Ok(Found::Consistent);

@@ -7,7 +7,6 @@
 mod bounding;
 mod desk;
 mod finding;
-mod kinds;
 pub mod laws;
 mod rows;
 mod search;
@@ -16,5 +15,4 @@ mod view;
 mod wanted;
 mod write;
 
-pub use kinds::first_choice;
 pub use write::write_fall;

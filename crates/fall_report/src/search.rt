@@ -1,6 +1,6 @@
 //! Searches by falling values, whose lines are printed where they are wanted.
 
-ghost use Rattle.std.specs.Prelude.{◌≡◌, ◌<◌, List, IfOk, OnErr, true, ℤ};
+ghost use Rattle.std.specs.Prelude.{◌≡◌, ◌<◌, ◌≤◌, List, IfOk, OnErr, true, ℤ, length};
 ghost use Rattle.falling.specs.declared.line.FallLine.{FallLine};
 ghost use Rattle.falling.specs.Solving.{AnswersAs, IsDerivationAs, IsMadeFor};
 ghost use Rattle.fall_report.specs.Step.{Tells, WasCut};
@@ -26,9 +26,10 @@ pub fn greatest_of<K: Sink>(
     ensures made { IsMadeFor net.now solver.new }
     ensures negation { solver.new.negation ≡ solver.old.negation }
     ensures answers { IfOk result (λ fallen. Tells wanted.cert (K.told sink.old) (K.told sink.new)
-        (λ lines. AnswersAs solver.old.negation net.now from to wanted.turns lines solver.new.times solver.new.ray fallen)) }
+        (λ lines. (length lines ≤ wanted.turns)
+        × AnswersAs solver.old.negation net.now from to wanted.turns lines solver.new.times solver.new.ray fallen)) }
     ensures cut { OnErr result (WasCut wanted.cert (K.told sink.old) (K.told sink.new)
-        (λ lines. (after : List ℤ) × IsDerivationAs solver.old.negation net.now from to lines after)) }
+        (λ lines. (length lines ≤ wanted.turns) × (after : List ℤ) × IsDerivationAs solver.old.negation net.now from to lines after)) }
 {
     if wanted.cert {
         greatest_printing(solver, net, from, to, wanted.turns, sink)
@@ -52,9 +53,10 @@ fn greatest_printing<K: Sink>(
     ensures made { IsMadeFor net.now solver.new }
     ensures negation { solver.new.negation ≡ solver.old.negation }
     ensures answers { IfOk result (λ fallen. Tells true (K.told sink.old) (K.told sink.new)
-        (λ lines. AnswersAs solver.old.negation net.now from to turns lines solver.new.times solver.new.ray fallen)) }
+        (λ lines. (length lines ≤ turns)
+        × AnswersAs solver.old.negation net.now from to turns lines solver.new.times solver.new.ray fallen)) }
     ensures cut { OnErr result (WasCut true (K.told sink.old) (K.told sink.new)
-        (λ lines. (after : List ℤ) × IsDerivationAs solver.old.negation net.now from to lines after)) }
+        (λ lines. (length lines ≤ turns) × (after : List ℤ) × IsDerivationAs solver.old.negation net.now from to lines after)) }
 {
     let mut notes = SinkNotes { sink };
     match solver.greatest(net, from, to, turns, &mut notes) {
@@ -76,7 +78,7 @@ fn greatest_quietly(
     requires to { to.0 < net.now.events }
     ensures made { IsMadeFor net.now solver.new }
     ensures negation { solver.new.negation ≡ solver.old.negation }
-    ensures answers { (lines : List FallLine)
+    ensures answers { (lines : List FallLine) × (length lines ≤ turns)
         × AnswersAs solver.old.negation net.now from to turns lines solver.new.times solver.new.ray result }
 {
     match solver.greatest(net, from, to, turns, &mut NoNotes) {

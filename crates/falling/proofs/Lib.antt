@@ -4,6 +4,7 @@ pub mod Within
 pub mod Bounding
 pub mod Between
 pub mod Counting
+pub mod Choosing
 pub mod Settling
 pub mod Closing
 pub mod Negating

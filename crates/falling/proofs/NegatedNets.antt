@@ -18,10 +18,11 @@ use Rattle.falling.specs.Cap.{cap, end_size, widest_end, widest_of, widest_of_ca
 use Rattle.falling.specs.Course.{AreLimits}
 use Rattle.falling.specs.Derivation.{IsDerivation}
 use Rattle.falling.specs.Fallen.{Answers, IsClosedAt, IsShownInconsistent, IsShownUnbounded}
-use Rattle.falling.specs.Kinds.{IsChoiceOf, IsNegatable, IsPlain, negated, negated_cause, negated_constraint, negated_kind, negated_times}
+use Rattle.falling.specs.Kinds.{IsNegatable, IsPlain, negated, negated_cause, negated_constraint, negated_kind, negated_times}
 use Rattle.falling.specs.Solving.{AnswersByNegation, IsClosedByNegation, IsInconsistentByNegation, IsUnboundedByNegation}
 use Rattle.falling.specs.Turns.{IsNearValue}
 use Rattle.falling.proofs.Bounding.{ended_is_inconsistent}
+use Rattle.falling.proofs.Choosing.{first_choice-negated}
 use Rattle.falling.proofs.Deriving.{derived_most, near_values}
 use Rattle.falling.proofs.Negating.{all_map, length-mapped, negation_reverses_greatest, satisfies_from, satisfies_turns, separation-negated}
 
@@ -58,18 +59,9 @@ limits_negated net limits are =
     let (p, q, r, s, t, u) = limits_at net.events (widest_end net) (widest_end (negated net)) limits (widest-negated net) are.cap_is are.far_is are.width_is are.lowest_is are.small are.small_width in
     record { cap_is = p; far_is = q; width_is = r; lowest_is = s; small = t; small_width = u }
 
-late_of : (kind : RuleKind) → negated_kind kind ≡ Early → kind ≡ Late
-late_of Lin e = absurd (cc)
-late_of Late e = refl
-late_of Early e = absurd (cc)
-
-choice_back : (k : Constraint) → IsChoiceOf Early (negated_constraint k) → IsChoiceOf Late k
-choice_back k choice = record { same = late_of k.kind choice.same; causes = subst (λ n. 2 ≤ n) (length-mapped negated_cause k.causes) choice.causes }
-
 -- the negation of a negatable network is plain
 pub plain_negated : (net : Net) → IsNegatable net → IsPlain (negated net)
-plain_negated net negatable =
-    all_map negated_constraint (λ (k : Constraint). IsChoiceOf Late k → ⊥) (λ (k : Constraint). IsChoiceOf Early k → ⊥) net.constraints (λ k none choice. none (choice_back k choice)) negatable
+plain_negated net negatable = first_choice-negated Early net ∙ negatable
 
 -- no times of the negation: none of the network
 pub inconsistent_from : (net : Net) → IsInconsistent (negated net) → IsInconsistent net

@@ -1,5 +1,5 @@
 -- Values that no line lowers satisfy a plain network.
-use Rattle.std.proofs.Common.{◌≡◌, ◌<◌, ◌≤◌, ◌⊎◌, inl, inr, ℕ, zero, suc, ℤ, ◌+ℤ◌, ◌-ℤ◌, ◌≤ℤ◌, ◌<ℤ◌, IsTrue, List, [], ◌∷◌, All, Any, length, get_or, Option, Some, None, IsSome, IfSome, IsSomeAnd, option_map, slice_get, ap, ◌∙◌, refl, arith}
+use Rattle.std.proofs.Common.{◌≡◌, ◌<◌, ◌≤◌, ◌⊎◌, inl, inr, ℕ, zero, suc, ℤ, ◌+ℤ◌, ◌-ℤ◌, ◌≤ℤ◌, ◌<ℤ◌, IsTrue, false, List, [], ◌∷◌, All, Any, length, get_or, Option, Some, None, IsSome, IfSome, IsSomeAnd, option_map, slice_get, ap, ◌∙◌, refl, arith}
 use Rattle.std.proofs.lemmas.Int.{ints}
 use Rattle.std.proofs.lemmas.Option.{slice_get-get_or}
 use Rattle.itv_base.specs.declared.names.EdgeName.{EdgeName}
@@ -18,8 +18,9 @@ use Rattle.event_graph.proofs.ByEdges.{holds_by_edges}
 use Rattle.event_graph.proofs.EdgesMet.{edge-at, met_if_some}
 use Rattle.falling.specs.declared.line.Reason.TheVariants.{ByEdge, ByLatest}
 use Rattle.falling.specs.Derivation.{IsDueByEdge, IsDueByLatest, IsLatestHigh, IsSettled}
-use Rattle.falling.specs.Kinds.{IsChoiceOf}
+use Rattle.falling.specs.Kinds.{is_choice}
 use Rattle.falling.specs.Laws.{SettledSatisfies}
+use Rattle.falling.proofs.Choosing.{not_choice}
 use Rattle.falling.proofs.Near.{below_or_not}
 
 pub at_is : {X : Type 0} (o : Option X) (P : X → Type 0) (x : X) → o ≡ Some x → P x → IsSomeAnd o P
@@ -180,16 +181,16 @@ early_choice net number k values at_k is_early single settled =
       always_of Early count is single = grind arith
 
 some_choice : (net : Net) (number : ℕ) (k : Constraint) (values : List ℤ) (kind : RuleKind) → k.kind ≡ kind → slice_get net.constraints number ≡ Some k
-    → 1 ≤ length k.causes → (IsChoiceOf Early k → ⊥) → IsSettled net values → HasChoice kind → MeetsSomeChoice values net number k
+    → 1 ≤ length k.causes → is_choice Early k.kind (length k.causes) ≡ false → IsSettled net values → HasChoice kind → MeetsSomeChoice values net number k
 some_choice net number k values Lin is at_k some plain settled has = absurd has
 some_choice net number k values Late is at_k some plain settled has = rw is (latest_choice net number k values at_k is some settled)
 some_choice net number k values Early is at_k some plain settled has =
-    let single : length k.causes ≡ 1 = one_only (length k.causes) some (λ two. plain (record { same = is; causes = two })) in
+    let single : length k.causes ≡ 1 = one_only k.kind (length k.causes) is some plain in
     rw is (early_choice net number k values at_k is single settled) where
-      one_only : (n : ℕ) → 1 ≤ n → (2 ≤ n → ⊥) → n ≡ 1
-      one_only zero some few = absurd (omega arith)
-      one_only (suc zero) some few = refl
-      one_only (suc (suc n)) some few = absurd (few (omega arith))
+      one_only : (kind : RuleKind) (n : ℕ) → kind ≡ Early → 1 ≤ n → is_choice Early kind n ≡ false → n ≡ 1
+      one_only Lin n is some plain = absurd (cc is)
+      one_only Late n is some plain = absurd (cc is)
+      one_only Early n is some plain = grind arith
 
 pub settled_satisfies : SettledSatisfies
 settled_satisfies net values is_net plain count settled = record {
@@ -201,6 +202,6 @@ settled_satisfies net values is_net plain count settled = record {
       (holds_by_edges net i (get_or net.constraints i d) values is_net at_k).1 (
         (λ name e is_number always is_edge. settled_meets net values name e settled always is_edge),
         some_choice net i (get_or net.constraints i d) values (get_or net.constraints i d).kind refl at_k
-            (some_cause (get_or net.constraints i d).kind (length (get_or net.constraints i d).causes) is.count) (plain i d within) settled,
+            (some_cause (get_or net.constraints i d).kind (length (get_or net.constraints i d).causes) is.count) (not_choice Early net.constraints 0 i d within plain) settled,
       );
 }

@@ -1,27 +1,29 @@
 -- Networks whose choices are all of one kind, and their negation.
-use Rattle.std.specs.Prelude.{◌≡◌, ◌<◌, ◌≤◌, ℕ, ℤ, neg_ℤ, List, length, map, All, Some, option_map, IsSomeAnd, slice_get}
+use Rattle.std.specs.Prelude.{◌≡◌, ℕ, ℤ, neg_ℤ, nat_le, Bool, false, List, length, map, Option, Some, None, option_map, slice_get}
+use Rattle.std.specs.List.{position_from}
 use Rattle.itv_base.specs.Range.{Ends}
 use Rattle.itv_base.specs.declared.names.RuleKind.{RuleKind}
 use Rattle.itv_base.specs.declared.names.RuleKind.TheVariants.{Lin, Late, Early}
 use Rattle.event_graph.specs.declared.cause.Cause.{Cause}
 use Rattle.event_graph.specs.Network.{Constraint, Net}
 
--- a constraint of this kind with two or more causes
-pub record IsChoiceOf (kind : RuleKind) (c : Constraint) : Type 0 where
-  pub same : c.kind ≡ kind
-  pub causes : 2 ≤ length c.causes
+-- whether a constraint of another kind with so many causes is a choice of a kind, latest or earliest: it is of that kind and has two or more
+abbrev pub is_choice : RuleKind → RuleKind → ℕ → Bool
+is_choice Late Late causes = nat_le 2 causes
+is_choice Early Early causes = nat_le 2 causes
+is_choice _ _ causes = false
 
--- no constraint of a kind has two or more causes
-abbrev pub HasNoChoiceOf : RuleKind → Net → Type 0
-HasNoChoiceOf kind net = All (λ (c : Constraint). IsChoiceOf kind c → ⊥) net.constraints
+-- the least number of a choice of a kind
+abbrev pub first_choice : RuleKind → Net → Option ℕ
+first_choice kind net = position_from (λ (c : Constraint). is_choice kind c.kind (length c.causes)) 0 net.constraints
 
 -- no earliest constraint has two or more causes
 abbrev pub IsPlain : Net → Type 0
-IsPlain net = HasNoChoiceOf Early net
+IsPlain net = first_choice Early net ≡ None
 
 -- no latest constraint has two or more causes
 abbrev pub IsNegatable : Net → Type 0
-IsNegatable net = HasNoChoiceOf Late net
+IsNegatable net = first_choice Late net ≡ None
 
 -- the range of the negated numbers
 abbrev pub negated_ends : Ends → Ends
@@ -48,15 +50,6 @@ negated net = record { events = net.events; constraints = map negated_constraint
 -- minus each of the times
 abbrev pub negated_times : List ℤ → List ℤ
 negated_times times = map neg_ℤ times
-
--- the constraint of a number is a choice of a kind
-abbrev pub IsChoiceAt : RuleKind → Net → ℕ → Type 0
-IsChoiceAt kind net number = IsSomeAnd (slice_get net.constraints number) (IsChoiceOf kind)
-
--- the least number of a choice of a kind
-pub record IsFirstChoice (kind : RuleKind) (net : Net) (number : ℕ) : Type 0 where
-  pub here : IsChoiceAt kind net number
-  pub earlier : (k : ℕ) → k < number → IsChoiceAt kind net k → ⊥
 
 -- the negated causes of the constraint of a number
 abbrev pub AreNegatedCauses : Net → ℕ → List Cause → Type 0

@@ -17,7 +17,7 @@ use Rattle.falling.specs.Cap.{enough_turns}
 use Rattle.falling.specs.Course.{AreLimits, IsSpent}
 use Rattle.falling.specs.Derivation.{IsDerivation, IsEnded}
 use Rattle.falling.specs.Fallen.{Answers}
-use Rattle.falling.specs.Kinds.{IsFirstChoice, IsNegatable, IsPlain, negated, negated_times}
+use Rattle.falling.specs.Kinds.{IsNegatable, IsPlain, first_choice, negated, negated_times}
 
 -- what a solver is at: the negation that it solves, if the network is not plain, its limits, a number of turns that is enough,
 -- its agenda, the times, the ray, and the turns of the last answer
@@ -51,7 +51,7 @@ pub record IsMadeFor (net : Net) (solving : Solving) : Type 0 where
 
 -- why there is no solver for a network: it has choices of both kinds, the first of which these are, or memory is wanted
 abbrev pub IsFallFault : Net → FallFault → Type 0
-IsFallFault net (Mixed late early) = IsFirstChoice Late net late × IsFirstChoice Early net early
+IsFallFault net (Mixed late early) = (first_choice Late net ≡ Some late) × (first_choice Early net ≡ Some early)
 IsFallFault net NoMemory = IsPlain net ⊎ IsNegatable net
 
 -- the value is the greatest separation, the times satisfy and attain it, and the lines are a derivation in the negation from the to-event,

@@ -8,7 +8,7 @@ use Rattle.itv_base.specs.declared.names.Side.{Side}
 use Rattle.itv_base.specs.declared.names.Side.TheVariants.{Lower, Upper}
 use Rattle.event_graph.specs.declared.cause.Cause.{Cause}
 use Rattle.event_graph.specs.Edges.{holds_always}
-use Rattle.event_graph.specs.Network.{Constraint, Net, cause_at}
+use Rattle.event_graph.specs.Network.{Constraint, IsNet, Net, cause_at}
 use Rattle.event_graph.specs.Times.{time_of}
 use Rattle.falling.specs.declared.line.FallLine.{FallLine}
 use Rattle.falling.specs.declared.line.Reason.{Reason}
@@ -18,6 +18,13 @@ use Rattle.falling.specs.Derivation.{IsAllowed, IsLatestHigh}
 -- a value to which an end of a range can be added
 abbrev pub IsNearValue : ℤ → Type 0
 IsNearValue value = (neg_ℤ (pos (2 ^ 61)) ≤ℤ value) × (value ≤ℤ pos (2 ^ 61))
+
+-- a constraint may be looked at: it is there, and each event has a value to which an end can be added
+pub record MayLook (net : Net) (values : List ℤ) (number : ℕ) : Type 0 where
+  pub is_net : IsNet net
+  pub there : number < length net.constraints
+  pub count : length values ≡ net.events
+  pub near : All IsNearValue values
 
 -- no line with this reason is allowed
 abbrev pub IsTried : Net → List ℤ → Reason → Type 0

@@ -1,6 +1,6 @@
 //! Derivations: from a source all values fall, line by line.
 
-ghost use Rattle.std.specs.Prelude.{◌≡◌, ◌<◌, ◌↔◌, ℤ, pos, List, [], ◌∷◌, set, replicate, IsTrue, OnOk, OnErr, IfOk, length};
+ghost use Rattle.std.specs.Prelude.{◌≡◌, ◌<◌, ◌≤◌, ◌↔◌, ℤ, pos, List, [], ◌∷◌, set, replicate, IsTrue, OnOk, OnErr, IfOk, length};
 ghost use Rattle.itv_base.specs.Outside.{Rose};
 ghost use Rattle.falling.specs.declared.line.FallLine.{FallLine};
 ghost use Rattle.falling.specs.Agenda.{IsAgendaFor};
@@ -46,8 +46,9 @@ pub fn derive<N: Notes>(
     ensures lines { IfOk result (λ descent. (lines : List FallLine) × N.Grew notes.old lines notes.new
         × (length lines ≡ descent.turns)
         × IsCourse net.now from turns lines values.new descent.course) }
+    ensures most { IfOk result (λ descent. descent.turns ≤ turns) }
     ensures cut { OnErr result ((lines : List FallLine) × N.WasCut notes.old lines notes.new
-        × (after : List ℤ) × IsDerivation net.now from lines after) }
+        × (length lines ≤ turns) × (after : List ℤ) × IsDerivation net.now from lines after) }
     ensures rose { OnErr result (Rose (N.faults notes.old) (N.faults notes.new)) }
     ensures count { length values.new ≡ length values.old }
     ensures agenda { IsAgendaFor net.now agenda.new }

@@ -1,6 +1,6 @@
 //! The solver.
 
-ghost use Rattle.std.specs.Prelude.{◌≡◌, ◌<◌, ◌↔◌, ℤ, List, All, IsTrue, IfOk, IfErr, OnErr, map, neg_ℤ, not, pos, set, slice_index_or, length};
+ghost use Rattle.std.specs.Prelude.{◌≡◌, ◌<◌, ◌≤◌, ◌↔◌, ℤ, List, All, IsTrue, IfOk, IfErr, OnOk, OnErr, map, neg_ℤ, not, pos, set, slice_index_or, length};
 ghost use Rattle.itv_base.specs.Outside.{Rose};
 ghost use Rattle.event_graph.specs.Network.{Net};
 ghost use Rattle.falling.specs.declared.line.FallLine.{FallLine};
@@ -101,8 +101,9 @@ impl Falling {
         ensures lines { IfOk result (λ fallen. (lines : List FallLine) × N.Grew notes.old lines notes.new
             × (length lines ≡ self.new.turns)
             × AnswersAs self.old.negation net.now from to turns lines self.new.times self.new.ray fallen) }
+        ensures most { OnOk result (self.new.turns ≤ turns) }
         ensures cut { OnErr result ((lines : List FallLine) × N.WasCut notes.old lines notes.new
-            × (after : List ℤ) × IsDerivationAs self.old.negation net.now from to lines after) }
+            × (length lines ≤ turns) × (after : List ℤ) × IsDerivationAs self.old.negation net.now from to lines after) }
         ensures rose { OnErr result (Rose (N.faults notes.old) (N.faults notes.new)) }
         ensures made { IsMadeFor net.now self.new }
         ensures negation { self.new.negation ≡ self.old.negation }
@@ -212,8 +213,9 @@ fn solve<N: Notes>(
     ensures lines { IfOk result (λ told. (lines : List FallLine) × N.Grew notes.old lines notes.new
         × (length lines ≡ told.turns)
         × AnswersAs negation.now net.now from to turns lines times.new ray.new told.fallen) }
+    ensures most { IfOk result (λ told. told.turns ≤ turns) }
     ensures cut { OnErr result ((lines : List FallLine) × N.WasCut notes.old lines notes.new
-        × (after : List ℤ) × IsDerivationAs negation.now net.now from to lines after) }
+        × (length lines ≤ turns) × (after : List ℤ) × IsDerivationAs negation.now net.now from to lines after) }
     ensures rose { OnErr result (Rose (N.faults notes.old) (N.faults notes.new)) }
     ensures times { length times.new ≡ length times.old }
     ensures ray { length ray.new ≡ length ray.old }
@@ -253,8 +255,9 @@ fn greatest_by_negation<N: Notes>(
     ensures lines { IfOk result (λ told. (lines : List FallLine) × N.Grew notes.old lines notes.new
         × (length lines ≡ told.turns)
         × AnswersByNegation net.now from to turns lines times.new ray.new told.fallen) }
+    ensures most { IfOk result (λ told. told.turns ≤ turns) }
     ensures cut { OnErr result ((lines : List FallLine) × N.WasCut notes.old lines notes.new
-        × (after : List ℤ) × IsDerivation (negated net.now) to lines after) }
+        × (length lines ≤ turns) × (after : List ℤ) × IsDerivation (negated net.now) to lines after) }
     ensures rose { OnErr result (Rose (N.faults notes.old) (N.faults notes.new)) }
     ensures times { length times.new ≡ length times.old }
     ensures ray { length ray.new ≡ length ray.old }

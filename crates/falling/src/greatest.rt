@@ -1,6 +1,6 @@
 //! The greatest separation of a pair of events of a plain network.
 
-ghost use Rattle.std.specs.Prelude.{◌≡◌, ◌<◌, ◌≤ℤ◌, ◌<ℤ◌, ℕ, ℤ, List, IsTrue, IsFalse, OnErr, IfOk, length};
+ghost use Rattle.std.specs.Prelude.{◌≡◌, ◌<◌, ◌≤◌, ◌≤ℤ◌, ◌<ℤ◌, ℕ, ℤ, List, IsTrue, IsFalse, OnErr, IfOk, length};
 ghost use Rattle.itv_base.specs.declared.names.EventId.{EventId};
 ghost use Rattle.itv_base.specs.Outside.{Rose};
 ghost use Rattle.event_graph.specs.Times.{time_of};
@@ -45,8 +45,9 @@ pub fn greatest<N: Notes>(
     ensures lines { IfOk result (λ told. (lines : List FallLine) × N.Grew notes.old lines notes.new
         × (length lines ≡ told.turns)
         × Answers net.now from to turns lines values.new ray.new told.fallen) }
+    ensures most { IfOk result (λ told. told.turns ≤ turns) }
     ensures cut { OnErr result ((lines : List FallLine) × N.WasCut notes.old lines notes.new
-        × (after : List ℤ) × IsDerivation net.now from lines after) }
+        × (length lines ≤ turns) × (after : List ℤ) × IsDerivation net.now from lines after) }
     ensures rose { OnErr result (Rose (N.faults notes.old) (N.faults notes.new)) }
     ensures values { length values.new ≡ length values.old }
     ensures ray { length ray.new ≡ length ray.old }

@@ -1,6 +1,6 @@
 //! The line of a turn: that of the constraint of least number that can lower a value.
 
-ghost use Rattle.std.specs.Prelude.{◌≡◌, ◌<◌, ◌⊎◌, ◌+ℤ◌, ◌≤ℤ◌, All, IsSome, Some, IfSome, IfNone, length, option_map};
+ghost use Rattle.std.specs.Prelude.{◌≡◌, ◌⊎◌, ◌+ℤ◌, ◌≤ℤ◌, All, IsSome, Some, IfSome, IfNone, length, option_map};
 ghost use Rattle.itv_base.specs.Range.{IsEnd};
 ghost use Rattle.itv_base.specs.declared.names.RuleKind.TheVariants as RuleKind;
 ghost use Rattle.itv_base.specs.declared.names.Side.TheVariants as Side;
@@ -8,7 +8,7 @@ ghost use Rattle.event_graph.specs.Network.{IsNet, cause_at};
 ghost use Rattle.falling.specs.declared.line.Reason.TheVariants.{ByEdge, ByLatest};
 ghost use Rattle.falling.specs.Agenda.{AreOthersTried};
 ghost use Rattle.falling.specs.Derivation.{IsAllowed, IsSettled};
-ghost use Rattle.falling.specs.Turns.{HasOpenHigh, HoldsSide, IsConstraintTried, IsHighOf, IsKind, IsFirstOf, IsFirstOnSide, IsLatestValue, IsNearValue, IsSideTried, IsTried, IsTurnLine};
+ghost use Rattle.falling.specs.Turns.{HasOpenHigh, HoldsSide, IsConstraintTried, IsHighOf, IsKind, IsFirstOf, IsFirstOnSide, IsLatestValue, IsNearValue, IsSideTried, IsTried, IsTurnLine, MayLook};
 
 use crate::line::{FallLine, Reason};
 use crate::pending::Pending;
@@ -42,10 +42,7 @@ pub fn next_line(net: &Network, values: &[i64], pending: &mut Pending) -> Option
 
 // The first line of a constraint, in the order of the turn rule.
 fn constraint_line(net: &Network, number: u32, values: &[i64]) -> Option<FallLine>
-    requires net { IsNet net.now }
-    requires number { number < length net.now.constraints }
-    requires count { length values.now ≡ net.now.events }
-    requires near { All IsNearValue values.now }
+    requires look { MayLook net.now values.now number }
     ensures line { IfSome result (IsAllowed net.now values.now) }
     ensures first { IfSome result (IsFirstOf net.now values.now number) }
     ensures none { IfNone result (IsConstraintTried net.now values.now number) }
@@ -59,11 +56,8 @@ fn constraint_line(net: &Network, number: u32, values: &[i64]) -> Option<FallLin
 
 // The line of a linear constraint: the upper side comes first.
 fn linear_line(net: &Network, number: u32, values: &[i64]) -> Option<FallLine>
-    requires net { IsNet net.now }
-    requires number { number < length net.now.constraints }
+    requires look { MayLook net.now values.now number }
     requires kind { IsKind net.now number RuleKind.Lin }
-    requires count { length values.now ≡ net.now.events }
-    requires near { All IsNearValue values.now }
     ensures line { IfSome result (IsAllowed net.now values.now) }
     ensures first { IfSome result (IsFirstOf net.now values.now number) }
     ensures none { IfNone result (IsConstraintTried net.now values.now number) }
@@ -76,11 +70,8 @@ fn linear_line(net: &Network, number: u32, values: &[i64]) -> Option<FallLine>
 
 // The line of an earliest constraint: the lower side of a single cause comes first.
 fn early_line(net: &Network, number: u32, values: &[i64]) -> Option<FallLine>
-    requires net { IsNet net.now }
-    requires number { number < length net.now.constraints }
+    requires look { MayLook net.now values.now number }
     requires kind { IsKind net.now number RuleKind.Early }
-    requires count { length values.now ≡ net.now.events }
-    requires near { All IsNearValue values.now }
     ensures line { IfSome result (IsAllowed net.now values.now) }
     ensures first { IfSome result (IsFirstOf net.now values.now number) }
     ensures none { IfNone result (IsConstraintTried net.now values.now number) }
@@ -93,11 +84,8 @@ fn early_line(net: &Network, number: u32, values: &[i64]) -> Option<FallLine>
 
 // The line by the lower side of an earliest constraint, which is always met where there is a single cause.
 fn single_line(net: &Network, number: u32, values: &[i64]) -> Option<FallLine>
-    requires net { IsNet net.now }
-    requires number { number < length net.now.constraints }
+    requires look { MayLook net.now values.now number }
     requires kind { IsKind net.now number RuleKind.Early }
-    requires count { length values.now ≡ net.now.events }
-    requires near { All IsNearValue values.now }
     ensures line { IfSome result (IsAllowed net.now values.now) }
     ensures first { IfSome result (IsFirstOnSide net.now values.now number Side.Lower) }
     ensures none { IfNone result (IsSideTried net.now values.now number Side.Lower) }
@@ -111,11 +99,8 @@ fn single_line(net: &Network, number: u32, values: &[i64]) -> Option<FallLine>
 // The line of a latest constraint: the lower sides come first. The upper side of a single cause lowers nothing
 // that the latest line does not.
 fn late_line(net: &Network, number: u32, values: &[i64]) -> Option<FallLine>
-    requires net { IsNet net.now }
-    requires number { number < length net.now.constraints }
+    requires look { MayLook net.now values.now number }
     requires kind { IsKind net.now number RuleKind.Late }
-    requires count { length values.now ≡ net.now.events }
-    requires near { All IsNearValue values.now }
     ensures line { IfSome result (IsAllowed net.now values.now) }
     ensures first { IfSome result (IsFirstOf net.now values.now number) }
     ensures none { IfNone result (IsConstraintTried net.now values.now number) }
@@ -128,10 +113,7 @@ fn late_line(net: &Network, number: u32, values: &[i64]) -> Option<FallLine>
 
 // The first line by an edge of a constraint on a side.
 fn side_line(net: &Network, number: u32, side: Side, values: &[i64]) -> Option<FallLine>
-    requires net { IsNet net.now }
-    requires number { number < length net.now.constraints }
-    requires count { length values.now ≡ net.now.events }
-    requires near { All IsNearValue values.now }
+    requires look { MayLook net.now values.now number }
     requires always { HoldsSide net.now number side }
     ensures line { IfSome result (IsAllowed net.now values.now) }
     ensures first { IfSome result (IsFirstOnSide net.now values.now number side) }
@@ -175,11 +157,8 @@ fn edge_line(net: &Network, name: EdgeName, values: &[i64]) -> Option<FallLine>
 
 // The line by a latest constraint, if no high end is open and it lowers the target.
 fn latest_line(net: &Network, number: u32, values: &[i64]) -> Option<FallLine>
-    requires net { IsNet net.now }
-    requires number { number < length net.now.constraints }
+    requires look { MayLook net.now values.now number }
     requires kind { IsKind net.now number RuleKind.Late }
-    requires count { length values.now ≡ net.now.events }
-    requires near { All IsNearValue values.now }
     ensures line { IfSome result (IsAllowed net.now values.now) }
     ensures reason { IfSome result (λ line. line.reason ≡ ByLatest number) }
     ensures none { IfNone result (IsTried net.now values.now (ByLatest number)) }
@@ -199,11 +178,8 @@ fn latest_line(net: &Network, number: u32, values: &[i64]) -> Option<FallLine>
 
 // The greatest value, in picoseconds, that the causes of a latest constraint give, if no high end is open.
 pub fn latest_value(net: &Network, number: u32, values: &[i64]) -> Option<Due>
-    requires net { IsNet net.now }
-    requires number { number < length net.now.constraints }
+    requires look { MayLook net.now values.now number }
     requires kind { IsKind net.now number RuleKind.Late }
-    requires count { length values.now ≡ net.now.events }
-    requires near { All IsNearValue values.now }
     ensures value { IfSome result (λ d. IsLatestValue net.now values.now number d.value) }
     ensures none { IfNone result (HasOpenHigh net.now number) }
 {

@@ -19,7 +19,7 @@ use Rattle.reading.specs.Opening.{Opening, gives, refuses, ◌>>=◌, file_at}
 use Rattle.words.specs.Task.{Task, bounds, fall, matrix, check, generated}
 use Rattle.bounds_report.specs.Reports.{BeginsReport}
 use Rattle.fall_report.specs.Fall.{AnswersFall, BeginsFall}
-use Rattle.fall_report.specs.Kinds.{first_choice}
+use Rattle.falling.specs.Kinds.{first_choice}
 use Rattle.matrix_report.specs.Matrix.{AnswersMatrix, BeginsMatrix}
 use Rattle.report_check.specs.Check.{AnswersCheck, BeginsCheck}
 use Rattle.summary_report.specs.Summary.{AnswersSummary, BeginsSummary}

@@ -14,7 +14,7 @@ ghost use Rattle.itv_cli.specs.Step.{IsAllowed, OpensFor, OpensMade};
 use crate::ready::Ready;
 use design_gen::{GenFault, make};
 use event_graph::Network;
-use fall_report::first_choice;
+use falling::first_choice;
 use itv_base::{MAX_MATRIX_EVENTS, REPORT_LIMIT, RuleKind, Shelf};
 use reading::{Place, Refusal, Stop, fetch_file, open_design};
 use std::alloc::Global;

@@ -13,7 +13,7 @@ take_moved-requires-clause-near g c =
     let (in_source, in_target) = in_pair c.args.which (row_told c.args.row.now) c.args.net.now.events c.requires.row.0 c.requires.row.1 in
     subst (λ (times : List ℤ). All IsNear times) (sym c.times.ensures.times)
     (near_times c.args.net.now solver.limits solver.negation _ _ turns lines solver.times solver.ray c.args.fallen c.requires.set.is_net c.requires.set.made.limits c.requires.set.made.negation
-    in_source in_target a (rw c.in-Closed.is tt))
+    in_source in_target a.1 (rw c.in-Closed.is tt))
 
 pub shown_by-number-requires : goal.shown_by-number-requires
 shown_by-number-requires g c =
@@ -22,7 +22,7 @@ shown_by-number-requires g c =
     let (in_source, in_target) = in_pair c.args.which (row_told c.args.row.now) c.args.net.now.events c.requires.row.0 c.requires.row.1 in record {
       near = near_stored c.in-Closed.value
           (near_value c.args.net.now solver.limits solver.negation _ _ turns lines solver.times solver.ray c.in-Closed.value c.requires.set.is_net c.requires.set.made.limits c.requires.set.made.negation
-          in_source in_target (subst (λ (fallen : Fallen). AnswersRow c.args.net.now c.args.which (row_told c.args.row.now) turns lines solver fallen) c.in-Closed.is a));
+          in_source in_target (subst (λ (fallen : Fallen). AnswersRow c.args.net.now c.args.which (row_told c.args.row.now) turns lines solver fallen) c.in-Closed.is a).1);
     }
 
 pub take_moved-requires-in-Unbounded-clause-near : goal.take_moved-requires-in-Unbounded-clause-near
@@ -32,4 +32,4 @@ take_moved-requires-in-Unbounded-clause-near g c =
     let (in_source, in_target) = in_pair c.args.which (row_told c.args.row.now) c.args.net.now.events c.requires.row.0 c.requires.row.1 in
     subst (λ (times : List ℤ). All IsNear times) (sym c.times-in-Unbounded.ensures.times)
     (near_times c.args.net.now solver.limits solver.negation _ _ turns lines solver.times solver.ray c.args.fallen c.requires.set.is_net c.requires.set.made.limits c.requires.set.made.negation
-    in_source in_target a (rw c.in-Unbounded.is tt))
+    in_source in_target a.1 (rw c.in-Unbounded.is tt))

@@ -21,9 +21,9 @@ returns-in_err-put_bound-clause-goes g c = λ job told of same.
     let (some, satisfied) = c.requires.consistent in
     let value = told_bound c.args.which c.args.row.now.from solver.times solver.ray c.in_ok-fallen.fallen in
     let shows = shows_row c.args.net.now c.args.which (row_told c.args.row.now) c.requires.set.is_net c.requires.row.0 c.requires.row.1 solver.negation c.args.wanted.turns lines solver.times solver.ray
-    c.in_ok-fallen.fallen job.view of.view c.in_ok-fallen.ensures.made.negation some satisfied a in
+    c.in_ok-fallen.fallen job.view of.view c.in_ok-fallen.ensures.made.negation some satisfied a.1 in
     goes_up (behind_bound told c.args.which) c.from_residual-in_err-put_bound.result c.from_residual-in_err-put_bound.ensures.0
-    (stopped_shown _ (printed c.args.wanted.cert lines) (bound_text c.args.which value) (bound_may of told c.args.which (row_told c.args.row.now) lines value same shows) grew c.in_err-put_bound.ensures.puts)
+    (stopped_shown _ (printed c.args.wanted.cert lines) (bound_text c.args.which value) (bound_may of told c.args.which (row_told c.args.row.now) lines value same a.0 shows) grew c.in_err-put_bound.ensures.puts)
 
 pub returns-clause-goes : goal.returns-clause-goes
 returns-clause-goes g c = λ job told of same.
@@ -32,8 +32,8 @@ returns-clause-goes g c = λ job told of same.
     let (some, satisfied) = c.requires.consistent in
     let value = told_bound c.args.which c.args.row.now.from solver.times solver.ray c.in_ok-fallen.fallen in
     let shows = shows_row c.args.net.now c.args.which (row_told c.args.row.now) c.requires.set.is_net c.requires.row.0 c.requires.row.1 solver.negation c.args.wanted.turns lines solver.times solver.ray
-    c.in_ok-fallen.fallen job.view of.view c.in_ok-fallen.ensures.made.negation some satisfied a in
+    c.in_ok-fallen.fallen job.view of.view c.in_ok-fallen.ensures.made.negation some satisfied a.1 in
     let spent = spent_told c.args.which c.args.row.now.from solver.times solver.ray c.in_ok-fallen.fallen
-    (not_inconsistent c.args.net.now solver.negation _ _ c.args.wanted.turns lines solver.times solver.ray c.in_ok-fallen.fallen some satisfied a) in
+    (not_inconsistent c.args.net.now solver.negation _ _ c.args.wanted.turns lines solver.times solver.ray c.in_ok-fallen.fallen some satisfied a.1) in
     told_at (ap (λ (is : Bool). behind_bound told c.args.which is) (spent ∙ sym c.was_spent.ensures))
-    (told_shown _ (printed c.args.wanted.cert lines) (bound_text c.args.which value) (bound_may of told c.args.which (row_told c.args.row.now) lines value same shows) grew c.in_ok-put_bound.ensures.puts)
+    (told_shown _ (printed c.args.wanted.cert lines) (bound_text c.args.which value) (bound_may of told c.args.which (row_told c.args.row.now) lines value same a.0 shows) grew c.in_ok-put_bound.ensures.puts)

@@ -17,5 +17,5 @@ returns-clause-shows g c =
       lines,
       grew,
       subst (λ found. ShowsFinding c.args.net.now c.args.wanted.turns lines (told_finding found c.greatest_of.new.solver.times)) (sym c.found_by.ensures.found)
-          (shows_finding c.args.net.now c.args.solver.now.negation c.args.wanted.turns lines c.greatest_of.new.solver.times c.greatest_of.new.solver.ray c.in_ok-fallen.fallen (omega (arith, c.events.ensures.count, c.if-events-eq0.false)) c.requires.made.negation a),
+          (shows_finding c.args.net.now c.args.solver.now.negation c.args.wanted.turns lines c.greatest_of.new.solver.times c.greatest_of.new.solver.ray c.in_ok-fallen.fallen (omega (arith, c.events.ensures.count, c.if-events-eq0.false)) c.requires.made.negation a.0 a.1),
     )

@@ -25,9 +25,11 @@ lower-requires g c =
 
 pub returns-in-Err-clause-cut : goal.returns-in-Err-clause-cut
 returns-in-Err-clause-cut g c =
-    let inv = c.turns.invariant.lines in (
+    let inv = c.turns.invariant.lines in
+    let left : c.turns.taken < c.args.turns = omega (arith, c.turns.invariant.left) in (
       inv.0 ++ c.in-Some.line ∷ [],
       g.met.N.Notes.cut_after _ _ _ _ _ inv.1 c.in-Err.ensures.cut,
+      omega (arith, length-more inv.0 c.in-Some.line, inv.2.taken_lines, left),
       fallen c.turns.values c.in-Some.line,
       leads_more c.args.net.now c.args.from (starting_values c.args.net.now c.args.from) inv.0 c.turns.values c.in-Some.line inv.2.derivation inv.2.not_ended c.in-Some.ensures.line,
     )

@@ -19,5 +19,5 @@ loop-cause-preserved c =
 
 pub returns-clause-value : goal.returns-clause-value
 returns-clause-value c =
-    latest_value_of c.args.net.now c.args.values.now c.args.number c.cause_count-count.result c.loop-cause.cause c.loop-cause.due.value c.requires.net c.requires.kind
+    latest_value_of c.args.net.now c.args.values.now c.args.number c.cause_count-count.result c.loop-cause.cause c.loop-cause.due.value c.requires.look.is_net c.requires.kind
     c.cause_count-count.ensures.count (omega arith) c.loop-cause.invariant
