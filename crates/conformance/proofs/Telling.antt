@@ -1,5 +1,5 @@
 -- What the ends of runs say over files that are told.
-use Rattle.std.proofs.Common.{◌≡◌, ◌<◌, ◌∙◌, ◌⊎◌, inl, inr, ℕ, Bool, true, false, List, [], ◌++◌, take, Option, Some, None, IfSome, refl, sym, ap, subst}
+use Rattle.std.proofs.Common.{◌≡◌, ◌<◌, ◌∙◌, ◌⊎◌, inl, inr, ℕ, Bool, List, [], ◌++◌, take, Option, Some, None, IfSome, refl, sym, ap, subst}
 use Rattle.std.proofs.lemmas.Option.{same_Some}
 use Rattle.std.specs.Option.{option_map_or}
 use Rattle.event_graph.specs.Bounds.{IsInconsistent}
@@ -22,13 +22,13 @@ use Rattle.reading.specs.declared.place.Place.{Place}
 use Rattle.reading.specs.declared.place.Place.TheVariants.{Design}
 use Rattle.reading.specs.declared.refusal.Refusal.{Refusal}
 use Rattle.reading.specs.Design.{design_at}
-use Rattle.reading.specs.Opening.{Opening, gives, refuses, fetches, ◌>>=◌, End, ready, refused, unread, told_end}
+use Rattle.reading.specs.Opening.{Opening, gives, refuses, fetches, ◌>>=◌, End, Ends, ready, refused, unread, told_end}
 use Rattle.reading.specs.Refusal.{refusal_text}
 use Rattle.reading.proofs.Opens.{told_ready, told_refused}
 use Rattle.itv_cli.specs.Task.{Task, bounds, fall, taken, task}
 use Rattle.bounds_report.specs.Written.{written}
 use Rattle.itv_cli.specs.Bounds.{AnswersBounds}
-use Rattle.itv_cli.specs.Job.{Answers, fall_at, is_made, mixed_in, opening}
+use Rattle.itv_cli.specs.Job.{Answers, fall_at, made_for, mixed_in, opening}
 use Rattle.itv_cli.specs.Run.{Call, CameTo, Completes, EndsBy, EndsOver, FilesDecide, HasAnswered, IsRefused, Means, call_of}
 use Rattle.itv_cli.specs.declared.outcome.Outcome.{Outcome}
 use Rattle.itv_cli.specs.declared.outcome.Outcome.TheVariants as ends
@@ -55,20 +55,16 @@ same_ready x y e = cc
 told_then : {A B : Type 0} (files : Files) (o : Opening A) (f : A → B) (y : B) → told_end files (o >>= (λ x. gives (f x))) ≡ ready y → (x : A) × (told_end files o ≡ ready x) × (f x ≡ y)
 told_then files o f y e = let (x, comes, is) = told_behind files o (λ x. gives (f x)) y e in (x, comes, same_ready (f x) y is)
 
--- over told files the end of a run's reading is theirs
-over_shelf : (made : Bool) (old new : ShelfTold) (asked : Task) (end : End Ready) → made ≡ false → EndsOver made old new asked end → EndsOver false old new asked end
-over_shelf made old new asked end e h = rw e at h
-
 task_is : (a b : Task) → task a ≡ task b → a ≡ b
 task_is a b e = cc
 
 same_asked : (given : List (List ℕ)) (asked other : Task) → taken given ≡ task asked → taken given ≡ task other → other ≡ asked
 same_asked given asked other is also = task_is other asked (sym also ∙ is)
 
-came_over : (call : Call) (asked : Task) (end : End Ready) → Asks call.words asked → CameTo call end → EndsOver false call.shelf_before call.shelf_after asked end
+-- over told files the end of a run's reading is theirs
+came_over : (call : Call) (asked : Task) (end : End Ready) → Asks call.words asked → CameTo call end → Ends call.shelf_before call.shelf_after (opening asked) end
 came_over call asked end asks came =
-    over_shelf (is_made asked) call.shelf_before call.shelf_after asked end asks.own
-    (subst (λ t. EndsOver (is_made t) call.shelf_before call.shelf_after t end) (same_asked call.words asked came.asked asks.words came.words) came.ends)
+    rw asks.own at (subst (λ t. EndsOver (made_for t) call.shelf_before call.shelf_after t end) (same_asked call.words asked came.asked asks.words came.words) came.ends)
 
 pub ready_over : (call : Call) (files : Files) (asked : Task) (given : Ready) → call.shelf_before.files ≡ Some files → Asks call.words asked → CameTo call (ready given) → told_end files (opening asked) ≡ ready given
 ready_over call files asked given told asks came = told_ready call.shelf_before files (opening asked) given told (came_over call asked (ready given) asks came).0
@@ -201,16 +197,15 @@ twice words shelf mid last one one' two two' files asked once again told means m
 -- which end comes over told files
 pub decided : (call : Call) (files : Files) (result : Outcome) (asked : Task) → call.shelf_before.files ≡ Some files → Completes call result → Asks call.words asked → ¬ (Rose call.shelf_before.faults call.shelf_after.faults)
     → ¬ (Rose call.sink_before.faults call.sink_after.faults) → (result ≡ ends.NoMemory) ⊎ EndsBy (told_end files (opening asked)) result
-decided call files result asked told completes asks quiet silent = by_files (is_made asked) asks.own (completes asked asks.words (record { shelf = quiet; sink = silent }))
+decided call files result asked told completes asks quiet silent = by_files (rw asks.own at (completes asked asks.words (record { shelf = quiet; sink = silent })))
   where
     some_files : (o : Option Files) → o ≡ Some files → IfSome o (λ fs. EndsBy (told_end fs (opening asked)) result) → EndsBy (told_end files (opening asked)) result
     some_files None e h = absurd (cc e)
     some_files (Some fs) e h = subst (λ all. EndsBy (told_end all (opening asked)) result) (same_Some fs files e) h
 
-    by_files : (made : Bool) → made ≡ false → (result ≡ ends.NoMemory) ⊎ FilesDecide made call.shelf_before.files asked result → (result ≡ ends.NoMemory) ⊎ EndsBy (told_end files (opening asked)) result
-    by_files true own h = absurd (cc own)
-    by_files false own (inl none) = inl none
-    by_files false own (inr by) = inr (some_files call.shelf_before.files told by)
+    by_files : (result ≡ ends.NoMemory) ⊎ FilesDecide None call.shelf_before.files asked result → (result ≡ ends.NoMemory) ⊎ EndsBy (told_end files (opening asked)) result
+    by_files (inl none) = inl none
+    by_files (inr by) = inr (some_files call.shelf_before.files told by)
 
 -- a run of job fall that answered
 fall_answered : (call : Call) (files : Files) (answer : Answer) (design : List ℕ) (budget : ℕ) (cert : Bool) (drawn : Drawn) → call.shelf_before.files ≡ Some files → HasAnswered call answer

@@ -1,5 +1,5 @@
 -- What callers of `run` know of files and a sink in memory, from its clauses alone.
-use Rattle.std.specs.Prelude.{◌≡◌, ℕ, false, List}
+use Rattle.std.specs.Prelude.{◌≡◌, ℕ, List, None}
 use Rattle.itv_base.specs.Outside.{Files}
 use Rattle.job_answer.specs.declared.answer.Answer.{Answer}
 use Rattle.slack_report.specs.Entry.{Entry}
@@ -13,7 +13,7 @@ use Rattle.reading.specs.Design.{design_at}
 use Rattle.reading.specs.Opening.{ready, refused, told_end}
 use Rattle.reading.specs.Refusal.{refusal_text}
 use Rattle.itv_cli.specs.Task.{Task, taken, task}
-use Rattle.itv_cli.specs.Job.{Answers, is_made, opening}
+use Rattle.itv_cli.specs.Job.{Answers, made_for, opening}
 use Rattle.itv_cli.specs.declared.ready.Ready.{Ready}
 
 -- what the design of a file draws, over some files
@@ -31,7 +31,7 @@ pub record IsRightReportOf (files : Files) (design bytes : List ℕ) : Type 0 wh
 -- the words ask for a task that reads these files
 pub record Asks (given : List (List ℕ)) (asked : Task) : Type 0 where
   pub words : taken given ≡ task asked
-  pub own : is_made asked ≡ false
+  pub own : made_for asked ≡ None
 
 -- the files of a task are all had, and the bytes are what its job writes with an answer
 pub record IsAnswerOf (files : Files) (asked : Task) (answer : Answer) (bytes : List ℕ) : Type 0 where

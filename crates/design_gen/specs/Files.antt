@@ -11,19 +11,23 @@ use Rattle.design_gen.specs.Trees.{bus, master, merge, slave}
 use Rattle.design_gen.specs.declared.fault.GenFault.{GenFault}
 use Rattle.design_gen.specs.declared.fault.GenFault.TheVariants.{NoMemory, OutOfRange}
 
+-- trees of files, by the names of the files
+abbrev pub NamedTrees : Type 0
+NamedTrees = List (List ℕ × Data)
+
 -- the bytes are a text that reads as the tree
 pub record Spells (tree : Data) (bytes : List ℕ) : Type 0 where
   pub utf8 : IsUtf8 bytes
   pub reads : read bytes ≡ Some tree
 
 -- the files are these, and no others: each has a name, and bytes that read as its tree
-abbrev pub AreFiles : Files → List (List ℕ × Data) → Type 0
+abbrev pub AreFiles : Files → NamedTrees → Type 0
 AreFiles files [] = files ≡ map.empty
 AreFiles files (file ∷ more) =
     (before : Files) × (bytes : List ℕ) × Spells file.1 bytes × (files ≡ map.insert before file.0 bytes) × AreFiles before more
 
 -- the files of the design of a size, the last one first
-abbrev pub design_files : ℕ → List (List ℕ × Data)
+abbrev pub design_files : ℕ → NamedTrees
 design_files n = (codes "merge.json", merge) ∷ (codes "slave.json", slave) ∷ (codes "master.json", master) ∷ (codes "bus.json", bus n) ∷ []
 
 -- a new shelf with the files of the design, no call of which is to fail

@@ -1,7 +1,8 @@
 -- How a run ends, and what its end says.
-use Rattle.std.proofs.Common.{◌≡◌, ◌<◌, ◌∙◌, inl, inr, Bool, true, false, List, ℕ, Option, Some, None, IfSome, IsNone, Result, Ok, Err, refl, sym, ap, subst, arith}
+use Rattle.std.proofs.Common.{◌≡◌, ◌<◌, ◌∙◌, inl, inr, List, ℕ, Option, Some, None, IfSome, IsNone, Result, Ok, Err, refl, sym, ap, subst, arith}
 use Rattle.std.specs.Bool.{⊤}
 use Rattle.itv_base.specs.Outside.{Files, ShelfTold, SinkTold, Puts, IsMissing, Rose, file_of}
+use Rattle.design_gen.specs.Files.{NamedTrees}
 use Rattle.job_answer.specs.Works.{Works}
 use Rattle.job_answer.specs.declared.answer.Answer.{Answer}
 use Rattle.job_answer.specs.declared.answer.Answer.TheVariants as answers
@@ -18,7 +19,7 @@ use Rattle.words.specs.Task.{Task, taken, task, help, bad_words}
 use Rattle.itv_cli.specs.declared.outcome.Outcome.{Outcome}
 use Rattle.itv_cli.specs.declared.outcome.Outcome.TheVariants.{AllPass, Help, SomeFail, Inconsistent, Undecided, Refused, ReadFault, WriteFault, NoMemory, BadWords, CheckRefused}
 use Rattle.itv_cli.specs.declared.ready.Ready.{Ready}
-use Rattle.itv_cli.specs.Job.{Answers, Begins, is_made, opening}
+use Rattle.itv_cli.specs.Job.{Answers, Begins, made_for, opening}
 use Rattle.itv_cli.specs.Run.{Call, CameTo, EndsOver, EndsBy, FilesDecide, HasAnswered, IsKept, Means, Wanted, Wrote, Completes, RefusesWords, ShowsFaults, outcome_of}
 use Rattle.itv_cli.specs.Run.Wanted.{at_end}
 use Rattle.itv_cli.specs.Step.{OpensFor, Stops, Tells, answered, end_after}
@@ -45,16 +46,16 @@ means_answer call answers.Undecided h = h
 means_answer call answers.CheckRefused h = h
 
 -- what a reading that gave something leaves of the shelf
-kept_by : (made : Bool) (old new : ShelfTold) (asked : Task) (given : Ready) → EndsOver made old new asked (ready given) → new ≡ old
-kept_by false old new asked given h = h.1
-kept_by true old new asked given h = h.1
+kept_by : (made : Option NamedTrees) (old new : ShelfTold) (asked : Task) (given : Ready) → EndsOver made old new asked (ready given) → new ≡ old
+kept_by None old new asked given h = h.1
+kept_by (Some trees) old new asked given h = h.1
 
-kept_refused : (made : Bool) (old new : ShelfTold) (asked : Task) (place : Place) (why : Refusal) → EndsOver made old new asked (refused place why) → new ≡ old
-kept_refused false old new asked place why h = h.1
-kept_refused true old new asked place why h = h.1
+kept_refused : (made : Option NamedTrees) (old new : ShelfTold) (asked : Task) (place : Place) (why : Refusal) → EndsOver made old new asked (refused place why) → new ≡ old
+kept_refused None old new asked place why h = h.1
+kept_refused (Some trees) old new asked place why h = h.1
 
 kept_ready : (call : Call) (given : Ready) → CameTo call (ready given) → IsKept call
-kept_ready call given c = kept_by (is_made c.asked) call.shelf_before call.shelf_after c.asked given c.ends
+kept_ready call given c = kept_by (made_for c.asked) call.shelf_before call.shelf_after c.asked given c.ends
 
 -- all was read, and the job has done its work
 pub worked : (call : Call) (given : Ready) (r : Result Answer Unanswered) → CameTo call (ready given) → Works (Answers given) (Begins given) call.sink_before call.sink_after r → Means call (answered r)
@@ -86,35 +87,35 @@ when_some None P h = tt
 when_some (Some x) P h = h x refl
 
 -- the files of a reading that gave something decide
-decide_ready : (made : Bool) (old new : ShelfTold) (asked : Task) (given : Ready) (outcome : Outcome) → EndsOver made old new asked (ready given) → EndsBy (ready given) outcome
+decide_ready : (made : Option NamedTrees) (old new : ShelfTold) (asked : Task) (given : Ready) (outcome : Outcome) → EndsOver made old new asked (ready given) → EndsBy (ready given) outcome
     → FilesDecide made old.files asked outcome
-decide_ready false old new asked given outcome h by =
+decide_ready None old new asked given outcome h by =
     when_some old.files (λ files. EndsBy (told_end files (opening asked)) outcome) (λ files e. subst (λ end. EndsBy end outcome) (sym (told_ready old files (opening asked) given e h.0)) by)
-decide_ready true old new asked given outcome h by =
+decide_ready (Some trees) old new asked given outcome h by =
     (h.0.files, h.0.made, subst (λ end. EndsBy end outcome) (sym (told_ready h.0.before h.0.files (opening asked) given h.0.told h.0.ends.0)) by)
 
-decide_refused : (made : Bool) (old new : ShelfTold) (asked : Task) (place : Place) (why : Refusal) → EndsOver made old new asked (refused place why) → FilesDecide made old.files asked Refused
-decide_refused false old new asked place why h =
+decide_refused : (made : Option NamedTrees) (old new : ShelfTold) (asked : Task) (place : Place) (why : Refusal) → EndsOver made old new asked (refused place why) → FilesDecide made old.files asked Refused
+decide_refused None old new asked place why h =
     when_some old.files (λ files. EndsBy (told_end files (opening asked)) Refused) (λ files e. subst (λ end. EndsBy end Refused) (sym (told_refused old files (opening asked) place why e h.0)) refl)
-decide_refused true old new asked place why h =
+decide_refused (Some trees) old new asked place why h =
     (h.0.files, h.0.made, subst (λ end. EndsBy end Refused) (sym (told_refused h.0.before h.0.files (opening asked) place why h.0.told h.0.ends.0)) refl)
 
 missing_in : (told : Option Files) (files : Files) (name : List ℕ) → told ≡ Some files → IsMissing told name → IsNone (file_of files name)
 missing_in told files name e h = rw e at h
 
-decide_unread : (made : Bool) (old new : ShelfTold) (asked : Task) (place : Place) (name : List ℕ) → ¬ (Rose old.faults new.faults) → EndsOver made old new asked (unread place name)
+decide_unread : (made : Option NamedTrees) (old new : ShelfTold) (asked : Task) (place : Place) (name : List ℕ) → ¬ (Rose old.faults new.faults) → EndsOver made old new asked (unread place name)
     → FilesDecide made old.files asked ReadFault
-decide_unread false old new asked place name quiet h = absurd (quiet h.1.rose)
-decide_unread true old new asked place name quiet h =
+decide_unread None old new asked place name quiet h = absurd (quiet h.1.rose)
+decide_unread (Some trees) old new asked place name quiet h =
     (h.0.files, h.0.made, subst (λ end. EndsBy end ReadFault) (sym (told_unread h.0.before h.0.files (opening asked) place name h.0.told (missing_in h.0.before.files h.0.files name h.0.told (h.0.ends.1.missing h.0.faithful)) h.0.ends.0)) refl)
 
 abbrev Decides : Call → Task → Outcome → Type 0
-Decides call asked outcome = FilesDecide (is_made asked) call.shelf_before.files asked outcome
+Decides call asked outcome = FilesDecide (made_for asked) call.shelf_before.files asked outcome
 
 by_answer : (call : Call) (asked : Task) (answer : Answer) → taken call.words ≡ task asked → HasAnswered call answer → Decides call asked (outcome_of answer)
 by_answer call asked answer is h =
     subst (λ t. Decides call t (outcome_of answer)) (same_task call asked h.came.asked is h.came.words)
-    (decide_ready (is_made h.came.asked) call.shelf_before call.shelf_after h.came.asked h.given (outcome_of answer) h.came.ends (answer, h.text, h.answers, refl))
+    (decide_ready (made_for h.came.asked) call.shelf_before call.shelf_after h.came.asked h.given (outcome_of answer) h.came.ends (answer, h.text, h.answers, refl))
 
 pub completes : (call : Call) (result : Outcome) → Means call result → Completes call result
 completes call AllPass m asked is quiet = inr (by_answer call asked answers.AllPass is m)
@@ -124,10 +125,10 @@ completes call Inconsistent m asked is quiet = inr (by_answer call asked answers
 completes call Undecided m asked is quiet = inr (by_answer call asked answers.Undecided is m)
 completes call Refused m asked is quiet =
     inr (subst (λ t. Decides call t Refused) (same_task call asked m.came.asked is m.came.words)
-    (decide_refused (is_made m.came.asked) call.shelf_before call.shelf_after m.came.asked m.place m.why m.came.ends))
+    (decide_refused (made_for m.came.asked) call.shelf_before call.shelf_after m.came.asked m.place m.why m.came.ends))
 completes call ReadFault m asked is quiet =
     inr (subst (λ t. Decides call t ReadFault) (same_task call asked m.came.asked is m.came.words)
-    (decide_unread (is_made m.came.asked) call.shelf_before call.shelf_after m.came.asked m.place m.name quiet.shelf m.came.ends))
+    (decide_unread (made_for m.came.asked) call.shelf_before call.shelf_after m.came.asked m.place m.name quiet.shelf m.came.ends))
 completes call WriteFault m asked is quiet = absurd (quiet.sink m.cut.rose)
 completes call NoMemory m asked is quiet = inl refl
 completes call BadWords m asked is quiet = absurd (cc (m.words, is))
@@ -179,7 +180,7 @@ shows_faults call SomeFail m = shows_answer call answers.SomeFail SomeFail m
 shows_faults call Inconsistent m = shows_answer call answers.Inconsistent Inconsistent m
 shows_faults call Undecided m = shows_answer call answers.Undecided Undecided m
 shows_faults call Refused m =
-    shows_none call (refusal_text m.place m.why) Refused m.wrote (kept_refused (is_made m.came.asked) call.shelf_before call.shelf_after m.came.asked m.place m.why m.came.ends)
+    shows_none call (refusal_text m.place m.why) Refused m.wrote (kept_refused (made_for m.came.asked) call.shelf_before call.shelf_after m.came.asked m.place m.why m.came.ends)
 shows_faults call ReadFault m = (λ h. absurd (quiet_sink call (unread_text m.place) m.wrote h), λ h. inl refl)
 shows_faults call WriteFault m = (λ h. refl, λ h. inr refl)
 shows_faults call NoMemory m = (λ h. absurd (still _ _ (ap (λ (t : SinkTold). t.faults) m.sink) h), λ h. absurd (quiet_shelf call m.shelf h))

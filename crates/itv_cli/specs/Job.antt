@@ -1,10 +1,9 @@
 -- The jobs: what each reads, what it answers, and what it may have begun to write.
-use Rattle.std.specs.Prelude.{ℕ, nat_lt, if◌then◌else◌, Bool, true, false, List, Option, option_and_then, option_map, codes}
+use Rattle.std.specs.Prelude.{ℕ, nat_lt, if◌then◌else◌, Bool, List, Option, Some, None, option_and_then, option_map, codes}
 use Rattle.std.specs.Option.{option_map_or}
 use Rattle.itv_base.specs.declared.limits.TheConstants.{MAX_MATRIX_EVENTS, REPORT_LIMIT}
-use Rattle.itv_base.specs.Outside.{Files}
 use Rattle.itv_base.specs.declared.names.RuleKind.TheVariants.{Late, Early}
-use Rattle.design_gen.specs.Files.{AreFiles, design_files}
+use Rattle.design_gen.specs.Files.{NamedTrees, design_files}
 use Rattle.event_graph.specs.Network.{Net}
 use Rattle.job_answer.specs.declared.answer.Answer.{Answer}
 use Rattle.unroll.specs.Drawn.{Drawn}
@@ -59,21 +58,10 @@ opening (generated size budget) = do
   drawn ← design_at (codes "bus.json")
   gives (ready.Generated drawn size budget)
 
--- whether the files of a task are made for it, and not those of the shelf
-abbrev pub is_made : Task → Bool
-is_made (bounds design budget cert) = false
-is_made (fall design budget cert) = false
-is_made (matrix design) = false
-is_made (check design report) = false
-is_made (generated size budget) = true
-
--- these files are made for a task
-abbrev pub AreMade : Task → Files → Type 0
-AreMade (bounds design budget cert) files = ⊥
-AreMade (fall design budget cert) files = ⊥
-AreMade (matrix design) files = ⊥
-AreMade (check design report) files = ⊥
-AreMade (generated size budget) files = AreFiles files (design_files size)
+-- the files that are made for a task, where it reads none of the shelf
+abbrev pub made_for : Task → Option NamedTrees
+made_for (generated size budget) = Some (design_files size)
+made_for asked = None
 
 -- ---- what each answers and writes
 

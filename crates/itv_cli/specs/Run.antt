@@ -1,7 +1,8 @@
 -- What the end of a run says: where it comes from, and what was written. The claim is `Means`; what stands above it are its words, and what
 -- stands below follows from it. Nothing here speaks of a job: what each reads and answers stands in `Job`.
-use Rattle.std.specs.Prelude.{◌≡◌, ◌<◌, ◌⊎◌, ℕ, Bool, false, true, List, [], Option, Some, None, IfSome, codes}
+use Rattle.std.specs.Prelude.{◌≡◌, ◌<◌, ◌⊎◌, ℕ, false, true, List, [], Option, Some, None, IfSome, codes}
 use Rattle.itv_base.specs.Outside.{Files, ShelfTold, SinkTold, Rose, grown, CutShort}
+use Rattle.design_gen.specs.Files.{AreFiles, NamedTrees}
 use Rattle.job_answer.specs.declared.answer.Answer.{Answer}
 use Rattle.job_answer.specs.declared.answer.Answer.TheVariants as answers
 use Rattle.reading.specs.declared.place.Place.{Place}
@@ -12,7 +13,7 @@ use Rattle.words.specs.Task.{Task, taken, task, help, bad_words}
 use Rattle.itv_cli.specs.declared.outcome.Outcome.{Outcome}
 use Rattle.itv_cli.specs.declared.outcome.Outcome.TheVariants.{AllPass, Help, SomeFail, Inconsistent, Undecided, Refused, ReadFault, WriteFault, NoMemory, BadWords, CheckRefused}
 use Rattle.itv_cli.specs.declared.ready.Ready.{Ready}
-use Rattle.itv_cli.specs.Job.{Answers, AreMade, Begins, is_made, opening}
+use Rattle.itv_cli.specs.Job.{Answers, Begins, made_for, opening}
 
 -- a run: its words, and what the shelf and the sink tell before and after it
 pub record Call : Type 0 where
@@ -36,28 +37,28 @@ call_of words shelf shelf' sink sink' = record { words = words; shelf_before = s
 
 -- ---- what was read
 
--- The reading for a task came to an end over files that were made for it. They lie on a shelf of which a fetch fails only for a file that is not
--- there.
-pub record EndsMade (asked : Task) (end : End Ready) : Type 0 where
+-- The reading for a task came to an end over files that were made with these trees. They lie on a shelf of which a fetch fails only for a
+-- file that is not there.
+pub record EndsMade (trees : NamedTrees) (asked : Task) (end : End Ready) : Type 0 where
   pub before : ShelfTold
   pub after : ShelfTold
   pub files : Files
-  pub made : AreMade asked files
+  pub made : AreFiles files trees
   pub told : before.files ≡ Some files
   pub faithful : before.is_faithful ≡ true
   pub ends : Ends before after (opening asked) end
 
 -- The reading for a task came to an end: over the files of the shelf, or over files that were made for it, and then the shelf tells what it told
 -- before.
-abbrev pub EndsOver : Bool → ShelfTold → ShelfTold → Task → End Ready → Type 0
-EndsOver false old new asked end = Ends old new (opening asked) end
-EndsOver true old new asked end = EndsMade asked end × (new ≡ old)
+abbrev pub EndsOver : Option NamedTrees → ShelfTold → ShelfTold → Task → End Ready → Type 0
+EndsOver None old new asked end = Ends old new (opening asked) end
+EndsOver (Some trees) old new asked end = EndsMade trees asked end × (new ≡ old)
 
 -- the words ask for a task, and the reading for it came to an end
 pub record CameTo (call : Call) (end : End Ready) : Type 0 where
   pub asked : Task
   pub words : taken call.words ≡ task asked
-  pub ends : EndsOver (is_made asked) call.shelf_before call.shelf_after asked end
+  pub ends : EndsOver (made_for asked) call.shelf_before call.shelf_after asked end
 
 -- no fetch of the run failed, and what the shelf tells is as before
 abbrev pub IsKept : Call → Type 0
@@ -170,14 +171,14 @@ EndsBy (refused place why) outcome = outcome ≡ Refused
 EndsBy (unread place name) outcome = outcome ≡ ReadFault
 
 -- the end is the one for the files of the shelf, where they are told, or for files that were made for a task
-abbrev pub FilesDecide : Bool → Option Files → Task → Outcome → Type 0
-FilesDecide false told asked outcome = IfSome told (λ files. EndsBy (told_end files (opening asked)) outcome)
-FilesDecide true told asked outcome = (files : Files) × AreMade asked files × EndsBy (told_end files (opening asked)) outcome
+abbrev pub FilesDecide : Option NamedTrees → Option Files → Task → Outcome → Type 0
+FilesDecide None told asked outcome = IfSome told (λ files. EndsBy (told_end files (opening asked)) outcome)
+FilesDecide (Some trees) told asked outcome = (files : Files) × AreFiles files trees × EndsBy (told_end files (opening asked)) outcome
 
 -- where the words ask for a task and no fault rose, the end is the one for its files, or memory was not found
 abbrev pub Completes : Call → Outcome → Type 0
 Completes call outcome =
-    (asked : Task) → taken call.words ≡ task asked → HasNoFault call → (outcome ≡ NoMemory) ⊎ FilesDecide (is_made asked) call.shelf_before.files asked outcome
+    (asked : Task) → taken call.words ≡ task asked → HasNoFault call → (outcome ≡ NoMemory) ⊎ FilesDecide (made_for asked) call.shelf_before.files asked outcome
 
 -- where the words ask for no task and no put failed, the end is the one for them, or memory was not found
 abbrev pub RefusesWords : Call → Outcome → Type 0

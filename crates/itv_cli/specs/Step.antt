@@ -2,6 +2,7 @@
 use Rattle.std.specs.Prelude.{◌≡◌, ◌≤◌, ◌⊎◌, ℕ, ⊤, List, length, Result, Ok, Err}
 use Rattle.itv_base.specs.declared.limits.TheConstants.{MAX_MATRIX_EVENTS, MAX_ROWS}
 use Rattle.itv_base.specs.Outside.{ShelfTold, SinkTold, grown, CutShort}
+use Rattle.design_gen.specs.Files.{NamedTrees}
 use Rattle.falling.specs.Kinds.{IsNegatable, IsPlain}
 use Rattle.job_answer.specs.declared.answer.Answer.{Answer}
 use Rattle.job_answer.specs.declared.unanswered.Unanswered.{Unanswered}
@@ -16,7 +17,7 @@ use Rattle.itv_cli.specs.declared.outcome.Outcome.{Outcome}
 use Rattle.itv_cli.specs.declared.outcome.Outcome.TheVariants as ends
 use Rattle.itv_cli.specs.declared.ready.Ready.{Ready}
 use Rattle.itv_cli.specs.declared.ready.Ready.TheVariants as given
-use Rattle.itv_cli.specs.Job.{is_made}
+use Rattle.itv_cli.specs.Job.{made_for}
 use Rattle.itv_cli.specs.Run.{EndsMade, EndsOver, outcome_of}
 
 -- a budget within its limits, and no more rows than theirs
@@ -31,18 +32,18 @@ IsAllowed (given.Matrix drawn) = drawn.net.events ≤ MAX_MATRIX_EVENTS
 IsAllowed (given.Check drawn report) = Unit {0}
 IsAllowed (given.Generated drawn size budget) = IsBoundable drawn budget
 
--- what the reading for a task answers over files that are made for it; want of memory says nothing
-abbrev pub OpensMade : Task → Result Ready Stop → Type 0
-OpensMade asked (Ok x) = EndsMade asked (ready x)
-OpensMade asked (Err (Refused place why)) = EndsMade asked (refused place why)
-OpensMade asked (Err (ReadFault place)) = (name : List ℕ) × EndsMade asked (unread place name)
-OpensMade asked (Err NoMemory) = Unit {0}
+-- what the reading for a task answers over files that are made with these trees; want of memory says nothing
+abbrev pub OpensMade : NamedTrees → Task → Result Ready Stop → Type 0
+OpensMade trees asked (Ok x) = EndsMade trees asked (ready x)
+OpensMade trees asked (Err (Refused place why)) = EndsMade trees asked (refused place why)
+OpensMade trees asked (Err (ReadFault place)) = (name : List ℕ) × EndsMade trees asked (unread place name)
+OpensMade trees asked (Err NoMemory) = Unit {0}
 
 -- what the reading for a task answers, over the files of the shelf or over files that are made for it
 abbrev pub OpensFor : ShelfTold → ShelfTold → Task → Result Ready Stop → Type 0
-OpensFor old new asked (Ok x) = EndsOver (is_made asked) old new asked (ready x)
-OpensFor old new asked (Err (Refused place why)) = EndsOver (is_made asked) old new asked (refused place why)
-OpensFor old new asked (Err (ReadFault place)) = (name : List ℕ) × EndsOver (is_made asked) old new asked (unread place name)
+OpensFor old new asked (Ok x) = EndsOver (made_for asked) old new asked (ready x)
+OpensFor old new asked (Err (Refused place why)) = EndsOver (made_for asked) old new asked (refused place why)
+OpensFor old new asked (Err (ReadFault place)) = (name : List ℕ) × EndsOver (made_for asked) old new asked (unread place name)
 OpensFor old new asked (Err NoMemory) = new ≡ old
 
 -- the end after the last put

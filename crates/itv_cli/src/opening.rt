@@ -1,7 +1,7 @@
 //! What each job reads before it writes.
 
 ghost use Rattle.std.specs.Prelude.{◌≡◌, ◌≤◌, ◌⊎◌, IfNone, IfOk, codes, length};
-ghost use Rattle.design_gen.specs.Files.{IsSize};
+ghost use Rattle.design_gen.specs.Files.{IsSize, design_files};
 ghost use Rattle.falling.specs.Kinds.{IsNegatable, IsPlain};
 ghost use Rattle.itv_base.specs.declared.limits.TheConstants.{MAX_ROWS};
 ghost use Rattle.reading.specs.Step.{Opens, Reads};
@@ -161,7 +161,7 @@ fn open_check<H: Shelf>(
 fn open_generated(alloc: Global, size: u32, budget: u64) -> Result<Ready, Stop>
     requires size { IsSize size }
     requires budget { IsBudget budget }
-    ensures opens { OpensMade (said.generated size budget) result }
+    ensures opens { OpensMade (design_files size) (said.generated size budget) result }
     ensures allowed { IfOk result IsAllowed }
 {
     let mut made = match make(alloc, size) {

@@ -3,3 +3,4 @@ pub mod Trees
 pub mod Named
 pub mod Drawing
 pub mod WideNumbers
+pub mod Lines

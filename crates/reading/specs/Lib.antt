@@ -5,3 +5,4 @@ pub mod Refusal
 pub mod Opening
 pub mod Design
 pub mod Step
+pub mod Word

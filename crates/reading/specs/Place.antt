@@ -1,11 +1,11 @@
 -- The words for a place.
-use Rattle.std.specs.Prelude.{ℕ, List, [], ◌∷◌, codes}
-use Rattle.std.specs.List.{concat}
+use Rattle.std.specs.Prelude.{List, [], ◌∷◌, codes}
 use Rattle.itv_base.specs.Numerals.{number_text}
+use Rattle.line_words.specs.Words.{Word}
 use Rattle.reading.specs.declared.place.Place.{Place}
 use Rattle.reading.specs.declared.place.Place.TheVariants.{File, Design, Report}
 
-abbrev pub place_text : Place → List ℕ
-place_text (File number) = concat (codes "file " ∷ number_text number ∷ [])
-place_text Design = codes "design"
-place_text Report = codes "report"
+abbrev pub place_words : Place → List Word
+place_words (File number) = codes "file" ∷ number_text number ∷ []
+place_words Design = codes "design" ∷ []
+place_words Report = codes "report" ∷ []

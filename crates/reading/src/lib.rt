@@ -14,6 +14,6 @@ mod stop;
 pub use design::open_design;
 pub use file::fetch_file;
 pub use place::Place;
-pub use put::{put_place, put_refusal, put_unread};
+pub use put::{put_refusal, put_unread};
 pub use refusal::Refusal;
 pub use stop::Stop;

@@ -1,18 +1,22 @@
 //! The lines of refusals.
 
-ghost use Rattle.std.specs.Prelude.{◌≡◌, ◌∷◌, [], codes};
-ghost use Rattle.std.specs.List.{concat};
+ghost use Rattle.std.specs.Prelude.{◌≡◌, codes, map};
+ghost use Rattle.std.specs.List.{flat_map};
 ghost use Rattle.itv_base.specs.Numerals.{number_text};
 ghost use Rattle.itv_base.specs.Outside.{Puts};
-ghost use Rattle.reading.specs.Place.{place_text};
-ghost use Rattle.reading.specs.Refusal.{diagram_fault_parts, fault_parts, join_fault_parts, four_numbers, label_fault_name, limit_fault_parts, limit_name, netlist_fault_parts, number_word, one_number, range_fault_name, refusal_text, sheet_fault_parts, three_numbers, two_numbers, unread_text, why_text};
+ghost use Rattle.line_words.specs.Lines.{spaced};
+ghost use Rattle.reading.specs.Place.{place_words};
+ghost use Rattle.reading.specs.Refusal.{diagram_fault_words, fault_words, join_fault_words, label_fault_name, limit_fault_words, limit_name, netlist_fault_words, range_fault_name, refusal_text, sheet_fault_words, unread_text};
+ghost use Rattle.reading.specs.Word.{spelled};
 
+use self::Word::{Count, Number, Text};
 use crate::place::Place;
 use crate::refusal::Refusal;
 use compose::JoinFault;
 use itoa::Buffer;
-use itv_base::{PutFailed, RangeFault, Sink, number_text, put_all};
+use itv_base::{PutFailed, RangeFault, Sink, number_text};
 use label_grammar::LabelFault;
+use line_words::put_spaced;
 use netlist::NetlistFault;
 use sheet::SheetFault;
 use unroll::{Limit, UnrollFault};
@@ -22,16 +26,8 @@ use wavejson::DiagramFault;
 pub fn put_refusal<K: Sink>(place: Place, why: Refusal, sink: &mut K) -> Result<(), PutFailed>
     ensures puts { Puts (K.told sink.old) (K.told sink.new) (refusal_text place why) result }
 {
-    sink.put(b"refused ")?;
+    sink.put(b"refused")?;
     put_place(place, sink)?;
-    put_why(why, sink)
-}
-
-// The end of the line of a refusal.
-fn put_why<K: Sink>(why: Refusal, sink: &mut K) -> Result<(), PutFailed>
-    ensures { Puts (K.told sink.old) (K.told sink.new) (why_text why) result }
-{
-    sink.put(b" ")?;
     put_fault(why, sink)?;
     sink.put(b"\n")
 }
@@ -40,255 +36,40 @@ fn put_why<K: Sink>(why: Refusal, sink: &mut K) -> Result<(), PutFailed>
 pub fn put_unread<K: Sink>(place: Place, sink: &mut K) -> Result<(), PutFailed>
     ensures puts { Puts (K.told sink.old) (K.told sink.new) (unread_text place) result }
 {
-    sink.put(b"cannot read ")?;
+    sink.put(b"cannot read")?;
     put_place(place, sink)?;
     sink.put(b"\n")
 }
 
-/// Writes the words for a place.
-pub fn put_place<K: Sink>(place: Place, sink: &mut K) -> Result<(), PutFailed>
-    ensures puts { Puts (K.told sink.old) (K.told sink.new) (place_text place) result }
-{
-    match place {
-        Place::File(number) => put_file(number, sink),
-        Place::Design => sink.put(b"design"),
-        Place::Report => sink.put(b"report"),
-    }
+// ---- the words of a line behind its first
+
+// A word of a line.
+#[derive(Clone, Copy)]
+enum Word<'a> {
+    Text(&'a [u8]),
+    Number(u64),
+    Count(u128),
 }
 
-fn put_file<K: Sink>(number: u64, sink: &mut K) -> Result<(), PutFailed>
-    ensures { Puts (K.told sink.old) (K.told sink.new)
-        (concat (codes "file " ∷ number_text number ∷ [])) result }
+// Writes each of some words behind a space.
+fn put_words<K: Sink>(words: &[Word], sink: &mut K) -> Result<(), PutFailed>
+    ensures { Puts (K.told sink.old) (K.told sink.new) (flat_map spaced (map spelled words.now)) result }
+{
+    for word in words {
+        put_word(*word, sink)?;
+    }
+    Ok(())
+}
+
+fn put_word<K: Sink>(word: Word, sink: &mut K) -> Result<(), PutFailed>
+    ensures { Puts (K.told sink.old) (K.told sink.new) (spaced (spelled word.entry)) result }
 {
     let mut digits = Buffer::new();
-    put_all(
-        sink,
-        &[b"file ", number_text(number, &mut digits).as_bytes()],
-    )
-}
-
-// The fault of a refusal.
-fn put_fault<K: Sink>(why: Refusal, sink: &mut K) -> Result<(), PutFailed>
-    ensures { Puts (K.told sink.old) (K.told sink.new) (concat (fault_parts why)) result }
-{
-    match why {
-        Refusal::TooLong => put_all(sink, &[b"TooLong"]),
-        Refusal::NotJson => put_all(sink, &[b"NotJson"]),
-        Refusal::Diagram(fault) => put_diagram_fault(fault, sink),
-        Refusal::Sheet(fault) => put_sheet_fault(fault, sink),
-        Refusal::Netlist(fault) => put_netlist_fault(fault, sink),
-        Refusal::Joins(fault) => put_join_fault(fault, sink),
-        Refusal::Limits(fault) => put_limit_fault(fault, sink),
-        Refusal::Mixed(late, early) => {
-            put_two_numbers(b"Mixed", u64::from(late), u64::from(early), sink)
-        }
+    match word {
+        Text(text) => put_spaced(text, sink),
+        Number(number) => put_spaced(number_text(number, &mut digits).as_bytes(), sink),
+        Count(count) => put_spaced(wide_text(count, &mut digits).as_bytes(), sink),
     }
-}
-
-fn put_diagram_fault<K: Sink>(fault: DiagramFault, sink: &mut K) -> Result<(), PutFailed>
-    ensures { Puts (K.told sink.old) (K.told sink.new) (concat (diagram_fault_parts fault)) result }
-{
-    match fault {
-        DiagramFault::NotObject => put_all(sink, &[b"NotObject"]),
-        DiagramFault::NoSignal => put_all(sink, &[b"NoSignal"]),
-        DiagramFault::EdgesNotList => put_all(sink, &[b"EdgesNotList"]),
-        DiagramFault::EdgeNotText(n) => put_number(b"EdgeNotText", n, sink),
-        DiagramFault::NoMemory => put_all(sink, &[]),
-    }
-}
-
-fn put_sheet_fault<K: Sink>(fault: SheetFault, sink: &mut K) -> Result<(), PutFailed>
-    ensures { Puts (K.told sink.old) (K.told sink.new) (concat (sheet_fault_parts fault)) result }
-{
-    match fault {
-        SheetFault::BadNode(lane) => put_number(b"BadNode", lane, sink),
-        SheetFault::DoubleMark(mark) => put_all(sink, &[b"DoubleMark ", &[mark]]),
-        SheetFault::DoublePin(lane) => put_number(b"DoublePin", lane, sink),
-        SheetFault::BadEdge(n) => put_number(b"BadEdge", n, sink),
-        SheetFault::Label(n, fault) => put_number_word(b"Label", n, label_fault_name(fault), sink),
-        SheetFault::NoMark(n, mark) => put_number_word(b"NoMark", n, &[mark], sink),
-        SheetFault::TooManyCauses(n) => put_number(b"TooManyCauses", n, sink),
-        SheetFault::NoMemory => put_all(sink, &[]),
-    }
-}
-
-fn put_netlist_fault<K: Sink>(fault: NetlistFault, sink: &mut K) -> Result<(), PutFailed>
-    ensures { Puts (K.told sink.old) (K.told sink.new) (concat (netlist_fault_parts fault)) result }
-{
-    match fault {
-        NetlistFault::NotObject => put_all(sink, &[b"NotObject"]),
-        NetlistFault::Version => put_all(sink, &[b"Version"]),
-        NetlistFault::Cycles => put_all(sink, &[b"Cycles"]),
-        NetlistFault::PartsNotList => put_all(sink, &[b"PartsNotList"]),
-        NetlistFault::TooManyParts(count) => put_number(b"TooManyParts", count, sink),
-        NetlistFault::Part(n) => put_number(b"Part", n, sink),
-        NetlistFault::DoublePart(n) => put_number(b"DoublePart", n, sink),
-        NetlistFault::TooManySheets(count) => put_number(b"TooManySheets", count, sink),
-        NetlistFault::NetsNotList => put_all(sink, &[b"NetsNotList"]),
-        NetlistFault::Net(n) => put_number(b"Net", n, sink),
-        NetlistFault::Delay(n, fault) => {
-            put_number_word(b"Delay", n, range_fault_name(fault), sink)
-        }
-        NetlistFault::EdgesNotList => put_all(sink, &[b"EdgesNotList"]),
-        NetlistFault::Edge(n) => put_number(b"Edge", n, sink),
-        NetlistFault::Label(n, fault) => {
-            put_number_word(b"Label", n, label_fault_name(fault), sink)
-        }
-        NetlistFault::NoMemory => put_all(sink, &[]),
-    }
-}
-
-fn put_join_fault<K: Sink>(fault: JoinFault, sink: &mut K) -> Result<(), PutFailed>
-    ensures { Puts (K.told sink.old) (K.told sink.new) (concat (join_fault_parts fault)) result }
-{
-    match fault {
-        JoinFault::NoPart(net, pin) => put_two_numbers(b"NoPart", net, pin, sink),
-        JoinFault::NoPin(net, pin) => put_two_numbers(b"NoPin", net, pin, sink),
-        JoinFault::MarkCounts(net, pin, driver, other) => {
-            put_four_numbers(
-                b"MarkCounts",
-                net,
-                pin,
-                u64::from(driver),
-                u64::from(other),
-                sink,
-            )
-        }
-        JoinFault::KindsDiffer(net, pin, mark) => {
-            put_three_numbers(b"KindsDiffer", net, pin, u64::from(mark), sink)
-        }
-        JoinFault::WireNoPart(wire) => put_number(b"WireNoPart", wire, sink),
-        JoinFault::WireNoMark(wire) => put_number(b"WireNoMark", wire, sink),
-        JoinFault::TooManyCauses(wire) => put_number(b"TooManyCauses", wire, sink),
-        JoinFault::NoMemory => put_all(sink, &[]),
-    }
-}
-
-fn put_limit_fault<K: Sink>(fault: UnrollFault, sink: &mut K) -> Result<(), PutFailed>
-    ensures { Puts (K.told sink.old) (K.told sink.new) (concat (limit_fault_parts fault)) result }
-{
-    match fault {
-        UnrollFault::TooMany { limit, count } => put_passed(limit, count, sink),
-        UnrollFault::NoMemory => put_all(sink, &[]),
-    }
-}
-
-// ---- names with what they keep
-
-fn put_number<K: Sink>(name: &[u8], a: u64, sink: &mut K) -> Result<(), PutFailed>
-    ensures { Puts (K.told sink.old) (K.told sink.new) (concat (one_number name.now a)) result }
-{
-    let mut digits = Buffer::new();
-    put_all(sink, &[name, b" ", number_text(a, &mut digits).as_bytes()])
-}
-
-fn put_number_word<K: Sink>(name: &[u8], a: u64, word: &[u8], sink: &mut K) -> Result<(), PutFailed>
-    ensures { Puts (K.told sink.old) (K.told sink.new)
-        (concat (number_word name.now a word.now)) result }
-{
-    let mut digits = Buffer::new();
-    put_all(
-        sink,
-        &[
-            name,
-            b" ",
-            number_text(a, &mut digits).as_bytes(),
-            b" ",
-            word,
-        ],
-    )
-}
-
-fn put_two_numbers<K: Sink>(name: &[u8], a: u64, b: u64, sink: &mut K) -> Result<(), PutFailed>
-    ensures { Puts (K.told sink.old) (K.told sink.new)
-        (concat (two_numbers name.now a b)) result }
-{
-    let mut first = Buffer::new();
-    let mut second = Buffer::new();
-    put_all(
-        sink,
-        &[
-            name,
-            b" ",
-            number_text(a, &mut first).as_bytes(),
-            b" ",
-            number_text(b, &mut second).as_bytes(),
-        ],
-    )
-}
-
-fn put_four_numbers<K: Sink>(
-    name: &[u8],
-    a: u64,
-    b: u64,
-    c: u64,
-    d: u64,
-    sink: &mut K,
-) -> Result<(), PutFailed>
-    ensures { Puts (K.told sink.old) (K.told sink.new)
-        (concat (four_numbers name.now a b c d)) result }
-{
-    let mut first = Buffer::new();
-    let mut second = Buffer::new();
-    let mut third = Buffer::new();
-    let mut fourth = Buffer::new();
-    put_all(
-        sink,
-        &[
-            name,
-            b" ",
-            number_text(a, &mut first).as_bytes(),
-            b" ",
-            number_text(b, &mut second).as_bytes(),
-            b" ",
-            number_text(c, &mut third).as_bytes(),
-            b" ",
-            number_text(d, &mut fourth).as_bytes(),
-        ],
-    )
-}
-
-fn put_three_numbers<K: Sink>(
-    name: &[u8],
-    a: u64,
-    b: u64,
-    c: u64,
-    sink: &mut K,
-) -> Result<(), PutFailed>
-    ensures { Puts (K.told sink.old) (K.told sink.new)
-        (concat (three_numbers name.now a b c)) result }
-{
-    let mut first = Buffer::new();
-    let mut second = Buffer::new();
-    let mut third = Buffer::new();
-    put_all(
-        sink,
-        &[
-            name,
-            b" ",
-            number_text(a, &mut first).as_bytes(),
-            b" ",
-            number_text(b, &mut second).as_bytes(),
-            b" ",
-            number_text(c, &mut third).as_bytes(),
-        ],
-    )
-}
-
-fn put_passed<K: Sink>(limit: Limit, count: u128, sink: &mut K) -> Result<(), PutFailed>
-    ensures { Puts (K.told sink.old) (K.told sink.new)
-        (concat (limit_fault_parts (UnrollFault.TooMany limit count))) result }
-{
-    let mut digits = Buffer::new();
-    put_all(
-        sink,
-        &[
-            b"TooMany ",
-            limit_name(limit),
-            b" ",
-            wide_text(count, &mut digits).as_bytes(),
-        ],
-    )
 }
 
 // The text of a number of up to 128 bits.
@@ -296,6 +77,154 @@ fn wide_text(number: u128, buffer: &mut Buffer) -> &str
     ensures { result.now ≡ number_text number }
 {
     buffer.format(number)
+}
+
+// ---- places and faults
+
+fn put_place<K: Sink>(place: Place, sink: &mut K) -> Result<(), PutFailed>
+    ensures { Puts (K.told sink.old) (K.told sink.new) (flat_map spaced (place_words place)) result }
+{
+    match place {
+        Place::File(number) => put_words(&[Text(b"file"), Number(number)], sink),
+        Place::Design => put_words(&[Text(b"design")], sink),
+        Place::Report => put_words(&[Text(b"report")], sink),
+    }
+}
+
+fn put_fault<K: Sink>(why: Refusal, sink: &mut K) -> Result<(), PutFailed>
+    ensures { Puts (K.told sink.old) (K.told sink.new) (flat_map spaced (fault_words why)) result }
+{
+    match why {
+        Refusal::TooLong => put_words(&[Text(b"TooLong")], sink),
+        Refusal::NotJson => put_words(&[Text(b"NotJson")], sink),
+        Refusal::Diagram(fault) => put_diagram_fault(fault, sink),
+        Refusal::Sheet(fault) => put_sheet_fault(fault, sink),
+        Refusal::Netlist(fault) => put_netlist_fault(fault, sink),
+        Refusal::Joins(fault) => put_join_fault(fault, sink),
+        Refusal::Limits(fault) => put_limit_fault(fault, sink),
+        Refusal::Mixed(late, early) => put_words(
+            &[
+                Text(b"Mixed"),
+                Number(u64::from(late)),
+                Number(u64::from(early)),
+            ],
+            sink,
+        ),
+    }
+}
+
+fn put_diagram_fault<K: Sink>(fault: DiagramFault, sink: &mut K) -> Result<(), PutFailed>
+    ensures { Puts (K.told sink.old) (K.told sink.new) (flat_map spaced (diagram_fault_words fault)) result }
+{
+    match fault {
+        DiagramFault::NotObject => put_words(&[Text(b"NotObject")], sink),
+        DiagramFault::NoSignal => put_words(&[Text(b"NoSignal")], sink),
+        DiagramFault::EdgesNotList => put_words(&[Text(b"EdgesNotList")], sink),
+        DiagramFault::EdgeNotText(n) => put_words(&[Text(b"EdgeNotText"), Number(n)], sink),
+        DiagramFault::NoMemory => put_words(&[], sink),
+    }
+}
+
+fn put_sheet_fault<K: Sink>(fault: SheetFault, sink: &mut K) -> Result<(), PutFailed>
+    ensures { Puts (K.told sink.old) (K.told sink.new) (flat_map spaced (sheet_fault_words fault)) result }
+{
+    match fault {
+        SheetFault::BadNode(lane) => put_words(&[Text(b"BadNode"), Number(lane)], sink),
+        SheetFault::DoubleMark(mark) => put_words(&[Text(b"DoubleMark"), Text(&[mark])], sink),
+        SheetFault::DoublePin(lane) => put_words(&[Text(b"DoublePin"), Number(lane)], sink),
+        SheetFault::BadEdge(n) => put_words(&[Text(b"BadEdge"), Number(n)], sink),
+        SheetFault::Label(n, fault) => put_words(
+            &[Text(b"Label"), Number(n), Text(label_fault_name(fault))],
+            sink,
+        ),
+        SheetFault::NoMark(n, mark) => put_words(
+            &[Text(b"NoMark"), Number(n), Text(&[mark])],
+            sink,
+        ),
+        SheetFault::TooManyCauses(n) => put_words(&[Text(b"TooManyCauses"), Number(n)], sink),
+        SheetFault::NoMemory => put_words(&[], sink),
+    }
+}
+
+fn put_netlist_fault<K: Sink>(fault: NetlistFault, sink: &mut K) -> Result<(), PutFailed>
+    ensures { Puts (K.told sink.old) (K.told sink.new) (flat_map spaced (netlist_fault_words fault)) result }
+{
+    match fault {
+        NetlistFault::NotObject => put_words(&[Text(b"NotObject")], sink),
+        NetlistFault::Version => put_words(&[Text(b"Version")], sink),
+        NetlistFault::Cycles => put_words(&[Text(b"Cycles")], sink),
+        NetlistFault::PartsNotList => put_words(&[Text(b"PartsNotList")], sink),
+        NetlistFault::TooManyParts(count) => put_words(
+            &[Text(b"TooManyParts"), Number(count)],
+            sink,
+        ),
+        NetlistFault::Part(n) => put_words(&[Text(b"Part"), Number(n)], sink),
+        NetlistFault::DoublePart(n) => put_words(&[Text(b"DoublePart"), Number(n)], sink),
+        NetlistFault::TooManySheets(count) => put_words(
+            &[Text(b"TooManySheets"), Number(count)],
+            sink,
+        ),
+        NetlistFault::NetsNotList => put_words(&[Text(b"NetsNotList")], sink),
+        NetlistFault::Net(n) => put_words(&[Text(b"Net"), Number(n)], sink),
+        NetlistFault::Delay(n, fault) => put_words(
+            &[Text(b"Delay"), Number(n), Text(range_fault_name(fault))],
+            sink,
+        ),
+        NetlistFault::EdgesNotList => put_words(&[Text(b"EdgesNotList")], sink),
+        NetlistFault::Edge(n) => put_words(&[Text(b"Edge"), Number(n)], sink),
+        NetlistFault::Label(n, fault) => put_words(
+            &[Text(b"Label"), Number(n), Text(label_fault_name(fault))],
+            sink,
+        ),
+        NetlistFault::NoMemory => put_words(&[], sink),
+    }
+}
+
+fn put_join_fault<K: Sink>(fault: JoinFault, sink: &mut K) -> Result<(), PutFailed>
+    ensures { Puts (K.told sink.old) (K.told sink.new) (flat_map spaced (join_fault_words fault)) result }
+{
+    match fault {
+        JoinFault::NoPart(net, pin) => put_words(
+            &[Text(b"NoPart"), Number(net), Number(pin)],
+            sink,
+        ),
+        JoinFault::NoPin(net, pin) => put_words(&[Text(b"NoPin"), Number(net), Number(pin)], sink),
+        JoinFault::MarkCounts(net, pin, driver, other) => put_words(
+            &[
+                Text(b"MarkCounts"),
+                Number(net),
+                Number(pin),
+                Number(u64::from(driver)),
+                Number(u64::from(other)),
+            ],
+            sink,
+        ),
+        JoinFault::KindsDiffer(net, pin, mark) => put_words(
+            &[
+                Text(b"KindsDiffer"),
+                Number(net),
+                Number(pin),
+                Number(u64::from(mark)),
+            ],
+            sink,
+        ),
+        JoinFault::WireNoPart(wire) => put_words(&[Text(b"WireNoPart"), Number(wire)], sink),
+        JoinFault::WireNoMark(wire) => put_words(&[Text(b"WireNoMark"), Number(wire)], sink),
+        JoinFault::TooManyCauses(wire) => put_words(&[Text(b"TooManyCauses"), Number(wire)], sink),
+        JoinFault::NoMemory => put_words(&[], sink),
+    }
+}
+
+fn put_limit_fault<K: Sink>(fault: UnrollFault, sink: &mut K) -> Result<(), PutFailed>
+    ensures { Puts (K.told sink.old) (K.told sink.new) (flat_map spaced (limit_fault_words fault)) result }
+{
+    match fault {
+        UnrollFault::TooMany { limit, count } => put_words(
+            &[Text(b"TooMany"), Text(limit_name(limit)), Count(count)],
+            sink,
+        ),
+        UnrollFault::NoMemory => put_words(&[], sink),
+    }
 }
 
 // ---- names of faults within

@@ -1,4 +1,5 @@
 use Rattle.std.proofs.Common.{refl}
+use Rattle.design_gen.specs.Files.{design_files}
 use Rattle.words.specs.Task.{bounds, fall, matrix, check, generated}
 use Rattle.itv_cli.proofs.Fetching.{opens_made, opens_shelf}
 use Rattle.itv_cli.proofs.opening.open.Goals as goal
@@ -24,4 +25,4 @@ returns-in-Check-clause-opens g c =
 
 pub returns-in-Generated-clause-opens : goal.returns-in-Generated-clause-opens
 returns-in-Generated-clause-opens g c =
-    rw c.in-Generated.is (opens_made (g.H.Shelf.told c.args.shelf.now) (generated c.in-Generated.size c.in-Generated.budget) c.open_generated.result refl c.open_generated.ensures.opens)
+    rw c.in-Generated.is (opens_made (g.H.Shelf.told c.args.shelf.now) (design_files c.in-Generated.size) (generated c.in-Generated.size c.in-Generated.budget) c.open_generated.result refl c.open_generated.ensures.opens)

@@ -1,29 +1,30 @@
-use Rattle.std.proofs.Common.{◌++◌, codes, Err}
+use Rattle.std.proofs.Common.{refl, sym}
 use Rattle.std.proofs.lemmas.Result.{err_from_is_err_and}
-use Rattle.itv_base.specs.declared.sink.PutFailed.{PutFailed}
-use Rattle.itv_base.proofs.Written.{puts_then, cut_more}
-use Rattle.reading.specs.Place.{place_text}
-use Rattle.reading.specs.Refusal.{refusal_text, why_text}
+use Rattle.itv_base.proofs.Written.{left_after, left_all, left_cut, left_last}
+use Rattle.reading.proofs.Lines.{refusal_pieces}
 use Rattle.reading.proofs.put.put_refusal.Goals as goal
 
 pub returns-in_err-put : goal.returns-in_err-put
-unfolding refusal_text
 returns-in_err-put g c =
     let p = err_from_is_err_and c.from_residual.result c.from_residual.ensures.1 in
-    rw p.1 (record { puts = cut_more (g.K.Sink.told c.args.sink.now) (g.K.Sink.told c.put.new.self) (codes "refused ") (place_text c.args.place ++ why_text c.args.why) c.in_err-put.ensures.puts })
+    rw p.1 (record { puts = left_cut _ _ _ _ _ _ _ (left_all _ _) (sym (refusal_pieces c.args.place c.args.why)) c.in_err-put.ensures.puts })
 
 pub returns-in_err-put_place : goal.returns-in_err-put_place
-unfolding refusal_text
 returns-in_err-put_place g c =
     let p = err_from_is_err_and c.from_residual-in_err-put_place.result c.from_residual-in_err-put_place.ensures.1 in
-    rw p.1 (record {
-      puts = puts_then {E = PutFailed} (g.K.Sink.told c.args.sink.now) (g.K.Sink.told c.put.new.self) (g.K.Sink.told c.put_place.new.sink) (codes "refused ") (place_text c.args.place ++ why_text c.args.why) (Err p.0) c.in_ok-put.ensures.puts
-          (cut_more (g.K.Sink.told c.put.new.self) (g.K.Sink.told c.put_place.new.sink) (place_text c.args.place) (why_text c.args.why) c.in_err-put_place.ensures.puts);
-    })
+    let first = left_after _ _ _ _ _ _ _ (left_all _ _) (sym (refusal_pieces c.args.place c.args.why)) c.in_ok-put.ensures.puts in
+    rw p.1 (record { puts = left_cut _ _ _ _ _ _ _ first refl c.in_err-put_place.ensures })
+
+pub returns-in_err-put_fault : goal.returns-in_err-put_fault
+returns-in_err-put_fault g c =
+    let p = err_from_is_err_and c.from_residual-in_err-put_fault.result c.from_residual-in_err-put_fault.ensures.1 in
+    let first = left_after _ _ _ _ _ _ _ (left_all _ _) (sym (refusal_pieces c.args.place c.args.why)) c.in_ok-put.ensures.puts in
+    let second = left_after _ _ _ _ _ _ _ first refl c.in_ok-put_place.ensures in
+    rw p.1 (record { puts = left_cut _ _ _ _ _ _ _ second refl c.in_err-put_fault.ensures })
 
 pub returns : goal.returns
-unfolding refusal_text
-returns g c = record {
-  puts = puts_then {E = PutFailed} (g.K.Sink.told c.args.sink.now) (g.K.Sink.told c.put.new.self) (g.K.Sink.told c.put_why.new.sink) (codes "refused ") (place_text c.args.place ++ why_text c.args.why) c.put_why.result c.in_ok-put.ensures.puts
-      (puts_then {E = PutFailed} (g.K.Sink.told c.put.new.self) (g.K.Sink.told c.put_place.new.sink) (g.K.Sink.told c.put_why.new.sink) (place_text c.args.place) (why_text c.args.why) c.put_why.result c.in_ok-put_place.ensures.puts c.put_why.ensures);
-}
+returns g c =
+    let first = left_after _ _ _ _ _ _ _ (left_all _ _) (sym (refusal_pieces c.args.place c.args.why)) c.in_ok-put.ensures.puts in
+    let second = left_after _ _ _ _ _ _ _ first refl c.in_ok-put_place.ensures in
+    let third = left_after _ _ _ _ _ _ _ second refl c.in_ok-put_fault.ensures in
+    record { puts = left_last _ _ _ _ _ _ third c.put-2.ensures.puts }
