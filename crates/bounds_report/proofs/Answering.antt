@@ -68,7 +68,7 @@ pair_is from to pair f t = rw (f, t) refl
 shows_greatest : (net : Net) (most : ℕ) (r : Row) (lines : List ProofLine) (leaves : ℕ) (times : List ℤ) (ray : List Bool) (answer : Answer)
     → Answers net r.from r.to most lines leaves times ray answer → leaves ≤ most
     → IsBoundOf net findings.Consistent r greatest (greatest_of answer) × ShowsBound net most lines r greatest (greatest_of answer)
-shows_greatest net most r lines leaves times ray (answers.Closed value) a count = ((refl, a.greatest), a.proof)
+shows_greatest net most r lines leaves times ray (answers.Closed value) a count = ((refl, a.greatest), (a.proof, omega (arith, a.count, count)))
 shows_greatest net most r lines leaves times ray answers.Unbounded a count =
     let s = a.stopped in
     (refl, (s.0, (s.1, omega (arith, s.3, count), s.2)))
@@ -80,7 +80,8 @@ shows_least : (net : Net) (most : ℕ) (r : Row) (first : Bound) (lines : List P
     → Answers net r.to r.from most lines leaves times ray answer → leaves ≤ most
     → IsBoundOf net findings.Consistent r (least_by first) (reversed (greatest_of answer)) × ShowsBound net most lines r (least_by first) (reversed (greatest_of answer))
 shows_least net most r first lines leaves times ray (answers.Closed value) a count =
-    ((refl, (least_is_reversed_greatest net r.from r.to (neg_ℤ value)).1 (subst (IsGreatest net r.to r.from) (sym (neg_neg value)) a.greatest)), subst (λ z. IsProof net (BoundGoal r.to r.from z) lines) (sym (neg_neg value)) a.proof)
+    ((refl, (least_is_reversed_greatest net r.from r.to (neg_ℤ value)).1 (subst (IsGreatest net r.to r.from) (sym (neg_neg value)) a.greatest)),
+    (subst (λ z. IsProof net (BoundGoal r.to r.from z) lines) (sym (neg_neg value)) a.proof, omega (arith, a.count, count)))
 shows_least net most r first lines leaves times ray answers.Unbounded a count =
     let s = a.stopped in
     (refl, (neg_ℤ s.0, (s.1, omega (arith, s.3, count), subst (λ z. IsStoppedProof net (BoundGoal r.to r.from z) lines s.1) (sym (neg_neg s.0)) s.2)))

@@ -91,11 +91,11 @@ proof_lines net goal (chosen ∷ cases) (Loop names ∷ lines) left is_net reads
 
 pub finding_lines : (net : Net) (most : ℕ) (lines : List ProofLine) (word : FindingWord) → IsNet net → ShowsFinding net most lines word → All IsProofLine lines
 finding_lines net most lines findings.Consistent is_net s = proof_lines net Nothing _ lines _ is_net s.2.open_case.2
-finding_lines net most lines findings.Inconsistent is_net s = proof_lines net Nothing _ lines _ is_net s
+finding_lines net most lines findings.Inconsistent is_net s = proof_lines net Nothing _ lines _ is_net s.0
 finding_lines net most lines findings.Unsettled is_net s = proof_lines net Nothing _ lines _ is_net s.open_case.2
 
 pub bound_lines : (net : Net) (most : ℕ) (lines : List ProofLine) (r : Row) (side : Side) (value : RowBound) → IsNet net → ShowsBound net most lines r side value → All IsProofLine lines
-bound_lines net most lines r side (bounds.Closed value) is_net s = proof_lines net (goal_of r side value) _ lines _ is_net s
+bound_lines net most lines r side (bounds.Closed value) is_net s = proof_lines net (goal_of r side value) _ lines _ is_net s.0
 bound_lines net most lines r side bounds.Unbounded is_net s = proof_lines net (goal_of r side s.0) _ lines _ is_net s.1.2.open_case.2
 bound_lines net most lines r side (bounds.Within limit None) is_net s = subst (λ (ls : List ProofLine). All IsProofLine ls) (sym s) (all_nil IsProofLine)
 bound_lines net most lines r side (bounds.Within limit (Some found)) is_net s = proof_lines net (goal_of r side found) _ lines _ is_net s.open_case.2

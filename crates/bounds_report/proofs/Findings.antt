@@ -27,7 +27,7 @@ use Rattle.bounds_report.proofs.Shifted.{at_zero, length-shifted, nearby-shifted
 shows : (net : Net) (most : ℕ) (lines : List ProofLine) (leaves : ℕ) (known : Option (List ℤ)) (found : Found) → Finds net most lines leaves known found → leaves ≤ most
     → IsFinding net (word_of found) × ShowsFinding net most lines (word_of found)
 shows net most lines leaves known founds.Consistent f count = let s = f.stopped in (tt, (s.0, omega (arith, s.2, count), s.1))
-shows net most lines leaves known founds.Inconsistent f count = (f.none, f.proof)
+shows net most lines leaves known founds.Inconsistent f count = (f.none, (f.proof, omega (arith, f.count, count)))
 shows net most lines leaves known founds.Unsettled f count = (f.always, subst (λ n. IsStoppedProof net Nothing lines n) f.used f.stopped)
 
 pub finding_fact : (net : Net) (most : ℕ) (cert : Bool) (lines : List ProofLine) (leaves : ℕ) (known : Option (List ℤ)) (found : Found) (word : FindingWord) → word ≡ word_of found

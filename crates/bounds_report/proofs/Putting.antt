@@ -1,6 +1,8 @@
 -- The lines that tell a bound.
-use Rattle.std.proofs.Common.{◌≡◌, ◌<◌, length, All, ℕ, ℤ, Bool, true, false, List, [], Option, Some, None, ◌⊎◌, refl, sym, subst, ap, ◌∙◌, inl, inr}
+use Rattle.std.proofs.Common.{◌≡◌, ◌<◌, ◌≤◌, length, All, ℕ, ℤ, Bool, true, false, List, [], Option, Some, None, ◌⊎◌, refl, sym, subst, ap, ◌∙◌, inl, inr}
 use Rattle.itv_base.specs.declared.names.EventId.{EventId}
+use Rattle.branch.specs.Answers.{Answers}
+use Rattle.branch.specs.declared.answer.Answer.{Answer}
 use Rattle.event_graph.specs.Bounds.{IsRay}
 use Rattle.event_graph.specs.Network.{Net}
 use Rattle.event_graph.specs.Proof.{ProofLine}
@@ -21,8 +23,9 @@ use Rattle.slack_report.specs.Right.Facts.{AreTimes, Attains, CanRise, IsBoundOf
 use Rattle.slack_report.specs.Right.Following.{MayFollow}
 use Rattle.bounds_report.specs.declared.pair.Pair.{Pair}
 use Rattle.bounds_report.specs.Step.Kept.{Attain, HasTold, IsKept, IsLimitOf, IsOpenBound, searched_pair}
-use Rattle.bounds_report.specs.Step.Searched.{ShowsIn, sized}
+use Rattle.bounds_report.specs.Step.Searched.{ShowsIn, bound_of, sized}
 use Rattle.bounds_report.specs.Step.Told.{IsOf}
+use Rattle.bounds_report.proofs.Answering.{shows_in}
 use Rattle.bounds_report.proofs.Shifted.{times_nearby}
 
 -- the line of the bound
@@ -101,13 +104,23 @@ within_times (bounds.Closed value) h = h
 within_times bounds.Unbounded h = tt
 within_times (bounds.Within limit attained) h = h.1
 
--- behind a search
-pub bound_fact : (net : Net) (most : ℕ) (cert : Bool) (told : Telling) (side : Side) (pair : Pair) (which : Which) (searched : List ProofLine) (value : Bound) → told.course.found ≡ findings.Consistent
+-- behind lines that show it
+bound_fact : (net : Net) (most : ℕ) (cert : Bool) (told : Telling) (side : Side) (pair : Pair) (which : Which) (searched : List ProofLine) (value : Bound) → told.course.found ≡ findings.Consistent
     → IsOf told side pair which → ShowsIn net most pair which searched value → HasTimes value
     → (sized net most cert).bound told.course.found told.row side (printed cert searched) value
 bound_fact net most cert told side pair which searched value found of shows h =
     let s : IsBoundOf net findings.Consistent told.row side value × ShowsBound net most searched told.row side value = shows told.row side of.from of.to of.sort in
     ((within_times value h, subst (λ (word : FindingWord). IsBoundOf net word told.row side value) (sym found) s.0, (searched, refl, s.1)), h)
+
+-- behind a search, by its answer on the searched pair
+pub answer_fact : (net : Net) (most : ℕ) (cert : Bool) (told : Telling) (side : Side) (pair : Pair) (which : Which) (lines : List ProofLine) (leaves : ℕ) (list : List ℤ) (ray : List Bool)
+    (answer : Answer) (value : Bound) (searched : Pair) → told.course.found ≡ findings.Consistent → IsOf told side pair which → searched ≡ searched_pair which pair
+    → Answers net searched.from searched.to most lines leaves list ray answer → leaves ≤ most → value ≡ bound_of which answer → HasTimes value
+    → (sized net most cert).bound told.course.found told.row side (printed cert lines) value
+answer_fact net most cert told side pair which lines leaves list ray answer value searched found of same a count is h =
+    bound_fact net most cert told side pair which lines value found of
+    (subst (λ (v : Bound). ShowsIn net most pair which lines v) (sym is)
+    (shows_in net most pair which lines leaves list ray answer (subst (λ (p : Pair). Answers net p.from p.to most lines leaves list ray answer) same a) count)) h
 
 none_printed : (cert : Bool) → ◌≡◌ {A = List ProofLine} [] (printed cert [])
 none_printed true = refl

@@ -1,5 +1,5 @@
 -- What a written report is.
-use Rattle.std.proofs.Common.{ℕ, true, false, List, refl, sym, subst}
+use Rattle.std.proofs.Common.{ℕ, Bool, true, false, List, refl, sym, subst}
 use Rattle.event_graph.specs.Network.{Net}
 use Rattle.event_graph.specs.Proof.{ProofLine}
 use Rattle.requirements.specs.declared.bound.Bound.{Bound}
@@ -14,7 +14,7 @@ use Rattle.slack_report.proofs.RightOrder.{reads_weaker}
 use Rattle.right_report.specs.Checked.{ProvesBound, ProvesFinding, checked}
 use Rattle.right_report.specs.Shown.{ShowsBound, ShowsFinding, bare, shown}
 use Rattle.right_report.proofs.Ordering.{right_is_report}
-use Rattle.bounds_report.specs.Laws.{WrittenIsAccepted, WrittenIsBare, WrittenIsChecked, WrittenIsShown}
+use Rattle.bounds_report.specs.Laws.{BegunIsRight, WrittenIsAccepted, WrittenIsBare, WrittenIsChecked, WrittenIsShown}
 use Rattle.bounds_report.specs.Written.{ArePrinted, written}
 
 -- lines that are all printed
@@ -41,8 +41,8 @@ bare_of net most = record {
   past = λ r range word list h. h.1;
 }
 
-right_of : (net : Net) (most : ℕ) → Implies (written net most true) (right net)
-right_of net most = record {
+right_of : (net : Net) (most : ℕ) (cert : Bool) → Implies (written net most cert) (right net)
+right_of net most cert = record {
   finding = λ lines word h. h.0;
   known = λ list h. h.1;
   bound = λ found r side lines value h. h.1;
@@ -53,12 +53,12 @@ right_of net most = record {
 
 proves_finding : (net : Net) (most : ℕ) (lines : List ProofLine) (word : FindingWord) → IsFinding net word → ShowsFinding net most lines word → ProvesFinding net lines word
 proves_finding net most lines findings.Consistent f s = tt
-proves_finding net most lines findings.Inconsistent f s = s
+proves_finding net most lines findings.Inconsistent f s = s.0
 proves_finding net most lines findings.Unsettled f s = f
 
 proves_bound : (net : Net) (most : ℕ) (found : FindingWord) (r : Row) (side : Side) (lines : List ProofLine) (value : Bound) → IsBoundOf net found r side value → ShowsBound net most lines r side value
     → ProvesBound net found r side lines value
-proves_bound net most found r side lines (bounds.Closed value) b s = (b.0, s)
+proves_bound net most found r side lines (bounds.Closed value) b s = (b.0, s.0)
 proves_bound net most found r side lines bounds.Unbounded b s = b
 proves_bound net most found r side lines (bounds.Within limit attained) b s = b
 
@@ -85,10 +85,14 @@ written_is_checked drawn most lines w = reads_weaker (written drawn.net most tru
 
 pub written_is_accepted : WrittenIsAccepted
 written_is_accepted drawn most lines w names ranges =
-    let r : Reads (right drawn.net) drawn at_heading lines at_last = reads_weaker (written drawn.net most true) (right drawn.net) drawn lines at_heading at_last (right_of drawn.net most) w.reads in
+    let r : Reads (right drawn.net) drawn at_heading lines at_last = reads_weaker (written drawn.net most true) (right drawn.net) drawn lines at_heading at_last (right_of drawn.net most true) w.reads in
     record {
       lines = lines;
       report = (right_is_report drawn lines r (w.texts names ranges)).0;
       text = refl;
       is_checked = written_is_checked drawn most lines w;
     }
+
+pub begun_is_right : BegunIsRight
+begun_is_right drawn most cert text b =
+    (b.lines, (b.last, reads_weaker (written drawn.net most cert) (right drawn.net) drawn b.lines at_heading b.last (right_of drawn.net most cert) b.reads), b.is_text)

@@ -1,12 +1,13 @@
 -- Laws of the reports that the job writes.
-use Rattle.std.specs.Prelude.{ℕ, true, false, List, All}
+use Rattle.std.specs.Prelude.{◌≡◌, ℕ, Bool, true, false, List, All}
 use Rattle.slack_report.specs.Entry.{Entry, IsName}
 use Rattle.slack_report.specs.Text.{report_text}
 use Rattle.slack_report.specs.Right.Drawn.{Drawn}
+use Rattle.slack_report.specs.Right.Facts.{BeginsRightReport}
 use Rattle.right_report.specs.Checked.{IsChecked}
 use Rattle.right_report.specs.Shown.{IsBareReport, IsShownReport}
 use Rattle.right_report.specs.Texts.{IsAcceptedText}
-use Rattle.bounds_report.specs.Reports.{HasRanges, IsWrittenReport}
+use Rattle.bounds_report.specs.Reports.{BeginsReport, HasRanges, IsWrittenReport}
 
 -- a report that is written with the lines of proofs shows its numbers
 abbrev pub WrittenIsShown : Type 0
@@ -24,3 +25,8 @@ WrittenIsChecked = (drawn : Drawn) (most : ℕ) (lines : List Entry) → IsWritt
 abbrev pub WrittenIsAccepted : Type 0
 WrittenIsAccepted = (drawn : Drawn) (most : ℕ) (lines : List Entry) → IsWrittenReport drawn most true lines → All IsName drawn.names → HasRanges drawn
     → IsAcceptedText drawn (report_text lines)
+
+-- what the job may have begun to write is the text of lines that begin a right report, with the lines of proofs or without them
+abbrev pub BegunIsRight : Type 0
+BegunIsRight = (drawn : Drawn) (most : ℕ) (cert : Bool) (text : List ℕ) → BeginsReport drawn most cert text
+    → (lines : List Entry) × BeginsRightReport drawn lines × (text ≡ report_text lines)

@@ -52,40 +52,11 @@ pub fn tell_bound<K: Sink>(
         → Goes (sized net.now wanted.budget wanted.cert) drawn (at_bound told side []) (λ value. bounded told side value) (λ _. [])
         (K.told sink.old) (K.told sink.new) result }
 {
-    let value = search_bound(which, pair, net, wanted, work, kept, buffer, sink)?;
-    put_bound(which, value, kept, buffer, sink)?;
-    Ok(value)
-}
-
-// Searches for a bound of a pair, and keeps what is left of the search.
-fn search_bound<K: Sink>(
-    which: Which,
-    pair: Pair,
-    net: &Network,
-    wanted: Wanted,
-    work: &mut Work,
-    kept: &mut Kept,
-    buffer: &mut LineBuffer,
-    sink: &mut K,
-) -> Result<Bound, PutFailed>
-    requires made { IsMadeFor net.now work.old }
-    requires known { IsSomeAnd work.old.known (λ times. Satisfies times net.now) }
-    requires from { pair.from.0 < net.now.events }
-    requires to { pair.to.0 < net.now.events }
-    requires budget { 0 < wanted.budget }
-    requires room { IsRoomFor net.now kept.old }
-    ensures made { OnOk result (IsMadeFor net.now work.new) }
-    ensures known { OnOk result (work.new.known ≡ work.old.known) }
-    ensures room { OnOk result (IsRoomFor net.now kept.new) }
-    ensures times { IfOk result HasTimes }
-    ensures kept { IfOk result (λ value. IsKept net.now pair which value kept.new.times.items kept.new.set.items) }
-    ensures tells { IfOk result (λ value. Tells wanted.cert (K.told sink.old) (K.told sink.new)
-        (λ lines. ShowsIn net.now wanted.budget pair which lines value)) }
-    ensures cut { OnErr result (WasCut (K.told sink.old) (K.told sink.new)) }
-{
     let answer = greatest_of(work, net, pair.searched(which), wanted, buffer, sink)?;
     keep(net, pair, which, answer, work, kept);
-    Ok(bound_of(net, pair.searched(which), which, answer, work))
+    let value = bound_of(which, answer);
+    put_bound(which, value, kept, buffer, sink)?;
+    Ok(value)
 }
 
 // Keeps the times that the last search left, with the from-event of the pair at 0, and the set of events where the bound is unbounded.
@@ -109,11 +80,9 @@ fn keep(net: &Network, pair: Pair, which: Which, answer: Answer, work: &Work, ke
     }
 }
 
-// The bound that an answer on its searched pair tells.
-fn bound_of(net: &Network, searched: Pair, which: Which, answer: Answer, work: &Work) -> Bound
-    requires answers { (budget : ℕ) × (lines : List ProofLine)
-        × Answers net.now searched.from searched.to budget lines work.now.leaves work.now.times work.now.ray answer }
-    requires close { All IsClose work.now.times }
+// The bound of a pair that an answer on its searched pair tells.
+fn bound_of(which: Which, answer: Answer) -> Bound
+    requires times { HasTimes (greatest_by answer) }
     ensures bound { result ≡ bound_of which answer }
     ensures times { HasTimes result }
 {

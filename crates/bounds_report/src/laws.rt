@@ -1,7 +1,7 @@
 //! Laws of the reports that the job writes. The functions do nothing; what they ensure holds of all drawn networks.
 #![tactic(auto, using(crate::proofs::WrittenLaws::written_is_shown, crate::proofs::WrittenLaws::written_is_bare, crate::proofs::WrittenLaws::written_is_checked, crate::proofs::WrittenLaws::written_is_accepted))]
 
-ghost use Rattle.bounds_report.specs.Laws.{WrittenIsAccepted, WrittenIsBare, WrittenIsChecked, WrittenIsShown};
+ghost use Rattle.bounds_report.specs.Laws.{BegunIsRight, WrittenIsAccepted, WrittenIsBare, WrittenIsChecked, WrittenIsShown};
 
 /// A report with the lines of proofs shows each of its numbers by them.
 pub fn written_is_shown()
@@ -22,4 +22,10 @@ pub fn written_is_checked()
 /// have their form.
 pub fn written_is_accepted()
     ensures law { WrittenIsAccepted }
+{}
+
+/// What the job may have begun to write, of which a front is there when a put failed, is the text of lines that begin a right report,
+/// with the lines of proofs or without them.
+pub fn begun_is_right()
+    ensures law { BegunIsRight }
 {}

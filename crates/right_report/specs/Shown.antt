@@ -1,7 +1,7 @@
 -- Reports whose finding and bounds are shown by lines of proofs: printed before them, or left out.
-use Rattle.std.specs.Prelude.{◌≡◌, ◌≤◌, ℕ, ℤ, neg_ℤ, List, [], Some, None, slice_get}
+use Rattle.std.specs.Prelude.{◌≡◌, ◌<◌, ◌≤◌, ℕ, ℤ, neg_ℤ, List, [], Some, None, slice_get}
 use Rattle.event_graph.specs.Network.{Net}
-use Rattle.event_graph.specs.Proof.{IsProof, IsStoppedProof, Nothing, ProofGoal, ProofLine}
+use Rattle.event_graph.specs.Proof.{IsProof, IsStoppedProof, Nothing, ProofGoal, ProofLine, closing_lines}
 use Rattle.event_graph.specs.Proof.{Bound as BoundGoal}
 use Rattle.requirements.specs.declared.bound.Bound.{Bound}
 use Rattle.requirements.specs.declared.bound.Bound.TheVariants as bounds
@@ -19,20 +19,25 @@ abbrev pub goal_of : Row → Side → ℤ → ProofGoal
 goal_of r greatest value = BoundGoal r.from r.to value
 goal_of r (least_by most) value = BoundGoal r.to r.from (neg_ℤ value)
 
--- the lines are a stopped proof that closes no more cases than the budget
-abbrev pub IsStoppedWithin : Net → ProofGoal → ℕ → List ProofLine → Type 0
-IsStoppedWithin net goal most lines = (count : ℕ) × (count ≤ most) × IsStoppedProof net goal lines count
+-- the lines are a proof that closes no more cases than the budget
+abbrev pub IsProofWithin : Net → ProofGoal → ℕ → List ProofLine → Type 0
+IsProofWithin net goal most lines = IsProof net goal lines × (closing_lines lines ≤ most)
 
--- An inconsistent finding has its proof. An unsettled one has a stopped proof that used up the budget.
+-- the lines are a stopped proof, and with the case that times close behind them no more cases are closed than the budget
+abbrev pub IsStoppedWithin : Net → ProofGoal → ℕ → List ProofLine → Type 0
+IsStoppedWithin net goal most lines = (count : ℕ) × (count < most) × IsStoppedProof net goal lines count
+
+-- An inconsistent finding has its proof, and a consistent one a stopped proof, both within the budget. An unsettled one has a stopped
+-- proof that used it up.
 abbrev pub ShowsFinding : Net → ℕ → List ProofLine → FindingWord → Type 0
 ShowsFinding net most lines findings.Consistent = IsStoppedWithin net Nothing most lines
-ShowsFinding net most lines findings.Inconsistent = IsProof net Nothing lines
+ShowsFinding net most lines findings.Inconsistent = IsProofWithin net Nothing most lines
 ShowsFinding net most lines findings.Unsettled = IsStoppedProof net Nothing lines most
 
--- A closed bound has its proof. A bound that was left open has a stopped proof of the separation that was found, which used up the
--- budget, and no lines where nothing was found.
+-- A closed bound has its proof, and an unbounded one a stopped proof, both within the budget. A bound that was left open has a stopped
+-- proof of the separation that was found, which used it up, and no lines where nothing was found.
 abbrev pub ShowsBound : Net → ℕ → List ProofLine → Row → Side → Bound → Type 0
-ShowsBound net most lines r side (bounds.Closed value) = IsProof net (goal_of r side value) lines
+ShowsBound net most lines r side (bounds.Closed value) = IsProofWithin net (goal_of r side value) most lines
 ShowsBound net most lines r side bounds.Unbounded = (value : ℤ) × IsStoppedWithin net (goal_of r side value) most lines
 ShowsBound net most lines r side (bounds.Within limit None) = lines ≡ []
 ShowsBound net most lines r side (bounds.Within limit (Some found)) = IsStoppedProof net (goal_of r side found) lines most
