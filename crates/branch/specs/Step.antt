@@ -4,3 +4,4 @@ pub mod Raising
 pub mod Standing
 pub mod Searched
 pub mod Inside
+pub mod Looking
