@@ -85,7 +85,7 @@ choice_met net times s k has at_k (cause, c, within, here, met) =
     (cause, omega (arith, within, count, most), subst P (ap (edge net) (name_is net s.number cause k at_k)) (subst P (sym is.gives) met))
 
 -- the times meet a constraint with two or more causes where they meet one of its choice edges
-pub split_met : (net : Net) (times : List ℤ) (s : Splitting) → IsNet net → MeetsAlways times net → IsSplitOf net s → MeetsSome times s → IsMetAt times net s.number
+split_met : (net : Net) (times : List ℤ) (s : Splitting) → IsNet net → MeetsAlways times net → IsSplitOf net s → MeetsSome times s → IsMetAt times net s.number
 split_met net times s is_net meets split met =
     met_if_some (slice_get net.constraints s.number) (Holds times) (λ k at_k. met_by_choice net times s.number k is_net meets at_k (choice_met net times s k split.edges at_k met))
 
@@ -95,7 +95,7 @@ both times None met broken = broken
 both times (Some e) met broken = broken met
 
 -- they break it where they break each of them
-pub split_broken : (net : Net) (times : List ℤ) (s : Splitting) → IsNet net → IsSplitOf net s → BreaksEach times s → Breaks times net s.number
+split_broken : (net : Net) (times : List ℤ) (s : Splitting) → IsNet net → IsSplitOf net s → BreaksEach times s → Breaks times net s.number
 split_broken net times s is_net split broken =
     let found = some_and (slice_get net.constraints s.number) (λ (k : Constraint). 2 ≤ cause_count_of k) split.causes in
     let k : Constraint = found.0 in
@@ -113,6 +113,13 @@ split_broken net times s is_net split broken =
         let here : IsEdgeBroken times found.0 = All-found (IsEdgeBroken times) s.edges cause found.0 found.1 broken in
         let P : Option Edge → Type 0 = λ o. IfSome o (Meets times) in
         both times (given_edge found.0) (subst P is.gives (subst P (ap (edge net) (sym (name_is net s.number cause k at_k))) met)) here
+
+-- they break one of those with two or more causes where they break each of its choice edges
+pub broken_among : (net : Net) (times : List ℤ) (splits : List Splitting) (number : ℕ) (s : Splitting) → IsNet net → AreSplits net splits → Contains splits s → s.number ≡ number
+    → BreaksEach times s → Breaks times net number
+broken_among net times splits number s is_net are among is broken =
+    let P : ℕ → Type 0 = Breaks times net in
+    subst P is (split_broken net times s is_net (All-contains (IsSplitOf net) splits s are.each among) broken)
 
 -- their edges are between the events of the network
 ends_between : (net : Net) (kind : RuleKind) (target event : EventId) (c : ChoiceEdge) → HasChoiceEnds kind target event c → target.0 < net.events → event.0 < net.events → IsBetween net.events c

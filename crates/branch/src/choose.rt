@@ -8,7 +8,6 @@ ghost use Rattle.event_graph.specs.Times.{IsTime};
 ghost use Rattle.branch.specs.Splits.{AreSplits};
 ghost use Rattle.branch.specs.Step.Cases.{IsFree};
 
-use crate::breaking::is_broken;
 use crate::decisions::Decisions;
 use crate::distances::{Distances, Wanted};
 use event_graph::Network;
@@ -32,8 +31,8 @@ pub fn nearest_broken(
     ensures broken { MatchOption result (Satisfies times.now net.now) (λ number. Breaks times.now net.now number) }
 {
     match distances.nearest(Wanted::Broken(times), cases, to) {
-        Some(nearest) if is_broken(net, times, nearest) => Some(nearest),
-        _ => first_broken(net, times, distances),
+        Some(nearest) => Some(nearest),
+        None => first_broken(net, times, distances),
     }
 }
 

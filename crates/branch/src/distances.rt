@@ -1,9 +1,9 @@
 //! How far constraints are from an event, counted in edges.
 
-ghost use Rattle.std.specs.Prelude.{◌≡◌, ◌<◌, ◌≤◌, IfOk, MatchOption, All, [], ◌∷◌, length};
+ghost use Rattle.std.specs.Prelude.{◌≡◌, ◌<◌, ◌≤◌, ◌⊎◌, IfOk, IfSome, IsTrue, MatchOption, All, Some, [], ◌∷◌, length};
 ghost use Rattle.event_graph.specs.Times.{IsTime};
 ghost use Rattle.branch.specs.Splits.{AreBetween, AreSplits, IsFirstOf, MeetsSome};
-ghost use Rattle.branch.specs.Step.Looking.{CanLookFor};
+ghost use Rattle.branch.specs.Step.Looking.{CanLookFor, IsWanted};
 
 use crate::decisions::Decisions;
 use crate::splittable::Splittable;
@@ -14,8 +14,8 @@ use std::marker::Model;
 
 /// Looks for the nearest of some constraints with two or more causes: backwards from an event, over the always-edges and the edges of
 /// the choices, for the first event that one of them enters by its choice side. That is the target of a latest constraint, and any
-/// cause of an earliest one. What it answers decides which split is tried, and nothing else: who asks tests the answer, and so no
-/// contract speaks of it. Contracts see the constraints with two or more causes.
+/// cause of an earliest one. Contracts see the constraints with two or more causes, and say that what it answers is one that is looked
+/// for; that it is the nearest decides which split is tried, and nothing else.
 #[derive(Debug, Drop)]
 pub struct Distances {
     // The constraints with two or more causes, by their numbers.
@@ -97,7 +97,8 @@ impl Distances {
     /// where none is reached.
     pub fn nearest(&mut self, wanted: Wanted<'_>, cases: &Decisions, to: EventId) -> Option<u32>
         requires { CanLookFor wanted self.old }
-        ensures { self.new ≡ self.old }
+        ensures same { self.new ≡ self.old }
+        ensures wanted { IfSome result (IsWanted wanted.entry self.old) }
     {
         if self.rules.is_empty() {
             return None;
@@ -206,6 +207,7 @@ fn first_wanted(
     to: EventId,
 ) -> Option<u32>
     requires { CanLookFor graph.wanted graph.rules.now }
+    ensures { IfSome result (IsWanted graph.entry.wanted graph.entry.rules.now) }
 {
     let mut reach = Reach {
         count: put(reached, queue, 0, to),
@@ -236,8 +238,10 @@ fn visit(
     event: EventId,
 ) -> Reach
     requires wanted { CanLookFor graph.wanted graph.rules.now }
+    requires least { IfSome so_far.least (IsWanted graph.wanted graph.rules.now) }
     requires count { so_far.count ≤ length queue.old }
-    ensures { result.count ≤ length queue.new }
+    ensures least { IfSome result.least (IsWanted graph.entry.wanted graph.entry.rules.now) }
+    ensures count { result.count ≤ length queue.new }
 {
     let place = event.0 as usize;
     let mut reach = so_far;
@@ -266,8 +270,10 @@ fn look_at(
     event: EventId,
 ) -> Reach
     requires wanted { CanLookFor graph.wanted graph.rules.now }
+    requires least { IfSome so_far.least (IsWanted graph.wanted graph.rules.now) }
     requires count { so_far.count ≤ length queue.old }
-    ensures { result.count ≤ length queue.new }
+    ensures least { IfSome result.least (IsWanted graph.entry.wanted graph.entry.rules.now) }
+    ensures count { result.count ≤ length queue.new }
 {
     let Some(rule) = graph.rules.get(rule) else {
         return so_far;
@@ -291,6 +297,7 @@ fn look_at(
 // Whether a constraint without a choice is looked for.
 fn is_wanted(wanted: Wanted<'_>, rule: &Splittable) -> bool
     requires { CanLookFor wanted (rule.now ∷ []) }
+    ensures { IsTrue result → IsWanted wanted.entry (rule.now ∷ []) rule.now.number }
 {
     match wanted {
         Wanted::Broken(times) => rule.is_broken(times),
@@ -299,7 +306,9 @@ fn is_wanted(wanted: Wanted<'_>, rule: &Splittable) -> bool
 }
 
 // The lesser of two numbers, of which the first may be missing.
-fn lesser(so_far: Option<u32>, number: u32) -> Option<u32> {
+fn lesser(so_far: Option<u32>, number: u32) -> Option<u32>
+    ensures { (result ≡ so_far) ⊎ (result ≡ Some number) }
+{
     match so_far {
         Some(least) if least < number => so_far,
         _ => Some(number),
