@@ -15,3 +15,4 @@ mod GivenEdges
 mod MetSplits
 mod Looking
 mod KnownTimes
+mod Noting

@@ -72,5 +72,7 @@ pub fn nearest_open(
 fn is_free(net: &Network, cases: &Decisions, constraint: u32) -> bool
     ensures { IsTrue result → IsFree net.now cases.now.chosen constraint }
 {
-    constraint < net.len() && net.cause_count(constraint) > 1 && !cases.has(constraint)
+    constraint < net.len()
+        && net.cause_count(constraint) > 1
+        && cases.cause_of(constraint).is_none()
 }
