@@ -10,6 +10,9 @@ mod Signs
 mod UsableEdges
 mod CaseLevels
 mod BrokenSplits
+mod ListWalks
+mod GivenEdges
 mod MetSplits
 mod Looking
 mod KnownTimes
+mod Noting

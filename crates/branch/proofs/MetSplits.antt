@@ -1,20 +1,28 @@
 -- Times that meet all always-edges satisfy a network where they meet each constraint with two or more causes.
-use Rattle.std.proofs.Common.{◌≡◌, ◌+◌, ◌<◌, ◌≤◌, ℕ, ℤ, IsTrue, List, ◌∷◌, ◌++◌, [], length, get_or, All, Contains, Option, Some, None, option_map, slice_get, refl, subst, inl, inr, arith}
+use Rattle.std.proofs.Common.{◌≡◌, ◌+◌, ◌<◌, ◌≤◌, ℕ, ℤ, IsTrue, List, ◌∷◌, ◌++◌, [], length, get_or, All, Contains, Option, Some, None, IfSome, IsSomeAnd, MatchOption, option_map, slice_get, sym, ap, ◌∙◌, refl, subst, inl, inr, arith}
 use Rattle.std.proofs.lemmas.Bool.{cases_lt}
+use Rattle.std.proofs.lemmas.List.Quantifiers.{all_pairs_push}
 use Rattle.std.proofs.lemmas.List.Elements.{All-contains, All-nil, All-push, Contains-append_left, Contains-push}
-use Rattle.std.proofs.lemmas.Option.{same_Some, slice_get-get_or, slice_get_within}
+use Rattle.std.proofs.lemmas.Option.{same_Some, slice_get-get_or, slice_get_read, slice_get_within}
 use Rattle.itv_base.specs.declared.names.EdgeName.{EdgeName}
+use Rattle.itv_base.specs.declared.names.EventId.{EventId}
 use Rattle.itv_base.specs.declared.names.RuleKind.{RuleKind}
 use Rattle.itv_base.specs.declared.names.RuleKind.TheVariants.{Lin, Late, Early}
+use Rattle.event_graph.specs.declared.cause.Cause.{Cause}
+use Rattle.event_graph.specs.declared.edge.Edge.{Edge}
 use Rattle.event_graph.specs.Edges.{Meets, choice_side, edge, holds_always}
 use Rattle.event_graph.specs.Laws.{MeetsAlwaysOf, MeetsSomeChoice}
 use Rattle.event_graph.specs.Network.{Constraint, IsCauseCount, IsConstraint, IsNet, Net, cause_count_of, named_causes}
+use Rattle.event_graph.specs.Proof.{HasChoice}
 use Rattle.event_graph.specs.RootBound.{MeetsAlways}
-use Rattle.event_graph.specs.Satisfying.{Holds, Satisfies}
+use Rattle.event_graph.specs.Satisfying.{Breaks, Holds, IsFirstBroken, Satisfies}
 use Rattle.event_graph.proofs.ByEdges.{holds_by_edges}
-use Rattle.event_graph.proofs.EdgesMet.{at_some, met_if_some}
-use Rattle.branch.specs.Splits.{AreSplits, IsMetAt}
+use Rattle.event_graph.proofs.EdgesMet.{All-found, at_some, found_below, met_if_some}
+use Rattle.branch.specs.declared.choice_edge.ChoiceEdge.{ChoiceEdge}
+use Rattle.branch.specs.ChoiceEdges.{HasChoiceEnds, IsBetween, IsEdgeBroken, given_edge}
+use Rattle.branch.specs.Splits.{AreAscending, AreBetween, AreSplits, BreaksEach, HasChoiceEdges, HasNumber, IsFirstOf, IsMetAt, IsSplitOf, MeetsSome, Splitting}
 use Rattle.branch.specs.Step.Cases.{IsSplittable}
+use Rattle.branch.specs.Step.Edges.{choice_name, side_of}
 use Rattle.branch.proofs.Results.{some_and}
 
 one_cause : (kind : RuleKind) (count : ℕ) → IsCauseCount kind count → named_causes kind count < 2 → count ≡ 1
@@ -46,37 +54,191 @@ met_alone net times number k is_net meets at_k single =
           (λ e is_edge. meets.each name e (rw is_edge refl, rw at_k (single_always k.kind (length k.causes) single)) is_edge),
     )
 
--- the constraint of a number is met where one of its choices is
-pub met_at : (net : Net) (times : List ℤ) (number : ℕ) → IsNet net → MeetsAlways times net
-    → ((k : Constraint) → slice_get net.constraints number ≡ Some k → MeetsSomeChoice times net number k) → IsMetAt times net number
-met_at net times number is_net meets choice =
-    met_if_some (slice_get net.constraints number) (Holds times) (λ k at_k. met_by_choice net times number k is_net meets at_k (choice k at_k))
+-- ---- constraints by their choice edges
 
--- times satisfy a network where they meet its always-edges and its splits
-pub satisfies : (net : Net) (times : List ℤ) (numbers : List ℕ) → IsNet net → MeetsAlways times net → AreSplits net numbers → All (IsMetAt times net) numbers
+named_most : (kind : RuleKind) (count : ℕ) → named_causes kind count ≤ count
+named_most Lin count = omega arith
+named_most Late count = omega arith
+named_most Early count = omega arith
+
+named_all : (kind : RuleKind) (count : ℕ) → 2 ≤ named_causes kind count → (named_causes kind count ≡ count) × HasChoice kind
+named_all Lin count many = absurd (omega (arith, many))
+named_all Late count many = (refl, tt)
+named_all Early count many = (refl, tt)
+
+-- the edge of a choice on the choice side of its constraint
+name_is : (net : Net) (number cause : ℕ) (k : Constraint) → slice_get net.constraints number ≡ Some k
+    → choice_name net (record { constraint = number; cause = cause }) ≡ record { constraint = number; cause = cause; side = choice_side k.kind }
+name_is net number cause k at_k = ap (λ (o : Option Constraint). let name : EdgeName = record { constraint = number; cause = cause; side = side_of o } in name) at_k
+
+-- how many edges there are
+edges_count : (net : Net) (s : Splitting) (k : Constraint) → HasChoiceEdges net s → slice_get net.constraints s.number ≡ Some k → cause_count_of k ≡ length s.edges
+edges_count net s k has at_k = same_Some _ _ (sym (ap (option_map cause_count_of) at_k) ∙ has.count)
+
+-- a choice is met where its edge is
+choice_met : (net : Net) (times : List ℤ) (s : Splitting) (k : Constraint) → HasChoiceEdges net s → slice_get net.constraints s.number ≡ Some k → MeetsSome times s → MeetsSomeChoice times net s.number k
+choice_met net times s k has at_k (cause, c, within, here, met) =
+    let count : cause_count_of k ≡ length s.edges = edges_count net s k has at_k in
+    let most : cause_count_of k ≤ length k.causes = named_most k.kind (length k.causes) in
+    let is = has.each cause c (slice_get_read s.edges (length s.edges) cause c refl within (sym here)) in
+    let P : Option Edge → Type 0 = λ o. IfSome o (Meets times) in
+    (cause, omega (arith, within, count, most), subst P (ap (edge net) (name_is net s.number cause k at_k)) (subst P (sym is.gives) met))
+
+-- the times meet a constraint with two or more causes where they meet one of its choice edges
+split_met : (net : Net) (times : List ℤ) (s : Splitting) → IsNet net → MeetsAlways times net → IsSplitOf net s → MeetsSome times s → IsMetAt times net s.number
+split_met net times s is_net meets split met =
+    met_if_some (slice_get net.constraints s.number) (Holds times) (λ k at_k. met_by_choice net times s.number k is_net meets at_k (choice_met net times s k split.edges at_k met))
+
+-- what is in a choice is not both met and broken
+both : (times : List ℤ) (o : Option Edge) → IfSome o (Meets times) → IsSomeAnd o (λ (e : Edge). Meets times e → ⊥) → ⊥
+both times None met broken = broken
+both times (Some e) met broken = broken met
+
+-- they break it where they break each of them
+split_broken : (net : Net) (times : List ℤ) (s : Splitting) → IsNet net → IsSplitOf net s → BreaksEach times s → Breaks times net s.number
+split_broken net times s is_net split broken =
+    let found = some_and (slice_get net.constraints s.number) (λ (k : Constraint). 2 ≤ cause_count_of k) split.causes in
+    let k : Constraint = found.0 in
+    let at_k : slice_get net.constraints s.number ≡ Some k = found.1 in
+    let all = named_all k.kind (length k.causes) found.2 in
+    let none : Holds times k → ⊥ = λ holds. unmet k at_k all.0 (((holds_by_edges net s.number k times is_net at_k).0 holds).1 all.1) in
+    rw at_k none
+  where
+    unmet : (k : Constraint) → slice_get net.constraints s.number ≡ Some k → cause_count_of k ≡ length k.causes → MeetsSomeChoice times net s.number k → ⊥
+    unmet k at_k all (cause, within, met) =
+        let count : cause_count_of k ≡ length s.edges = edges_count net s k split.edges at_k in
+        let below : cause < length s.edges = omega (arith, within, count, all) in
+        let found = found_below s.edges cause below in
+        let is = split.edges.each cause found.0 found.1 in
+        let here : IsEdgeBroken times found.0 = All-found (IsEdgeBroken times) s.edges cause found.0 found.1 broken in
+        let P : Option Edge → Type 0 = λ o. IfSome o (Meets times) in
+        both times (given_edge found.0) (subst P is.gives (subst P (ap (edge net) (sym (name_is net s.number cause k at_k))) met)) here
+
+-- they break one of those with two or more causes where they break each of its choice edges
+pub broken_among : (net : Net) (times : List ℤ) (splits : List Splitting) (number : ℕ) (s : Splitting) → IsNet net → AreSplits net splits → Contains splits s → s.number ≡ number
+    → BreaksEach times s → Breaks times net number
+broken_among net times splits number s is_net are among is broken =
+    let P : ℕ → Type 0 = Breaks times net in
+    subst P is (split_broken net times s is_net (All-contains (IsSplitOf net) splits s are.each among) broken)
+
+-- their edges are between the events of the network
+ends_between : (net : Net) (kind : RuleKind) (target event : EventId) (c : ChoiceEdge) → HasChoiceEnds kind target event c → target.0 < net.events → event.0 < net.events → IsBetween net.events c
+ends_between net Lin target event c ends to from = record { from = rw ends.0 from; to = rw ends.1 to }
+ends_between net Late target event c ends to from = record { from = rw ends.0 from; to = rw ends.1 to }
+ends_between net Early target event c ends to from = record { from = rw ends.0 to; to = rw ends.1 from }
+
+edges_between : (net : Net) (s : Splitting) → IsNet net → IsSplitOf net s → All (IsBetween net.events) s.edges
+edges_between net s is_net split cause d within =
+    let found = some_and (slice_get net.constraints s.number) (λ (k : Constraint). 2 ≤ cause_count_of k) split.causes in
+    let k : Constraint = found.0 in
+    let is_k : IsConstraint net.events k = All-found (IsConstraint net.events) net.constraints s.number k found.1 is_net.constraints in
+    let count : cause_count_of k ≡ length s.edges = edges_count net s k split.edges found.1 in
+    let most : cause_count_of k ≤ length k.causes = named_most k.kind (length k.causes) in
+    let x = found_below k.causes cause (omega (arith, within, count, most)) in
+    let is = split.edges.each cause (get_or s.edges cause d) (slice_get-get_or s.edges cause d within) in
+    let from : x.0.event.0 < net.events = All-found (λ (c : Cause). c.event.0 < net.events) k.causes cause x.0 x.1 is_k.causes in
+    ends_between net k.kind k.target x.0.event (get_or s.edges cause d) (is.ends k x.0 found.1 x.1) is_k.target from
+
+splits_between : (net : Net) (splits : List Splitting) → IsNet net → AreSplits net splits → AreBetween net.events splits
+splits_between net splits is_net are k d within = edges_between net (get_or splits k d) is_net (are.each k d within)
+
+-- a constraint that is there is met, if it has a single cause, or if it is met among the others
+met_there : (net : Net) (times : List ℤ) (i : ℕ) (k : Constraint) → IsNet net → MeetsAlways times net → slice_get net.constraints i ≡ Some k
+    → (IsSplittable (slice_get net.constraints i) → IsMetAt times net i) → Holds times k
+met_there net times i k is_net meets at_k split =
+    let is_k : IsConstraint net.events k = All-found (IsConstraint net.events) net.constraints i k at_k is_net.constraints in
+    elim (cases_lt (cause_count_of k) 2) [
+      | inl few ↦ met_alone net times i k is_net meets at_k (one_cause k.kind (length k.causes) is_k.count few)
+      | inr many ↦ at_some (Holds times) (slice_get net.constraints i) k at_k (split (rw at_k many))
+    ]
+
+-- times satisfy a network where they meet its always-edges and some choice edge of each constraint with two or more causes
+satisfies : (net : Net) (times : List ℤ) (splits : List Splitting) → IsNet net → MeetsAlways times net → AreSplits net splits → All (MeetsSome times) splits
     → Satisfies times net
-satisfies net times numbers is_net meets splits met = record {
+satisfies net times splits is_net meets are met = record {
   count = meets.count;
   each = λ i d within.
-      let k : Constraint = get_or net.constraints i d in
-      let at_k : slice_get net.constraints i ≡ Some k = slice_get-get_or net.constraints i d within in
-      let is_k : IsConstraint net.events k = is_net.constraints i d within in
-      elim (cases_lt (cause_count_of k) 2) [
-        | inl few ↦ met_alone net times i k is_net meets at_k (one_cause k.kind (length k.causes) is_k.count few)
-        | inr many ↦ at_some (Holds times) (slice_get net.constraints i) k at_k
-            (All-contains (IsMetAt times net) numbers i met (splits.all i (rw at_k many)))
-      ];
+      met_there net times i (get_or net.constraints i d) is_net meets (slice_get-get_or net.constraints i d within)
+      (λ is.
+      let has = are.all i is in
+      let P : ℕ → Type 0 = IsMetAt times net in
+      subst P has.2 (split_met net times has.0 is_net meets (All-contains (IsSplitOf net) splits has.0 are.each has.1) (All-contains (MeetsSome times) splits has.0 met has.1)));
 }
 
--- the numbers are those of the constraints with two or more causes, of so many
-pub record AreSplitsBelow (net : Net) (numbers : List ℕ) (count : ℕ) : Type 0 where
-  pub each : All (λ (number : ℕ). IsSplittable (slice_get net.constraints number)) numbers
-  pub below : (number : ℕ) → number < count → IsSplittable (slice_get net.constraints number) → Contains numbers number
+-- the first of them each of whose choice edges the times break is the first constraint that they break
+first_is_broken : (net : Net) (times : List ℤ) (splits : List Splitting) (number : ℕ) → IsNet net → MeetsAlways times net → AreSplits net splits → IsFirstOf times splits number
+    → IsFirstBroken times net 0 number
+first_is_broken net times splits number is_net meets are first = record {
+  reached = omega arith;
+  broken = broken;
+  earlier = λ i d low high.
+      let k : Constraint = get_or net.constraints i d in
+      let within : number < length net.constraints = there in
+      met_there net times i k is_net meets (slice_get-get_or net.constraints i d (omega (arith, within, high)))
+      (λ is.
+      let has = are.all i is in
+      let P : ℕ → Type 0 = IsMetAt times net in
+      subst P has.2 (split_met net times has.0 is_net meets (All-contains (IsSplitOf net) splits has.0 are.each has.1) (met_before has.0 has.1 (omega (arith, has.2, high)))));
+}
+  where
+    -- any will do where none is needed
+    nothing : Splitting
+    nothing = record { number = 0; edges = [] }
+
+    broken : Breaks times net number
+    broken =
+        let P : ℕ → Type 0 = Breaks times net in
+        subst P (first.broken nothing).0 (split_broken net times (get_or splits first.place nothing) is_net (are.each first.place nothing first.within) (first.broken nothing).1)
+
+    there : number < length net.constraints
+    there =
+        let found = some_and (slice_get net.constraints number) (λ (k : Constraint). Holds times k → ⊥) broken in
+        slice_get_within net.constraints number found.0 found.1
+
+    met_before : (s : Splitting) → Contains splits s → s.number < number → MeetsSome times s
+    met_before s (j, below, here) less =
+        elim (cases_lt j first.place) [
+          | inl earlier ↦ let P : Splitting → Type 0 = MeetsSome times in subst P here (first.earlier j s (omega arith) earlier)
+          | inr later ↦ absurd (not_before s j below here less later)
+        ]
+      where
+        not_before : (s : Splitting) (j : ℕ) → j < length splits → get_or splits j s ≡ s → s.number < number → first.place ≤ j → ⊥
+        not_before s j below here less later =
+            let is : (get_or splits first.place s).number ≡ number = (first.broken s).0 in
+            let mine : (get_or splits j s).number ≡ s.number = ap (λ (x : Splitting). x.number) here in
+            elim (cases_lt first.place j) [
+              | inl apart ↦ (let more = are.ascending first.place j s apart below in omega (arith, is, mine, less, more))
+              | inr not ↦
+                  (let same : first.place ≡ j = omega (arith, later, not) in
+                  let equal : (get_or splits first.place s).number ≡ (get_or splits j s).number = ap (λ (n : ℕ). (get_or splits n s).number) same in
+                  omega (arith, is, mine, less, equal))
+            ]
+
+-- which of them is the first, or whether none is
+pub first_or_satisfies : (net : Net) (times : List ℤ) (splits : List Splitting) (found : Option ℕ) → IsNet net → MeetsAlways times net → AreSplits net splits
+    → MatchOption found (All (MeetsSome times) splits) (IsFirstOf times splits) → MatchOption found (Satisfies times net) (IsFirstBroken times net 0)
+first_or_satisfies net times splits None is_net meets are met = satisfies net times splits is_net meets are met
+first_or_satisfies net times splits (Some number) is_net meets are first = first_is_broken net times splits number is_net meets are first
+
+-- the edges can be read against times that meet the always-edges
+pub can_look : (net : Net) (times : List ℤ) (splits : List Splitting) → IsNet net → MeetsAlways times net → AreSplits net splits → AreBetween (length times) splits
+can_look net times splits is_net meets are = rw meets.count (splits_between net splits is_net are)
+
+-- ---- while they are listed
+
+-- the constraints with two or more causes, of so many
+pub record AreSplitsBelow (net : Net) (splits : List Splitting) (count : ℕ) : Type 0 where
+  pub each : All (IsSplitOf net) splits
+  pub under : All (λ (s : Splitting). s.number < count) splits
+  pub below : (number : ℕ) → number < count → IsSplittable (slice_get net.constraints number) → HasNumber splits number
+  pub ascending : AreAscending splits
 
 pub no_splits : (net : Net) → AreSplitsBelow net [] 0
 no_splits net = record {
-  each = All-nil (λ (number : ℕ). IsSplittable (slice_get net.constraints number));
+  each = All-nil (IsSplitOf net);
+  under = All-nil (λ (s : Splitting). s.number < 0);
   below = λ number below is. absurd (omega (arith, below));
+  ascending = λ i j d less within. absurd (omega (arith, within));
 }
 
 -- a constraint has two or more causes by their count
@@ -89,36 +251,41 @@ splits_not None count is few splits = splits
 splits_not (Some k) count is few splits = absurd (omega (arith, same_Some _ _ is, few, splits))
 
 -- one more constraint has two or more causes
-pub splits_with : (net : Net) (numbers : List ℕ) (count : ℕ) → AreSplitsBelow net numbers count → IsSplittable (slice_get net.constraints count)
-    → AreSplitsBelow net (numbers ++ count ∷ []) (count + 1)
-splits_with net numbers count are is_split = record {
-  each = All-push (λ (number : ℕ). IsSplittable (slice_get net.constraints number)) numbers count are.each is_split;
-  below = λ number below is.
+pub splits_with : (net : Net) (splits : List Splitting) (s : Splitting) (count : ℕ) → AreSplitsBelow net splits count → IsSplitOf net s → s.number ≡ count
+    → AreSplitsBelow net (splits ++ s ∷ []) (count + 1)
+splits_with net splits s count are split is = record {
+  each = All-push (IsSplitOf net) splits s are.each split;
+  under = All-push (λ (x : Splitting). x.number < count + 1) splits s (λ k d within. let less = are.under k d within in omega (arith, less)) (omega (arith, is));
+  below = λ number below is_split.
       elim (cases_lt number count) [
-        | inl earlier ↦ Contains-append_left numbers (count ∷ []) number (are.below number earlier is)
-        | inr last ↦ (let same : count ≡ number = omega (arith, below, last) in subst (λ (n : ℕ). Contains (numbers ++ count ∷ []) n) same (Contains-push numbers count))
+        | inl earlier ↦ (let has = are.below number earlier is_split in (has.0, Contains-append_left splits (s ∷ []) has.0 has.1, has.2))
+        | inr last ↦ (s, Contains-push splits s, omega (arith, is, below, last))
       ];
+  ascending = all_pairs_push (λ (a b : Splitting). a.number < b.number) splits s are.ascending (λ k d within. let less = are.under k d within in omega (arith, less, is));
 }
 
 -- or it has not
-pub splits_without : (net : Net) (numbers : List ℕ) (count : ℕ) → AreSplitsBelow net numbers count → (IsSplittable (slice_get net.constraints count) → ⊥)
-    → AreSplitsBelow net numbers (count + 1)
-splits_without net numbers count are is_not = record {
+pub splits_without : (net : Net) (splits : List Splitting) (count : ℕ) → AreSplitsBelow net splits count → (IsSplittable (slice_get net.constraints count) → ⊥)
+    → AreSplitsBelow net splits (count + 1)
+splits_without net splits count are is_not = record {
   each = are.each;
+  under = λ k d within. let less = are.under k d within in omega (arith, less);
   below = λ number below is.
       elim (cases_lt number count) [
         | inl earlier ↦ are.below number earlier is
         | inr last ↦ (let same : number ≡ count = omega (arith, below, last) in
             absurd (is_not (subst (λ (n : ℕ). IsSplittable (slice_get net.constraints n)) same is)))
       ];
+  ascending = are.ascending;
 }
 
 -- all of them
-pub all_splits : (net : Net) (numbers : List ℕ) (count : ℕ) → AreSplitsBelow net numbers count → length net.constraints ≤ count → AreSplits net numbers
-all_splits net numbers count are past = record {
+pub all_splits : (net : Net) (splits : List Splitting) (count : ℕ) → AreSplitsBelow net splits count → length net.constraints ≤ count → AreSplits net splits
+all_splits net splits count are past = record {
   each = are.each;
   all = λ number is.
       let found = some_and (slice_get net.constraints number) (λ (k : Constraint). 2 ≤ cause_count_of k) is in
       let within : number < length net.constraints = slice_get_within net.constraints number found.0 found.1 in
       are.below number (omega (arith, within, past)) is;
+  ascending = are.ascending;
 }

@@ -4,3 +4,5 @@ pub mod Raising
 pub mod Standing
 pub mod Searched
 pub mod Inside
+pub mod Looking
+pub mod Noted

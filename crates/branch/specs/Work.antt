@@ -6,14 +6,14 @@ use Rattle.event_graph.specs.Times.{separation}
 use Rattle.diff_bounds.specs.Standing.{Standing}
 use Rattle.diff_bounds.specs.Standing.{IsMadeFor as IsBoundsFor}
 use Rattle.event_graph.specs.Network.{splittable_count}
-use Rattle.branch.specs.Splits.{AreSplits}
+use Rattle.branch.specs.Splits.{AreSplits, Splitting}
 
--- the bounds, room for a number of choices, the numbers of the constraints that can be split, the known times, where there are some, the times and the events to raise that the last search
+-- the bounds, room for a number of choices, the constraints that can be split, the known times, where there are some, the times and the events to raise that the last search
 -- for a bound left, and how many cases the last search closed
 pub record View : Type 0 where
   pub bounds : Standing
   pub room : ℕ
-  pub splits : List ℕ
+  pub splits : List Splitting
   pub known : Option (List ℤ)
   pub times : List ℤ
   pub ray : List Bool

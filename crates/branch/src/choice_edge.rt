@@ -1,10 +1,14 @@
 //! The edges that choices give.
 
-ghost use Rattle.std.specs.Prelude.{IsSome};
+ghost use Rattle.std.specs.Prelude.{◌≡◌, ◌-ℤ◌, IsSome, MatchBool, All, length};
 ghost use Rattle.event_graph.specs.Network.{cause_at};
+ghost use Rattle.event_graph.specs.Times.{IsTime};
+ghost use Rattle.branch.specs.ChoiceEdges.{IsBetween, IsChoiceEdge, IsEdgeBroken, IsEdgeMet};
 
+use crate::choice::Choice;
+use crate::levels::name_of;
 use event_graph::Network;
-use itv_base::{EdgeName, EventId, RuleKind, Side};
+use itv_base::{EventId, RuleKind};
 
 /// The edge that the choice of a cause gives: the time of `to` less that of `from` is at most `weight` picoseconds, or anything where
 /// that is open.
@@ -20,29 +24,39 @@ impl ChoiceEdge {
     /// leads to the cause.
     pub fn of(net: &Network, constraint: u32, cause: u32) -> ChoiceEdge
         requires { IsSome (cause_at net.now constraint cause) }
+        ensures { IsChoiceEdge net.now constraint cause result }
     {
         let target = net.target(constraint);
         let event = net.cause(constraint, cause).event;
-        let (from, to, side) = match net.kind(constraint) {
-            RuleKind::Lin | RuleKind::Late => (event, target, Side::Upper),
-            RuleKind::Early => (target, event, Side::Lower),
+        let (from, to) = match net.kind(constraint) {
+            RuleKind::Lin | RuleKind::Late => (event, target),
+            RuleKind::Early => (target, event),
         };
-        let name = EdgeName {
-            constraint,
-            cause,
-            side,
-        };
-        let weight = net.edge(name).map(|edge| edge.weight);
+        let edge = net.edge(name_of(net, Choice { constraint, cause }));
+        let weight = edge.map(|edge| edge.weight);
         ChoiceEdge { from, to, weight }
     }
 
-    /// Whether times break the edge.
-    pub fn is_broken(&self, times: &[i64]) -> bool {
-        let from = times.get(self.from.0 as usize);
-        let to = times.get(self.to.0 as usize);
-        match (from, to, self.weight) {
-            (Some(from), Some(to), Some(weight)) => weight < to.wrapping_sub(*from),
-            _ => false,
+    /// Whether times break the edge. They are those of all events.
+    pub fn is_broken(&self, times: &[i64]) -> bool
+        requires between { IsBetween (length times.now) self.now }
+        requires times { All IsTime times.now }
+        ensures { MatchBool result (IsEdgeBroken times.now self.now) (IsEdgeMet times.now self.now) }
+    {
+        match self.weight {
+            None => false,
+            Some(weight) => {
+                weight < difference(times[self.from.0 as usize], times[self.to.0 as usize])
+            }
         }
     }
+}
+
+// How much later one time is than another.
+fn difference(from: i64, to: i64) -> i64
+    requires from { IsTime from }
+    requires to { IsTime to }
+    ensures { result ≡ to -ℤ from }
+{
+    to - from
 }

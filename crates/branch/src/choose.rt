@@ -3,12 +3,11 @@
 ghost use Rattle.std.specs.Prelude.{◌≡◌, ◌⊎◌, IsTrue, MatchOption, All};
 ghost use Rattle.event_graph.specs.Network.{IsNet};
 ghost use Rattle.event_graph.specs.RootBound.{MeetsAlways};
-ghost use Rattle.event_graph.specs.Satisfying.{Breaks, Satisfies};
+ghost use Rattle.event_graph.specs.Satisfying.{Breaks, IsFirstBroken, Satisfies};
 ghost use Rattle.event_graph.specs.Times.{IsTime};
 ghost use Rattle.branch.specs.Splits.{AreSplits};
 ghost use Rattle.branch.specs.Step.Cases.{IsFree};
 
-use crate::breaking::{breaks, is_broken};
 use crate::decisions::Decisions;
 use crate::distances::{Distances, Wanted};
 use event_graph::Network;
@@ -32,8 +31,8 @@ pub fn nearest_broken(
     ensures broken { MatchOption result (Satisfies times.now net.now) (λ number. Breaks times.now net.now number) }
 {
     match distances.nearest(Wanted::Broken(times), cases, to) {
-        Some(nearest) if is_broken(net, times, nearest) => Some(nearest),
-        _ => broken_of(net, times, distances.splits()),
+        Some(nearest) => Some(nearest),
+        None => first_broken(net, times, distances),
     }
 }
 
@@ -44,28 +43,9 @@ pub fn first_broken(net: &Network, times: &[i64], distances: &Distances) -> Opti
     requires splits { AreSplits net.now distances.now }
     requires always { MeetsAlways times.now net.now }
     requires times { All IsTime times.now }
-    ensures { MatchOption result (Satisfies times.now net.now) (λ number. Breaks times.now net.now number) }
+    ensures { MatchOption result (Satisfies times.now net.now) (IsFirstBroken times.now net.now 0) }
 {
-    match distances.first_broken(times) {
-        Some(first) if is_broken(net, times, first) => Some(first),
-        _ => broken_of(net, times, distances.splits()),
-    }
-}
-
-// The first of the constraints with two or more causes that the times break, or none exactly where they satisfy the network.
-fn broken_of(net: &Network, times: &[i64], splits: &[u32]) -> Option<u32>
-    requires net { IsNet net.now }
-    requires splits { AreSplits net.now splits.now }
-    requires always { MeetsAlways times.now net.now }
-    requires times { All IsTime times.now }
-    ensures { MatchOption result (Satisfies times.now net.now) (λ number. Breaks times.now net.now number) }
-{
-    for number in splits {
-        if breaks(net, times, *number) {
-            return Some(*number);
-        }
-    }
-    None
+    distances.first_broken(times)
 }
 
 /// The constraint nearest to an event among those that can be split, or one that the times break where none is reached. Of several at
@@ -92,5 +72,7 @@ pub fn nearest_open(
 fn is_free(net: &Network, cases: &Decisions, constraint: u32) -> bool
     ensures { IsTrue result → IsFree net.now cases.now.chosen constraint }
 {
-    constraint < net.len() && net.cause_count(constraint) > 1 && !cases.has(constraint)
+    constraint < net.len()
+        && net.cause_count(constraint) > 1
+        && cases.cause_of(constraint).is_none()
 }

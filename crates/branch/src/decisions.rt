@@ -1,7 +1,8 @@
 //! The choices of the case at hand.
 
-ghost use Rattle.std.specs.Prelude.{◌≡◌, ◌<◌, ◌↔◌, [], ◌∷◌, false, IfOk, IsTrue, All, MatchOption, OnSome, length};
-ghost use Rattle.event_graph.specs.Proof.{Case, Choice as ChoiceOf};
+ghost use Rattle.std.specs.Prelude.{◌≡◌, ◌<◌, ◌↔◌, [], ◌∷◌, IfOk, IsTrue, MatchOption, OnSome, length};
+ghost use Rattle.event_graph.specs.Proof.{Case};
+ghost use Rattle.branch.specs.Step.Noted.{HasNoCause, IsCauseIn};
 
 use crate::choice::Choice;
 use itv_base::NoMemory;
@@ -13,19 +14,20 @@ use std::marker::Model;
 pub struct Decisions {
     room: u32,
     choices: Vec<Choice>,
-    // The cause of each constraint that is chosen, for those who only want to know where to look.
+    // For each constraint the cause that is chosen of it, if there is one.
     causes: Vec<Option<u32>>,
 }
 
 impl Model for Decisions {
-    ghost use Rattle.std.specs.Prelude.{◌≤◌, length, reverse, vec_capacity};
+    ghost use Rattle.std.specs.Prelude.{reverse};
     ghost use Rattle.branch.specs.Step.Cases.{Chosen};
+    ghost use Rattle.branch.specs.Step.Noted.{IsNoted};
 
     ghost Value = { Chosen };
 
     ghost view = { λ d. record { room = d.room; chosen = reverse d.choices.items } };
 
-    ghost invariant = { λ d. (length d.choices.items ≤ d.room) × (d.room ≤ vec_capacity d.choices) };
+    ghost invariant = { IsNoted };
 }
 
 impl Decisions {
@@ -58,13 +60,17 @@ impl Decisions {
         self.choices.is_empty()
     }
 
-    /// Adds a choice.
+    /// Adds a choice of a constraint of which none is chosen.
     pub fn push(&mut self, choice: Choice)
-        requires { length self.old.chosen < self.old.room }
+        requires room { length self.old.chosen < self.old.room }
+        requires free { HasNoCause self.old.chosen choice.constraint }
         ensures { self.new ≡ record self.old { chosen = choice ∷ self.old.chosen } }
     {
         self.choices.push_reserved(choice);
-        note(&mut self.causes, choice.constraint, Some(choice.cause));
+        let place = choice.constraint as usize;
+        if place < self.causes.len() {
+            self.causes[place] = Some(choice.cause);
+        }
     }
 
     /// Takes the latest choice away.
@@ -75,7 +81,10 @@ impl Decisions {
         ensures free { OnSome result (length self.new.chosen < self.new.room) }
     {
         let choice = self.choices.pop()?;
-        note(&mut self.causes, choice.constraint, None);
+        let place = choice.constraint as usize;
+        if place < self.causes.len() {
+            self.causes[place] = None;
+        }
         Some(choice)
     }
 
@@ -87,27 +96,26 @@ impl Decisions {
         self.choices.last().copied()
     }
 
-    /// The cause that is chosen of a constraint, as it was noted. No contract speaks of it: [`Decisions::has`] tells for sure whether
-    /// there is one, and takes longer.
-    pub fn cause_of(&self, constraint: u32) -> Option<u32> {
-        self.causes.get(constraint as usize).copied().flatten()
-    }
-
-    /// Whether a cause of a constraint is chosen.
-    pub fn has(&self, constraint: u32) -> bool
-        ensures { (result ≡ false)
-            → All (λ (choice : ChoiceOf). choice.constraint ≡ constraint → ⊥) self.now.chosen }
+    /// The cause that is chosen of a constraint, if there is one.
+    pub fn cause_of(&self, constraint: u32) -> Option<u32>
+        ensures { IsCauseIn self.now.chosen constraint result }
     {
-        self.choices
-            .iter()
-            .any(|choice| choice.constraint == constraint)
+        match self.causes.get(constraint as usize) {
+            Some(cause) => *cause,
+            // There is no room for a note of it.
+            None => self.look_up(constraint),
+        }
     }
-}
 
-// Notes the cause that is chosen of a constraint, or that none is.
-fn note(causes: &mut [Option<u32>], constraint: u32, cause: Option<u32>) {
-    let place = constraint as usize;
-    if place < causes.len() {
-        causes[place] = cause;
+    // The cause that is chosen of a constraint, found among the choices.
+    fn look_up(&self, constraint: u32) -> Option<u32>
+        ensures { IsCauseIn self.now.chosen constraint result }
+    {
+        for choice in &self.choices {
+            if choice.constraint == constraint {
+                return Some(choice.cause);
+            }
+        }
+        None
     }
 }

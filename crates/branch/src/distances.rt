@@ -1,7 +1,9 @@
 //! How far constraints are from an event, counted in edges.
 
-ghost use Rattle.std.specs.Prelude.{◌≡◌, ◌<◌, ◌≤◌, IfOk, length};
-ghost use Rattle.branch.specs.Splits.{AreSplits};
+ghost use Rattle.std.specs.Prelude.{◌≡◌, ◌<◌, ◌≤◌, ◌⊎◌, IfOk, IfSome, IsTrue, MatchOption, All, Some, [], ◌∷◌, length};
+ghost use Rattle.event_graph.specs.Times.{IsTime};
+ghost use Rattle.branch.specs.Splits.{AreBetween, AreSplits, IsFirstOf, MeetsSome};
+ghost use Rattle.branch.specs.Step.Looking.{CanLookFor, IsWanted};
 
 use crate::decisions::Decisions;
 use crate::splittable::Splittable;
@@ -12,13 +14,11 @@ use std::marker::Model;
 
 /// Looks for the nearest of some constraints with two or more causes: backwards from an event, over the always-edges and the edges of
 /// the choices, for the first event that one of them enters by its choice side. That is the target of a latest constraint, and any
-/// cause of an earliest one. What it answers decides which split is tried, and nothing else: who asks tests the answer, and so no
-/// contract speaks of it. Contracts see the numbers of the constraints with two or more causes.
+/// cause of an earliest one. Contracts see the constraints with two or more causes, and say that what it answers is one that is looked
+/// for; that it is the nearest decides which split is tried, and nothing else.
 #[derive(Debug, Drop)]
 pub struct Distances {
-    // The numbers of the constraints with two or more causes.
-    splits: Vec<u32>,
-    // Those constraints, in the same order.
+    // The constraints with two or more causes, by their numbers.
     rules: Vec<Splittable>,
     // For each event the places of those that enter it, in the same order.
     entering: Vec<Vec<usize>>,
@@ -31,11 +31,12 @@ pub struct Distances {
 }
 
 impl Model for Distances {
-    ghost use Rattle.std.specs.Prelude.{List, ℕ};
+    ghost use Rattle.std.specs.Prelude.{List};
+    ghost use Rattle.branch.specs.Splits.{Splitting};
 
-    ghost Value = { List ℕ };
+    ghost Value = { List Splitting };
 
-    ghost view = { λ d. d.splits.items };
+    ghost view = { λ d. d.rules.items };
 }
 
 /// Which constraints are looked for.
@@ -54,7 +55,6 @@ impl Distances {
     {
         let events = net.events();
         let count = net.splittable_count() as usize;
-        let mut splits = Vec::with_capacity(alloc, count)?;
         let mut rules = Vec::with_capacity(alloc, count)?;
         let mut entering = empty_lists(alloc, events)?;
         let mut sources = empty_lists(alloc, events)?;
@@ -67,11 +67,9 @@ impl Distances {
                 let rule = Splittable::new(alloc, net, number)?;
                 add_entering(&rule, rules.len(), &mut entering)?;
                 rules.push(rule)?;
-                splits.push(number)?;
             }
         }
         Ok(Distances {
-            splits,
             rules,
             entering,
             sources,
@@ -80,15 +78,13 @@ impl Distances {
         })
     }
 
-    /// The numbers of the constraints with two or more causes.
-    pub fn splits(&self) -> &[u32]
-        ensures { result.now ≡ self.now }
+    /// The least number of a constraint each of whose choice edges times break: that is one that they break, where they meet all
+    /// always-edges.
+    pub fn first_broken(&self, times: &[i64]) -> Option<u32>
+        requires between { AreBetween (length times.now) self.now }
+        requires times { All IsTime times.now }
+        ensures { MatchOption result (All (MeetsSome times.now) self.now) (IsFirstOf times.now self.now) }
     {
-        &self.splits
-    }
-
-    /// The least number of a constraint that times break, which meet all always-edges.
-    pub fn first_broken(&self, times: &[i64]) -> Option<u32> {
         for rule in &self.rules {
             if rule.is_broken(times) {
                 return Some(rule.number());
@@ -100,7 +96,9 @@ impl Distances {
     /// The nearest of the constraints that are looked for, and of several at one distance the one of least number. There is no answer
     /// where none is reached.
     pub fn nearest(&mut self, wanted: Wanted<'_>, cases: &Decisions, to: EventId) -> Option<u32>
-        ensures { self.new ≡ self.old }
+        requires { CanLookFor wanted self.old }
+        ensures same { self.new ≡ self.old }
+        ensures wanted { IfSome result (IsWanted wanted.entry self.old) }
     {
         if self.rules.is_empty() {
             return None;
@@ -207,7 +205,10 @@ fn first_wanted(
     reached: &mut [bool],
     queue: &mut [EventId],
     to: EventId,
-) -> Option<u32> {
+) -> Option<u32>
+    requires { CanLookFor graph.wanted graph.rules.now }
+    ensures { IfSome result (IsWanted graph.entry.wanted graph.entry.rules.now) }
+{
     let mut reach = Reach {
         count: put(reached, queue, 0, to),
         least: None,
@@ -236,8 +237,11 @@ fn visit(
     so_far: Reach,
     event: EventId,
 ) -> Reach
-    requires { so_far.count ≤ length queue.old }
-    ensures { result.count ≤ length queue.new }
+    requires wanted { CanLookFor graph.wanted graph.rules.now }
+    requires least { IfSome so_far.least (IsWanted graph.wanted graph.rules.now) }
+    requires count { so_far.count ≤ length queue.old }
+    ensures least { IfSome result.least (IsWanted graph.entry.wanted graph.entry.rules.now) }
+    ensures count { result.count ≤ length queue.new }
 {
     let place = event.0 as usize;
     let mut reach = so_far;
@@ -265,8 +269,11 @@ fn look_at(
     rule: usize,
     event: EventId,
 ) -> Reach
-    requires { so_far.count ≤ length queue.old }
-    ensures { result.count ≤ length queue.new }
+    requires wanted { CanLookFor graph.wanted graph.rules.now }
+    requires least { IfSome so_far.least (IsWanted graph.wanted graph.rules.now) }
+    requires count { so_far.count ≤ length queue.old }
+    ensures least { IfSome result.least (IsWanted graph.entry.wanted graph.entry.rules.now) }
+    ensures count { result.count ≤ length queue.new }
 {
     let Some(rule) = graph.rules.get(rule) else {
         return so_far;
@@ -288,7 +295,10 @@ fn look_at(
 }
 
 // Whether a constraint without a choice is looked for.
-fn is_wanted(wanted: Wanted<'_>, rule: &Splittable) -> bool {
+fn is_wanted(wanted: Wanted<'_>, rule: &Splittable) -> bool
+    requires { CanLookFor wanted (rule.now ∷ []) }
+    ensures { IsTrue result → IsWanted wanted.entry (rule.now ∷ []) rule.now.number }
+{
     match wanted {
         Wanted::Broken(times) => rule.is_broken(times),
         Wanted::Open => true,
@@ -296,7 +306,9 @@ fn is_wanted(wanted: Wanted<'_>, rule: &Splittable) -> bool {
 }
 
 // The lesser of two numbers, of which the first may be missing.
-fn lesser(so_far: Option<u32>, number: u32) -> Option<u32> {
+fn lesser(so_far: Option<u32>, number: u32) -> Option<u32>
+    ensures { (result ≡ so_far) ⊎ (result ≡ Some number) }
+{
     match so_far {
         Some(least) if least < number => so_far,
         _ => Some(number),

@@ -6,7 +6,6 @@
 mod answer;
 mod best;
 mod bounding;
-mod breaking;
 mod choice;
 mod choice_edge;
 mod choose;

@@ -1,24 +1,39 @@
 //! The constraints that a case can be split on.
 
-ghost use Rattle.std.specs.Prelude.{◌<◌, length};
+ghost use Rattle.std.specs.Prelude.{◌≡◌, ◌<◌, IfOk, IfSome, IsSome, MatchBool, MatchOption, All, Some, None, length, slice_get};
+ghost use Rattle.event_graph.specs.Times.{IsTime};
+ghost use Rattle.branch.specs.declared.choice_edge.ChoiceEdge.{ChoiceEdge as ChoiceEdgeOf};
+ghost use Rattle.branch.specs.ChoiceEdges.{IsBetween};
+ghost use Rattle.branch.specs.Splits.{BreaksEach, HasChoiceEdges, MeetsSome};
 
 use crate::choice_edge::ChoiceEdge;
 use event_graph::Network;
 use itv_base::{EventId, NoMemory};
 use std::alloc::Global;
+use std::marker::Model;
 
 /// A constraint with two or more causes. Times that meet all always-edges break it exactly where they break each of its choice edges:
-/// so no other edge is kept.
+/// so no other edge is kept. Contracts see its number and these edges.
 #[derive(Debug, Drop)]
 pub struct Splittable {
     number: u32,
     edges: Vec<ChoiceEdge>,
 }
 
+impl Model for Splittable {
+    ghost use Rattle.branch.specs.Splits.{Splitting};
+
+    ghost Value = { Splitting };
+
+    ghost view = { λ s. record { number = s.number; edges = s.edges.items } };
+}
+
 impl Splittable {
     /// The constraint of a number.
     pub fn new(alloc: Global, net: &Network, number: u32) -> Result<Splittable, NoMemory>
         requires { number < length net.now.constraints }
+        ensures number { IfOk result (λ s. s.number ≡ number) }
+        ensures edges { IfOk result (HasChoiceEdges net.now) }
     {
         let mut edges = Vec::new(alloc);
         for cause in 0..net.cause_count(number) {
@@ -28,25 +43,43 @@ impl Splittable {
     }
 
     /// Its number in the network.
-    pub fn number(&self) -> u32 {
+    pub fn number(&self) -> u32
+        ensures { result ≡ self.now.number }
+    {
         self.number
     }
 
     /// The edges of its causes.
-    pub fn edges(&self) -> &[ChoiceEdge] {
+    pub fn edges(&self) -> &[ChoiceEdge]
+        ensures { result.now ≡ self.now.edges }
+    {
         &self.edges
     }
 
-    /// Where the edge of a cause begins, if it ends at an event.
-    pub fn source(&self, cause: u32, event: EventId) -> Option<EventId> {
+    /// Where the edge of a cause begins, if it ends at an event and is not open.
+    pub fn source(&self, cause: u32, event: EventId) -> Option<EventId>
+        ensures starts { IfSome result (λ from. (c : ChoiceEdgeOf) × (slice_get self.now.edges cause ≡ Some c)
+            × (c.to ≡ event) × IsSome c.weight × (c.from ≡ from)) }
+        ensures none { (c : ChoiceEdgeOf) → result ≡ None → slice_get self.now.edges cause ≡ Some c
+            → c.to ≡ event → c.weight ≡ None }
+    {
         match self.edges.get(cause as usize) {
             Some(edge) if edge.to == event && edge.weight.is_some() => Some(edge.from),
             _ => None,
         }
     }
 
-    /// Whether times break each of its choice edges.
-    pub fn is_broken(&self, times: &[i64]) -> bool {
-        self.edges.iter().all(|edge| edge.is_broken(times))
+    /// Whether times break each of its choice edges. They are those of all events.
+    pub fn is_broken(&self, times: &[i64]) -> bool
+        requires between { All (IsBetween (length times.now)) self.now.edges }
+        requires times { All IsTime times.now }
+        ensures { MatchBool result (BreaksEach times.now self.now) (MeetsSome times.now self.now) }
+    {
+        for edge in &self.edges {
+            if !edge.is_broken(times) {
+                return false;
+            }
+        }
+        true
     }
 }

@@ -1,4 +1,4 @@
-use Rattle.std.proofs.Common.{◌≡◌, ◌+◌, ◌∙◌, ℤ, List, [], ◌∷◌, ◌++◌, Some, sym, ap, subst, arith, rules}
+use Rattle.std.proofs.Common.{◌≡◌, ◌+◌, ◌∙◌, ℤ, List, [], ◌∷◌, ◌++◌, Some, sym, ap, subst, refl, arith, rules}
 use Rattle.itv_base.specs.declared.names.EdgeName.{EdgeName}
 use Rattle.diff_bounds.specs.declared.fit.Fit.TheVariants.{Fits, Loop as Looped}
 use Rattle.event_graph.specs.Proof.{ClosesByLoop, Loop, Nothing, ProofLine}
@@ -10,8 +10,16 @@ use Rattle.branch.specs.Step.Searched.{IsFindSearched}
 use Rattle.branch.specs.declared.search.Search.{Search}
 use Rattle.branch.proofs.Endings.{found_consistent, found_inconsistent, found_unsettled, proof_count, root_searched, stopped_count}
 use Rattle.branch.proofs.Entering.{at_root, root_read}
+use Rattle.branch.proofs.Results.{on_err}
 use Rattle.branch.proofs.SearchedLines.{nothing_after}
 use Rattle.branch.proofs.finding.find_times.Goals as goal
+
+pub returns-in_err-cut_loop-clause-cut : goal.returns-in_err-cut_loop-clause-cut
+returns-in_err-cut_loop-clause-cut g c =
+    let walk : List EdgeName = c.walk.result.now in
+    let is : c.start.result ≡ Looped = search rules in
+    let closes : ClosesByLoop c.args.net.now [] walk = subst (ClosesByLoop c.args.net.now []) (sym c.walk.ensures) (c.start.ensures.walk is) in
+    on_err c.from_residual.result _ (Loop walk ∷ [], c.in_err-cut_loop.ensures.cut, ([], (closes, refl)))
 
 pub returns-then-eq-clause-lines : goal.returns-then-eq-clause-lines
 returns-then-eq-clause-lines g c =

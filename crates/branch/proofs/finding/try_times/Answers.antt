@@ -11,14 +11,14 @@ first_broken-requires-clause-always g c = meets_always c.args.net.now c.args.sea
 
 pub split_case-requires-clause-free : goal.split_case-requires-clause-free
 split_case-requires-clause-free g c =
-    broken_is_free c.args.net.now c.args.search.now.cases.chosen c.times_in.new.out c.in-Some.number c.requires.net c.requires.case.case c.times_in.ensures.meets c.in-Some.ensures
+    broken_is_free c.args.net.now c.args.search.now.cases.chosen c.times_in.new.out c.in-Some.number c.requires.net c.requires.case.case c.times_in.ensures.meets c.in-Some.ensures.broken
 
 pub returns-in_err-split_case-in-Some-clause-cut : goal.returns-in_err-split_case-in-Some-clause-cut
 returns-in_err-split_case-in-Some-clause-cut g c =
     let net = c.args.net.now in
     let chosen = c.args.search.now.cases.chosen in
     let times = c.times_in.new.out in
-    let breaks = c.in-Some.ensures in
+    let breaks = c.in-Some.ensures.broken in
     let free = broken_is_free net chosen times c.in-Some.number c.requires.net c.requires.case.case c.times_in.ensures.meets breaks in
     let cut = c.in_err-split_case-in-Some.ensures.cut in
     let left = cut.2 Nothing in
@@ -30,7 +30,7 @@ returns-in_ok-split_case-in-Some-clause-advances g c =
     let net = c.args.net.now in
     let chosen = c.args.search.now.cases.chosen in
     let times = c.times_in.new.out in
-    let breaks = c.in-Some.ensures in
+    let breaks = c.in-Some.ensures.broken in
     let free = broken_is_free net chosen times c.in-Some.number c.requires.net c.requires.case.case c.times_in.ensures.meets breaks in
     let lines = c.in_ok-split_case-in-Some.ensures.lines in (
       Split c.in-Some.number ∷ lines.0,

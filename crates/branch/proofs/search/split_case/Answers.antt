@@ -6,8 +6,8 @@ use Rattle.branch.proofs.CaseCounts.{free_room, split_falls}
 use Rattle.branch.proofs.Results.{if_ok_then, on_err_then}
 use Rattle.branch.proofs.search.split_case.Goals as goal
 
-pub push-requires : goal.push-requires
-push-requires g c =
+pub push-requires-clause-room : goal.push-requires-clause-room
+push-requires-clause-room g c =
     let room = free_room c.args.net.now c.args.search.now.cases.chosen c.args.number c.requires.case.case c.requires.free in
     omega (arith, room, c.requires.case.room)
 

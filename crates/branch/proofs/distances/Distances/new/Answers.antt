@@ -1,7 +1,11 @@
 use Rattle.std.proofs.Common.{arith, slice_get}
-use Rattle.branch.proofs.MetSplits.{all_splits, splits_counted, splits_not, splits_with, splits_without}
+use Rattle.branch.specs.Splits.{IsSplitOf}
+use Rattle.branch.proofs.MetSplits.{all_splits, no_splits, splits_counted, splits_not, splits_with, splits_without}
 use Rattle.branch.proofs.distances.Distances.new.Goals as goal
-use Rattle.branch.proofs.distances.Distances.new.Goals.{then-cause_count-gt1+in_ok-rule+in_ok-add_entering+in_ok-push+in_ok-push-2, else-cause_count-gt1}
+use Rattle.branch.proofs.distances.Distances.new.Goals.{then-cause_count-gt1+in_ok-rule+in_ok-add_entering+in_ok-push, else-cause_count-gt1}
+
+pub loop-number-init : goal.loop-number-init
+loop-number-init c = rw c.in_ok-rules.ensures.items (no_splits c.args.net.now)
 
 pub loop-number-preserved : goal.loop-number-preserved
 loop-number-preserved c =
@@ -10,14 +14,15 @@ loop-number-preserved c =
     let so_far = c.loop-number.invariant in
     let count = c.cause_count.ensures.count in
     elim c.if-cause_count-gt1.branch [
-      | then-cause_count-gt1+in_ok-rule+in_ok-add_entering+in_ok-push+in_ok-push-2 w ↦
+      | then-cause_count-gt1+in_ok-rule+in_ok-add_entering+in_ok-push w ↦
           (let is = splits_counted (slice_get net.constraints number) c.cause_count.result count w.if-cause_count-gt1.true in
-          rw (w.splits-is, w.in_ok-push-2.ensures.items) (splits_with net c.loop-number.splits.items number so_far is))
+          let split : IsSplitOf net w.in_ok-rule.rule = record { causes = rw w.in_ok-rule.ensures.number is; edges = w.in_ok-rule.ensures.edges } in
+          rw (w.rules-is, w.in_ok-push.ensures.items) (splits_with net c.loop-number.rules.items w.in_ok-rule.rule number so_far split w.in_ok-rule.ensures.number))
       | else-cause_count-gt1 w ↦
           (let is_not = splits_not (slice_get net.constraints number) c.cause_count.result count w.if-cause_count-gt1.false in
-          rw w.splits-is (splits_without net c.loop-number.splits.items number so_far is_not))
+          rw w.rules-is (splits_without net c.loop-number.rules.items number so_far is_not))
     ]
 
 pub returns : goal.returns
 returns c =
-    all_splits c.args.net.now c.loop-number.splits.items c.loop-number.number c.loop-number.invariant (omega (arith, c.loop-number-test.false, c.len-number-end.ensures.count))
+    all_splits c.args.net.now c.loop-number.rules.items c.loop-number.number c.loop-number.invariant (omega (arith, c.loop-number-test.false, c.len-number-end.ensures.count))

@@ -3,4 +3,4 @@ use Rattle.branch.proofs.distances.Distances.new.Given as goal
 
 -- the numbers of the constraints so far
 abbrev pub invariant-loop-number : goal.invariant-loop-number
-invariant-loop-number l = AreSplitsBelow l.net l.splits.items l.number
+invariant-loop-number l = AreSplitsBelow l.net l.rules.items l.number

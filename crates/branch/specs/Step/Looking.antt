@@ -1,0 +1,16 @@
+-- Constraints that are looked for.
+use Rattle.std.specs.Prelude.{◌≡◌, ℕ, ℤ, List, length, All, Contains}
+use Rattle.event_graph.specs.Times.{IsTime}
+use Rattle.branch.specs.declared.distances.Wanted.{Wanted}
+use Rattle.branch.specs.declared.distances.Wanted.TheVariants.{Broken, Open}
+use Rattle.branch.specs.Splits.{AreBetween, BreaksEach, HasNumber, Splitting}
+
+-- the edges of some constraints can be read against the times, where those that they break are looked for
+abbrev pub CanLookFor : Wanted → List Splitting → Type 0
+CanLookFor (Broken times) splits = All IsTime times.now × AreBetween (length times.now) splits
+CanLookFor Open splits = Unit {0}
+
+-- of some constraints the one of a number is looked for: the times break each of its choice edges, where those are looked for that they break
+abbrev pub IsWanted : Wanted → List Splitting → ℕ → Type 0
+IsWanted (Broken times) splits number = (s : Splitting) × Contains splits s × (s.number ≡ number) × BreaksEach times.now s
+IsWanted Open splits number = HasNumber splits number
