@@ -222,8 +222,11 @@ fn judge_finding(
     ensures made { IsMadeFor drawn.now.net work.new }
 {
     match item {
-        Item::Finding(word) if proves_finding(drawn.network(), work, *word, whole) => {
-            Some(behind_finding(*word))
+        Item::Finding(word) => {
+            if proves_finding(drawn.network(), work, *word, whole) {
+                return Some(behind_finding(*word));
+            }
+            None
         }
         _ => None,
     }
