@@ -1,5 +1,5 @@
 -- What the word at the end of a text says of its network.
-use Rattle.std.proofs.Common.{◌≡◌, ◌<◌, ◌+◌, ◌||◌, ℕ, Bool, true, false, List, [], ◌∷◌, refl, sym, subst, ap, ◌∙◌}
+use Rattle.std.proofs.Common.{◌≡◌, ◌<◌, ◌+◌, ◌||◌, ℕ, Bool, true, false, List, [], ◌∷◌, refl, sym, subst}
 use Rattle.event_graph.specs.Bounds.{IsInconsistent}
 use Rattle.falling.specs.Cap.{enough_turns}
 use Rattle.falling.specs.declared.line.FallLine.{FallLine}

@@ -1,5 +1,5 @@
 -- Which pieces may follow in the text of a job, and which lines begin what comes next.
-use Rattle.std.proofs.Common.{◌≡◌, ◌<◌, ◌+◌, ◌||◌, ◌≤◌, ℕ, zero, suc, ℤ, Bool, true, false, List, [], ◌∷◌, ◌++◌, drop, length, map, Option, Some, slice_get, refl, sym, subst, ap, ◌∙◌, add-one, arith}
+use Rattle.std.proofs.Common.{◌≡◌, ◌+◌, ◌||◌, ◌≤◌, ℕ, zero, suc, ℤ, Bool, true, false, List, [], ◌∷◌, ◌++◌, drop, length, map, Option, Some, slice_get, refl, sym, subst, ap, add-one, arith}
 use Rattle.itv_base.specs.Outside.{SinkTold}
 use Rattle.event_graph.specs.Network.{Net}
 use Rattle.falling.specs.declared.answer.Fallen.{Fallen}
@@ -18,7 +18,7 @@ use Rattle.fall_report.specs.declared.finding.Found.{Found}
 use Rattle.fall_report.specs.declared.finding.Found.TheVariants as founds
 use Rattle.fall_report.specs.declared.view.View.{View}
 use Rattle.fall_report.specs.declared.wanted.Wanted.{Wanted}
-use Rattle.fall_report.specs.Fall.{AreBegun, Job, MayFollow, Place, Telling, at_bound, at_finding, at_rows, before_rows, behind_bound, behind_finding, is_spent}
+use Rattle.fall_report.specs.Fall.{AreBegun, Job, MayFollow, Telling, at_bound, at_finding, at_rows, before_rows, behind_bound, behind_finding, is_spent}
 use Rattle.fall_report.specs.Shows.{IsBound, IsFinding, first_event}
 use Rattle.fall_report.specs.Step.{BeginsFrom, IsJobOf, IsSet, ShowsFinding, Told, asked, behind_found, told_bound, told_finding, was_spent}
 use Rattle.fall_report.specs.Text.{Bound, Finding, bound_text, finding_text, printed}

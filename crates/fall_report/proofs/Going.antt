@@ -1,17 +1,14 @@
 -- Steps of the writer, one after another.
 use Rattle.std.proofs.Common.{◌≡◌, ◌≤◌, ℕ, Bool, true, false, List, [], ◌∷◌, ◌++◌, Result, Ok, Err, IsErr, refl, sym, subst, ap, ◌∙◌, append-nil, append_assoc, arith}
-use Rattle.std.specs.Bool.{⊤}
 use Rattle.std.specs.List.{concat}
 use Rattle.std.proofs.lemmas.List.Folds.{concat-append}
-use Rattle.itv_base.specs.Outside.{CutShort, Puts, SinkTold, grown}
+use Rattle.itv_base.specs.Outside.{CutShort, SinkTold, grown}
 use Rattle.itv_base.proofs.Written.{cut_then, grown-append, grown-nil}
 use Rattle.falling.specs.Derivation.{starting_values}
 use Rattle.falling.specs.declared.line.FallLine.{FallLine}
 use Rattle.fall_notes.specs.Noting.{SinkGrew, SinkWasCut}
 use Rattle.fall_notes.specs.Text.{fall_text}
-use Rattle.slack_report.specs.declared.words.Which.{Which}
-use Rattle.fall_report.specs.declared.view.View.{View}
-use Rattle.fall_report.specs.Fall.{AreBegun, Job, MayFollow, Place, Reads, Telling, at_bound, at_end, at_finding, at_last, at_row, at_rows}
+use Rattle.fall_report.specs.Fall.{AreBegun, Job, MayFollow, Place, Reads, at_bound, at_end, at_finding, at_last, at_row, at_rows}
 use Rattle.fall_report.specs.Shows.{first_event}
 use Rattle.fall_report.specs.Step.{Goes, Stopped, Told}
 use Rattle.fall_report.specs.Text.{printed}

@@ -1,5 +1,5 @@
 -- The negation of a network within the limits is one.
-use Rattle.std.proofs.Common.{◌≡◌, ◌<◌, ◌≤◌, ℕ, ℤ, neg_ℤ, List, length, map, All, Option, Some, None, option_map, slice_get, sym, ap, ◌∙◌, refl, subst, arith}
+use Rattle.std.proofs.Common.{◌≡◌, ◌<◌, ◌≤◌, ℕ, ℤ, neg_ℤ, List, length, map, Option, Some, None, option_map, slice_get, sym, ap, ◌∙◌, refl, subst, arith}
 use Rattle.std.specs.Prelude.{option_and_then}
 use Rattle.std.proofs.lemmas.Int.{ints}
 use Rattle.std.proofs.lemmas.Option.{slice_get-map}
@@ -8,8 +8,8 @@ use Rattle.itv_base.specs.declared.limits.TheConstants.{MAX_CONSTRAINTS}
 use Rattle.itv_base.specs.declared.names.RuleKind.{RuleKind}
 use Rattle.itv_base.specs.declared.names.RuleKind.TheVariants.{Lin, Late, Early}
 use Rattle.event_graph.specs.declared.cause.Cause.{Cause}
-use Rattle.event_graph.specs.Network.{AreEnds, Constraint, IsCauseCount, IsConstraint, IsNet, Net, cause_at}
-use Rattle.falling.specs.Kinds.{negated, negated_cause, negated_constraint, negated_ends, negated_kind}
+use Rattle.event_graph.specs.Network.{AreEnds, Constraint, IsCauseCount, IsConstraint, IsNet, Net}
+use Rattle.falling.specs.Kinds.{negated, negated_cause, negated_constraint, negated_kind}
 use Rattle.falling.proofs.Negating.{all_map, length-mapped}
 
 end_negated : (end : Option ℤ) → IsEnd end → IsEnd (option_map neg_ℤ end)

@@ -1,5 +1,5 @@
 -- What an answer of a solver says in the view of the network.
-use Rattle.std.proofs.Common.{◌≡◌, ◌<◌, ◌^◌, ◌≤◌, ℕ, ℤ, pos, neg_ℤ, ◌-ℤ◌, Bool, true, false, List, [], ◌∷◌, length, get_or, All, Option, Some, None, refl, sym, subst, ap, ◌∙◌, arith}
+use Rattle.std.proofs.Common.{◌≡◌, ◌<◌, ◌≤◌, ℕ, ℤ, pos, neg_ℤ, ◌-ℤ◌, Bool, List, [], ◌∷◌, length, All, Option, Some, None, refl, sym, subst, ap, ◌∙◌, arith}
 use Rattle.std.proofs.lemmas.Int.{ints}
 use Rattle.itv_base.specs.declared.names.EventId.{EventId}
 use Rattle.itv_base.specs.declared.names.RuleKind.TheVariants.{Early}
@@ -148,14 +148,17 @@ no_lines : (turns : ℕ) → 0 ≤ turns
 no_lines turns = omega arith
 
 pub shows_empty : (net : Net) (turns : ℕ) (times : List ℤ) → IsNet net → net.events ≡ 0 → length times ≡ net.events → ShowsFinding net turns [] (consistent times)
-shows_empty net turns times is_net none count = (no_lines turns, λ view v.
-    let values : List ℤ = starting_values (seen view net) first_event in
-    let empty : length values ≡ 0 = length-starting (seen view net) first_event ∙ events_seen view net ∙ none in record {
-      satisfied = none_satisfied net times is_net none count;
-      at_zero = at_nothing times first_event (count ∙ none);
-      derived = (values, refl, nothing times (times_seen view values) (count ∙ none) (length_seen view values ∙ empty));
-      empty = λ _. refl;
-    })
+shows_empty net turns times is_net none count = (
+  no_lines turns,
+  λ view v.
+      let values : List ℤ = starting_values (seen view net) first_event in
+      let empty : length values ≡ 0 = length-starting (seen view net) first_event ∙ events_seen view net ∙ none in record {
+        satisfied = none_satisfied net times is_net none count;
+        at_zero = at_nothing times first_event (count ∙ none);
+        derived = (values, refl, nothing times (times_seen view values) (count ∙ none) (length_seen view values ∙ empty));
+        empty = λ _. refl;
+      },
+)
 
 -- what is found of a network that is consistent
 pub has_found : (net : Net) (negation : Option Net) (turns : ℕ) (lines : List FallLine) (times : List ℤ) (ray : List Bool) (fallen : Fallen)

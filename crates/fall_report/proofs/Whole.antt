@@ -1,5 +1,5 @@
 -- The whole text of the job, and its front where a put failed.
-use Rattle.std.proofs.Common.{◌≡◌, ℕ, Bool, List, [], ◌++◌, refl, sym, subst, ap, ◌∙◌, append-nil}
+use Rattle.std.proofs.Common.{◌≡◌, ℕ, Bool, List, [], ◌++◌, refl, sym, ap, ◌∙◌, append-nil}
 use Rattle.std.specs.List.{concat}
 use Rattle.std.specs.Prelude.{OnErr, Result, Ok, Err}
 use Rattle.itv_base.specs.Outside.{CutShort, SinkTold, grown}

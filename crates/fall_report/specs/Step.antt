@@ -15,7 +15,6 @@ use Rattle.fall_notes.specs.Text.{fall_text}
 use Rattle.slack_report.specs.declared.words.EndWord.{EndWord}
 use Rattle.slack_report.specs.declared.words.EndWord.TheVariants as endings
 use Rattle.slack_report.specs.declared.words.Which.{Which}
-use Rattle.slack_report.specs.declared.words.Which.TheVariants.{Max, Min}
 use Rattle.slack_report.specs.Right.Drawn.{Row}
 use Rattle.unroll.specs.Drawn as drawing
 use Rattle.unroll.specs.Reported.{reported, row_told}

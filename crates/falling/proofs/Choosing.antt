@@ -1,9 +1,8 @@
 -- The least number of a choice, and choices of a negation.
-use Rattle.std.proofs.Common.{◌≡◌, ◌<◌, ◌≤◌, ◌+◌, ℕ, zero, suc, Bool, true, false, List, [], ◌∷◌, length, map, get_or, drop, Option, Some, None, IfSome, cond, slice_get, refl, sym, subst, ap, ◌∙◌, add-one, arith}
+use Rattle.std.proofs.Common.{◌≡◌, ◌<◌, ◌≤◌, ◌+◌, ℕ, zero, suc, Bool, true, false, List, [], ◌∷◌, length, map, get_or, drop, Some, None, IfSome, cond, slice_get, refl, sym, ap, ◌∙◌, add-one, arith}
 use Rattle.std.specs.List.{position_from}
 use Rattle.itv_base.specs.declared.names.RuleKind.{RuleKind}
 use Rattle.itv_base.specs.declared.names.RuleKind.TheVariants.{Lin, Late, Early}
-use Rattle.event_graph.specs.declared.cause.Cause.{Cause}
 use Rattle.event_graph.specs.Network.{Constraint, Net}
 use Rattle.falling.specs.Kinds.{first_choice, is_choice, negated, negated_cause, negated_constraint, negated_kind}
 use Rattle.falling.proofs.Negating.{length-mapped}

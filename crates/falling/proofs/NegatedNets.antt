@@ -2,8 +2,7 @@
 use Rattle.std.proofs.Common.{◌≡◌, ◌+◌, ◌*◌, ◌^◌, ◌<◌, ◌≤◌, ◌⊎◌, inl, inr, ℕ, zero, suc, ℤ, pos, negsuc, neg_ℤ, unsigned_abs, max, ◌+ℤ◌, Bool, true, false, not, List, [], ◌∷◌, All, length, map, Option, Some, None, option_map, slice_get, sym, ap, ◌∙◌, refl, subst, arith}
 use Rattle.std.proofs.lemmas.Int.{ints}
 use Rattle.itv_base.specs.declared.names.EventId.{EventId}
-use Rattle.itv_base.specs.declared.names.RuleKind.{RuleKind}
-use Rattle.itv_base.specs.declared.names.RuleKind.TheVariants.{Lin, Late, Early}
+use Rattle.itv_base.specs.declared.names.RuleKind.TheVariants.{Early}
 use Rattle.event_graph.specs.declared.cause.Cause.{Cause}
 use Rattle.event_graph.specs.Bounds.{IsInconsistent, IsRay}
 use Rattle.event_graph.specs.Network.{Constraint, IsNet, Net}
@@ -18,13 +17,13 @@ use Rattle.falling.specs.Cap.{cap, end_size, widest_end, widest_of, widest_of_ca
 use Rattle.falling.specs.Course.{AreLimits}
 use Rattle.falling.specs.Derivation.{IsDerivation}
 use Rattle.falling.specs.Fallen.{Answers, IsClosedAt, IsShownInconsistent, IsShownUnbounded}
-use Rattle.falling.specs.Kinds.{IsNegatable, IsPlain, negated, negated_cause, negated_constraint, negated_kind, negated_times}
+use Rattle.falling.specs.Kinds.{IsNegatable, IsPlain, negated, negated_cause, negated_constraint, negated_times}
 use Rattle.falling.specs.Solving.{AnswersByNegation, IsClosedByNegation, IsInconsistentByNegation, IsUnboundedByNegation}
 use Rattle.falling.specs.Turns.{IsNearValue}
 use Rattle.falling.proofs.Bounding.{ended_is_inconsistent}
 use Rattle.falling.proofs.Choosing.{first_choice-negated}
 use Rattle.falling.proofs.Deriving.{derived_most, near_values}
-use Rattle.falling.proofs.Negating.{all_map, length-mapped, negation_reverses_greatest, satisfies_from, satisfies_turns, separation-negated}
+use Rattle.falling.proofs.Negating.{length-mapped, negation_reverses_greatest, satisfies_from, satisfies_turns, separation-negated}
 
 size-negated : (end : Option ℤ) → end_size (option_map neg_ℤ end) ≡ end_size end
 size-negated None = refl

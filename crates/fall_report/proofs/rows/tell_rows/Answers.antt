@@ -1,4 +1,4 @@
-use Rattle.std.proofs.Common.{◌+◌, ℕ, Bool, false, List, drop, length, map, ap, refl, sym, ◌∙◌, arith}
+use Rattle.std.proofs.Common.{◌+◌, Bool, false, List, drop, length, map, ap, refl, sym, ◌∙◌, arith}
 use Rattle.std.proofs.lemmas.List.{length-map}
 use Rattle.slack_report.specs.Entry.{rows}
 use Rattle.slack_report.specs.Right.Drawn.{Row}
