@@ -79,9 +79,10 @@ shows_greatest net most r lines leaves times ray (answers.Enclosed upper found) 
 shows_least : (net : Net) (most : ℕ) (r : Row) (first : Bound) (lines : List ProofLine) (leaves : ℕ) (times : List ℤ) (ray : List Bool) (answer : Answer)
     → Answers net r.to r.from most lines leaves times ray answer → leaves ≤ most
     → IsBoundOf net findings.Consistent r (least_by first) (reversed (greatest_of answer)) × ShowsBound net most lines r (least_by first) (reversed (greatest_of answer))
-shows_least net most r first lines leaves times ray (answers.Closed value) a count =
-    ((refl, (least_is_reversed_greatest net r.from r.to (neg_ℤ value)).1 (subst (IsGreatest net r.to r.from) (sym (neg_neg value)) a.greatest)),
-    (subst (λ z. IsProof net (BoundGoal r.to r.from z) lines) (sym (neg_neg value)) a.proof, omega (arith, a.count, count)))
+shows_least net most r first lines leaves times ray (answers.Closed value) a count = (
+  (refl, (least_is_reversed_greatest net r.from r.to (neg_ℤ value)).1 (subst (IsGreatest net r.to r.from) (sym (neg_neg value)) a.greatest)),
+  (subst (λ z. IsProof net (BoundGoal r.to r.from z) lines) (sym (neg_neg value)) a.proof, omega (arith, a.count, count)),
+)
 shows_least net most r first lines leaves times ray answers.Unbounded a count =
     let s = a.stopped in
     (refl, (neg_ℤ s.0, (s.1, omega (arith, s.3, count), subst (λ z. IsStoppedProof net (BoundGoal r.to r.from z) lines s.1) (sym (neg_neg s.0)) s.2)))
