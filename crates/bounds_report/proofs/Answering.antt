@@ -26,7 +26,7 @@ use Rattle.slack_report.specs.Right.Facts.{IsBoundOf}
 use Rattle.right_report.specs.Shown.{ShowsBound}
 use Rattle.bounds_report.specs.declared.pair.Pair.{Pair}
 use Rattle.bounds_report.specs.Step.Kept.{AreNearby, Attain, IsKept, IsShiftedTo, searched_pair}
-use Rattle.bounds_report.specs.Step.Searched.{ShowsIn, bound_of, greatest_of}
+use Rattle.bounds_report.specs.Step.Searched.{bound_of, greatest_of}
 use Rattle.bounds_report.proofs.Shifted.{at_zero, nearby-shifted, nearby_close, ray-shifted, satisfies-shifted, separation-shifted}
 
 -- ---- numbers
@@ -57,6 +57,11 @@ has_times net from to most lines leaves times ray answers.Unbounded a close = tt
 has_times net from to most lines leaves times ray (answers.Enclosed upper found) a close = (a.within, subst IsTime a.attains (separation_time times from to close))
 
 -- ---- what the lines show
+
+-- The lines of a search show a bound of a pair, in each row of this pair.
+abbrev pub ShowsIn : Net → ℕ → Pair → Which → List ProofLine → Bound → Type 0
+ShowsIn net most pair which lines value = (r : Row) (side : Side) → r.from ≡ pair.from → r.to ≡ pair.to → which_of side ≡ which
+    → IsBoundOf net findings.Consistent r side value × ShowsBound net most lines r side value
 
 abbrev row_pair : Row → Pair
 row_pair r = record { from = r.from; to = r.to }
