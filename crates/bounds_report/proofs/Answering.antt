@@ -26,7 +26,7 @@ use Rattle.slack_report.specs.Right.Facts.{IsBoundOf}
 use Rattle.right_report.specs.Shown.{ShowsBound}
 use Rattle.bounds_report.specs.declared.pair.Pair.{Pair}
 use Rattle.bounds_report.specs.Step.Kept.{AreNearby, Attain, IsKept, IsShiftedTo, searched_pair}
-use Rattle.bounds_report.specs.Step.Searched.{ShowsIn, bound_of, greatest_of}
+use Rattle.bounds_report.specs.Step.Searched.{bound_of, greatest_of}
 use Rattle.bounds_report.proofs.Shifted.{at_zero, nearby-shifted, nearby_close, ray-shifted, satisfies-shifted, separation-shifted}
 
 -- ---- numbers
@@ -58,6 +58,11 @@ has_times net from to most lines leaves times ray (answers.Enclosed upper found)
 
 -- ---- what the lines show
 
+-- The lines of a search show a bound of a pair, in each row of this pair.
+abbrev pub ShowsIn : Net → ℕ → Pair → Which → List ProofLine → Bound → Type 0
+ShowsIn net most pair which lines value = (r : Row) (side : Side) → r.from ≡ pair.from → r.to ≡ pair.to → which_of side ≡ which
+    → IsBoundOf net findings.Consistent r side value × ShowsBound net most lines r side value
+
 abbrev row_pair : Row → Pair
 row_pair r = record { from = r.from; to = r.to }
 
@@ -79,9 +84,10 @@ shows_greatest net most r lines leaves times ray (answers.Enclosed upper found) 
 shows_least : (net : Net) (most : ℕ) (r : Row) (first : Bound) (lines : List ProofLine) (leaves : ℕ) (times : List ℤ) (ray : List Bool) (answer : Answer)
     → Answers net r.to r.from most lines leaves times ray answer → leaves ≤ most
     → IsBoundOf net findings.Consistent r (least_by first) (reversed (greatest_of answer)) × ShowsBound net most lines r (least_by first) (reversed (greatest_of answer))
-shows_least net most r first lines leaves times ray (answers.Closed value) a count =
-    ((refl, (least_is_reversed_greatest net r.from r.to (neg_ℤ value)).1 (subst (IsGreatest net r.to r.from) (sym (neg_neg value)) a.greatest)),
-    (subst (λ z. IsProof net (BoundGoal r.to r.from z) lines) (sym (neg_neg value)) a.proof, omega (arith, a.count, count)))
+shows_least net most r first lines leaves times ray (answers.Closed value) a count = (
+  (refl, (least_is_reversed_greatest net r.from r.to (neg_ℤ value)).1 (subst (IsGreatest net r.to r.from) (sym (neg_neg value)) a.greatest)),
+  (subst (λ z. IsProof net (BoundGoal r.to r.from z) lines) (sym (neg_neg value)) a.proof, omega (arith, a.count, count)),
+)
 shows_least net most r first lines leaves times ray answers.Unbounded a count =
     let s = a.stopped in
     (refl, (neg_ℤ s.0, (s.1, omega (arith, s.3, count), subst (λ z. IsStoppedProof net (BoundGoal r.to r.from z) lines s.1) (sym (neg_neg s.0)) s.2)))

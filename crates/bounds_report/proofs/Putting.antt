@@ -23,9 +23,9 @@ use Rattle.slack_report.specs.Right.Facts.{AreTimes, Attains, CanRise, IsBoundOf
 use Rattle.slack_report.specs.Right.Following.{MayFollow}
 use Rattle.bounds_report.specs.declared.pair.Pair.{Pair}
 use Rattle.bounds_report.specs.Step.Kept.{Attain, HasTold, IsKept, IsLimitOf, IsOpenBound, searched_pair}
-use Rattle.bounds_report.specs.Step.Searched.{ShowsIn, bound_of, sized}
+use Rattle.bounds_report.specs.Step.Searched.{bound_of, sized}
 use Rattle.bounds_report.specs.Step.Told.{IsOf}
-use Rattle.bounds_report.proofs.Answering.{shows_in}
+use Rattle.bounds_report.proofs.Answering.{ShowsIn, shows_in}
 use Rattle.bounds_report.proofs.Shifted.{times_nearby}
 
 -- the line of the bound

@@ -1,7 +1,7 @@
 //! Telling one bound of a row.
 
-ghost use Rattle.std.specs.Prelude.{◌≡◌, ◌<◌, ◌≤◌, ℕ, Bool, [], List, All, IfOk, IsSomeAnd, OnOk, OnErr};
-ghost use Rattle.branch.specs.Answers.{Answers, IsCounted};
+ghost use Rattle.std.specs.Prelude.{◌≡◌, ◌<◌, ℕ, Bool, [], List, All, IfOk, IsSomeAnd, OnOk};
+ghost use Rattle.branch.specs.Answers.{Answers};
 ghost use Rattle.branch.specs.Work.{IsClose, IsMadeFor};
 ghost use Rattle.event_graph.specs.Network.{Net};
 ghost use Rattle.event_graph.specs.Proof.{ProofLine};
@@ -11,7 +11,7 @@ ghost use Rattle.slack_report.specs.Right.At.{Side, Telling, at_bound, bounded};
 ghost use Rattle.slack_report.specs.Right.Drawn.{Drawn};
 ghost use Rattle.slack_report.specs.declared.words.FindingWord.{FindingWord};
 ghost use Rattle.bounds_report.specs.Step.Kept.{IsKept, IsRoomFor, searched_pair};
-ghost use Rattle.bounds_report.specs.Step.Searched.{ShowsIn, Tells, WasCut, bound_of, greatest_of as greatest_by, sized};
+ghost use Rattle.bounds_report.specs.Step.Searched.{bound_of, greatest_of as greatest_by, sized};
 ghost use Rattle.bounds_report.specs.Step.Told.{Goes, IsOf};
 
 use crate::kept::{Kept, take_times};

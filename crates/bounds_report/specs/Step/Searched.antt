@@ -1,5 +1,5 @@
 -- What a search for a bound of a pair shows.
-use Rattle.std.specs.Prelude.{◌≡◌, ℕ, List, Bool, Some}
+use Rattle.std.specs.Prelude.{ℕ, List, Bool, Some}
 use Rattle.branch.specs.declared.answer.Answer.{Answer}
 use Rattle.branch.specs.declared.answer.Answer.TheVariants as answers
 use Rattle.event_graph.specs.Network.{Net}
@@ -9,15 +9,9 @@ use Rattle.itv_base.specs.Outside.{SinkTold}
 use Rattle.requirements.specs.Bounds.{HasTimes, reversed}
 use Rattle.requirements.specs.declared.bound.Bound.{Bound}
 use Rattle.requirements.specs.declared.bound.Bound.TheVariants as bounds
-use Rattle.slack_report.specs.declared.words.FindingWord.TheVariants as findings
 use Rattle.slack_report.specs.declared.words.Which.{Which}
 use Rattle.slack_report.specs.declared.words.Which.TheVariants as sorts
-use Rattle.slack_report.specs.Right.At.{Side, which_of}
-use Rattle.slack_report.specs.Right.Drawn.{Row}
-use Rattle.slack_report.specs.Right.Facts.{IsBoundOf}
 use Rattle.slack_report.specs.Right.Following.{Facts}
-use Rattle.right_report.specs.Shown.{ShowsBound}
-use Rattle.bounds_report.specs.declared.pair.Pair.{Pair}
 use Rattle.bounds_report.specs.Written.{printed, written}
 
 -- what is asked beside: each number of a bound, its limit too, is below 2^61 in absolute value
@@ -36,11 +30,6 @@ greatest_of (answers.Enclosed upper attained) = bounds.Within upper (Some attain
 abbrev pub bound_of : Which → Answer → Bound
 bound_of sorts.Max answer = greatest_of answer
 bound_of sorts.Min answer = reversed (greatest_of answer)
-
--- The lines of a search show a bound of a pair, in each row of this pair.
-abbrev pub ShowsIn : Net → ℕ → Pair → Which → List ProofLine → Bound → Type 0
-ShowsIn net most pair which lines value = (r : Row) (side : Side) → r.from ≡ pair.from → r.to ≡ pair.to → which_of side ≡ which
-    → IsBoundOf net findings.Consistent r side value × ShowsBound net most lines r side value
 
 -- a search told the lines of a proof to a sink, where they are wanted, and what the lines show
 abbrev pub Tells : Bool → SinkTold → SinkTold → (List ProofLine → Type 0) → Type 0
