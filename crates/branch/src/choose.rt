@@ -1,6 +1,6 @@
 //! The choice of the constraint on which a case is split.
 
-ghost use Rattle.std.specs.Prelude.{◌≡◌, ◌⊎◌, IsTrue, MatchOption, All};
+ghost use Rattle.std.specs.Prelude.{◌≡◌, ◌⊎◌, MatchOption, All};
 ghost use Rattle.event_graph.specs.Network.{IsNet};
 ghost use Rattle.event_graph.specs.RootBound.{MeetsAlways};
 ghost use Rattle.event_graph.specs.Satisfying.{Breaks, IsFirstBroken, Satisfies};
@@ -58,21 +58,10 @@ pub fn nearest_open(
     to: EventId,
     distances: &mut Distances,
 ) -> u32
+    requires splits { AreSplits net.now distances.old }
     requires first { Breaks times.now net.now first }
     ensures same { distances.new ≡ distances.old }
     ensures open { Breaks times.now net.now result ⊎ IsFree net.now cases.now.chosen result }
 {
-    match distances.nearest(Wanted::Open, cases, to) {
-        Some(nearest) if is_free(net, cases, nearest) => nearest,
-        _ => first,
-    }
-}
-
-// Whether a constraint has two or more causes and none of them is chosen.
-fn is_free(net: &Network, cases: &Decisions, constraint: u32) -> bool
-    ensures { IsTrue result → IsFree net.now cases.now.chosen constraint }
-{
-    constraint < net.len()
-        && net.cause_count(constraint) > 1
-        && cases.cause_of(constraint).is_none()
+    distances.nearest(Wanted::Open, cases, to).unwrap_or(first)
 }

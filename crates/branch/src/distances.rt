@@ -3,7 +3,7 @@
 ghost use Rattle.std.specs.Prelude.{◌≡◌, ◌<◌, ◌≤◌, ◌⊎◌, IfOk, IfSome, IsTrue, MatchOption, All, Some, [], ◌∷◌, length};
 ghost use Rattle.event_graph.specs.Times.{IsTime};
 ghost use Rattle.branch.specs.Splits.{AreBetween, AreSplits, IsFirstOf, MeetsSome};
-ghost use Rattle.branch.specs.Step.Looking.{CanLookFor, IsWanted};
+ghost use Rattle.branch.specs.Step.Looking.{CanLookFor, IsFound, IsWanted};
 
 use crate::decisions::Decisions;
 use crate::splittable::Splittable;
@@ -93,12 +93,12 @@ impl Distances {
         None
     }
 
-    /// The nearest of the constraints that are looked for, and of several at one distance the one of least number. There is no answer
-    /// where none is reached.
+    /// The nearest of the constraints that are looked for and have no choice, and of several at one distance the one of least number.
+    /// There is no answer where none is reached.
     pub fn nearest(&mut self, wanted: Wanted<'_>, cases: &Decisions, to: EventId) -> Option<u32>
         requires { CanLookFor wanted self.old }
         ensures same { self.new ≡ self.old }
-        ensures wanted { IfSome result (IsWanted wanted.entry self.old) }
+        ensures found { IfSome result (IsFound wanted.entry self.old cases.now.chosen) }
     {
         if self.rules.is_empty() {
             return None;
@@ -207,7 +207,7 @@ fn first_wanted(
     to: EventId,
 ) -> Option<u32>
     requires { CanLookFor graph.wanted graph.rules.now }
-    ensures { IfSome result (IsWanted graph.entry.wanted graph.entry.rules.now) }
+    ensures { IfSome result (IsFound graph.entry.wanted graph.entry.rules.now graph.entry.cases.now.chosen) }
 {
     let mut reach = Reach {
         count: put(reached, queue, 0, to),
@@ -238,9 +238,9 @@ fn visit(
     event: EventId,
 ) -> Reach
     requires wanted { CanLookFor graph.wanted graph.rules.now }
-    requires least { IfSome so_far.least (IsWanted graph.wanted graph.rules.now) }
+    requires least { IfSome so_far.least (IsFound graph.wanted graph.rules.now graph.cases.now.chosen) }
     requires count { so_far.count ≤ length queue.old }
-    ensures least { IfSome result.least (IsWanted graph.entry.wanted graph.entry.rules.now) }
+    ensures least { IfSome result.least (IsFound graph.entry.wanted graph.entry.rules.now graph.entry.cases.now.chosen) }
     ensures count { result.count ≤ length queue.new }
 {
     let place = event.0 as usize;
@@ -270,9 +270,9 @@ fn look_at(
     event: EventId,
 ) -> Reach
     requires wanted { CanLookFor graph.wanted graph.rules.now }
-    requires least { IfSome so_far.least (IsWanted graph.wanted graph.rules.now) }
+    requires least { IfSome so_far.least (IsFound graph.wanted graph.rules.now graph.cases.now.chosen) }
     requires count { so_far.count ≤ length queue.old }
-    ensures least { IfSome result.least (IsWanted graph.entry.wanted graph.entry.rules.now) }
+    ensures least { IfSome result.least (IsFound graph.entry.wanted graph.entry.rules.now graph.entry.cases.now.chosen) }
     ensures count { result.count ≤ length queue.new }
 {
     let Some(rule) = graph.rules.get(rule) else {

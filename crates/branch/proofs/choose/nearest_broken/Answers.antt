@@ -6,5 +6,5 @@ nearest-requires c = (c.requires.times, can_look c.args.net.now c.args.times.now
 
 pub returns-in-Some-clause-broken : goal.returns-in-Some-clause-broken
 returns-in-Some-clause-broken c =
-    let wanted = c.in-Some.ensures.wanted in
+    let wanted = c.in-Some.ensures.found.0 in
     broken_among c.args.net.now c.args.times.now c.args.distances.now c.in-Some.nearest wanted.0 c.requires.net c.requires.splits wanted.1 wanted.2 wanted.3

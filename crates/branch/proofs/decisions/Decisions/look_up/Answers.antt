@@ -1,4 +1,4 @@
-use Rattle.std.proofs.Common.{◌≡◌, ◌<◌, ℕ, List, Contains, ap, arith, length, refl, reverse, subst, sym, ◌∙◌}
+use Rattle.std.proofs.Common.{◌≡◌, ℕ, Contains, ap, arith, length, refl, reverse, subst, sym, ◌∙◌}
 use Rattle.std.proofs.lemmas.List.Elements.{All-from_all_within, AllWithin-upto}
 use Rattle.event_graph.specs.Proof.{Case, Choice}
 use Rattle.branch.specs.Step.Cases.{Chosen}

@@ -1,4 +1,4 @@
-use Rattle.std.proofs.Common.{◌≡◌, ◌≤◌, List, ◌∷◌, ap, arith, length, length-append, reverse, subst}
+use Rattle.std.proofs.Common.{◌≤◌, ap, arith, length, length-append, reverse, subst}
 use Rattle.event_graph.specs.Proof.{Case, Choice}
 use Rattle.branch.specs.Step.Noted.{AreCausesOf}
 use Rattle.branch.proofs.Noting.{causes_before, causes_without, popped_apart}

@@ -1,4 +1,4 @@
-use Rattle.std.proofs.Common.{◌≡◌, ◌<◌, ◌≤◌, List, ◌∷◌, Option, Some, ap, arith, length, length-append, reverse, set, subst, sym}
+use Rattle.std.proofs.Common.{◌<◌, ◌≤◌, Some, ap, arith, length, length-append, reverse, set, subst, sym}
 use Rattle.std.proofs.lemmas.List.{length-reverse}
 use Rattle.event_graph.specs.Proof.{Case, Choice}
 use Rattle.branch.specs.Step.Cases.{Chosen}

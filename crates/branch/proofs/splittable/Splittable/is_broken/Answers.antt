@@ -1,6 +1,5 @@
-use Rattle.std.proofs.Common.{◌≡◌, ◌∙◌, List, ap}
+use Rattle.std.proofs.Common.{◌≡◌, ◌∙◌, ap}
 use Rattle.std.proofs.lemmas.List.{get_or_default}
-use Rattle.branch.specs.declared.choice_edge.ChoiceEdge.{ChoiceEdge}
 use Rattle.branch.specs.ChoiceEdges.{IsEdgeBroken}
 use Rattle.branch.specs.Splits.{Splitting}
 use Rattle.branch.proofs.ListWalks.{within_more}

@@ -1,4 +1,4 @@
-use Rattle.std.proofs.Common.{◌≡◌, ◌∙◌, ◌+◌, ap, arith, length, length-append}
+use Rattle.std.proofs.Common.{arith, length-append}
 use Rattle.branch.proofs.GivenEdges.{edges_push}
 use Rattle.branch.proofs.splittable.Splittable.new.Goals as goal
 
