@@ -61,7 +61,7 @@ opening (generated size budget) = do
 -- the files that are made for a task, where it reads none of the shelf
 abbrev pub made_for : Task → Option NamedTrees
 made_for (generated size budget) = Some (design_files size)
-made_for asked = None
+made_for _ = None
 
 -- ---- what each answers and writes
 

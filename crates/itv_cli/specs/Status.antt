@@ -1,5 +1,7 @@
 -- The exit status of the program.
 use Rattle.std.specs.Prelude.{◌≡◌, ℕ, List, Result, Ok, Err}
+use Rattle.std.specs.declared.io.ErrorKind.{ErrorKind}
+use Rattle.std.specs.declared.io.ErrorKind.TheVariants.{OutOfMemory}
 use Rattle.itv_base.specs.declared.text.NoMemory as wanted
 use Rattle.itv_cli.specs.declared.outcome.Outcome.{Outcome}
 use Rattle.itv_cli.specs.declared.outcome.Outcome.TheVariants.{AllPass, Help, SomeFail, Inconsistent, Undecided, Refused, ReadFault, WriteFault, NoMemory, BadWords, CheckRefused}
@@ -27,6 +29,11 @@ status_of (Err none) = code_of NoMemory
 -- the status of the program where the system does not give its words
 abbrev pub no_words : ℕ
 no_words = 10
+
+-- the status where the system gives an error of a kind in place of the words: it wants memory for them, or it does not have them
+abbrev pub status_without_words : ErrorKind → ℕ
+status_without_words OutOfMemory = code_of NoMemory
+status_without_words _ = no_words
 
 -- What the status of the program says: the words were not to be had, or memory for them was not, or it is that of the end of a run.
 pub data EndsWith (status : ℕ) : Type 0 where

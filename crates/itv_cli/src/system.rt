@@ -2,9 +2,10 @@
 
 ghost use Rattle.std.specs.Prelude.{◌≡◌, IfOk, drop, map, string_bytes};
 ghost use Rattle.std.specs.Vec.Iter.{into_iter_items};
+ghost use Rattle.std.specs.IoError.{error_kind};
 ghost use Rattle.std.specs.Process.{exit_status};
 ghost use Rattle.itv_cli.specs.Run.{MeansOutside};
-ghost use Rattle.itv_cli.specs.Status.{EndsWith, status_of};
+ghost use Rattle.itv_cli.specs.Status.{EndsWith, status_of, status_without_words};
 
 use crate::outcome::Outcome;
 use crate::top::run;
@@ -32,12 +33,12 @@ pub fn program<R: Env + Files + Print + AllocGlobal>(rt: &R) -> ExitCode
 
 // The status where the words are not to be had.
 fn status_without_words(error: &io::Error) -> ExitCode
-    ensures { EndsWith (exit_status result) }
+    ensures { exit_status result ≡ status_without_words (error_kind error.now) }
 {
-    if error.kind() == ErrorKind::OutOfMemory {
-        return status_of(Err(NoMemory));
+    match error.kind() {
+        ErrorKind::OutOfMemory => status_of(Err(NoMemory)),
+        _ => ExitCode::from(NO_WORDS),
     }
-    ExitCode::from(NO_WORDS)
 }
 
 /// The words after the program's name.
