@@ -1,10 +1,10 @@
 -- What callers of `run` know of files and a sink in memory, from its clauses alone.
-use Rattle.std.specs.Prelude.{◌≡◌, ℕ, List, None}
+use Rattle.std.specs.Prelude.{◌≡◌, ℕ, List, ◌++◌, None}
 use Rattle.itv_base.specs.Outside.{Files}
 use Rattle.job_answer.specs.declared.answer.Answer.{Answer}
 use Rattle.slack_report.specs.Entry.{Entry}
 use Rattle.slack_report.specs.Text.{report_text}
-use Rattle.slack_report.specs.Right.Facts.{IsRightReport}
+use Rattle.slack_report.specs.Right.Facts.{BeginsRightReport, IsRightReport}
 use Rattle.unroll.specs.Drawn.{Drawn}
 use Rattle.unroll.specs.Reported.{reported}
 use Rattle.reading.specs.declared.place.Place.{Place}
@@ -45,3 +45,10 @@ pub record IsRefusalOf (files : Files) (asked : Task) (bytes : List ℕ) : Type 
   pub why : Refusal
   pub reads : told_end files (opening asked) ≡ refused place why
   pub text : bytes ≡ refusal_text place why
+
+-- the bytes are a front of the text of lines that begin a right report of a drawn network
+pub record IsFrontOfRight (drawn : Drawn) (bytes : List ℕ) : Type 0 where
+  pub lines : List Entry
+  pub begins_right : BeginsRightReport (reported drawn) lines
+  pub rest : List ℕ
+  pub text : report_text lines ≡ bytes ++ rest

@@ -12,7 +12,7 @@ ghost use Rattle.unroll.specs.Drawn.{Drawn};
 ghost use Rattle.itv_cli.specs.Task.{Task, bad_words, bounds, fall, help, taken, task};
 ghost use Rattle.itv_cli.specs.Job.{opening};
 ghost use Rattle.itv_cli.specs.Run.{EndsBy};
-ghost use Rattle.conformance.specs.Clients.{Asks, Draws, IsAnswerOf, IsRefusalOf, IsRightReportOf};
+ghost use Rattle.conformance.specs.Clients.{Asks, Draws, IsAnswerOf, IsFrontOfRight, IsRefusalOf, IsRightReportOf};
 
 use itv_base::{NoMemory, ShelfMem, SinkMem, Texts};
 use itv_cli::{Outcome, run};
@@ -51,6 +51,26 @@ pub fn refusal_of(
     let mut sink = SinkMem::new(alloc, room)?;
     match run(alloc, words, shelf, &mut sink) {
         Outcome::Refused => Ok(Some(Vec::from_slice(alloc, sink.bytes())?)),
+        _ => Ok(None),
+    }
+}
+
+/// The bytes that a run of job bounds writes, where its output fails and no fetch does: a front of the text of lines that begin a
+/// right report.
+pub fn front_of(
+    alloc: Global,
+    words: &Texts,
+    shelf: &mut ShelfMem,
+    room: u32,
+) -> Result<Option<Vec<u8>>, NoMemory>
+    ensures right { IfOk result (λ front. IfSome front (λ bytes.
+        (design : List ℕ) (budget : ℕ) (cert : Bool) (drawn : Drawn)
+        → taken words.now ≡ task (bounds design budget cert) → Draws shelf.old.files design drawn
+        → ¬ (Rose shelf.old.faults shelf.new.faults) → IsFrontOfRight drawn bytes.items)) }
+{
+    let mut sink = SinkMem::new(alloc, room)?;
+    match run(alloc, words, shelf, &mut sink) {
+        Outcome::WriteFault => Ok(Some(Vec::from_slice(alloc, sink.bytes())?)),
         _ => Ok(None),
     }
 }
