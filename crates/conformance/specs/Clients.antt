@@ -61,7 +61,8 @@ pub record IsFrontOfRight (drawn : Drawn) (bytes : List ℕ) : Type 0 where
   pub rest : List ℕ
   pub text : report_text lines ≡ bytes ++ rest
 
--- the reading of a task came to a file whose fetch failed, so that its name is the last that failed, and the bytes are the line of its place
+-- the reading of a task came to a file whose fetch failed, so that its name is the last that failed, and the bytes are the line of
+-- its place
 pub record IsUnreadOf (old new : ShelfTold) (asked : Task) (bytes : List ℕ) : Type 0 where
   pub place : Place
   pub name : List ℕ

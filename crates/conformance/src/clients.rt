@@ -81,8 +81,8 @@ pub fn front_of(
     }
 }
 
-/// The bytes that a run writes, where a file could not be read: the line of the place of that file, whose name is the last that the
-/// shelf tells then.
+/// The bytes that a run writes, where a file could not be read: the line of the place of that file. Where the task reads these files,
+/// its name is the last that the shelf tells then.
 pub fn unread_of(
     alloc: Global,
     words: &Texts,
@@ -101,7 +101,7 @@ pub fn unread_of(
     }
 }
 
-/// A run that did not find memory: it has written nothing, and left its files and its output as they were.
+/// A run that ends for want of memory has written nothing, and its files and its output tell what they told before.
 pub fn untouched_of(
     alloc: Global,
     words: &Texts,
