@@ -1,2 +1,3 @@
 mod Telling
+mod Faults
 pub mod OwnReports

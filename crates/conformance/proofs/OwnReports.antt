@@ -1,5 +1,4 @@
 -- What job bounds writes is accepted.
-use Rattle.std.proofs.Common.{All}
 use Rattle.std.proofs.lemmas.List.Elements.{All-map}
 use Rattle.slack_report.specs.Entry.{IsKind}
 use Rattle.slack_report.specs.Right.Drawn as told

@@ -49,7 +49,7 @@ told_behind files (gives x) k y e = (x, refl, e)
 told_behind files (refuses place why) k y e = absurd (cc e)
 told_behind files (fetches place name most next) k y e = then_by files next k most place name y (file_of files name) (λ bytes h. told_behind files (next bytes) k y h) e
 
-same_ready : {A : Type 0} (x y : A) → ready x ≡ ready y → x ≡ y
+pub same_ready : {A : Type 0} (x y : A) → ready x ≡ ready y → x ≡ y
 same_ready x y e = cc
 
 told_then : {A B : Type 0} (files : Files) (o : Opening A) (f : A → B) (y : B) → told_end files (o >>= (λ x. gives (f x))) ≡ ready y → (x : A) × (told_end files o ≡ ready x) × (f x ≡ y)
@@ -62,7 +62,7 @@ same_asked : (given : List (List ℕ)) (asked other : Task) → taken given ≡ 
 same_asked given asked other is also = task_is other asked (sym also ∙ is)
 
 -- over told files the end of a run's reading is theirs
-came_over : (call : Call) (asked : Task) (end : End Ready) → Asks call.words asked → CameTo call end → Ends call.shelf_before call.shelf_after (opening asked) end
+pub came_over : (call : Call) (asked : Task) (end : End Ready) → Asks call.words asked → CameTo call end → Ends call.shelf_before call.shelf_after (opening asked) end
 came_over call asked end asks came =
     rw asks.own at (subst (λ t. EndsOver (made_for t) call.shelf_before call.shelf_after t end) (same_asked call.words asked came.asked asks.words came.words) came.ends)
 

@@ -5,14 +5,17 @@ ghost use Rattle.std.specs.Prelude.{◌≡◌, ◌<◌, ◌⊎◌, ℕ, Bool, Li
 ghost use Rattle.event_graph.specs.Bounds.{IsInconsistent};
 ghost use Rattle.event_graph.specs.Edges.{cause_choices};
 ghost use Rattle.falling.specs.Cap.{enough_turns};
+ghost use Rattle.itv_base.specs.Memory.{shelf_told, sink_told};
 ghost use Rattle.itv_base.specs.Outside.{Rose};
 ghost use Rattle.job_answer.specs.declared.answer.Answer.TheVariants as answers;
+ghost use Rattle.reading.specs.declared.place.Place.{Place};
 ghost use Rattle.reading.specs.Opening.{told_end};
+ghost use Rattle.reading.specs.Refusal.{unread_text};
 ghost use Rattle.unroll.specs.Drawn.{Drawn};
 ghost use Rattle.itv_cli.specs.Task.{Task, bad_words, bounds, fall, help, taken, task};
 ghost use Rattle.itv_cli.specs.Job.{opening};
 ghost use Rattle.itv_cli.specs.Run.{EndsBy};
-ghost use Rattle.conformance.specs.Clients.{Asks, Draws, IsAnswerOf, IsRefusalOf, IsRightReportOf};
+ghost use Rattle.conformance.specs.Clients.{Asks, Draws, IsAnswerOf, IsFrontOf, IsFrontOfRight, IsRefusalOf, IsRightReportOf, IsUnreadOf};
 
 use itv_base::{NoMemory, ShelfMem, SinkMem, Texts};
 use itv_cli::{Outcome, run};
@@ -53,6 +56,62 @@ pub fn refusal_of(
         Outcome::Refused => Ok(Some(Vec::from_slice(alloc, sink.bytes())?)),
         _ => Ok(None),
     }
+}
+
+/// The bytes that a run writes, where its output fails and no fetch does: a front of what it was to write, which for job bounds is a
+/// front of the text of lines that begin a right report.
+pub fn front_of(
+    alloc: Global,
+    words: &Texts,
+    shelf: &mut ShelfMem,
+    room: u32,
+) -> Result<Option<Vec<u8>>, NoMemory>
+    ensures begins { IfOk result (λ front. IfSome front (λ bytes.
+        (asked : Task) → Asks words.now asked → ¬ (Rose shelf.old.faults shelf.new.faults)
+        → IsFrontOf shelf.old.files asked bytes.items)) }
+    ensures right { IfOk result (λ front. IfSome front (λ bytes.
+        (design : List ℕ) (budget : ℕ) (cert : Bool) (drawn : Drawn)
+        → taken words.now ≡ task (bounds design budget cert) → Draws shelf.old.files design drawn
+        → ¬ (Rose shelf.old.faults shelf.new.faults) → IsFrontOfRight drawn bytes.items)) }
+{
+    let mut sink = SinkMem::new(alloc, room)?;
+    match run(alloc, words, shelf, &mut sink) {
+        Outcome::WriteFault => Ok(Some(Vec::from_slice(alloc, sink.bytes())?)),
+        _ => Ok(None),
+    }
+}
+
+/// The bytes that a run writes, where a file could not be read: the line of the place of that file. Where the task reads these files,
+/// its name is the last that the shelf tells then.
+pub fn unread_of(
+    alloc: Global,
+    words: &Texts,
+    shelf: &mut ShelfMem,
+    room: u32,
+) -> Result<Option<Vec<u8>>, NoMemory>
+    ensures line { IfOk result (λ unread. IfSome unread (λ bytes. (place : Place) × (bytes.items ≡ unread_text place))) }
+    ensures fetch { IfOk result (λ unread. IfSome unread (λ bytes.
+        (asked : Task) → Asks words.now asked
+        → IsUnreadOf (shelf_told shelf.old) (shelf_told shelf.new) asked bytes.items)) }
+{
+    let mut sink = SinkMem::new(alloc, room)?;
+    match run(alloc, words, shelf, &mut sink) {
+        Outcome::ReadFault => Ok(Some(Vec::from_slice(alloc, sink.bytes())?)),
+        _ => Ok(None),
+    }
+}
+
+/// A run that ends for want of memory has written nothing, and its files and its output tell what they told before.
+pub fn untouched_of(
+    alloc: Global,
+    words: &Texts,
+    shelf: &mut ShelfMem,
+    sink: &mut SinkMem,
+) -> Outcome
+    ensures output { result ≡ Outcome.NoMemory → sink_told sink.new ≡ sink_told sink.old }
+    ensures files { result ≡ Outcome.NoMemory → shelf_told shelf.new ≡ shelf_told shelf.old }
+{
+    run(alloc, words, shelf, sink)
 }
 
 /// Two runs on the same words and files: what passed once is not refused then, since a run leaves the files as they are.

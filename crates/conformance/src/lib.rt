@@ -7,5 +7,7 @@ mod clients;
 mod kept_proofs;
 pub mod laws;
 
-pub use clients::{bounds_of, end_of, fall_of, refusal_of, report_of, run_twice};
+pub use clients::{
+    bounds_of, end_of, fall_of, front_of, refusal_of, report_of, run_twice, unread_of, untouched_of,
+};
 pub use kept_proofs::kept_proof;
