@@ -1,13 +1,15 @@
 #!/usr/bin/env python3
 """Measures `itv` beside an unproved Rust program of the same rule, and beside z3, cbc and glpsol where they are installed.
 
-    bench/measure.py PATH_OF_THE_BUILT_PROGRAM [searches|falls|bounds|readings|all]
+    bench/measure.py PATH_OF_THE_BUILT_PROGRAM [searches|falls|bounds|readings|edits|all]
 
 Builds bench/peer with the machine's cargo. Each time is the least of three runs of the whole program, in seconds; a run of more
 than 5 seconds is made once. The line of a network is a row of a table of docs/speed.md: its name, the seconds of `itv`, those of the
 Rust program, their ratio, what became of the two answers, and for searches the seconds of the solvers. For falls it has the seconds of
 job bounds, of job fall and of z3, and what both jobs say. That of a design that is read alone has the seconds of job matrix, which
-reads and draws it and then refuses it for its number of events, and those of a report without a row."""
+reads and draws it and then refuses it for its number of events, and those of a report without a row. For edits it has the seconds of job
+whatif without an edit and with 100, of one edit beyond reading and the first state, the ratio of that to a run without an edit, and how many
+bounds the edits kept and searched anew."""
 import os
 import re
 import shutil
@@ -193,6 +195,31 @@ def measure_reading(program, name, files):
         row([name, f"{sum(map(len, files.values()))}", show(read), show(reported)])
 
 
+def constraint_of(report, name):
+    """The number of the constraint that the proof of the first bound of a row splits, by the name of its to-event."""
+    behind = report[re.search(rf"^row \d+ ask \S+ {re.escape(name)}$", report, flags=re.M).end() :]
+    return int(re.search(r"^split (\d+)$", behind, flags=re.M).group(1))
+
+
+def measure_edits(program, name, files, parts):
+    """Job whatif on a bus, with an edit of each of some slaves' ranges in turn, 100 in all."""
+    with tempfile.TemporaryDirectory() as folder:
+        lay_out(files, folder)
+        report = subprocess.run([program, "--cert", "main.json"], cwd=folder, capture_output=True, text=True).stdout
+        numbers = [constraint_of(report, f"{part}.a@0") for part in parts]
+        lines = [f"set {numbers[k % len(numbers)]}.1 [3000,{7000 + 10 * (k + 1)}]\n" for k in range(100)]
+        lay_out({"none": "", "edits": "".join(lines)}, folder)
+        whatif = [program, "--job", "whatif", "main.json", "--edits"]
+        alone, first = seconds(whatif + ["none"], folder)
+        edited, text = seconds(whatif + ["edits"], folder)
+        counts = [tuple(map(int, pair)) for pair in re.findall(r" kept (\d+) searched (\d+)$", text.decode(), flags=re.M)]
+        if len(counts) != 100 or not first.endswith(b"end pass\n"):
+            sys.exit(f"{name}: {text[:200]}")
+        each = (edited - alone) / 100
+        kept, searched = sum(k for k, _ in counts) / 100, sum(s for _, s in counts) / 100
+        row([name, show(alone), show(edited), f"{1000 * each:.2f} ms", f"1 / {alone / each:.0f}", f"{kept:.1f}", f"{searched:.1f}"])
+
+
 def main():
     program = os.path.abspath(sys.argv[1])
     which = sys.argv[2] if len(sys.argv) > 2 else "all"
@@ -214,6 +241,10 @@ def main():
         row(["design", "bytes", "read and drawn", "reported"])
         for name, files in networks.readings():
             measure_reading(program, name, files)
+    if which in ("edits", "all"):
+        row(["design", "no edit", "100 edits", "an edit", "of a run without", "kept", "searched"])
+        for size, asked in ((16, 16), (64, 31)):
+            measure_edits(program, f"bus, size {size}, {asked} slaves asked", networks.bus_asked(size, asked), [f"S{k}" for k in range(asked)])
 
 
 if __name__ == "__main__":

@@ -3,7 +3,9 @@ import json
 import random
 import string
 
-MARKS = string.ascii_letters + string.digits
+# As many marks as make the greatest number of events in 256 parts or cycles.
+MARKS = string.ascii_letters + string.digits + "!?"
+MOST_EVENTS = 16_384
 
 
 class Network:
@@ -33,7 +35,7 @@ class Network:
         return "\n".join(out) + "\n"
 
     def files(self):
-        """A netlist whose parts have up to 62 marks and no rules of their own: all rules are wires."""
+        """A netlist whose parts have up to 64 marks and no rules of their own: all rules are wires."""
         files, parts, name = {}, [], []
         for first in range(0, self.events, len(MARKS)):
             marks = MARKS[: min(len(MARKS), self.events - first)]
@@ -93,6 +95,37 @@ def backward_chain(events, rows):
     return net
 
 
+def chain(events, way, rows):
+    """A chain of rules that lead to the next number, to the number before, or to numbers by chance."""
+    net = Network(f"chain, {way}, {events} events, {rows} rows", events)
+    order = list(range(events))
+    if way == "downwards":
+        order.reverse()
+    elif way == "by chance":
+        random.Random(1).shuffle(order)
+    for a, b in zip(order, order[1:]):
+        net.lin(a, b, 1000, 1300)
+    net.rows = [(order[0], order[-1 - k]) for k in range(rows)]
+    return net
+
+
+def few_choices(events, seed):
+    """Layers of ten events, each after one of the layer before, and some the latest of three: as many as the cells of a search allow."""
+    rng = random.Random(seed)
+    net = Network(f"layers, few choices, {events} events", events)
+    most = 2_097_152 // events - 1
+    every = (events - 10) // most + 1
+    for k in range(1, 10):
+        net.lin(0, k, 0, rng.randrange(100, 2000))
+    for k in range(10, events):
+        layer = (k // 10 - 1) * 10
+        count = 3 if (k - 10) % every == 0 else 1
+        causes = [(layer + c, low, low + rng.randrange(1, 900)) for c in rng.sample(range(10), count) for low in [rng.randrange(0, 500)]]
+        net.late(k, causes)
+    net.rows.append((0, events - 1))
+    return net
+
+
 def dense_linear(events, rules, rows, seed):
     rng = random.Random(seed)
     net = Network(f"linear, {events} events, {rules} rules, {rows} rows", events)
@@ -122,6 +155,16 @@ def bus(size):
             "edges": [f"{s}.a Z.d @late [0,1000]" for s in slaves]}
     return {"main.json": json.dumps(main), "master.json": json.dumps(master),
             "slave.json": json.dumps(slave), "merge.json": json.dumps(merge)}
+
+
+def bus_asked(size, asked):
+    """The generated bus of a size, with its question on so many of its slaves alone."""
+    files = bus(size)
+    main, quiet = json.loads(files["main.json"]), json.loads(files["slave.json"])
+    quiet["edge"] = [edge for edge in quiet["edge"] if not edge.endswith("@ask")]
+    for part in main["parts"][asked + 1 : size + 1]:
+        part["sheet"] = "quiet.json"
+    return files | {"main.json": json.dumps(main), "quiet.json": json.dumps(quiet)}
 
 
 def bus_network(size):
@@ -161,17 +204,21 @@ def searches():
 
 
 def falls():
-    """Those of the searches whose choices are all latest, but for the buses, and one of 1,000 events more."""
-    return [latest_pairs(n) for n in (25, 93, 1000)] + [layered(n, ["late"], n) for n in (40, 100, 300, 1000)]
+    """Those of the searches whose choices are all latest, but for the buses, one of 1,000 events more, and one of 16,000."""
+    return [latest_pairs(n) for n in (25, 93, 1000)] + [layered(n, ["late"], n) for n in (40, 100, 300, 1000)] + [few_choices(16_000, 16_000)]
 
 
 def bounds():
-    return [backward_chain(4096, 64), dense_linear(93, 60_000, 4096, 1), dense_linear(4000, 16_000, 64, 2)]
+    nets = [backward_chain(4096, 64), dense_linear(93, 60_000, 4096, 1), dense_linear(4000, 16_000, 64, 2)]
+    nets += [chain(events, way, 1) for way in ("upwards", "downwards", "by chance") for events in (4096, MOST_EVENTS)]
+    # With all events there may be 61 rows.
+    nets.append(chain(MOST_EVENTS, "upwards", 1_000_000 // MOST_EVENTS))
+    return nets
 
 
-def cycles_of_one_part(cycles):
-    """One part of 16 marks in a row over so many cycles of 100 ns: 16 events and 16 rules a cycle, and no question."""
-    marks = MARKS[:16]
+def cycles_of_one_part(cycles, count=16):
+    """One part of so many marks in a row over so many cycles of 100 ns: as many events and rules a cycle, and no question."""
+    marks = MARKS[:count]
     sheet = {"signal": [{"name": m, "wave": "01", "node": "." + m} for m in marks],
              "edge": [f"{a}->{b} @lin [10,2000]" for a, b in zip(marks, marks[1:])] + ["a->a @lin+1 [100000,100000]"]}
     return {"main.json": json.dumps({"itv": 1, "cycles": cycles, "parts": [{"name": "P", "sheet": "row.json"}], "nets": [], "edges": []}),
@@ -200,5 +247,6 @@ def many_wires(constraints):
 def readings():
     """Designs that are to be read and drawn, without questions: a name and the files of each. All have more events than a matrix may have."""
     return ([(f"16 marks over {n} cycles", cycles_of_one_part(n)) for n in (128, 256)]
+            + [("64 marks over 256 cycles", cycles_of_one_part(256, 64))]
             + [(f"{n} parts of 16 marks", many_parts(n)) for n in (128, 256)]
             + [(f"{n} wires between 2048 marks", many_wires(n)) for n in (16_384, 32_768, 65_536)])

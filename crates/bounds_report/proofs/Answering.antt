@@ -2,17 +2,18 @@
 use Rattle.std.proofs.Common.{◌≡◌, ◌<◌, ◌≤◌, ℕ, zero, suc, ℤ, pos, neg_ℤ, ◌-ℤ◌, Bool, List, [], ◌∷◌, length, get_or, All, Option, Some, None, option_map, ◌⊎◌, inl, inr, refl, sym, subst, ap, ◌∙◌, arith}
 use Rattle.std.proofs.lemmas.Int.{ints}
 use Rattle.itv_base.specs.declared.names.EventId.{EventId}
-use Rattle.branch.specs.Answers.{Answers}
-use Rattle.branch.specs.Work.{IsClose}
+use Rattle.branch.specs.Answers.{Answers, Evidence, PairSearch}
+use Rattle.branch.specs.Work.{IsClose, IsReached}
 use Rattle.branch.specs.declared.answer.Answer.{Answer}
 use Rattle.branch.specs.declared.answer.Answer.TheVariants as answers
 use Rattle.event_graph.specs.Bounds.{IsGreatest, IsRay}
+use Rattle.event_graph.specs.Limits.{IsPrintedTime}
 use Rattle.event_graph.specs.Network.{IsNet, Net}
 use Rattle.event_graph.specs.Proof.{IsProof, IsStoppedProof, ProofLine}
 use Rattle.event_graph.specs.Proof.{Bound as BoundGoal}
 use Rattle.event_graph.specs.RootBound.{IsRootBound}
 use Rattle.event_graph.specs.Satisfying.{Satisfies}
-use Rattle.event_graph.specs.Times.{IsTime, separation, shifted, time_of}
+use Rattle.event_graph.specs.Times.{separation, shifted, time_of}
 use Rattle.event_graph.proofs.Reversing.{least_is_reversed_greatest}
 use Rattle.requirements.specs.Bounds.{HasTimes, reversed}
 use Rattle.requirements.specs.declared.bound.Bound.{Bound}
@@ -20,13 +21,15 @@ use Rattle.requirements.specs.declared.bound.Bound.TheVariants as bounds
 use Rattle.slack_report.specs.declared.words.FindingWord.TheVariants as findings
 use Rattle.slack_report.specs.declared.words.Which.{Which}
 use Rattle.slack_report.specs.declared.words.Which.TheVariants as sorts
-use Rattle.slack_report.specs.Right.At.{Side, greatest, least_by, which_of}
-use Rattle.slack_report.specs.Right.Drawn.{Row}
-use Rattle.slack_report.specs.Right.Facts.{IsBoundOf}
+use Rattle.right_report.specs.Right.At.{Side, greatest, least_by, which_of}
+use Rattle.drawn.specs.declared.row.Row.{Row}
+use Rattle.right_report.specs.Right.Facts.{IsBoundOf}
 use Rattle.right_report.specs.Shown.{ShowsBound}
 use Rattle.bounds_report.specs.declared.pair.Pair.{Pair}
 use Rattle.bounds_report.specs.Step.Kept.{AreNearby, Attain, IsKept, IsShiftedTo, searched_pair}
-use Rattle.bounds_report.specs.Step.Searched.{bound_of, greatest_of}
+use Rattle.bounds_report.specs.Step.Searched.{bound_of, greatest_of, search_of}
+use Rattle.bounds_report.specs.Written.{HasPrintedTimes}
+use Rattle.bounds_report.proofs.Printed.{bound_times, bound_turned}
 use Rattle.bounds_report.proofs.Shifted.{at_zero, nearby-shifted, nearby_close, ray-shifted, satisfies-shifted, separation-shifted}
 
 -- ---- numbers
@@ -43,18 +46,24 @@ close_at [] k close = (omega (arith, ints), omega (arith, ints))
 close_at (time ∷ times) zero close = close 0 (pos 0) (omega arith)
 close_at (time ∷ times) (suc k) close = close_at times k (λ j d within. close (suc j) d (omega arith))
 
-separation_time : (times : List ℤ) (from to : EventId) → All IsClose times → IsTime (separation times from to)
-separation_time times from to close = apart (time_of times from) (time_of times to) (close_at times from.0 close) (close_at times to.0 close)
+separation_printed : (times : List ℤ) (from to : EventId) → All IsClose times → IsPrintedTime (separation times from to)
+separation_printed times from to close = apart (time_of times from) (time_of times to) (close_at times from.0 close) (close_at times to.0 close)
   where
-    apart : (a b : ℤ) → IsClose a → IsClose b → IsTime (b -ℤ a)
+    apart : (a b : ℤ) → IsClose a → IsClose b → IsPrintedTime (b -ℤ a)
     apart a b h k = (omega (arith, ints, h.0, h.1, k.0, k.1), omega (arith, ints, h.0, h.1, k.0, k.1))
 
 -- the numbers of the bound that an answer tells
-pub has_times : (net : Net) (from to : EventId) (most : ℕ) (lines : List ProofLine) (leaves : ℕ) (times : List ℤ) (ray : List Bool) (answer : Answer)
-    → Answers net from to most lines leaves times ray answer → All IsClose times → HasTimes (greatest_of answer)
-has_times net from to most lines leaves times ray (answers.Closed value) a close = subst IsTime a.attained (separation_time times from to close)
-has_times net from to most lines leaves times ray answers.Unbounded a close = tt
-has_times net from to most lines leaves times ray (answers.Enclosed upper found) a close = (a.within, subst IsTime a.attains (separation_time times from to close))
+greatest_printed : (search : PairSearch) (left : Evidence) (answer : Answer) → Answers search left answer → All IsClose left.times → HasPrintedTimes (greatest_of answer)
+greatest_printed search left (answers.Closed value) a close = subst IsPrintedTime a.attained (separation_printed left.times search.from search.to close)
+greatest_printed search left answers.Unbounded a close = tt
+greatest_printed search left (answers.Enclosed upper found) a close = (a.within, subst IsPrintedTime a.attains (separation_printed left.times search.from search.to close))
+
+pub has_printed : (search : PairSearch) (left : Evidence) (answer : Answer) (which : Which) → Answers search left answer → All IsClose left.times → HasPrintedTimes (bound_of which answer)
+has_printed search left answer sorts.Max a close = greatest_printed search left answer a close
+has_printed search left answer sorts.Min a close = bound_turned (greatest_of answer) (greatest_printed search left answer a close)
+
+pub has_times : (search : PairSearch) (left : Evidence) (answer : Answer) → Answers search left answer → All IsClose left.times → HasTimes (greatest_of answer)
+has_times search left answer a close = bound_times (greatest_of answer) (greatest_printed search left answer a close)
 
 -- ---- what the lines show
 
@@ -70,49 +79,46 @@ pair_is : (from to : EventId) (pair : Pair) → from ≡ pair.from → to ≡ pa
 pair_is from to pair f t = rw (f, t) refl
 
 -- in a greatest bound
-shows_greatest : (net : Net) (most : ℕ) (r : Row) (lines : List ProofLine) (leaves : ℕ) (times : List ℤ) (ray : List Bool) (answer : Answer)
-    → Answers net r.from r.to most lines leaves times ray answer → leaves ≤ most
-    → IsBoundOf net findings.Consistent r greatest (greatest_of answer) × ShowsBound net most lines r greatest (greatest_of answer)
-shows_greatest net most r lines leaves times ray (answers.Closed value) a count = ((refl, a.greatest), (a.proof, omega (arith, a.count, count)))
-shows_greatest net most r lines leaves times ray answers.Unbounded a count =
+shows_greatest : (net : Net) (most : ℕ) (r : Row) (left : Evidence) (answer : Answer) → Answers (search_of net (row_pair r) most) left answer → left.leaves ≤ most
+    → IsBoundOf net findings.Consistent r greatest (greatest_of answer) × ShowsBound net most left.lines r greatest (greatest_of answer)
+shows_greatest net most r left (answers.Closed value) a count = ((refl, a.greatest), (a.proof, omega (arith, a.count, count)))
+shows_greatest net most r left answers.Unbounded a count =
     let s = a.stopped in
     (refl, (s.0, (s.1, omega (arith, s.3, count), s.2)))
-shows_greatest net most r lines leaves times ray (answers.Enclosed upper found) a count =
-    ((a.root, refl), subst (λ n. IsStoppedProof net (BoundGoal r.from r.to found) lines n) a.used a.stopped)
+shows_greatest net most r left (answers.Enclosed upper found) a count =
+    ((a.root, refl), subst (λ n. IsStoppedProof net (BoundGoal r.from r.to found) left.lines n) a.used a.stopped)
 
 -- in a least bound
-shows_least : (net : Net) (most : ℕ) (r : Row) (first : Bound) (lines : List ProofLine) (leaves : ℕ) (times : List ℤ) (ray : List Bool) (answer : Answer)
-    → Answers net r.to r.from most lines leaves times ray answer → leaves ≤ most
-    → IsBoundOf net findings.Consistent r (least_by first) (reversed (greatest_of answer)) × ShowsBound net most lines r (least_by first) (reversed (greatest_of answer))
-shows_least net most r first lines leaves times ray (answers.Closed value) a count = (
+shows_least : (net : Net) (most : ℕ) (r : Row) (first : Bound) (left : Evidence) (answer : Answer) → Answers (search_of net (searched_pair sorts.Min (row_pair r)) most) left answer
+    → left.leaves ≤ most
+    → IsBoundOf net findings.Consistent r (least_by first) (reversed (greatest_of answer)) × ShowsBound net most left.lines r (least_by first) (reversed (greatest_of answer))
+shows_least net most r first left (answers.Closed value) a count = (
   (refl, (least_is_reversed_greatest net r.from r.to (neg_ℤ value)).1 (subst (IsGreatest net r.to r.from) (sym (neg_neg value)) a.greatest)),
-  (subst (λ z. IsProof net (BoundGoal r.to r.from z) lines) (sym (neg_neg value)) a.proof, omega (arith, a.count, count)),
+  (subst (λ z. IsProof net (BoundGoal r.to r.from z) left.lines) (sym (neg_neg value)) a.proof, omega (arith, a.count, count)),
 )
-shows_least net most r first lines leaves times ray answers.Unbounded a count =
+shows_least net most r first left answers.Unbounded a count =
     let s = a.stopped in
-    (refl, (neg_ℤ s.0, (s.1, omega (arith, s.3, count), subst (λ z. IsStoppedProof net (BoundGoal r.to r.from z) lines s.1) (sym (neg_neg s.0)) s.2)))
-shows_least net most r first lines leaves times ray (answers.Enclosed upper found) a count = (
+    (refl, (neg_ℤ s.0, (s.1, omega (arith, s.3, count), subst (λ z. IsStoppedProof net (BoundGoal r.to r.from z) left.lines s.1) (sym (neg_neg s.0)) s.2)))
+shows_least net most r first left (answers.Enclosed upper found) a count = (
   (subst (IsRootBound net r.to r.from) (no_neg upper) a.root, refl),
-  subst (λ n. IsStoppedProof net (BoundGoal r.to r.from (neg_ℤ (neg_ℤ found))) lines n) a.used
-      (subst (λ z. IsStoppedProof net (BoundGoal r.to r.from z) lines leaves) (sym (neg_neg found)) a.stopped),
+  subst (λ n. IsStoppedProof net (BoundGoal r.to r.from (neg_ℤ (neg_ℤ found))) left.lines n) a.used
+      (subst (λ z. IsStoppedProof net (BoundGoal r.to r.from z) left.lines left.leaves) (sym (neg_neg found)) a.stopped),
 )
 
-shows_by : (net : Net) (most : ℕ) (r : Row) (side : Side) (lines : List ProofLine) (leaves : ℕ) (times : List ℤ) (ray : List Bool) (answer : Answer)
-    → Answers net (searched_pair (which_of side) (row_pair r)).from (searched_pair (which_of side) (row_pair r)).to most lines leaves times ray answer → leaves ≤ most
-    → IsBoundOf net findings.Consistent r side (bound_of (which_of side) answer) × ShowsBound net most lines r side (bound_of (which_of side) answer)
-shows_by net most r greatest lines leaves times ray answer a count = shows_greatest net most r lines leaves times ray answer a count
-shows_by net most r (least_by first) lines leaves times ray answer a count = shows_least net most r first lines leaves times ray answer a count
+shows_by : (net : Net) (most : ℕ) (r : Row) (side : Side) (left : Evidence) (answer : Answer) → Answers (search_of net (searched_pair (which_of side) (row_pair r)) most) left answer
+    → left.leaves ≤ most → IsBoundOf net findings.Consistent r side (bound_of (which_of side) answer) × ShowsBound net most left.lines r side (bound_of (which_of side) answer)
+shows_by net most r greatest left answer a count = shows_greatest net most r left answer a count
+shows_by net most r (least_by first) left answer a count = shows_least net most r first left answer a count
 
-pub shows_in : (net : Net) (most : ℕ) (pair : Pair) (which : Which) (lines : List ProofLine) (leaves : ℕ) (times : List ℤ) (ray : List Bool) (answer : Answer)
-    → Answers net (searched_pair which pair).from (searched_pair which pair).to most lines leaves times ray answer → leaves ≤ most
-    → ShowsIn net most pair which lines (bound_of which answer)
-shows_in net most pair which lines leaves times ray answer a count r side f t w =
+pub shows_in : (net : Net) (most : ℕ) (pair : Pair) (which : Which) (left : Evidence) (answer : Answer) → Answers (search_of net (searched_pair which pair) most) left answer → left.leaves ≤ most
+    → ShowsIn net most pair which left.lines (bound_of which answer)
+shows_in net most pair which left answer a count r side f t w =
     let e : row_pair r ≡ pair = pair_is r.from r.to pair f t in
-    let b : Answers net (searched_pair (which_of side) (row_pair r)).from (searched_pair (which_of side) (row_pair r)).to most lines leaves times ray answer =
-    subst (λ (k : Which). Answers net (searched_pair k (row_pair r)).from (searched_pair k (row_pair r)).to most lines leaves times ray answer) (sym w)
-    (subst (λ (p : Pair). Answers net (searched_pair which p).from (searched_pair which p).to most lines leaves times ray answer) (sym e) a) in
-    subst (λ (k : Which). IsBoundOf net findings.Consistent r side (bound_of k answer) × ShowsBound net most lines r side (bound_of k answer)) w
-    (shows_by net most r side lines leaves times ray answer b count)
+    let b : Answers (search_of net (searched_pair (which_of side) (row_pair r)) most) left answer =
+    subst (λ (k : Which). Answers (search_of net (searched_pair k (row_pair r)) most) left answer) (sym w)
+    (subst (λ (p : Pair). Answers (search_of net (searched_pair which p) most) left answer) (sym e) a) in
+    subst (λ (k : Which). IsBoundOf net findings.Consistent r side (bound_of k answer) × ShowsBound net most left.lines r side (bound_of k answer)) w
+    (shows_by net most r side left answer b count)
 
 -- ---- what is kept
 
@@ -128,22 +134,22 @@ turned times list from to value same e = sym same ∙ turn (time_of times from) 
     turn : (a b value : ℤ) → (a -ℤ b) ≡ value → (b -ℤ a) ≡ neg_ℤ value
     turn a b value e = omega (arith, ints)
 
-attain : (net : Net) (pair : Pair) (which : Which) (most : ℕ) (lines : List ProofLine) (leaves : ℕ) (times list : List ℤ) (ray set : List Bool) (answer : Answer)
-    → Answers net (searched_pair which pair).from (searched_pair which pair).to most lines leaves times ray answer
-    → (answer ≡ answers.Unbounded → Attain net pair which bounds.Unbounded list set)
-    → separation times pair.from pair.to ≡ separation list pair.from pair.to → Attain net pair which (bound_of which answer) list set
-attain net pair sorts.Max most lines leaves times list ray set (answers.Closed value) a rays same = sym same ∙ a.attained
-attain net pair sorts.Max most lines leaves times list ray set answers.Unbounded a rays same = rays refl
-attain net pair sorts.Max most lines leaves times list ray set (answers.Enclosed upper found) a rays same = sym same ∙ a.attains
-attain net pair sorts.Min most lines leaves times list ray set (answers.Closed value) a rays same = turned times list pair.from pair.to value same a.attained
-attain net pair sorts.Min most lines leaves times list ray set answers.Unbounded a rays same = rays refl
-attain net pair sorts.Min most lines leaves times list ray set (answers.Enclosed upper found) a rays same = turned times list pair.from pair.to found same a.attains
+attain : (net : Net) (pair : Pair) (which : Which) (most : ℕ) (left : Evidence) (list : List ℤ) (set : List Bool) (answer : Answer)
+    → Answers (search_of net (searched_pair which pair) most) left answer → (answer ≡ answers.Unbounded → Attain net pair which bounds.Unbounded list set)
+    → separation left.times pair.from pair.to ≡ separation list pair.from pair.to → Attain net pair which (bound_of which answer) list set
+attain net pair sorts.Max most left list set (answers.Closed value) a rays same = sym same ∙ a.attained
+attain net pair sorts.Max most left list set answers.Unbounded a rays same = rays refl
+attain net pair sorts.Max most left list set (answers.Enclosed upper found) a rays same = sym same ∙ a.attains
+attain net pair sorts.Min most left list set (answers.Closed value) a rays same = turned left.times list pair.from pair.to value same a.attained
+attain net pair sorts.Min most left list set answers.Unbounded a rays same = rays refl
+attain net pair sorts.Min most left list set (answers.Enclosed upper found) a rays same = turned left.times list pair.from pair.to found same a.attains
 
-pub kept_from : (net : Net) (pair : Pair) (which : Which) (most : ℕ) (lines : List ProofLine) (leaves : ℕ) (times list : List ℤ) (ray set : List Bool) (answer : Answer) → IsNet net
-    → Answers net (searched_pair which pair).from (searched_pair which pair).to most lines leaves times ray answer → Satisfies times net → All IsClose times
-    → pair.from.0 < net.events → pair.to.0 < net.events → IsShiftedTo pair.from times list → (answer ≡ answers.Unbounded → set ≡ ray)
-    → IsKept net pair which (bound_of which answer) list set
-kept_from net pair which most lines leaves times list ray set answer is_net a sat close in_from in_to is rays =
+pub kept_from : (net : Net) (pair : Pair) (which : Which) (most : ℕ) (left : Evidence) (list : List ℤ) (set : List Bool) (answer : Answer) → IsNet net
+    → Answers (search_of net (searched_pair which pair) most) left answer → Satisfies left.times net → All IsClose left.times
+    → IsReached (separation left.times (searched_pair which pair).from (searched_pair which pair).to) → pair.from.0 < net.events → pair.to.0 < net.events
+    → IsShiftedTo pair.from left.times list → (answer ≡ answers.Unbounded → set ≡ left.ray) → IsKept net pair which (bound_of which answer) list set
+kept_from net pair which most left list set answer is_net a sat close reached in_from in_to is rays =
+    let times : List ℤ = left.times in
     let by : ℤ = neg_ℤ (time_of times pair.from) in
     let f : pair.from.0 < length times = subst (λ n. pair.from.0 < n) (sym sat.count) in_from in
     let t : pair.to.0 < length times = subst (λ n. pair.to.0 < n) (sym sat.count) in_to in record {
@@ -151,15 +157,22 @@ kept_from net pair which most lines leaves times list ray set answer is_net a sa
       satisfied = subst (λ ts. Satisfies ts net) (sym is) (satisfies-shifted net times by is_net sat);
       at_zero = at_zero times list pair.from f is;
       nearby = subst (λ (ts : List ℤ). AreNearby ts) (sym is) (nearby-shifted times by (nearby_close times close));
-      attain = attain net pair which most lines leaves times list ray set answer a
+      reached = subst (λ (ts : List ℤ). IsReached (separation ts (searched_pair which pair).from (searched_pair which pair).to)) (sym is) (reached-shifted which times by f t reached);
+      attain = attain net pair which most left list set answer a
           (λ unbounded. subst (λ (ts : List ℤ). Attain net pair which bounds.Unbounded ts set) (sym is)
           (subst (λ (flags : List Bool). Attain net pair which bounds.Unbounded (shifted times by) flags) (sym (rays unbounded))
-          (ray-shifted net (searched_pair which pair).from (searched_pair which pair).to times ray by is_net (ray_of net _ _ most lines leaves times ray answer unbounded a))))
+          (ray-shifted net (searched_pair which pair).from (searched_pair which pair).to times left.ray by is_net
+          (ray_of (search_of net (searched_pair which pair) most) left answer unbounded a))))
           (separation-shifted times by pair.from pair.to f t ∙ ap (λ (ts : List ℤ). separation ts pair.from pair.to) (sym is));
     }
   where
-    ray_of : (net : Net) (from to : EventId) (most : ℕ) (lines : List ProofLine) (leaves : ℕ) (times : List ℤ) (ray : List Bool) (answer : Answer) → answer ≡ answers.Unbounded
-        → Answers net from to most lines leaves times ray answer → IsRay net from to times ray
-    ray_of net from to most lines leaves times ray (answers.Closed value) e a = absurd (cc e)
-    ray_of net from to most lines leaves times ray answers.Unbounded e a = a.raised
-    ray_of net from to most lines leaves times ray (answers.Enclosed upper found) e a = absurd (cc e)
+    reached-shifted : (w : Which) (times : List ℤ) (by : ℤ) → pair.from.0 < length times → pair.to.0 < length times → IsReached (separation times (searched_pair w pair).from (searched_pair w pair).to)
+        → IsReached (separation (shifted times by) (searched_pair w pair).from (searched_pair w pair).to)
+    reached-shifted sorts.Max times by f t reached = subst IsReached (separation-shifted times by pair.from pair.to f t) reached
+    reached-shifted sorts.Min times by f t reached = subst IsReached (separation-shifted times by pair.to pair.from t f) reached
+
+    ray_of : (search : PairSearch) (left : Evidence) (answer : Answer) → answer ≡ answers.Unbounded → Answers search left answer
+        → IsRay search.net search.from search.to left.times left.ray
+    ray_of search left (answers.Closed value) e a = absurd (cc e)
+    ray_of search left answers.Unbounded e a = a.raised
+    ray_of search left (answers.Enclosed upper found) e a = absurd (cc e)

@@ -16,8 +16,8 @@ use Rattle.slack_report.specs.declared.words.FindingWord.{FindingWord}
 use Rattle.slack_report.specs.declared.words.FindingWord.TheVariants as findings
 use Rattle.requirements.specs.declared.bound.Bound.{Bound as RowBound}
 use Rattle.requirements.specs.declared.bound.Bound.TheVariants as bounds
-use Rattle.slack_report.specs.Right.At.{Side}
-use Rattle.slack_report.specs.Right.Drawn.{Row}
+use Rattle.right_report.specs.Right.At.{Side}
+use Rattle.drawn.specs.declared.row.Row.{Row}
 use Rattle.right_report.specs.Shown.{ShowsBound, ShowsFinding, goal_of}
 use Rattle.bounds_report.specs.Written.{printed}
 

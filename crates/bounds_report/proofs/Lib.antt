@@ -1,4 +1,5 @@
 pub mod Telling
+pub mod Printed
 pub mod Shifted
 pub mod Answering
 pub mod Putting

@@ -1,9 +1,11 @@
 -- Times past an end of a range.
-use Rattle.std.proofs.Common.{◌≡◌, ◌<◌, ◌+◌, ◌^◌, ◌⊎◌, ℕ, zero, suc, ℤ, pos, neg_ℤ, ◌+ℤ◌, ◌-ℤ◌, ◌≤ℤ◌, ◌<ℤ◌, Bool, true, false, ◌&&◌, cond, List, [], ◌∷◌, length, get_or, All, Option, Some, None, slice_get, refl, sym, subst, ap, ◌∙◌, inl, inr, arith}
+use Rattle.std.proofs.Common.{◌≡◌, ◌<◌, ◌+◌, ◌*◌, ◌⊎◌, ℕ, zero, suc, ℤ, pos, neg_ℤ, ◌+ℤ◌, ◌-ℤ◌, ◌≤ℤ◌, ◌<ℤ◌, Bool, true, false, ◌&&◌, cond, List, [], ◌∷◌, length, get_or, All, Option, Some, None, slice_get, refl, sym, subst, ap, ◌∙◌, inl, inr, arith}
 use Rattle.std.specs.Prelude.{IsSomeAnd, int_lt}
 use Rattle.std.proofs.lemmas.Int.{ints}
 use Rattle.itv_base.specs.Range.{Ends, IsEnd}
 use Rattle.itv_base.specs.declared.names.EventId.{EventId}
+use Rattle.event_graph.specs.Limits.{IsPrintedTime, reach_limit, weight_limit}
+use Rattle.branch.specs.Work.{IsReached}
 use Rattle.event_graph.specs.Bounds.{IsRay}
 use Rattle.event_graph.specs.Network.{IsNet, Net}
 use Rattle.event_graph.specs.Satisfying.{Satisfies}
@@ -16,10 +18,11 @@ use Rattle.requirements.specs.declared.bound.Bound.TheVariants as bounds
 use Rattle.requirements.specs.declared.verdict.Verdict.{Verdict}
 use Rattle.requirements.specs.declared.verdict.Verdict.TheVariants as verdicts
 use Rattle.slack_report.specs.Entry.{times as times_line}
-use Rattle.slack_report.specs.Right.At.{At, Telling, at_past, behind_past, behind_verdict, is_fail}
-use Rattle.slack_report.specs.Right.Drawn.{Drawn, Row}
-use Rattle.slack_report.specs.Right.Facts.{AreTimes, Breaks}
-use Rattle.slack_report.specs.Right.Following.{MayFollow}
+use Rattle.right_report.specs.Right.At.{At, Telling, at_past, behind_past, behind_verdict, is_fail}
+use Rattle.drawn.specs.Drawn.{Drawn, AreTimes}
+use Rattle.drawn.specs.declared.row.Row.{Row}
+use Rattle.right_report.specs.Right.Facts.{Breaks}
+use Rattle.right_report.specs.Right.Following.{MayFollow}
 use Rattle.bounds_report.specs.Step.Searched.{sized}
 use Rattle.slack_report.specs.declared.words.Which.{Which}
 use Rattle.slack_report.specs.declared.words.Which.TheVariants as sorts
@@ -29,9 +32,13 @@ use Rattle.bounds_report.proofs.Shifted.{at_zero, length-shifted, satisfies-shif
 
 -- ---- numbers of times that are raised
 
+-- the most that a set is raised by to pass an end
+abbrev most_by : ℕ
+most_by = 3 * reach_limit + weight_limit + 1
+
 -- a time of a list that was raised by little
 IsRaised : ℤ → Type 0
-IsRaised time = (neg_ℤ (pos (2 ^ 59)) <ℤ time) × (time <ℤ pos (2 ^ 60 + 2 ^ 41))
+IsRaised time = (neg_ℤ (pos (9 * reach_limit)) ≤ℤ time) × (time ≤ℤ pos (9 * reach_limit + most_by))
 
 raised_at : (set : List Bool) (by : ℕ) (times : List ℤ) (k : ℕ) (d : ℤ) → k < length times
     → (get_or (raised set by times) k d ≡ get_or times k d) ⊎ (get_or (raised set by times) k d ≡ get_or times k d +ℤ pos by)
@@ -42,25 +49,29 @@ raised_at (false ∷ set) by (time ∷ times) zero d h = inl refl
 raised_at (is_in ∷ set) by (time ∷ times) (suc k) d h = raised_at set by times k d (omega arith)
 
 -- by how much they are raised
-raised_by : (old : List ℤ) (set : List Bool) (from to : EventId) (limit : ℤ) (new : List ℤ) (r : RaisesPast old set from to limit new) → IsNearby (separation old from to) → IsEnd (Some limit)
-    → slice_get set from.0 ≡ Some false → slice_get set to.0 ≡ Some true → to.0 < length old → pos r.by <ℤ pos (2 ^ 59 + 2 ^ 41)
-raised_by old set from to limit new r near end lacks holds in_to = less r.by r.least
+raised_by : (old : List ℤ) (set : List Bool) (from to : EventId) (limit : ℤ) (new : List ℤ) (r : RaisesPast old set from to limit new) → IsReached (separation old from to) → IsEnd (Some limit)
+    → slice_get set from.0 ≡ Some false → slice_get set to.0 ≡ Some true → to.0 < length old → pos r.by ≤ℤ pos most_by
+raised_by old set from to limit new r reached end lacks holds in_to = less r.by r.least
   where
-    at_most : (sep limit : ℤ) (n : ℕ) → IsNearby sep → IsEnd (Some limit) → (sep +ℤ pos n) ≤ℤ limit → pos (suc n) <ℤ pos (2 ^ 59 + 2 ^ 41)
-    at_most sep limit n near end h = omega (arith, ints, near.0, end.1, h)
+    at_most : (sep limit : ℤ) (n : ℕ) → IsReached sep → IsEnd (Some limit) → (sep +ℤ pos n) ≤ℤ limit → pos (suc n) ≤ℤ pos most_by
+    at_most sep limit n reached end h = omega (arith, ints, reached, end.1, h)
 
-    less : (by : ℕ) → ((n : ℕ) → n < by → separation (raised set n old) from to ≤ℤ limit) → pos by <ℤ pos (2 ^ 59 + 2 ^ 41)
+    less : (by : ℕ) → ((n : ℕ) → n < by → separation (raised set n old) from to ≤ℤ limit) → pos by ≤ℤ pos most_by
     less zero least = omega (arith, ints)
-    less (suc n) least = at_most (separation old from to) limit n near end (subst (λ z. z ≤ℤ limit) (separation-raised set n old from to lacks holds in_to) (least n (omega arith)))
+    less (suc n) least = at_most (separation old from to) limit n reached end (subst (λ z. z ≤ℤ limit) (separation-raised set n old from to lacks holds in_to) (least n (omega arith)))
 
-is_raised : (old new by : ℤ) → IsNearby old → pos 0 ≤ℤ by → by <ℤ pos (2 ^ 59 + 2 ^ 41) → (new ≡ old) ⊎ (new ≡ old +ℤ by) → IsRaised new
+is_raised : (old new by : ℤ) → IsNearby old → pos 0 ≤ℤ by → by ≤ℤ pos most_by → (new ≡ old) ⊎ (new ≡ old +ℤ by) → IsRaised new
 unfolding IsRaised
 is_raised old new by near low high (inl e) = (omega (arith, ints, near.0, near.1, e), omega (arith, ints, near.0, near.1, e))
 is_raised old new by near low high (inr e) = (omega (arith, ints, near.0, near.1, low, high, e), omega (arith, ints, near.0, near.1, low, high, e))
 
-apart : (a b : ℤ) → IsRaised a → IsRaised b → IsTime (a +ℤ neg_ℤ b)
-unfolding IsRaised
-apart a b h k = (omega (arith, ints, h.0, h.1, k.0, k.1), omega (arith, ints, h.0, h.1, k.0, k.1))
+-- a time less that of an origin, which was at 0: each is an old one, with or without the raise
+apart : (old new origin at by : ℤ) → IsNearby old → origin ≡ pos 0 → pos 0 ≤ℤ by → by ≤ℤ pos most_by → (new ≡ old) ⊎ (new ≡ old +ℤ by) → (at ≡ origin) ⊎ (at ≡ origin +ℤ by)
+    → IsPrintedTime (new +ℤ neg_ℤ at)
+apart old new origin at by n o low high (inl e) (inl f) = (omega (arith, ints, n.0, n.1, o, low, high, e, f), omega (arith, ints, n.0, n.1, o, low, high, e, f))
+apart old new origin at by n o low high (inl e) (inr f) = (omega (arith, ints, n.0, n.1, o, low, high, e, f), omega (arith, ints, n.0, n.1, o, low, high, e, f))
+apart old new origin at by n o low high (inr e) (inl f) = (omega (arith, ints, n.0, n.1, o, low, high, e, f), omega (arith, ints, n.0, n.1, o, low, high, e, f))
+apart old new origin at by n o low high (inr e) (inr f) = (omega (arith, ints, n.0, n.1, o, low, high, e, f), omega (arith, ints, n.0, n.1, o, low, high, e, f))
 
 raised_time : (a : ℤ) → IsRaised a → IsTime a
 unfolding IsRaised
@@ -93,15 +104,19 @@ module _ (net : Net) (pair : Pair) (which : Which) (limit : ℤ) (old : List ℤ
   pub new_count : length new ≡ net.events
   new_count = ap length r.rose ∙ length-raised set r.by old ∙ kept.satisfied.count
 
+  by_at_most : pos r.by ≤ℤ pos most_by
+  by_at_most = raised_by old set (searched_pair which pair).from (searched_pair which pair).to limit new r kept.reached end ray.lacks ray.holds
+      (subst (λ n. (searched_pair which pair).to.0 < n) old_count (in_searched which).1)
+
+  old_nearby : (k : ℕ) → k < length old → IsNearby (get_or old k (pos 0))
+  old_nearby k h = near_zero old pair.from k kept.nearby (subst (λ n. pair.from.0 < n) old_count kept.from) kept.at_zero h
+
+  new_at : (k : ℕ) → k < length old → (get_or new k (pos 0) ≡ get_or old k (pos 0)) ⊎ (get_or new k (pos 0) ≡ get_or old k (pos 0) +ℤ pos r.by)
+  new_at k h =
+      subst (λ (ts : List ℤ). (get_or ts k (pos 0) ≡ get_or old k (pos 0)) ⊎ (get_or ts k (pos 0) ≡ get_or old k (pos 0) +ℤ pos r.by)) (sym r.rose) (raised_at set r.by old k (pos 0) h)
+
   raised_all : (k : ℕ) → k < length old → IsRaised (get_or new k (pos 0))
-  raised_all k h =
-      let s_from : (searched_pair which pair).from.0 < length old = subst (λ n. (searched_pair which pair).from.0 < n) old_count (in_searched which).0 in
-      let s_to : (searched_pair which pair).to.0 < length old = subst (λ n. (searched_pair which pair).to.0 < n) old_count (in_searched which).1 in
-      let by : pos r.by <ℤ pos (2 ^ 59 + 2 ^ 41) = raised_by old set (searched_pair which pair).from (searched_pair which pair).to limit new r
-      (kept.nearby (searched_pair which pair).from (searched_pair which pair).to s_from s_to) end ray.lacks ray.holds s_to in
-      let near : IsNearby (get_or old k (pos 0)) = near_zero old pair.from k kept.nearby (subst (λ n. pair.from.0 < n) old_count kept.from) kept.at_zero h in
-      is_raised (get_or old k (pos 0)) (get_or new k (pos 0)) (pos r.by) near (omega (arith, ints)) by
-      (subst (λ (ts : List ℤ). (get_or ts k (pos 0) ≡ get_or old k (pos 0)) ⊎ (get_or ts k (pos 0) ≡ get_or old k (pos 0) +ℤ pos r.by)) (sym r.rose) (raised_at set r.by old k (pos 0) h))
+  raised_all k h = is_raised (get_or old k (pos 0)) (get_or new k (pos 0)) (pos r.by) (old_nearby k h) (omega (arith, ints)) by_at_most (new_at k h)
 
   in_old : (k : ℕ) → k < length new → k < length old
   in_old k h = subst (λ n. k < n) (new_count ∙ old_count) h
@@ -121,18 +136,19 @@ module _ (net : Net) (pair : Pair) (which : Which) (limit : ℤ) (old : List ℤ
       let sat : Satisfies new net = subst (λ ts. Satisfies ts net) (sym r.rose) (ray.satisfies r.by) in record {
         satisfied = subst (λ ts. Satisfies ts net) (sym is) (satisfies-shifted net new by is_net sat);
         at_zero = at_zero new list pair.from f is;
-        within = subst (λ (ts : List ℤ). All IsTime ts) (sym is) (shifted_times f);
+        within = subst (λ (ts : List ℤ). All IsPrintedTime ts) (sym is) (shifted_times f);
         past = subst (λ (ts : List ℤ). limit <ℤ separation ts (searched_pair which pair).from (searched_pair which pair).to) (sym is)
             (subst (λ z. limit <ℤ z) (separation-shifted new by (searched_pair which pair).from (searched_pair which pair).to s_from s_to) r.past);
       }
     where
-      shifted_times : pair.from.0 < length new → All IsTime (shifted new (neg_ℤ (time_of new pair.from)))
+      shifted_times : pair.from.0 < length new → All IsPrintedTime (shifted new (neg_ℤ (time_of new pair.from)))
       shifted_times f k d h =
           let by : ℤ = neg_ℤ (time_of new pair.from) in
           let inside : k < length new = subst (λ n. k < n) (length-shifted new by) h in
           let e : get_or (shifted new by) k (pos 0) ≡ get_or new k (pos 0) +ℤ by = time-shifted new by (record { 0 = k }) inside in
-          all_or IsTime (shifted new by) k (pos 0) d h (subst IsTime (sym e)
-          (apart (get_or new k (pos 0)) (time_of new pair.from) (raised_all k (in_old k inside)) (raised_all pair.from.0 (in_old pair.from.0 f))))
+          all_or IsPrintedTime (shifted new by) k (pos 0) d h (subst IsPrintedTime (sym e)
+          (apart (get_or old k (pos 0)) (get_or new k (pos 0)) (time_of old pair.from) (time_of new pair.from) (pos r.by) (old_nearby k (in_old k inside)) kept.at_zero (omega (arith, ints)) by_at_most
+          (new_at k (in_old k inside)) (new_at pair.from.0 (in_old pair.from.0 f))))
 
 -- what a call that raises tells, of the searched pair and of the limit as it is read
 pub raises : (old : List ℤ) (set : List Bool) (pair : Pair) (which : Which) (searched : Pair) (limit read : ℤ) (new : List ℤ) → searched ≡ searched_pair which pair → read ≡ limit
@@ -224,29 +240,29 @@ under r range limit list e h = subst (λ (low : Option ℤ). IsSomeAnd low (λ l
     turn_under : (a b limit : ℤ) → limit <ℤ (a -ℤ b) → (b -ℤ a) <ℤ neg_ℤ limit
     turn_under a b limit h = omega (arith, ints)
 
-module _ (net : Net) (m : ℕ) (cert : Bool) (drawn : Drawn) (told : Telling) (range : Ends) (least most : Bound) (pair : Pair) (f : told.row.from ≡ pair.from) (t : told.row.to ≡ pair.to) where
-  are_times : (which : Which) (limit : ℤ) (list : List ℤ) → ArePast net pair which limit list → All IsTime list × AreTimes net told.row list
+module _ (net : Net) (m : ℕ) (cert : Bool) (basis : List ℤ) (drawn : Drawn) (told : Telling) (range : Ends) (least most : Bound) (pair : Pair) (f : told.row.from ≡ pair.from) (t : told.row.to ≡ pair.to) where
+  are_times : (which : Which) (limit : ℤ) (list : List ℤ) → ArePast net pair which limit list → All IsPrintedTime list × AreTimes net told.row list
   are_times which limit list past = (past.within, record { satisfied = past.satisfied; at_zero = ap (λ (e : EventId). time_of list e) f ∙ past.at_zero })
 
   -- times that break the end that a fail names
-  past_may : (word : Verdict) (list : List ℤ) → is_fail word ≡ true → word ≡ verdict_of range least most → All IsTime list × AreTimes net told.row list → Breaks told.row range word list
-      → MayFollow (sized net m cert) drawn (behind_verdict told range least most word) (times_line list) (behind_past told range least most word)
+  past_may : (word : Verdict) (list : List ℤ) → is_fail word ≡ true → word ≡ verdict_of range least most → All IsPrintedTime list × AreTimes net told.row list → Breaks told.row range word list
+      → MayFollow (sized net m cert basis) drawn (behind_verdict told range least most word) (times_line list) (behind_past told range least most word)
   past_may word list fail e are breaks =
-      subst (λ (at : At). MayFollow (sized net m cert) drawn at (times_line list) (behind_past told range least most word)) (sym (at_fail word fail))
+      subst (λ (at : At). MayFollow (sized net m cert basis) drawn at (times_line list) (behind_past told range least most word)) (sym (at_fail word fail))
       (list, refl, (are.0, (are.1, subst (λ (w : Verdict). Breaks told.row range w list) e breaks)), ap (behind_past told range least most) e)
     where
       at_fail : (word : Verdict) → is_fail word ≡ true → behind_verdict told range least most word ≡ at_past told range least most
       at_fail word fail = rw fail refl
 
   pub past_high_may : (word : Verdict) (limit read : ℤ) (list : List ℤ) → word ≡ verdicts.FailHigh → word ≡ verdict_of range least most → range.high ≡ Some limit → read ≡ limit
-      → ArePast net pair sorts.Max read list → MayFollow (sized net m cert) drawn (behind_verdict told range least most word) (times_line list) (behind_past told range least most word)
+      → ArePast net pair sorts.Max read list → MayFollow (sized net m cert basis) drawn (behind_verdict told range least most word) (times_line list) (behind_past told range least most word)
   past_high_may word limit read list is e high same past =
       past_may word list (ap is_fail is) e (are_times sorts.Max read list past)
       (subst (λ (w : Verdict). Breaks told.row range w list) (sym is) (above told.row range read list (high ∙ ap Some (sym same))
       (subst (λ (p : EventId). read <ℤ separation list p told.row.to) (sym f) (subst (λ (p : EventId). read <ℤ separation list pair.from p) (sym t) past.past))))
 
   pub past_low_may : (word : Verdict) (limit read : ℤ) (list : List ℤ) → word ≡ verdicts.FailLow → word ≡ verdict_of range least most → range.low ≡ Some (neg_ℤ limit) → read ≡ limit
-      → ArePast net pair sorts.Min read list → MayFollow (sized net m cert) drawn (behind_verdict told range least most word) (times_line list) (behind_past told range least most word)
+      → ArePast net pair sorts.Min read list → MayFollow (sized net m cert basis) drawn (behind_verdict told range least most word) (times_line list) (behind_past told range least most word)
   past_low_may word limit read list is e low same past =
       past_may word list (ap is_fail is) e (are_times sorts.Min read list past)
       (subst (λ (w : Verdict). Breaks told.row range w list) (sym is) (under told.row range read list (low ∙ ap (λ z. Some (neg_ℤ z)) (sym same))

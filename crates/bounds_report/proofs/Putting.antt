@@ -1,38 +1,42 @@
 -- The lines that tell a bound.
-use Rattle.std.proofs.Common.{◌≡◌, ◌<◌, ◌≤◌, length, All, ℕ, ℤ, Bool, true, false, List, [], Option, Some, None, ◌⊎◌, refl, sym, subst, ap, ◌∙◌, inl, inr}
+use Rattle.std.proofs.Common.{◌≡◌, ◌<◌, ◌≤◌, length, All, ℕ, ℤ, Bool, true, false, List, [], ◌∷◌, ◌++◌, Option, Some, None, ◌⊎◌, refl, sym, subst, ap, ◌∙◌, inl, inr}
 use Rattle.itv_base.specs.declared.names.EventId.{EventId}
-use Rattle.branch.specs.Answers.{Answers}
+use Rattle.branch.specs.Answers.{Answers, Evidence}
+use Rattle.branch.specs.Needed.{IsNeededToBound}
+use Rattle.branch.specs.Work.{IsClose}
 use Rattle.branch.specs.declared.answer.Answer.{Answer}
 use Rattle.event_graph.specs.Bounds.{IsRay}
+use Rattle.event_graph.specs.Limits.{IsPrintedTime}
 use Rattle.event_graph.specs.Network.{Net}
-use Rattle.event_graph.specs.Proof.{ProofLine}
-use Rattle.event_graph.specs.Times.{IsTime, time_of}
+use Rattle.event_graph.specs.Proof.{ProofLine, Split}
+use Rattle.event_graph.specs.Reading.{AtEachSplit}
+use Rattle.event_graph.specs.Times.{separation, time_of}
 use Rattle.requirements.specs.declared.bound.Bound.{Bound}
 use Rattle.requirements.specs.declared.bound.Bound.TheVariants as bounds
-use Rattle.requirements.specs.Bounds.{HasTimes}
-use Rattle.right_report.specs.Checked.{IsWithinTimes}
 use Rattle.right_report.specs.Shown.{ShowsBound}
 use Rattle.slack_report.specs.declared.words.FindingWord.{FindingWord}
 use Rattle.slack_report.specs.declared.words.FindingWord.TheVariants as findings
 use Rattle.slack_report.specs.declared.words.Which.{Which}
-use Rattle.bounds_report.specs.Written.{ArePrinted, printed}
+use Rattle.bounds_report.specs.Written.{ArePrinted, HasPrintedTimes, IsEachNeeded, printed}
 use Rattle.slack_report.specs.Entry.{bound, raise, times}
-use Rattle.slack_report.specs.Right.At.{At, Side, Telling, at_bound, at_raise, at_times, behind_bound, behind_times, bounded, greatest, least_by, which_of}
-use Rattle.slack_report.specs.Right.Drawn.{Drawn, Row}
-use Rattle.slack_report.specs.Right.Facts.{AreTimes, Attains, CanRise, IsBoundOf, IsLimit}
-use Rattle.slack_report.specs.Right.Following.{MayFollow}
+use Rattle.right_report.specs.Right.At.{At, Side, Telling, at_bound, at_raise, at_times, behind_bound, behind_times, bounded, greatest, least_by, which_of}
+use Rattle.drawn.specs.Drawn.{Drawn, AreTimes}
+use Rattle.drawn.specs.declared.row.Row.{Row}
+use Rattle.right_report.specs.Right.Facts.{Attains, CanRise, IsBoundOf, IsLimit}
+use Rattle.right_report.specs.Right.Following.{MayFollow}
 use Rattle.bounds_report.specs.declared.pair.Pair.{Pair}
 use Rattle.bounds_report.specs.Step.Kept.{Attain, HasTold, IsKept, IsLimitOf, IsOpenBound, searched_pair}
-use Rattle.bounds_report.specs.Step.Searched.{bound_of, sized}
+use Rattle.bounds_report.specs.Step.Searched.{bound_of, search_of, sized}
 use Rattle.bounds_report.specs.Step.Told.{IsOf}
-use Rattle.bounds_report.proofs.Answering.{ShowsIn, shows_in}
+use Rattle.bounds_report.proofs.Answering.{ShowsIn, has_printed, shows_in}
+use Rattle.bounds_report.proofs.Printed.{bound_times}
 use Rattle.bounds_report.proofs.Shifted.{times_nearby}
 
 -- the line of the bound
-pub bound_may : (net : Net) (most : ℕ) (cert : Bool) (drawn : Drawn) (told : Telling) (side : Side) (lines : List ProofLine) (pair : Pair) (which : Which) (value : Bound)
-    → IsOf told side pair which → (sized net most cert).bound told.course.found told.row side lines value
-    → MayFollow (sized net most cert) drawn (at_bound told side lines) (bound which value) (behind_bound told side value)
-bound_may net most cert drawn told side lines pair which value of fact = inr (value, ap (λ (w : Which). bound w value) (sym of.sort), fact, refl)
+pub bound_may : (net : Net) (most : ℕ) (cert : Bool) (basis : List ℤ) (drawn : Drawn) (told : Telling) (side : Side) (lines : List ProofLine) (pair : Pair) (which : Which) (value : Bound)
+    → IsOf told side pair which → (sized net most cert basis).bound told.course.found told.row side lines value
+    → MayFollow (sized net most cert basis) drawn (at_bound told side lines) (bound which value) (behind_bound told side value)
+bound_may net most cert basis drawn told side lines pair which value of fact = inr (value, ap (λ (w : Which). bound w value) (sym of.sort), fact, refl)
 
 -- times come behind it
 behind_is : (net : Net) (pair : Pair) (which : Which) (told : Telling) (side : Side) (value : Bound) (list : List ℤ) (set : List Bool) → Attain net pair which value list set
@@ -51,18 +55,18 @@ attains net pair which told (bounds.Within limit (Some found)) list set f t a = 
 
 -- times that are kept may stand behind a bound
 times_fact : (net : Net) (told : Telling) (pair : Pair) (which : Which) (value : Bound) (list : List ℤ) (set : List Bool)
-    → told.row.from ≡ pair.from → told.row.to ≡ pair.to → IsKept net pair which value list set → All IsTime list × (AreTimes net told.row list × Attains told.row value list)
+    → told.row.from ≡ pair.from → told.row.to ≡ pair.to → IsKept net pair which value list set → All IsPrintedTime list × (AreTimes net told.row list × Attains told.row value list)
 times_fact net told pair which value list set f t kept =
     let here : pair.from.0 < length list = subst (λ n. pair.from.0 < n) (sym kept.satisfied.count) kept.from in (
       times_nearby list pair.from kept.nearby here kept.at_zero,
       (record { satisfied = kept.satisfied; at_zero = ap (λ (e : EventId). time_of list e) f ∙ kept.at_zero }, attains net pair which told value list set f t kept.attain),
     )
 
-pub times_may : (net : Net) (most : ℕ) (cert : Bool) (drawn : Drawn) (told : Telling) (side : Side) (pair : Pair) (which : Which) (value : Bound) (list : List ℤ) (set : List Bool)
+pub times_may : (net : Net) (most : ℕ) (cert : Bool) (basis : List ℤ) (drawn : Drawn) (told : Telling) (side : Side) (pair : Pair) (which : Which) (value : Bound) (list : List ℤ) (set : List Bool)
     → IsOf told side pair which → IsKept net pair which value list set
-    → MayFollow (sized net most cert) drawn (behind_bound told side value) (times list) (behind_times told side value list)
-times_may net most cert drawn told side pair which value list set of kept =
-    subst (λ (at : At). MayFollow (sized net most cert) drawn at (times list) (behind_times told side value list)) (sym (behind_is net pair which told side value list set kept.attain))
+    → MayFollow (sized net most cert basis) drawn (behind_bound told side value) (times list) (behind_times told side value list)
+times_may net most cert basis drawn told side pair which value list set of kept =
+    subst (λ (at : At). MayFollow (sized net most cert basis) drawn at (times list) (behind_times told side value list)) (sym (behind_is net pair which told side value list set kept.attain))
     (list, refl, times_fact net told pair which value list set of.from of.to kept, refl)
 
 can_rise : (net : Net) (r : Row) (side : Side) (list : List ℤ) (set : List Bool)
@@ -70,10 +74,10 @@ can_rise : (net : Net) (r : Row) (side : Side) (list : List ℤ) (set : List Boo
 can_rise net r greatest list set ray = ray
 can_rise net r (least_by first) list set ray = ray
 
-pub raise_may : (net : Net) (most : ℕ) (cert : Bool) (drawn : Drawn) (told : Telling) (side : Side) (pair : Pair) (which : Which) (list : List ℤ) (set : List Bool)
+pub raise_may : (net : Net) (most : ℕ) (cert : Bool) (basis : List ℤ) (drawn : Drawn) (told : Telling) (side : Side) (pair : Pair) (which : Which) (list : List ℤ) (set : List Bool)
     → IsOf told side pair which → IsKept net pair which bounds.Unbounded list set
-    → MayFollow (sized net most cert) drawn (at_raise told side list) (raise set) (bounded told side bounds.Unbounded)
-raise_may net most cert drawn told side pair which list set of kept = (set, refl, can_rise net told.row side list set ray, refl)
+    → MayFollow (sized net most cert basis) drawn (at_raise told side list) (raise set) (bounded told side bounds.Unbounded)
+raise_may net most cert basis drawn told side pair which list set of kept = (set, refl, can_rise net told.row side list set ray, refl)
   where
     ray : IsRay net (searched_pair (which_of side) (record { from = told.row.from; to = told.row.to })).from (searched_pair (which_of side) (record { from = told.row.from; to = told.row.to })).to list set
     ray = rw (of.sort, of.from, of.to) kept.attain
@@ -85,12 +89,12 @@ pub is_bounded : (value : Bound) → ((most : ℤ) × (value ≡ bounds.Closed m
 is_bounded value (inl (most, e)) u = cc (e, u)
 is_bounded value (inr (limit, found, e)) u = cc (e, u)
 
-pub set_may : (net : Net) (most : ℕ) (cert : Bool) (drawn : Drawn) (told : Telling) (side : Side) (pair : Pair) (which : Which) (value : Bound) (list : List ℤ) (set : List Bool) → value ≡ bounds.Unbounded
+pub set_may : (net : Net) (most : ℕ) (cert : Bool) (basis : List ℤ) (drawn : Drawn) (told : Telling) (side : Side) (pair : Pair) (which : Which) (value : Bound) (list : List ℤ) (set : List Bool) → value ≡ bounds.Unbounded
     → IsOf told side pair which → IsKept net pair which value list set
-    → MayFollow (sized net most cert) drawn (behind_times told side value list) (raise set) (bounded told side value)
-set_may net most cert drawn told side pair which value list set e of kept =
-    subst (λ (v : Bound). MayFollow (sized net most cert) drawn (behind_times told side v list) (raise set) (bounded told side v)) (sym e)
-    (raise_may net most cert drawn told side pair which list set of (subst (λ (v : Bound). IsKept net pair which v list set) e kept))
+    → MayFollow (sized net most cert basis) drawn (behind_times told side value list) (raise set) (bounded told side value)
+set_may net most cert basis drawn told side pair which value list set e of kept =
+    subst (λ (v : Bound). MayFollow (sized net most cert basis) drawn (behind_times told side v list) (raise set) (bounded told side v)) (sym e)
+    (raise_may net most cert basis drawn told side pair which list set of (subst (λ (v : Bound). IsKept net pair which v list set) e kept))
 
 pub done_is : (told : Telling) (side : Side) (value : Bound) (list : List ℤ) → (value ≡ bounds.Unbounded → ⊥) → behind_times told side value list ≡ bounded told side value
 done_is told side (bounds.Closed value) list n = refl
@@ -99,28 +103,43 @@ done_is told side (bounds.Within limit attained) list n = refl
 
 -- ---- what is asked of the line of a bound
 
-within_times : (value : Bound) → HasTimes value → IsWithinTimes value
-within_times (bounds.Closed value) h = h
-within_times bounds.Unbounded h = tt
-within_times (bounds.Within limit attained) h = h.1
+-- each split of the lines of a search for a pair was needed
+abbrev AreNeededFor : Net → List ℤ → Pair → List ProofLine → Type 0
+AreNeededFor net basis p lines = AtEachSplit net (IsNeededToBound net p.from p.to (separation basis p.from p.to)) lines
+
+-- so they are in a row of the pair
+needed_is : (net : Net) (basis : List ℤ) (r : Row) (side : Side) (lines : List ProofLine) → AreNeededFor net basis (searched_pair (which_of side) (record { from = r.from; to = r.to })) lines → IsEachNeeded net basis r side lines
+needed_is net basis r greatest lines h = h
+needed_is net basis r (least_by first) lines h = h
+
+no_line : (before after : List ProofLine) (line : ProofLine) → [] ≡ before ++ line ∷ after → ⊥
+no_line [] after line same = cc
+no_line (b ∷ before) after line same = cc
+
+-- no lines have no needless split
+none_needed : (net : Net) (basis : List ℤ) (r : Row) (side : Side) → IsEachNeeded net basis r side []
+none_needed net basis r greatest = λ before after number chosen cases is left. absurd (no_line before after (Split number) is)
+none_needed net basis r (least_by first) = λ before after number chosen cases is left. absurd (no_line before after (Split number) is)
 
 -- behind lines that show it
-bound_fact : (net : Net) (most : ℕ) (cert : Bool) (told : Telling) (side : Side) (pair : Pair) (which : Which) (searched : List ProofLine) (value : Bound) → told.course.found ≡ findings.Consistent
-    → IsOf told side pair which → ShowsIn net most pair which searched value → HasTimes value
-    → (sized net most cert).bound told.course.found told.row side (printed cert searched) value
-bound_fact net most cert told side pair which searched value found of shows h =
+bound_fact : (net : Net) (most : ℕ) (cert : Bool) (basis : List ℤ) (told : Telling) (side : Side) (pair : Pair) (which : Which) (searched : List ProofLine) (value : Bound) → told.course.found ≡ findings.Consistent
+    → IsOf told side pair which → ShowsIn net most pair which searched value → AreNeededFor net basis (searched_pair which pair) searched → HasPrintedTimes value
+    → (sized net most cert basis).bound told.course.found told.row side (printed cert searched) value
+bound_fact net most cert basis told side pair which searched value found of shows needed h =
     let s : IsBoundOf net findings.Consistent told.row side value × ShowsBound net most searched told.row side value = shows told.row side of.from of.to of.sort in
-    ((within_times value h, subst (λ (word : FindingWord). IsBoundOf net word told.row side value) (sym found) s.0, (searched, refl, s.1)), h)
+    let each : AreNeededFor net basis (searched_pair (which_of side) (record { from = told.row.from; to = told.row.to })) searched = rw (of.sort, of.from, of.to) needed in
+    ((h, subst (λ (word : FindingWord). IsBoundOf net word told.row side value) (sym found) s.0, (searched, refl, (s.1, needed_is net basis told.row side searched each))), bound_times value h)
 
 -- behind a search, by its answer on the searched pair
-pub answer_fact : (net : Net) (most : ℕ) (cert : Bool) (told : Telling) (side : Side) (pair : Pair) (which : Which) (lines : List ProofLine) (leaves : ℕ) (list : List ℤ) (ray : List Bool)
+pub answer_fact : (net : Net) (most : ℕ) (cert : Bool) (basis : List ℤ) (told : Telling) (side : Side) (pair : Pair) (which : Which) (left : Evidence)
     (answer : Answer) (value : Bound) (searched : Pair) → told.course.found ≡ findings.Consistent → IsOf told side pair which → searched ≡ searched_pair which pair
-    → Answers net searched.from searched.to most lines leaves list ray answer → leaves ≤ most → value ≡ bound_of which answer → HasTimes value
-    → (sized net most cert).bound told.course.found told.row side (printed cert lines) value
-answer_fact net most cert told side pair which lines leaves list ray answer value searched found of same a count is h =
-    bound_fact net most cert told side pair which lines value found of
-    (subst (λ (v : Bound). ShowsIn net most pair which lines v) (sym is)
-    (shows_in net most pair which lines leaves list ray answer (subst (λ (p : Pair). Answers net p.from p.to most lines leaves list ray answer) same a) count)) h
+    → Answers (search_of net searched most) left answer → AreNeededFor net basis searched left.lines → left.leaves ≤ most → value ≡ bound_of which answer → All IsClose left.times
+    → (sized net most cert basis).bound told.course.found told.row side (printed cert left.lines) value
+answer_fact net most cert basis told side pair which left answer value searched found of same a needed count is close =
+    bound_fact net most cert basis told side pair which left.lines value found of
+    (subst (λ (v : Bound). ShowsIn net most pair which left.lines v) (sym is)
+    (shows_in net most pair which left answer (subst (λ (p : Pair). Answers (search_of net p most) left answer) same a) count))
+    (subst (λ (p : Pair). AreNeededFor net basis p left.lines) same needed) (subst HasPrintedTimes (sym is) (has_printed (search_of net searched most) left answer which a close))
 
 none_printed : (cert : Bool) → ◌≡◌ {A = List ProofLine} [] (printed cert [])
 none_printed true = refl
@@ -137,12 +156,13 @@ open_bound net told side pair which limit found of is =
     (limit_is net told.row side limit h, rw found refl)
 
 -- without one
-pub limit_fact : (net : Net) (most : ℕ) (cert : Bool) (told : Telling) (side : Side) (pair : Pair) (which : Which) (value : Bound) → told.course.found ≡ findings.Unsettled
-    → IsOf told side pair which → IsOpenBound net pair which value → HasTimes value → (sized net most cert).bound told.course.found told.row side [] value
-limit_fact net most cert told side pair which value found of is h =
-    let P : Bound → Type 0 = λ v. IsBoundOf net told.course.found told.row side v × ArePrinted cert [] (λ searched. ShowsBound net most searched told.row side v) in
-    let p : P value = subst P (sym is.is_open) (open_bound net told side pair which is.limit found of is.is_limit, ([], none_printed cert, refl)) in
-    ((within_times value h, p.0, p.1), h)
+pub limit_fact : (net : Net) (most : ℕ) (cert : Bool) (basis : List ℤ) (told : Telling) (side : Side) (pair : Pair) (which : Which) (value : Bound) → told.course.found ≡ findings.Unsettled
+    → IsOf told side pair which → IsOpenBound net pair which value → (sized net most cert basis).bound told.course.found told.row side [] value
+limit_fact net most cert basis told side pair which value found of is =
+    let h : HasPrintedTimes value = subst HasPrintedTimes (sym is.is_open) (is.within, tt) in
+    let P : Bound → Type 0 = λ v. IsBoundOf net told.course.found told.row side v × ArePrinted cert [] (λ searched. ShowsBound net most searched told.row side v × IsEachNeeded net basis told.row side searched) in
+    let p : P value = subst P (sym is.is_open) (open_bound net told side pair which is.limit found of is.is_limit, ([], none_printed cert, (refl, none_needed net basis told.row side))) in
+    ((h, p.0, p.1), bound_times value h)
 
 pub limit_done : (net : Net) (pair : Pair) (which : Which) (told : Telling) (side : Side) (value : Bound) → IsOpenBound net pair which value → behind_bound told side value ≡ bounded told side value
 limit_done net pair which told side value is = rw is.is_open refl

@@ -1,41 +1,41 @@
 -- The rows one after another.
-use Rattle.std.proofs.Common.{◌≡◌, ◌≤◌, ◌+◌, ℕ, zero, suc, List, [], ◌∷◌, length, map, drop, Option, Some, slice_get, refl, sym, subst, ap, ◌⊎◌, inl, inr, add-one, arith}
+use Rattle.std.proofs.Common.{◌≡◌, ◌≤◌, ◌+◌, ℕ, zero, suc, List, [], ◌∷◌, length, drop, Option, Some, slice_get, refl, sym, subst, ap, ◌⊎◌, inl, inr, add-one, arith}
 use Rattle.itv_base.specs.Outside.{SinkTold}
 use Rattle.requirements.specs.declared.verdict.Verdict.{Verdict}
 use Rattle.slack_report.specs.declared.words.FindingWord.{FindingWord}
 use Rattle.slack_report.specs.declared.words.FindingWord.TheVariants as findings
-use Rattle.slack_report.specs.Right.At.{Course, at_end, at_row, at_rows, course_of, end_word}
-use Rattle.slack_report.specs.Right.Drawn as told
-use Rattle.slack_report.specs.Right.Following.{Facts}
-use Rattle.unroll.specs.declared.row.Row.{Row}
-use Rattle.unroll.specs.Reported.{row_told}
+use Rattle.right_report.specs.Right.At.{Course, at_end, at_row, at_rows, course_of, end_word}
+use Rattle.drawn.specs.Drawn.{Drawn}
+use Rattle.right_report.specs.Right.Following.{Facts}
+use Rattle.drawn.specs.declared.row.Row.{Row}
 use Rattle.bounds_report.specs.declared.desk.Desk.{Desk}
 use Rattle.bounds_report.specs.declared.tally.Tally.{Tally}
 use Rattle.bounds_report.specs.Step.Ready.{IsReady, IsTally, behind_known, behind_rows, tally_course}
 use Rattle.bounds_report.specs.Step.Told.{Told}
 
 -- some rows are told
-pub record RowsTold (facts : Facts) (drawn : told.Drawn) (found : FindingWord) (rows : List Row) (number : ℕ) (tally : Tally) (desk : Desk) (old new : SinkTold) : Type 0 where
+pub record RowsTold (facts : Facts) (drawn : Drawn) (found : FindingWord) (rows : List Row) (number : ℕ) (tally : Tally) (first desk : Desk) (old new : SinkTold) : Type 0 where
   pub ready : IsReady drawn.net found desk
+  pub known : desk.work.known ≡ first.work.known
   pub words : List Verdict
   pub counted : IsTally tally words
-  pub lines : Told facts drawn (at_rows found) (at_row (tally_course found tally) number (drop number (map row_told rows))) words old new
+  pub lines : Told facts drawn (at_rows found) (at_row (tally_course found tally) number (drop number rows)) words old new
   pub most : (tally.passes + tally.fails + tally.undecided) ≤ number
 
 -- the next row
-pub rows_more : (rows : List Row) (number : ℕ) (row : Row) → slice_get rows number ≡ Some row → drop number (map row_told rows) ≡ row_told row ∷ drop (number + 1) (map row_told rows)
+pub rows_more : (rows : List Row) (number : ℕ) (row : Row) → slice_get rows number ≡ Some row → drop number rows ≡ row ∷ drop (number + 1) rows
 rows_more rows number row e = rw add-one (more rows number row e)
   where
-    more : (rows : List Row) (number : ℕ) (row : Row) → slice_get rows number ≡ Some row → drop number (map row_told rows) ≡ row_told row ∷ drop (suc number) (map row_told rows)
+    more : (rows : List Row) (number : ℕ) (row : Row) → slice_get rows number ≡ Some row → drop number rows ≡ row ∷ drop (suc number) rows
     more [] number row e = absurd (cc e)
     more (x ∷ rows) zero row e = one x row rows e
       where
-        one : (x row : Row) (rows : List Row) → ◌≡◌ {A = Option Row} (Some x) (Some row) → row_told x ∷ map row_told rows ≡ row_told row ∷ map row_told rows
-        one x row rows e = ap (λ (r : Row). row_told r ∷ map row_told rows) (cc e)
+        one : (x row : Row) (rows : List Row) → ◌≡◌ {A = Option Row} (Some x) (Some row) → x ∷ rows ≡ row ∷ rows
+        one x row rows e = ap (λ (r : Row). r ∷ rows) (cc e)
     more (x ∷ rows) (suc number) row e = more rows number row e
 
 -- none is left
-pub rows_none : (rows : List Row) (number : ℕ) → length rows ≤ number → drop number (map row_told rows) ≡ []
+pub rows_none : (rows : List Row) (number : ℕ) → length rows ≤ number → drop number rows ≡ []
 rows_none [] zero h = refl
 rows_none [] (suc number) h = refl
 rows_none (row ∷ rows) zero h = absurd (omega arith)

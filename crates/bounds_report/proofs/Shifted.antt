@@ -10,6 +10,7 @@ use Rattle.std.proofs.lemmas.List.{get_or-map, length-map}
 use Rattle.itv_base.specs.declared.names.EventId.{EventId}
 use Rattle.branch.specs.Work.{IsClose}
 use Rattle.event_graph.specs.Bounds.{IsRay}
+use Rattle.event_graph.specs.Limits.{IsPrintedTime}
 use Rattle.event_graph.specs.Network.{IsNet, Net}
 use Rattle.event_graph.specs.Satisfying.{Satisfies}
 use Rattle.event_graph.specs.Times.{IsTime, raised, separation, shifted, time_of}
@@ -63,7 +64,7 @@ pub satisfies-shifted : (net : Net) (times : List ℤ) (by : ℤ) → IsNet net 
 satisfies-shifted net times by is_net h = satisfies_same net times (shifted times by) is_net (length-shifted times by ∙ h.count)
     (λ from to in_from in_to. separation-shifted times by from to (subst (λ n. from.0 < n) (sym h.count) in_from) (subst (λ n. to.0 < n) (sym h.count) in_to)) h
 
--- times below 2^59 are nearby
+-- separations of close times are nearby
 pub nearby_close : (times : List ℤ) → All IsClose times → AreNearby times
 nearby_close times close from to in_from in_to =
     let a : IsClose (time_of times from) = close from.0 (pos 0) in_from in
@@ -89,8 +90,8 @@ separation_close times from to close in_from in_to =
     let near : IsNearby (separation times from to) = nearby_close times close from to in_from in_to in
     (omega (arith, ints, near.0, near.1), omega (arith, ints, near.0, near.1))
 
--- nearby times of which one is at 0 are times
-pub times_nearby : (times : List ℤ) (origin : EventId) → AreNearby times → origin.0 < length times → time_of times origin ≡ pos 0 → All IsTime times
+-- nearby times of which one is at 0 may be printed
+pub times_nearby : (times : List ℤ) (origin : EventId) → AreNearby times → origin.0 < length times → time_of times origin ≡ pos 0 → All IsPrintedTime times
 times_nearby times origin near in' at k d within =
     let event : EventId = record { 0 = k } in
     let n : IsNearby (separation times origin event) = near origin event in' within in
@@ -102,7 +103,7 @@ times_nearby times origin near in' at k d within =
     get_or-default (time ∷ times) zero d h = refl
     get_or-default (time ∷ times) (suc k) d h = get_or-default times k d (omega arith)
 
-    from_zero : (time origin : ℤ) → origin ≡ pos 0 → IsNearby (time -ℤ origin) → IsTime time
+    from_zero : (time origin : ℤ) → origin ≡ pos 0 → IsNearby (time -ℤ origin) → IsPrintedTime time
     from_zero time origin at n = (omega (arith, ints, at, n.0, n.1), omega (arith, ints, at, n.0, n.1))
 
 -- ---- raising

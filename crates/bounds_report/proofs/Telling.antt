@@ -1,5 +1,5 @@
 -- Steps of the writer, one after another.
-use Rattle.std.proofs.Common.{◌≡◌, ℕ, Bool, List, [], ◌∷◌, ◌++◌, map, None, Result, Ok, Err, IsErr, refl, sym, subst, ap, ◌∙◌, append-nil}
+use Rattle.std.proofs.Common.{◌≡◌, ℕ, ℤ, Bool, List, [], ◌∷◌, ◌++◌, map, None, Result, Ok, Err, IsErr, refl, sym, subst, ap, ◌∙◌, append-nil}
 use Rattle.std.specs.Bool.{⊤}
 use Rattle.std.specs.Prelude.{IfOk, OnErr}
 use Rattle.itv_base.specs.Outside.{Puts, SinkTold, grown}
@@ -10,13 +10,13 @@ use Rattle.certificate.specs.Scribing.{SinkGrew}
 use Rattle.certificate.specs.Text.{proof_line_text, proof_text}
 use Rattle.itv_base.proofs.Written.{grown-append, grown-nil}
 use Rattle.slack_report.proofs.Judging.{report_text-append}
-use Rattle.slack_report.proofs.RightOrder.{reads-append}
+use Rattle.right_report.proofs.RightOrder.{reads-append}
 use Rattle.requirements.specs.declared.verdict.Verdict.{Verdict}
 use Rattle.slack_report.specs.Entry.{Entry, heading, budget, events, event, proof, finding, times, rows, row, bound, raise, verdict, slack, ending}
 use Rattle.slack_report.specs.Text.{entry_text, report_text, words_of}
-use Rattle.slack_report.specs.Right.Drawn.{Drawn}
-use Rattle.slack_report.specs.Right.At.{At}
-use Rattle.slack_report.specs.Right.Following.{Facts, MayFollow, Reads}
+use Rattle.drawn.specs.Drawn.{Drawn}
+use Rattle.right_report.specs.Right.At.{At}
+use Rattle.right_report.specs.Right.Following.{Facts, MayFollow, Reads}
 use Rattle.right_report.proofs.Leading.{stopped_line, stopped_then}
 use Rattle.right_report.specs.Told.{end_in}
 use Rattle.right_report.specs.Writing.{Stopped, Wrote}
@@ -149,14 +149,14 @@ module _ {facts : Facts} {drawn : Drawn} where
   stops_then a b = stopped_then (wrote_of a) b
 
 -- lines that lead in a network do so in the same one
-pub told_net : {net other : Net} (most : ℕ) (cert : Bool) {drawn : Drawn} {here last : At} {words : List Verdict} {old new : SinkTold} → net ≡ other
-    → Told (sized net most cert) drawn here last words old new → Told (sized other most cert) drawn here last words old new
-told_net most cert {drawn = drawn} {here = here} {last = last} {words = words} {old = old} {new = new} e t =
-    subst (λ (net : Net). Told (sized net most cert) drawn here last words old new) e t
+pub told_net : {net other : Net} (most : ℕ) (cert : Bool) (basis : List ℤ) {drawn : Drawn} {here last : At} {words : List Verdict} {old new : SinkTold} → net ≡ other
+    → Told (sized net most cert basis) drawn here last words old new → Told (sized other most cert basis) drawn here last words old new
+told_net most cert basis {drawn = drawn} {here = here} {last = last} {words = words} {old = old} {new = new} e t =
+    subst (λ (net : Net). Told (sized net most cert basis) drawn here last words old new) e t
 
-pub stopped_net : {net other : Net} (most : ℕ) (cert : Bool) {drawn : Drawn} {here : At} {old new : SinkTold} → net ≡ other
-    → Stopped (sized net most cert) drawn here old new → Stopped (sized other most cert) drawn here old new
-stopped_net most cert {drawn = drawn} {here = here} {old = old} {new = new} e t = subst (λ (net : Net). Stopped (sized net most cert) drawn here old new) e t
+pub stopped_net : {net other : Net} (most : ℕ) (cert : Bool) (basis : List ℤ) {drawn : Drawn} {here : At} {old new : SinkTold} → net ≡ other
+    → Stopped (sized net most cert basis) drawn here old new → Stopped (sized other most cert basis) drawn here old new
+stopped_net most cert basis {drawn = drawn} {here = here} {old = old} {new = new} e t = subst (λ (net : Net). Stopped (sized net most cert basis) drawn here old new) e t
 
 -- ---- answers
 

@@ -1,5 +1,5 @@
 -- Each line that may follow in a report that is written has a text.
-use Rattle.std.proofs.Common.{◌≡◌, ◌<◌, ◌≤◌, ◌^◌, ℕ, zero, suc, ℤ, pos, negsuc, neg_ℤ, ◌-ℤ◌, ◌<ℤ◌, Bool, List, [], ◌∷◌, ◌++◌, length, map, All, Option, Some, None, slice_get, unwrap_or, sym, subst, ◌∙◌, inl, inr, arith}
+use Rattle.std.proofs.Common.{◌≡◌, ◌<◌, ◌≤◌, ◌^◌, ℕ, zero, suc, ℤ, pos, negsuc, neg_ℤ, ◌-ℤ◌, ◌<ℤ◌, Bool, List, [], ◌∷◌, ◌++◌, length, All, Option, Some, None, slice_get, unwrap_or, sym, subst, ◌∙◌, inl, inr, arith}
 use Rattle.std.specs.Prelude.{IfSome}
 use Rattle.std.proofs.lemmas.Int.{ints}
 use Rattle.itv_base.specs.Names.{Name}
@@ -7,6 +7,7 @@ use Rattle.itv_base.specs.Range.{Ends, IsEnd, IsRange}
 use Rattle.itv_base.specs.declared.limits.TheConstants.{MAX_BUDGET, MAX_ROWS}
 use Rattle.itv_base.specs.declared.names.EventId.{EventId}
 use Rattle.certificate.specs.Text.{IsProofLine}
+use Rattle.event_graph.specs.Limits.{IsPrintedTime}
 use Rattle.event_graph.specs.Network.{IsNet, Net}
 use Rattle.event_graph.specs.Proof.{ProofLine}
 use Rattle.event_graph.specs.Times.{IsTime}
@@ -18,19 +19,18 @@ use Rattle.requirements.specs.declared.bound.Bound.{Bound}
 use Rattle.requirements.specs.declared.bound.Bound.TheVariants as bounds
 use Rattle.requirements.specs.declared.verdict.Verdict.{Verdict}
 use Rattle.requirements.specs.declared.verdict.Verdict.TheVariants as verdicts
-use Rattle.sheet.specs.declared.row.RowKind.{RowKind}
-use Rattle.sheet.specs.declared.row.RowKind.TheVariants as kinds
+use Rattle.itv_base.specs.declared.row_kind.RowKind.{RowKind}
+use Rattle.itv_base.specs.declared.row_kind.RowKind.TheVariants as kinds
 use Rattle.slack_report.specs.declared.words.FindingWord.{FindingWord}
 use Rattle.slack_report.specs.declared.words.FindingWord.TheVariants as findings
 use Rattle.slack_report.specs.Entry.{Entry, IsBound, IsEntry, IsKind, IsName, heading, budget}
-use Rattle.slack_report.specs.Right.At.{At, Side, Telling, at_heading, at_budget, at_events, at_event, at_finding, at_known, at_rows, at_row, at_bound, at_times, at_raise, at_verdict, at_past, at_slack, at_end, at_last, behind_bound, behind_finding, behind_times, behind_verdict, bounded, greatest, judged, least_by}
-use Rattle.slack_report.specs.Right.Drawn.{Drawn, Row, name_of, nameless}
-use Rattle.slack_report.specs.Right.Facts.{CanRise}
-use Rattle.slack_report.specs.Right.Following.{MayFollow, Reads}
-use Rattle.unroll.specs.declared.row.Row.{Row as Asked}
-use Rattle.unroll.specs.Drawn.{IsRowOf}
-use Rattle.unroll.specs.Reported.{row_told}
+use Rattle.right_report.specs.Right.At.{At, Side, Telling, at_heading, at_budget, at_events, at_event, at_finding, at_known, at_rows, at_row, at_bound, at_times, at_raise, at_verdict, at_past, at_slack, at_end, at_last, behind_bound, behind_finding, behind_times, behind_verdict, bounded, greatest, judged, least_by}
+use Rattle.drawn.specs.Drawn.{Drawn, name_of, nameless, IsRowOf}
+use Rattle.drawn.specs.declared.row.Row.{Row}
+use Rattle.right_report.specs.Right.Facts.{CanRise}
+use Rattle.right_report.specs.Right.Following.{MayFollow, Reads}
 use Rattle.bounds_report.specs.Step.Searched.{sized}
+use Rattle.bounds_report.proofs.Printed.{time_printed}
 use Rattle.bounds_report.proofs.Entries.{all_cons, all_head, all_nil, all_tail, bound_lines, finding_lines, printed_lines}
 
 -- ---- numbers
@@ -48,8 +48,8 @@ apart a b h end = (
   wide (b -ℤ a) (omega (arith, ints, end.0, end.1, h.0, h.1)) (omega (arith, ints, end.0, end.1, h.0, h.1)),
 )
 
-longs : (list : List ℤ) → All IsTime list → All IsLong list
-longs list all = λ k d h. long _ (all k d h)
+longs : (list : List ℤ) → All IsPrintedTime list → All IsLong list
+longs list all = λ k d h. long _ (time_printed _ (all k d h))
 
 long_or_open : (z : Option ℤ) → IfSome z IsTime → IsLongOrOpen z
 long_or_open None h = tt
@@ -163,22 +163,22 @@ set_count : (net : Net) (r : Row) (side : Side) (list : List ℤ) (set : List Bo
 set_count net r greatest list set ray = ray.count
 set_count net r (least_by first) list set ray = ray.count
 
-module _ (drawn : Drawn) (most : ℕ) (cert : Bool) (is_net : IsNet drawn.net) (count : length drawn.names ≡ drawn.net.events) (few_rows : length drawn.rows ≤ MAX_ROWS)
+module _ (drawn : Drawn) (most : ℕ) (cert : Bool) (basis : List ℤ) (is_net : IsNet drawn.net) (count : length drawn.names ≡ drawn.net.events) (few_rows : length drawn.rows ≤ MAX_ROWS)
     (names : All IsName drawn.names) (fine : All (IsFine drawn.net) drawn.rows) where
   name_at : (e : EventId) → e.0 < drawn.net.events → IsName (name_of drawn e)
   name_at e h = named drawn.names e.0 names (subst (λ n. e.0 < n) (sym count) h)
 
-  finding_due : (lines : List ProofLine) (word : FindingWord) → (sized drawn.net most cert).finding lines word → All IsProofLine lines
+  finding_due : (lines : List ProofLine) (word : FindingWord) → (sized drawn.net most cert basis).finding lines word → All IsProofLine lines
   finding_due lines word fact =
       let p = fact.1 in
-      subst (λ (ls : List ProofLine). All IsProofLine ls) (sym p.1) (printed_lines cert p.0 (finding_lines drawn.net most p.0 word is_net p.2))
+      subst (λ (ls : List ProofLine). All IsProofLine ls) (sym p.1) (printed_lines cert p.0 (finding_lines drawn.net most p.0 word is_net p.2.0))
 
-  bound_due : (found : FindingWord) (r : Row) (side : Side) (lines : List ProofLine) (value : Bound) → (sized drawn.net most cert).bound found r side lines value → All IsProofLine lines
+  bound_due : (found : FindingWord) (r : Row) (side : Side) (lines : List ProofLine) (value : Bound) → (sized drawn.net most cert basis).bound found r side lines value → All IsProofLine lines
   bound_due found r side lines value fact =
       let p = fact.0.2 in
-      subst (λ (ls : List ProofLine). All IsProofLine ls) (sym p.1) (printed_lines cert p.0 (bound_lines drawn.net most p.0 r side value is_net p.2))
+      subst (λ (ls : List ProofLine). All IsProofLine ls) (sym p.1) (printed_lines cert p.0 (bound_lines drawn.net most p.0 r side value is_net p.2.0))
 
-  step : (here : At) (line : Entry) (next : At) → Held drawn.net here → MayFollow (sized drawn.net most cert) drawn here line next → Step drawn here line next
+  step : (here : At) (line : Entry) (next : At) → Held drawn.net here → MayFollow (sized drawn.net most cert basis) drawn here line next → Step drawn here line next
   step at_heading line next held m = absurd held
   step at_budget line next held m = absurd held
   step at_events line next held m = as_is drawn at_events line _ next _ m.0 m.1 (names, λ due. (tt, omega (arith, count, is_net.events)))
@@ -191,7 +191,7 @@ module _ (drawn : Drawn) (most : ℕ) (cert : Bool) (is_net : IsNet drawn.net) (
   step (at_finding lines) line next held (inr (word, e, fact, f)) =
       as_is drawn (at_finding lines) line _ next _ e f (held_finding drawn.net word, λ due. (finding_due lines word fact, tt))
   step at_known line next held m =
-      as_is drawn at_known line _ next _ m.1 m.3 (tt, λ due. (tt, (m.2.1.0.count ∙ sym count, longs m.0 m.2.0)))
+      as_is drawn at_known line _ next _ m.1 m.3 (tt, λ due. (tt, (m.2.2.0.count ∙ sym count, longs m.0 m.2.1)))
   step (at_rows word) line next held m = as_is drawn (at_rows word) line _ next _ m.0 m.1 (fine, λ due. (tt, few_rows))
   step (at_row course number []) line next held m = as_is drawn (at_row course number []) line _ next _ m.0 m.1 (tt, λ due. (tt, tt))
   step (at_row course number (r ∷ later)) line next held m =
@@ -215,7 +215,7 @@ module _ (drawn : Drawn) (most : ℕ) (cert : Bool) (is_net : IsNet drawn.net) (
   step at_last line next held m = absurd m
 
   -- the lines to the end
-  all_lines : (lines : List Entry) (here : At) → Held drawn.net here → Reads (sized drawn.net most cert) drawn here lines at_last → Due here × All (IsEntry (length drawn.names)) lines
+  all_lines : (lines : List Entry) (here : At) → Held drawn.net here → Reads (sized drawn.net most cert basis) drawn here lines at_last → Due here × All (IsEntry (length drawn.names)) lines
   all_lines [] here held reads = (subst Due (sym reads) tt, all_nil (IsEntry (length drawn.names)))
   all_lines (line ∷ lines) here held (next, may, reads) =
       let s = step here line next held may in
@@ -223,15 +223,15 @@ module _ (drawn : Drawn) (most : ℕ) (cert : Bool) (is_net : IsNet drawn.net) (
       let due = s.1 rest.0 in
       (due.0, all_cons (IsEntry (length drawn.names)) line lines due.1 rest.1)
 
-  pub entries : (lines : List Entry) → 1 ≤ most → most ≤ MAX_BUDGET → Reads (sized drawn.net most cert) drawn at_events lines at_last → All (IsEntry (length drawn.names)) (heading ∷ budget most ∷ lines)
+  pub entries : (lines : List Entry) → 1 ≤ most → most ≤ MAX_BUDGET → Reads (sized drawn.net most cert basis) drawn at_events lines at_last → All (IsEntry (length drawn.names)) (heading ∷ budget most ∷ lines)
   entries lines least_most few reads =
       let P : Entry → Type 0 = IsEntry (length drawn.names) in
       all_cons (IsEntry (length drawn.names)) heading (budget most ∷ lines) tt (all_cons (IsEntry (length drawn.names)) (budget most) lines (least_most, few) (all_lines lines at_events tt reads).1)
 
 -- the rows are between events, and have ranges
-pub fine_rows : (net : Net) (asked : List Asked) → All (IsRowOf net) asked → All (λ (r : Row). IsKind r.kind) (map row_told asked) → All (IsFine net) (map row_told asked)
+pub fine_rows : (net : Net) (asked : List Row) → All (IsRowOf net) asked → All (λ (r : Row). IsKind r.kind) asked → All (IsFine net) asked
 fine_rows net [] within ranges = all_nil (IsFine net)
 fine_rows net (r ∷ asked) within ranges =
     let w : IsRowOf net r = all_head (IsRowOf net) r asked within in
-    all_cons (IsFine net) (row_told r) (map row_told asked) (all_head (λ (r : Row). IsKind r.kind) (row_told r) (map row_told asked) ranges, w.0, w.1)
-    (fine_rows net asked (all_tail (IsRowOf net) r asked within) (all_tail (λ (r : Row). IsKind r.kind) (row_told r) (map row_told asked) ranges))
+    all_cons (IsFine net) r asked (all_head (λ (r : Row). IsKind r.kind) r asked ranges, w.0, w.1)
+    (fine_rows net asked (all_tail (IsRowOf net) r asked within) (all_tail (λ (r : Row). IsKind r.kind) r asked ranges))

@@ -1,9 +1,9 @@
 -- A whole report, and one that a put cut short.
-use Rattle.std.proofs.Common.{◌≡◌, ◌<◌, ◌≤◌, ◌+◌, ℕ, zero, suc, Bool, cond, List, [], ◌∷◌, ◌++◌, length, drop, Some, slice_get, unwrap_or, count_by, refl, sym, subst, ap, ◌∙◌, add-one, append-nil, arith}
-use Rattle.std.specs.Prelude.{All}
+use Rattle.std.proofs.Common.{◌≡◌, ◌+◌, ℕ, ℤ, Bool, cond, List, [], ◌∷◌, ◌++◌, length, Some, None, Result, Ok, Err, count_by, refl, sym, subst, ap, ◌∙◌, add-zero, append-nil, arith}
+use Rattle.std.specs.Prelude.{All, ⊤}
 use Rattle.std.proofs.lemmas.List.Sums.{sum_by-cons}
 use Rattle.itv_base.specs.Names.{Name}
-use Rattle.itv_base.specs.Outside.{CutShort, SinkTold, grown}
+use Rattle.itv_base.specs.Outside.{CutShort, Puts, SinkTold, grown}
 use Rattle.itv_base.proofs.Written.{cut_then, grown-append}
 use Rattle.event_graph.specs.Network.{Net}
 use Rattle.requirements.specs.declared.verdict.Verdict.{Verdict}
@@ -12,20 +12,21 @@ use Rattle.slack_report.specs.declared.words.FindingWord.{FindingWord}
 use Rattle.slack_report.specs.declared.words.FindingWord.TheVariants as findings
 use Rattle.slack_report.specs.Entry.{Entry, IsEntry, IsName, heading, budget, events, event, proof, finding, times, rows, row, bound, raise, verdict, slack, ending}
 use Rattle.slack_report.specs.Text.{entry_text, report_text}
-use Rattle.slack_report.specs.Right.At.{At, at_budget, at_event, at_events, at_heading, at_last, end_word, is_fail}
-use Rattle.slack_report.specs.Right.Drawn.{Drawn, nameless}
-use Rattle.slack_report.specs.Right.Following.{Facts, Implies, MayFollow, Reads}
+use Rattle.right_report.specs.Right.At.{At, at_budget, at_event, at_events, at_heading, at_last, end_word, is_fail}
+use Rattle.drawn.specs.Drawn.{Drawn}
+use Rattle.jobs.specs.Events.{event_lines, events_from}
+use Rattle.right_report.specs.Right.Following.{Facts, Implies, MayFollow, Reads}
 use Rattle.slack_report.proofs.Judging.{report_text-append}
-use Rattle.slack_report.proofs.RightOrder.{reads-append, reads_weaker}
+use Rattle.right_report.proofs.RightOrder.{reads-append, reads_weaker}
 use Rattle.right_report.specs.Told.{end_in}
 use Rattle.right_report.specs.Writing.{Stopped}
-use Rattle.bounds_report.specs.Reports.{BeginsReport, HasRanges, Reports, answer_of, is_pass, is_undecided, is_verdict, verdict_count}
+use Rattle.bounds_report.specs.Reports.{BeginsReport, HasRanges, Reports, is_pass, is_undecided, is_verdict, verdict_count}
 use Rattle.bounds_report.specs.Written.{written}
 use Rattle.bounds_report.specs.declared.summary.Summary.{Summary}
 use Rattle.bounds_report.specs.declared.tally.Tally.{Tally}
 use Rattle.bounds_report.specs.Step.Ready.{IsTally, behind_rows, tally_course}
 use Rattle.bounds_report.specs.Step.Searched.{sized}
-use Rattle.bounds_report.specs.Step.Told.{Told, verdicts_in}
+use Rattle.bounds_report.specs.Step.Told.{Goes, Told, verdicts_in}
 use Rattle.bounds_report.proofs.Telling.{end_in-append, verdicts-append}
 
 -- ---- counts
@@ -51,8 +52,8 @@ counts is_kind (ending word ∷ a) = counts is_kind a
 
 -- ---- what is asked
 
-sized_implies : (net : Net) (most : ℕ) (cert : Bool) → Implies (sized net most cert) (written net most cert)
-sized_implies net most cert = record {
+sized_implies : (net : Net) (most : ℕ) (cert : Bool) (basis : List ℤ) → Implies (sized net most cert basis) (written net most cert basis)
+sized_implies net most cert basis = record {
   finding = λ lines word h. h;
   known = λ list h. h;
   bound = λ found r side lines value h. h.0;
@@ -67,24 +68,24 @@ abbrev front : ℕ → List Entry
 front most = heading ∷ budget most ∷ []
 
 -- lines behind the front
-front_reads : (drawn : Drawn) (most : ℕ) (cert : Bool) (lines : List Entry) (last : At) → Reads (sized drawn.net most cert) drawn at_events lines last
-    → Reads (written drawn.net most cert) drawn at_heading (heading ∷ budget most ∷ lines) last
-front_reads drawn most cert lines last reads =
-    (at_budget, (refl, refl), (at_events, (most, refl, refl), reads_weaker (sized drawn.net most cert) (written drawn.net most cert) drawn lines at_events last (sized_implies drawn.net most cert) reads))
+front_reads : (drawn : Drawn) (most : ℕ) (cert : Bool) (basis : List ℤ) (lines : List Entry) (last : At) → Reads (sized drawn.net most cert basis) drawn at_events lines last
+    → Reads (written drawn.net most cert basis) drawn at_heading (heading ∷ budget most ∷ lines) last
+front_reads drawn most cert basis lines last reads =
+    (at_budget, (refl, refl), (at_events, (most, refl, refl), reads_weaker (sized drawn.net most cert basis) (written drawn.net most cert basis) drawn lines at_events last (sized_implies drawn.net most cert basis) reads))
 
 abbrev Begins : Drawn → ℕ → Bool → SinkTold → SinkTold → Type 0
 Begins drawn most cert old new = (text : List ℕ) × BeginsReport drawn most cert text × CutShort old new text
 
 -- a put of the front was cut short
 pub begins_front : (drawn : Drawn) (most : ℕ) (cert : Bool) (old new : SinkTold) → CutShort old new (report_text (front most)) → Begins drawn most cert old new
-begins_front drawn most cert old new cut = (report_text (front most), record { lines = front most; last = at_events; reads = front_reads drawn most cert [] at_events refl; tells = refl; is_text = refl }, cut)
+begins_front drawn most cert old new cut = (report_text (front most), record { lines = front most; last = at_events; known = []; reads = front_reads drawn most cert [] [] at_events refl; tells = refl; is_text = refl }, cut)
 
 -- a later one was
-pub begins_rest : (drawn : Drawn) (most : ℕ) (cert : Bool) (old now new : SinkTold) → now ≡ grown old (report_text (front most)) → Stopped (sized drawn.net most cert) drawn at_events now new
+pub begins_rest : (drawn : Drawn) (most : ℕ) (cert : Bool) (basis : List ℤ) (old now new : SinkTold) → now ≡ grown old (report_text (front most)) → Stopped (sized drawn.net most cert basis) drawn at_events now new
     → Begins drawn most cert old new
-begins_rest drawn most cert old now new put s = (
+begins_rest drawn most cert basis old now new put s = (
   report_text (front most ++ s.lines),
-  record { lines = front most ++ s.lines; last = s.last; reads = front_reads drawn most cert s.lines s.last s.reads; tells = refl; is_text = refl },
+  record { lines = front most ++ s.lines; last = s.last; known = basis; reads = front_reads drawn most cert basis s.lines s.last s.reads; tells = refl; is_text = refl },
   subst (CutShort old new) (sym (report_text-append (front most) s.lines)) (cut_then old now new (report_text (front most)) (report_text s.lines) put s.cut),
 )
 
@@ -98,19 +99,19 @@ end_may facts drawn findings.Unsettled tally count word e = (ap ending e, refl)
 
 -- the summary of a word and of counts
 abbrev summary_by : EndWord → Tally → Summary
-summary_by word tally = record { answer = answer_of word; passes = tally.passes; fails = tally.fails; undecided = tally.undecided }
+summary_by word tally = record { end = word; passes = tally.passes; fails = tally.fails; undecided = tally.undecided }
 
-module _ (drawn : Drawn) (most : ℕ) (cert : Bool) (old now mid new : SinkTold) (found : FindingWord) (tally : Tally) (count : ℕ) (words : List Verdict) (word : EndWord)
-    (put : now ≡ grown old (report_text (front most))) (t : Told (sized drawn.net most cert) drawn at_events (behind_rows found tally count) words now mid)
+module _ (drawn : Drawn) (most : ℕ) (cert : Bool) (basis : List ℤ) (old now mid new : SinkTold) (found : FindingWord) (tally : Tally) (count : ℕ) (words : List Verdict) (word : EndWord)
+    (put : now ≡ grown old (report_text (front most))) (t : Told (sized drawn.net most cert basis) drawn at_events (behind_rows found tally count) words now mid)
     (end : new ≡ grown mid (entry_text (ending word))) (word_is : word ≡ end_word (tally_course found tally)) (counted : IsTally tally words)
-    (entries : (lines : List Entry) → Reads (sized drawn.net most cert) drawn at_events lines at_last → All IsName drawn.names → HasRanges drawn → All (IsEntry (length drawn.names)) (front most ++ lines)) where
+    (entries : (lines : List Entry) → Reads (sized drawn.net most cert basis) drawn at_events lines at_last → All IsName drawn.names → HasRanges drawn → All (IsEntry (length drawn.names)) (front most ++ lines)) where
   rest : List Entry
   rest = t.lines ++ ending word ∷ []
 
-  rest_reads : Reads (sized drawn.net most cert) drawn at_events rest at_last
+  rest_reads : Reads (sized drawn.net most cert basis) drawn at_events rest at_last
   unfolding rest
-  rest_reads = reads-append (sized drawn.net most cert) drawn t.lines (ending word ∷ []) at_events (behind_rows found tally count) at_last t.reads
-      (at_last, end_may (sized drawn.net most cert) drawn found tally count word word_is, refl)
+  rest_reads = reads-append (sized drawn.net most cert basis) drawn t.lines (ending word ∷ []) at_events (behind_rows found tally count) at_last t.reads
+      (at_last, end_may (sized drawn.net most cert basis) drawn found tally count word word_is, refl)
 
   words_in : verdicts_in rest ≡ words
   unfolding rest
@@ -133,9 +134,9 @@ module _ (drawn : Drawn) (most : ℕ) (cert : Bool) (old now mid new : SinkTold)
     report_text (front most ++ rest),
     record {
       lines = front most ++ rest;
-      is_written = record { reads = front_reads drawn most cert rest at_last rest_reads; tells = refl; texts = entries rest rest_reads };
+      is_written = record { known = basis; reads = front_reads drawn most cert basis rest at_last rest_reads; tells = refl; texts = entries rest rest_reads };
       sums = record {
-        ends = (word, end_is, refl);
+        ends = end_is;
         passes = count_in is_pass tally.passes counted.passes;
         fails = count_in is_fail tally.fails counted.fails;
         undecided = count_in is_undecided tally.undecided counted.undecided;
@@ -145,21 +146,41 @@ module _ (drawn : Drawn) (most : ℕ) (cert : Bool) (old now mid new : SinkTold)
     rest_text ∙ ap (λ told. grown told (report_text rest)) put ∙ grown-append old (report_text (front most)) (report_text rest) ∙ ap (grown old) (sym (report_text-append (front most) rest)),
   )
 
--- ---- the names of the events
+-- ---- the lines of events
 
-pub names_more : (names : List Name) (number : ℕ) → number < length names → drop number names ≡ unwrap_or (slice_get names number) nameless ∷ drop (number + 1) names
-names_more names number h = rw add-one (more names number h)
-  where
-    more : (names : List Name) (number : ℕ) → number < length names → drop number names ≡ unwrap_or (slice_get names number) nameless ∷ drop (suc number) names
-    more [] number h = absurd (omega arith)
-    more (name ∷ names) zero h = refl
-    more (name ∷ names) (suc number) h = more names number (omega arith)
+-- they lead past all names
+events_lead : (facts : Facts) (drawn : Drawn) (number : ℕ) (names : List Name) → Reads facts drawn (at_event number names) (events_from number names) (at_event (number + length names) [])
+events_lead facts drawn number [] = ap (λ n. at_event n []) (sym (add-zero number))
+events_lead facts drawn number (name ∷ names) =
+    let counted : number + 1 + length names ≡ number + length (name ∷ names) = omega arith in
+    (at_event (number + 1) names, (refl, refl), subst (λ n. Reads facts drawn (at_event (number + 1) names) (events_from (number + 1) names) (at_event n [])) counted (events_lead facts drawn (number + 1) names))
 
-pub names_none : (names : List Name) (number : ℕ) → length names ≤ number → drop number names ≡ []
-names_none [] zero h = refl
-names_none [] (suc number) h = refl
-names_none (name ∷ names) zero h = absurd (omega arith)
-names_none (name ∷ names) (suc number) h = names_none names number (omega arith)
+no_verdicts_of_events : (number : ℕ) (names : List Name) → verdicts_in (events_from number names) ≡ []
+no_verdicts_of_events number [] = refl
+no_verdicts_of_events number (name ∷ names) = no_verdicts_of_events (number + 1) names
 
-pub events_end : (names : List Name) (number count : ℕ) → number ≡ count → length names ≤ number → at_event number (drop number names) ≡ at_event count []
-events_end names number count e h = rw (names_none names number h, e) refl
+no_end_of_events : (number : ℕ) (names : List Name) → end_in (events_from number names) ≡ None
+no_end_of_events number [] = refl
+no_end_of_events number (name ∷ names) = no_end_of_events (number + 1) names
+
+all_events_lead : (facts : Facts) (drawn : Drawn) (count : ℕ) → length drawn.names ≡ count → Reads facts drawn at_events (event_lines drawn.names) (at_event count [])
+all_events_lead facts drawn count same =
+    let counted : 0 + length drawn.names ≡ count = omega (arith, same) in
+    (at_event 0 drawn.names, (refl, refl), subst (λ n. Reads facts drawn (at_event 0 drawn.names) (events_from 0 drawn.names) (at_event n [])) counted (events_lead facts drawn 0 drawn.names))
+
+-- what a put of them promises
+pub events_go : {E : Type 0} (facts : Facts) (drawn : Drawn) (count : ℕ) (old new : SinkTold) (result : Result ⊤ E) → length drawn.names ≡ count
+    → Puts old new (report_text (event_lines drawn.names)) result → Goes facts drawn at_events (λ _. at_event count []) (λ _. []) old new result
+events_go facts drawn count old new (Ok x) same put = record {
+  lines = event_lines drawn.names;
+  reads = all_events_lead facts drawn count same;
+  grew = put;
+  words_are = no_verdicts_of_events 0 drawn.names;
+  no_end = no_end_of_events 0 drawn.names;
+}
+events_go facts drawn count old new (Err e) same cut = record {
+  lines = event_lines drawn.names;
+  last = at_event count [];
+  reads = all_events_lead facts drawn count same;
+  cut = cut;
+}

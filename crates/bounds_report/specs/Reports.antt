@@ -1,27 +1,17 @@
 -- What job bounds answers and writes.
-use Rattle.std.specs.Prelude.{◌≡◌, ℕ, Bool, true, false, List, length, count_by, All, IfSome, Some, slice_get}
-use Rattle.job_answer.specs.declared.answer.Answer.{Answer}
-use Rattle.job_answer.specs.declared.answer.Answer.TheVariants.{AllPass, SomeFail, Inconsistent, Undecided}
+use Rattle.std.specs.Prelude.{◌≡◌, ℕ, ℤ, Bool, true, false, List, length, count_by, All, IfSome, Some, slice_get}
 use Rattle.requirements.specs.declared.verdict.Verdict.{Verdict}
 use Rattle.requirements.specs.declared.verdict.Verdict.TheVariants as verdicts
-use Rattle.slack_report.specs.declared.words.EndWord.{EndWord}
-use Rattle.slack_report.specs.declared.words.EndWord.TheVariants as endings
 use Rattle.slack_report.specs.Entry.{Entry, IsEntry, IsKind, IsName, budget, verdict}
 use Rattle.slack_report.specs.Text.{report_text}
-use Rattle.slack_report.specs.Right.At.{At, at_heading, at_last, is_fail}
-use Rattle.slack_report.specs.Right.Drawn.{Drawn, Row}
-use Rattle.slack_report.specs.Right.Following.{Reads}
+use Rattle.right_report.specs.Right.At.{At, at_heading, at_last, is_fail}
+use Rattle.drawn.specs.Drawn.{Drawn}
+use Rattle.drawn.specs.declared.row.Row.{Row}
+use Rattle.right_report.specs.Right.Following.{Reads}
 use Rattle.right_report.specs.Shown.{TellsBudget}
 use Rattle.right_report.specs.Told.{end_in}
 use Rattle.bounds_report.specs.Written.{written}
 use Rattle.bounds_report.specs.declared.summary.Summary.{Summary}
-
--- what the job answers by the word at the end
-abbrev pub answer_of : EndWord → Answer
-answer_of endings.Pass = AllPass
-answer_of endings.Fail = SomeFail
-answer_of endings.Inconsistent = Inconsistent
-answer_of endings.Undecided = Undecided
 
 -- ---- lines of verdicts
 
@@ -52,16 +42,17 @@ verdict_count is_kind lines = count_by (is_verdict is_kind) lines
 abbrev pub HasRanges : Drawn → Type 0
 HasRanges drawn = All (λ (r : Row). IsKind r.kind) drawn.rows
 
--- a whole report of a budget, with the lines of proofs or without them; its lines have texts where the names of the events and the
--- ranges of the rows have their form
+-- a whole report of a budget, with the lines of proofs or without them, and its known times; its lines have texts where the names of the
+-- events and the ranges of the rows have their form
 pub record IsWrittenReport (drawn : Drawn) (most : ℕ) (cert : Bool) (lines : List Entry) : Type 0 where
-  pub reads : Reads (written drawn.net most cert) drawn at_heading lines at_last
+  pub known : List ℤ
+  pub reads : Reads (written drawn.net most cert known) drawn at_heading lines at_last
   pub tells : TellsBudget most lines
   pub texts : All IsName drawn.names → HasRanges drawn → All (IsEntry (length drawn.names)) lines
 
 -- what a summary says of the lines of a report
 pub record Sums (summary : Summary) (lines : List Entry) : Type 0 where
-  pub ends : (word : EndWord) × (end_in lines ≡ Some word) × (summary.answer ≡ answer_of word)
+  pub ends : end_in lines ≡ Some summary.end
   pub passes : summary.passes ≡ verdict_count is_pass lines
   pub fails : summary.fails ≡ verdict_count is_fail lines
   pub undecided : summary.undecided ≡ verdict_count is_undecided lines
@@ -77,6 +68,7 @@ pub record Reports (drawn : Drawn) (most : ℕ) (cert : Bool) (summary : Summary
 pub record BeginsReport (drawn : Drawn) (most : ℕ) (cert : Bool) (text : List ℕ) : Type 0 where
   pub lines : List Entry
   pub last : At
-  pub reads : Reads (written drawn.net most cert) drawn at_heading lines last
+  pub known : List ℤ
+  pub reads : Reads (written drawn.net most cert known) drawn at_heading lines last
   pub tells : IfSome (slice_get lines 1) (λ line. line ≡ budget most)
   pub is_text : text ≡ report_text lines

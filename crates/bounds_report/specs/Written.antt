@@ -1,12 +1,18 @@
 -- What job bounds asks of the lines that it writes: each is right, and the numbers of the search are shown by lines of proofs, which
--- are printed where they are wanted. All numbers are below 2^61 in absolute value.
-use Rattle.std.specs.Prelude.{◌≡◌, ℕ, Bool, true, false, List, [], All}
+-- are printed where they are wanted, and split only where that is needed. All numbers are as small as printed ones are.
+use Rattle.std.specs.Prelude.{◌≡◌, ℕ, ℤ, Bool, true, false, List, [], All, IfSome}
+use Rattle.branch.specs.Needed.{IsNeededToBound, IsNeededToFind}
+use Rattle.drawn.specs.declared.row.Row.{Row}
+use Rattle.event_graph.specs.Limits.{IsPrintedTime, IsReach}
 use Rattle.event_graph.specs.Network.{Net}
 use Rattle.event_graph.specs.Proof.{ProofLine}
-use Rattle.event_graph.specs.Times.{IsTime}
-use Rattle.slack_report.specs.Right.Facts.{right}
-use Rattle.slack_report.specs.Right.Following.{Facts}
-use Rattle.right_report.specs.Checked.{IsWithinTimes}
+use Rattle.event_graph.specs.Reading.{AtEachSplit}
+use Rattle.event_graph.specs.Times.{separation}
+use Rattle.requirements.specs.declared.bound.Bound.{Bound}
+use Rattle.requirements.specs.declared.bound.Bound.TheVariants as bounds
+use Rattle.right_report.specs.Right.At.{Side, greatest, least_by}
+use Rattle.right_report.specs.Right.Facts.{right}
+use Rattle.right_report.specs.Right.Following.{Facts}
 use Rattle.right_report.specs.Shown.{ShowsBound, ShowsFinding}
 
 -- the lines that are printed of those of a search
@@ -18,14 +24,26 @@ printed false lines = []
 abbrev pub ArePrinted : Bool → List ProofLine → (List ProofLine → Type 0) → Type 0
 ArePrinted cert lines Shows = (searched : List ProofLine) × (lines ≡ printed cert searched) × Shows searched
 
--- what is asked
-abbrev pub written : Net → ℕ → Bool → Facts
-written net most cert = record {
-  finding = λ lines word. (right net).finding lines word × ArePrinted cert lines (λ searched. ShowsFinding net most searched word);
-  known = λ list. All IsTime list × (right net).known list;
-  bound = λ found r side lines value. IsWithinTimes value × (right net).bound found r side lines value
-      × ArePrinted cert lines (λ searched. ShowsBound net most searched r side value);
-  times = λ r value list. All IsTime list × (right net).times r value list;
+-- each number of a bound is a printed time, and a limit is within the reach of a path
+abbrev pub HasPrintedTimes : Bound → Type 0
+HasPrintedTimes (bounds.Closed value) = IsPrintedTime value
+HasPrintedTimes bounds.Unbounded = Unit {0}
+HasPrintedTimes (bounds.Within limit attained) = IfSome limit IsReach × IfSome attained IsPrintedTime
+
+-- each split of the lines of a bound was needed, where the search began with these known times
+abbrev pub IsEachNeeded : Net → List ℤ → Row → Side → List ProofLine → Type 0
+IsEachNeeded net known r greatest lines = AtEachSplit net (IsNeededToBound net r.from r.to (separation known r.from r.to)) lines
+IsEachNeeded net known r (least_by most) lines = AtEachSplit net (IsNeededToBound net r.to r.from (separation known r.to r.from)) lines
+
+-- what is asked, with the known times that are printed behind a consistent finding
+abbrev pub written : Net → ℕ → Bool → List ℤ → Facts
+written net most cert known = record {
+  finding = λ lines word. (right net).finding lines word
+      × ArePrinted cert lines (λ searched. ShowsFinding net most searched word × AtEachSplit net (IsNeededToFind net) searched);
+  known = λ list. (list ≡ known) × All IsPrintedTime list × (right net).known list;
+  bound = λ found r side lines value. HasPrintedTimes value × (right net).bound found r side lines value
+      × ArePrinted cert lines (λ searched. ShowsBound net most searched r side value × IsEachNeeded net known r side searched);
+  times = λ r value list. All IsPrintedTime list × (right net).times r value list;
   raise = λ r side list set. (right net).raise r side list set;
-  past = λ r range word list. All IsTime list × (right net).past r range word list;
+  past = λ r range word list. All IsPrintedTime list × (right net).past r range word list;
 }

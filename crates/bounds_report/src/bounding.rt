@@ -1,21 +1,22 @@
 //! Telling one bound of a row.
 
-ghost use Rattle.std.specs.Prelude.{◌≡◌, ◌<◌, ℕ, Bool, [], List, All, IfOk, IsSomeAnd, OnOk};
-ghost use Rattle.branch.specs.Answers.{Answers};
-ghost use Rattle.branch.specs.Work.{IsClose, IsMadeFor};
+ghost use Rattle.std.specs.Prelude.{◌≡◌, ◌<◌, ℕ, ℤ, Bool, [], List, All, IfOk, IsSomeAnd, OnOk};
+ghost use Rattle.branch.specs.Answers.{Answers, evidence};
+ghost use Rattle.branch.specs.Work.{IsClose, IsMadeFor, IsReached};
 ghost use Rattle.event_graph.specs.Network.{Net};
 ghost use Rattle.event_graph.specs.Proof.{ProofLine};
 ghost use Rattle.event_graph.specs.Satisfying.{Satisfies};
+ghost use Rattle.event_graph.specs.Times.{separation};
 ghost use Rattle.requirements.specs.Bounds.{HasTimes};
-ghost use Rattle.slack_report.specs.Right.At.{Side, Telling, at_bound, bounded};
-ghost use Rattle.slack_report.specs.Right.Drawn.{Drawn};
+ghost use Rattle.right_report.specs.Right.At.{Side, Telling, at_bound, bounded};
+ghost use Rattle.drawn.specs.Drawn.{Drawn};
 ghost use Rattle.slack_report.specs.declared.words.FindingWord.{FindingWord};
 ghost use Rattle.bounds_report.specs.Step.Kept.{IsKept, IsRoomFor, searched_pair};
-ghost use Rattle.bounds_report.specs.Step.Searched.{bound_of, greatest_of as greatest_by, sized};
+ghost use Rattle.bounds_report.specs.Step.Searched.{bound_of, greatest_of as greatest_by, printed_known, search_of, sized};
 ghost use Rattle.bounds_report.specs.Step.Told.{Goes, IsOf};
 
 use crate::kept::{Kept, take_times};
-use crate::pair::Pair;
+use crate::pair::{Extreme, Pair};
 use crate::search::greatest_of;
 use crate::wanted::Wanted;
 use branch::{Answer, Work};
@@ -25,11 +26,10 @@ use line_words::LineBuffer;
 use requirements::Bound;
 use slack_report::{Item, Which, write_item};
 
-/// Searches for a bound of a pair, and tells it with the lines of its proof, where they are wanted, the times that attain it, and the set
+/// Searches for the bound of an extreme, and tells it with the lines of its proof, where they are wanted, the times that attain it, and the set
 /// of events that shows it unbounded. The times and the set are kept.
 pub fn tell_bound<K: Sink>(
-    which: Which,
-    pair: Pair,
+    extreme: Extreme,
     net: &Network,
     wanted: Wanted,
     work: &mut Work,
@@ -39,19 +39,21 @@ pub fn tell_bound<K: Sink>(
 ) -> Result<Bound, PutFailed>
     requires made { IsMadeFor net.now work.old }
     requires known { IsSomeAnd work.old.known (λ times. Satisfies times net.now) }
-    requires from { pair.from.0 < net.now.events }
-    requires to { pair.to.0 < net.now.events }
+    requires from { extreme.pair.from.0 < net.now.events }
+    requires to { extreme.pair.to.0 < net.now.events }
     requires budget { 0 < wanted.budget }
     requires room { IsRoomFor net.now kept.old }
     ensures made { OnOk result (IsMadeFor net.now work.new) }
     ensures known { OnOk result (work.new.known ≡ work.old.known) }
     ensures room { OnOk result (IsRoomFor net.now kept.new) }
     ensures times { IfOk result HasTimes }
-    ensures kept { IfOk result (λ value. IsKept net.now pair which value kept.new.times.items kept.new.set.items) }
-    ensures goes { (drawn : Drawn) (told : Telling) (side : Side) → told.course.found ≡ FindingWord.Consistent → IsOf told side pair which
-        → Goes (sized net.now wanted.budget wanted.cert) drawn (at_bound told side []) (λ value. bounded told side value) (λ _. [])
+    ensures kept { IfOk result (λ value. IsKept net.now extreme.pair extreme.which value kept.new.times.items kept.new.set.items) }
+    ensures goes { (times : List ℤ) (drawn : Drawn) (told : Telling) (side : Side) → times ≡ printed_known work.old.known
+        → told.course.found ≡ FindingWord.Consistent → IsOf told side extreme.pair extreme.which
+        → Goes (sized net.now wanted.budget wanted.cert times) drawn (at_bound told side []) (λ value. bounded told side value) (λ _. [])
         (K.told sink.old) (K.told sink.new) result }
 {
+    let Extreme { which, pair } = extreme;
     let answer = greatest_of(work, net, pair.searched(which), wanted, buffer, sink)?;
     keep(net, pair, which, answer, work, kept);
     let value = bound_of(which, answer);
@@ -62,9 +64,10 @@ pub fn tell_bound<K: Sink>(
 // Keeps the times that the last search left, with the from-event of the pair at 0, and the set of events where the bound is unbounded.
 fn keep(net: &Network, pair: Pair, which: Which, answer: Answer, work: &Work, kept: &mut Kept)
     requires answers { (budget : ℕ) × (lines : List ProofLine)
-        × Answers net.now (searched_pair which pair).from (searched_pair which pair).to budget lines work.now.leaves work.now.times work.now.ray answer }
+        × Answers (search_of net.now (searched_pair which pair) budget) (evidence lines work.now) answer }
     requires times { Satisfies work.now.times net.now }
     requires close { All IsClose work.now.times }
+    requires reached { IsReached (separation work.now.times (searched_pair which pair).from (searched_pair which pair).to) }
     requires from { pair.from.0 < net.now.events }
     requires to { pair.to.0 < net.now.events }
     requires room { IsRoomFor net.now kept.old }
@@ -115,10 +118,10 @@ fn put_bound<K: Sink>(
     buffer: &mut LineBuffer,
     sink: &mut K,
 ) -> Result<(), PutFailed>
-    ensures goes { (net : Net) (most : ℕ) (cert : Bool) (drawn : Drawn) (told : Telling) (side : Side) (lines : List ProofLine) (pair : Pair)
-        → IsOf told side pair which → (sized net most cert).bound told.course.found told.row side lines value
+    ensures goes { (net : Net) (most : ℕ) (cert : Bool) (times : List ℤ) (drawn : Drawn) (told : Telling) (side : Side) (lines : List ProofLine) (pair : Pair)
+        → IsOf told side pair which → (sized net most cert times).bound told.course.found told.row side lines value
         → IsKept net pair which value kept.now.times.items kept.now.set.items
-        → Goes (sized net most cert) drawn (at_bound told side lines) (λ _. bounded told side value) (λ _. [])
+        → Goes (sized net most cert times) drawn (at_bound told side lines) (λ _. bounded told side value) (λ _. [])
         (K.told sink.old) (K.told sink.new) result }
 {
     write_item(

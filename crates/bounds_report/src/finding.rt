@@ -1,13 +1,13 @@
 //! Telling the finding.
 
-ghost use Rattle.std.specs.Prelude.{◌≡◌, ◌<◌, ℕ, Bool, [], List, All, IfOk, IfSome, IsSomeAnd};
+ghost use Rattle.std.specs.Prelude.{◌≡◌, ◌<◌, ℕ, ℤ, Bool, [], List, All, IfOk, IfSome, IsSomeAnd};
 ghost use Rattle.branch.specs.Work.{IsClose};
 ghost use Rattle.event_graph.specs.Satisfying.{Satisfies};
-ghost use Rattle.slack_report.specs.Right.At.{at_event, behind_finding};
-ghost use Rattle.slack_report.specs.Right.Drawn.{Drawn};
+ghost use Rattle.right_report.specs.Right.At.{at_event, behind_finding};
+ghost use Rattle.drawn.specs.Drawn.{Drawn};
 ghost use Rattle.bounds_report.specs.Step.Kept.{IsRoomFor};
 ghost use Rattle.bounds_report.specs.Step.Ready.{AreKnown, IsReady, IsSet, behind_known, word_of};
-ghost use Rattle.bounds_report.specs.Step.Searched.{sized};
+ghost use Rattle.bounds_report.specs.Step.Searched.{printed_known, sized};
 ghost use Rattle.bounds_report.specs.Step.Told.{Goes};
 
 use crate::desk::Desk;
@@ -29,8 +29,8 @@ pub fn tell_finding<K: Sink>(
     requires budget { 0 < wanted.budget }
     requires set { IsSet net.now desk.old }
     ensures ready { IfOk result (λ word. IsReady net.now word desk.new) }
-    ensures goes { (drawn : Drawn) (number : ℕ)
-        → Goes (sized net.now wanted.budget wanted.cert) drawn (at_event number []) behind_known (λ _. [])
+    ensures goes { (times : List ℤ) (drawn : Drawn) (number : ℕ) → times ≡ printed_known desk.new.work.known
+        → Goes (sized net.now wanted.budget wanted.cert times) drawn (at_event number []) behind_known (λ _. [])
         (K.told sink.old) (K.told sink.new) result }
 {
     let found = find_times(&mut desk.work, net, wanted, &mut desk.buffer, sink)?;
@@ -61,8 +61,9 @@ fn tell_times<K: Sink>(
     requires ready { IsReady net.now word desk.old }
     requires close { IfSome desk.old.work.known (All IsClose) }
     ensures ready { IsReady net.now word desk.new }
-    ensures goes { (most : ℕ) (cert : Bool) (drawn : Drawn)
-        → Goes (sized net.now most cert) drawn (behind_finding word) (λ _. behind_known word) (λ _. [])
+    ensures known { desk.new.work.known ≡ desk.old.work.known }
+    ensures goes { (most : ℕ) (cert : Bool) (times : List ℤ) (drawn : Drawn) → times ≡ printed_known desk.old.work.known
+        → Goes (sized net.now most cert times) drawn (behind_finding word) (λ _. behind_known word) (λ _. [])
         (K.told sink.old) (K.told sink.new) result }
 {
     match word {
@@ -81,6 +82,7 @@ fn take_known(net: &Network, work: &Work, kept: &mut Kept)
     requires close { IfSome work.now.known (All IsClose) }
     ensures room { IsRoomFor net.now kept.new }
     ensures known { AreKnown net.now kept.new.times.items }
+    ensures printed { kept.new.times.items ≡ printed_known work.now.known }
 {
     if net.events() > 0 {
         take_times(&mut kept.times, work.known(), EventId(0));

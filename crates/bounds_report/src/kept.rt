@@ -28,7 +28,7 @@ impl Kept {
     }
 }
 
-/// Takes times, less that of an event which is there. All are below 2^60 picoseconds in absolute value.
+/// Takes times, less that of an event which is there. All are times that a search left.
 pub fn take_times(out: &mut [i64], times: &[i64], origin: EventId)
     requires count { length times.now ≡ length out.old }
     requires event { origin.0 < length times.now }

@@ -1,5 +1,5 @@
 //! Laws of the reports that the job writes. The functions do nothing; what they ensure holds of all drawn networks.
-#![tactic(auto, using(crate::proofs::WrittenLaws::written_is_shown, crate::proofs::WrittenLaws::written_is_bare, crate::proofs::WrittenLaws::written_is_checked, crate::proofs::WrittenLaws::written_is_accepted))]
+#![tactic(auto, using(crate::proofs::WrittenLaws::written_is_shown, crate::proofs::WrittenLaws::written_is_bare))]
 
 ghost use Rattle.bounds_report.specs.Laws.{BegunIsRight, WrittenIsAccepted, WrittenIsBare, WrittenIsChecked, WrittenIsShown};
 

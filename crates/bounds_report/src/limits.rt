@@ -5,8 +5,8 @@ ghost use Rattle.branch.specs.Work.{IsMadeFor};
 ghost use Rattle.event_graph.specs.Network.{Net};
 ghost use Rattle.event_graph.specs.RootBound.{MeetsAlways};
 ghost use Rattle.requirements.specs.Bounds.{HasTimes};
-ghost use Rattle.slack_report.specs.Right.At.{Side, Telling, at_bound, bounded, greatest, least_by};
-ghost use Rattle.slack_report.specs.Right.Drawn.{Drawn};
+ghost use Rattle.right_report.specs.Right.At.{Side, Telling, at_bound, bounded, greatest, least_by};
+ghost use Rattle.drawn.specs.Drawn.{Drawn};
 ghost use Rattle.slack_report.specs.declared.words.FindingWord.{FindingWord};
 ghost use Rattle.bounds_report.specs.Step.Kept.{HasTold, IsOpenBound};
 ghost use Rattle.bounds_report.specs.Step.Searched.{sized};
@@ -36,8 +36,9 @@ pub fn tell_limits<K: Sink>(
     ensures known { OnOk result (work.new.known ≡ work.old.known) }
     ensures greatest { IfOk result (λ both. HasTimes both.greatest × (HasTold both.greatest → ⊥)) }
     ensures least { IfOk result (λ both. HasTimes both.least × (HasTold both.least → ⊥)) }
-    ensures goes { (most : ℕ) (cert : Bool) (drawn : Drawn) (told : Telling) → told.course.found ≡ FindingWord.Unsettled → told.row.from ≡ pair.from → told.row.to ≡ pair.to
-        → Goes (sized net.now most cert) drawn (at_bound told greatest []) (λ both. bounded told (least_by both.greatest) both.least) (λ _. [])
+    ensures goes { (most : ℕ) (cert : Bool) (times : List ℤ) (drawn : Drawn) (told : Telling) → told.course.found ≡ FindingWord.Unsettled
+        → told.row.from ≡ pair.from → told.row.to ≡ pair.to
+        → Goes (sized net.now most cert times) drawn (at_bound told greatest []) (λ both. bounded told (least_by both.greatest) both.least) (λ _. [])
         (K.told sink.old) (K.told sink.new) result }
 {
     let greatest = limit_of(Which::Max, pair, net, work);
@@ -80,9 +81,9 @@ fn put_limit<K: Sink>(
     buffer: &mut LineBuffer,
     sink: &mut K,
 ) -> Result<(), PutFailed>
-    ensures goes { (net : Net) (most : ℕ) (cert : Bool) (drawn : Drawn) (told : Telling) (side : Side) (pair : Pair)
-        → told.course.found ≡ FindingWord.Unsettled → IsOf told side pair which → IsOpenBound net pair which value → HasTimes value
-        → Goes (sized net most cert) drawn (at_bound told side []) (λ _. bounded told side value) (λ _. [])
+    ensures goes { (net : Net) (most : ℕ) (cert : Bool) (times : List ℤ) (drawn : Drawn) (told : Telling) (side : Side) (pair : Pair)
+        → told.course.found ≡ FindingWord.Unsettled → IsOf told side pair which → IsOpenBound net pair which value
+        → Goes (sized net most cert times) drawn (at_bound told side []) (λ _. bounded told side value) (λ _. [])
         (K.told sink.old) (K.told sink.new) result }
 {
     write_item(

@@ -13,6 +13,13 @@ pub struct Pair {
     pub to: EventId,
 }
 
+/// An extreme of a pair: its greatest or its least separation.
+#[derive(Clone, Copy, Debug)]
+pub struct Extreme {
+    pub which: Which,
+    pub pair: Pair,
+}
+
 impl Pair {
     /// The pair whose greatest separation gives a bound of this one: for the least bound it is the reversed pair.
     pub fn searched(self, which: Which) -> Pair

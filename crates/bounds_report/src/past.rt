@@ -6,8 +6,8 @@ ghost use Rattle.itv_base.specs.Outside.{Puts};
 ghost use Rattle.itv_base.specs.Range.{IsEnd};
 ghost use Rattle.slack_report.specs.Entry.{times as entry_times};
 ghost use Rattle.slack_report.specs.Text.{entry_text};
-ghost use Rattle.slack_report.specs.Right.At.{Telling, behind_past, behind_verdict};
-ghost use Rattle.slack_report.specs.Right.Drawn.{Drawn};
+ghost use Rattle.right_report.specs.Right.At.{Telling, behind_past, behind_verdict};
+ghost use Rattle.drawn.specs.Drawn.{Drawn};
 ghost use Rattle.requirements.specs.Verdicts.{verdict_of};
 ghost use Rattle.bounds_report.specs.Step.Kept.{ArePast, HasTold, IsBeyond, IsKept, IsRoomFor};
 ghost use Rattle.bounds_report.specs.Step.Ready.{IsSet};
@@ -16,7 +16,7 @@ ghost use Rattle.bounds_report.specs.Step.Told.{Goes};
 
 use crate::desk::Desk;
 use crate::kept::Kept;
-use crate::pair::Pair;
+use crate::pair::{Extreme, Pair};
 use crate::times::{shift, time_of};
 use event_graph::Network;
 use itv_base::{PutFailed, Range, Sink};
@@ -42,27 +42,31 @@ pub fn tell_past<K: Sink>(
     requires least { HasTold both.now.least → IsKept net.now pair Which.Min both.now.least desk.old.least.times.items desk.old.least.set.items }
     ensures set { IsSet net.now desk.new }
     ensures known { desk.new.work.known ≡ desk.old.work.known }
-    ensures goes { (most : ℕ) (cert : Bool) (drawn : Drawn) (told : Telling) → told.row.from ≡ pair.from → told.row.to ≡ pair.to
-        → Goes (sized net.now most cert) drawn (behind_verdict told range both.now.least both.now.greatest word)
+    ensures goes { (most : ℕ) (cert : Bool) (times : List ℤ) (drawn : Drawn) (told : Telling) → told.row.from ≡ pair.from → told.row.to ≡ pair.to
+        → Goes (sized net.now most cert times) drawn (behind_verdict told range both.now.least both.now.greatest word)
         (λ _. behind_past told range both.now.least both.now.greatest word) (λ _. [])
         (K.told sink.old) (K.told sink.new) result }
 {
     match word {
         Verdict::FailHigh => tell_passed(
-            Which::Max,
+            Extreme {
+                which: Which::Max,
+                pair,
+            },
             broken_high(range, both),
             both.greatest,
-            pair,
             net,
             &mut desk.greatest,
             &mut desk.buffer,
             sink,
         ),
         Verdict::FailLow => tell_passed(
-            Which::Min,
+            Extreme {
+                which: Which::Min,
+                pair,
+            },
             broken_low(range, both),
             both.least,
-            pair,
             net,
             &mut desk.least,
             &mut desk.buffer,
@@ -111,25 +115,24 @@ fn negated(end: i64) -> i64
 
 // Tells times past a limit, which is one of the separation of the searched pair.
 fn tell_passed<K: Sink>(
-    which: Which,
+    extreme: Extreme,
     limit: i64,
     value: Bound,
-    pair: Pair,
     net: &Network,
     kept: &mut Kept,
     buffer: &mut LineBuffer,
     sink: &mut K,
 ) -> Result<(), PutFailed>
     requires limit { IsEnd (Some limit) }
-    requires beyond { IsBeyond which value limit }
-    requires to { pair.to.0 < net.now.events }
+    requires beyond { IsBeyond extreme.which value limit }
+    requires to { extreme.pair.to.0 < net.now.events }
     requires room { IsRoomFor net.now kept.old }
-    requires kept { IsKept net.now pair which value kept.old.times.items kept.old.set.items }
+    requires kept { IsKept net.now extreme.pair extreme.which value kept.old.times.items kept.old.set.items }
     ensures room { IsRoomFor net.now kept.new }
-    ensures puts { (list : List ℤ) × ArePast net.now pair which limit list
+    ensures puts { (list : List ℤ) × ArePast net.now extreme.pair extreme.which limit list
         × Puts (K.told sink.old) (K.told sink.new) (entry_text (entry_times list)) result }
 {
-    pass_limit(which, limit, value, pair, net, kept);
+    pass_limit(extreme.which, limit, value, extreme.pair, net, kept);
     write_item(&Item::Times(&kept.times), buffer, sink)
 }
 

@@ -1,42 +1,37 @@
 //! Telling a row.
 
-ghost use Rattle.std.specs.Prelude.{◌≡◌, ◌<◌, ◌+◌, ◌||◌, ◌∷◌, ℕ, Bool, [], List, IfOk, IsSomeAnd, OnOk};
+ghost use Rattle.std.specs.Prelude.{◌≡◌, ◌<◌, ◌+◌, ◌||◌, ◌∷◌, ℕ, ℤ, Bool, [], List, IfOk, IsSomeAnd, OnOk};
 ghost use Rattle.std.specs.Option.{option_to_list};
 ghost use Rattle.requirements.specs.Bounds.{HasTimes};
-ghost use Rattle.slack_report.specs.Right.At.{Course, Telling, at_bound, at_row, bounded, greatest, is_within, judged, least_by, with_bounds};
-ghost use Rattle.slack_report.specs.Right.Drawn.{Drawn, Row as ToldRow};
+ghost use Rattle.right_report.specs.Right.At.{Course, Telling, at_bound, at_row, bounded, greatest, is_within, judged, least_by, with_bounds};
+ghost use Rattle.drawn.specs.Drawn.{Drawn, IsRowOf};
+ghost use Rattle.drawn.specs.declared.row.Row.{Row};
 ghost use Rattle.bounds_report.specs.Step.Kept.{HasTold, IsKept};
 ghost use Rattle.bounds_report.specs.Step.Ready.{IsReady, IsSet, course_after, course_with};
-ghost use Rattle.bounds_report.specs.Step.Searched.{sized};
+ghost use Rattle.bounds_report.specs.Step.Searched.{printed_known, sized};
 ghost use Rattle.bounds_report.specs.Step.Told.{Goes};
-ghost use Rattle.unroll.specs.Drawn.{IsRowOf, name_of};
 ghost use Rattle.event_graph.specs.Satisfying.{Satisfies};
-ghost use Rattle.itv_base.specs.Outside.{Puts};
-ghost use Rattle.slack_report.specs.Entry.{row as entry_row};
-ghost use Rattle.slack_report.specs.Text.{entry_text};
-ghost use Rattle.unroll.specs.Reported.{reported, row_told};
 
 use crate::bounding::tell_bound;
 use crate::desk::Desk;
 use crate::limits::tell_limits;
-use crate::pair::Pair;
+use crate::pair::{Extreme, Pair};
 use crate::tally::RowEnd;
 use crate::verdict::tell_verdict;
 use crate::wanted::Wanted;
+use drawn::{DrawnNetwork, Row};
 use event_graph::Network;
-use itv_base::{PutFailed, Sink};
-use line_words::LineBuffer;
+use itv_base::{PutFailed, RowKind, Sink};
+use jobs::put_row;
 use requirements::{BothBounds, Bound, Verdict};
-use sheet::RowKind;
-use slack_report::{FindingWord, Item, Which, write_item};
-use unroll::{Row, Unrolled};
+use slack_report::{FindingWord, Which};
 
 /// Tells a row: what is asked, both bounds, and the verdict if a range is demanded.
 pub fn tell_row<K: Sink>(
     number: u32,
     row: &Row,
     found: FindingWord,
-    drawn: &Unrolled,
+    drawn: &DrawnNetwork,
     wanted: Wanted,
     desk: &mut Desk,
     sink: &mut K,
@@ -46,8 +41,9 @@ pub fn tell_row<K: Sink>(
     requires ready { IsReady drawn.now.net found desk.old }
     requires row { IsRowOf drawn.now.net row.now }
     ensures ready { OnOk result (IsReady drawn.now.net found desk.new) }
-    ensures goes { (course : Course) (later : List ToldRow) → course.found ≡ found
-        → Goes (sized drawn.now.net wanted.budget wanted.cert) (reported drawn.now) (at_row course number (row_told row.now ∷ later))
+    ensures known { OnOk result (desk.new.work.known ≡ desk.old.work.known) }
+    ensures goes { (times : List ℤ) (course : Course) (later : List Row) → times ≡ printed_known desk.old.work.known → course.found ≡ found
+        → Goes (sized drawn.now.net wanted.budget wanted.cert times) drawn.now (at_row course number (row.now ∷ later))
         (λ end. at_row (course_after course end) (number + 1) later) (λ end. option_to_list end.verdict)
         (K.told sink.old) (K.told sink.new) result }
 {
@@ -82,8 +78,8 @@ fn tell_demand<K: Sink>(
     requires least { HasTold both.now.least → IsKept net.now pair Which.Min both.now.least desk.old.least.times.items desk.old.least.set.items }
     ensures set { OnOk result (IsSet net.now desk.new) }
     ensures known { OnOk result (desk.new.work.known ≡ desk.old.work.known) }
-    ensures goes { (most : ℕ) (cert : Bool) (drawn : Drawn) (told : Telling) → told.row.from ≡ pair.from → told.row.to ≡ pair.to
-        → Goes (sized net.now most cert) drawn (judged kind.now told both.now.least both.now.greatest)
+    ensures goes { (most : ℕ) (cert : Bool) (times : List ℤ) (drawn : Drawn) (told : Telling) → told.row.from ≡ pair.from → told.row.to ≡ pair.to
+        → Goes (sized net.now most cert times) drawn (judged kind.now told both.now.least both.now.greatest)
         (λ verdict. at_row (course_with (with_bounds told.course both.now.least both.now.greatest) verdict) (told.number + 1) told.later)
         (λ verdict. option_to_list verdict) (K.told sink.old) (K.told sink.new) result }
 {
@@ -94,30 +90,6 @@ fn tell_demand<K: Sink>(
             Ok(Some(word))
         }
     }
-}
-
-// Tells what is asked of a row.
-fn put_row<K: Sink>(
-    number: u32,
-    row: &Row,
-    drawn: &Unrolled,
-    buffer: &mut LineBuffer,
-    sink: &mut K,
-) -> Result<(), PutFailed>
-    requires row { IsRowOf drawn.now.net row.now }
-    ensures puts { Puts (K.told sink.old) (K.told sink.new)
-        (entry_text (entry_row number row.now.kind (name_of drawn.now row.now.from) (name_of drawn.now row.now.to))) result }
-{
-    write_item(
-        &Item::Row {
-            number,
-            kind: row.kind,
-            from: drawn.name(row.from),
-            to: drawn.name(row.to),
-        },
-        buffer,
-        sink,
-    )
 }
 
 // Whether one of two bounds was left open.
@@ -159,8 +131,9 @@ fn tell_bounds<K: Sink>(
         → IsKept net.now pair Which.Max both.greatest desk.new.greatest.times.items desk.new.greatest.set.items) }
     ensures least { IfOk result (λ both. HasTold both.least
         → IsKept net.now pair Which.Min both.least desk.new.least.times.items desk.new.least.set.items) }
-    ensures goes { (drawn : Drawn) (told : Telling) → told.course.found ≡ found → told.row.from ≡ pair.from → told.row.to ≡ pair.to
-        → Goes (sized net.now wanted.budget wanted.cert) drawn (at_bound told greatest [])
+    ensures goes { (times : List ℤ) (drawn : Drawn) (told : Telling) → times ≡ printed_known desk.old.work.known
+        → told.course.found ≡ found → told.row.from ≡ pair.from → told.row.to ≡ pair.to
+        → Goes (sized net.now wanted.budget wanted.cert times) drawn (at_bound told greatest [])
         (λ both. bounded told (least_by both.greatest) both.least) (λ _. [])
         (K.told sink.old) (K.told sink.new) result }
 {
@@ -192,14 +165,17 @@ fn tell_searched<K: Sink>(
         → IsKept net.now pair Which.Max both.greatest desk.new.greatest.times.items desk.new.greatest.set.items) }
     ensures least { IfOk result (λ both. HasTold both.least
         → IsKept net.now pair Which.Min both.least desk.new.least.times.items desk.new.least.set.items) }
-    ensures goes { (drawn : Drawn) (told : Telling) → told.course.found ≡ FindingWord.Consistent → told.row.from ≡ pair.from → told.row.to ≡ pair.to
-        → Goes (sized net.now wanted.budget wanted.cert) drawn (at_bound told greatest [])
+    ensures goes { (times : List ℤ) (drawn : Drawn) (told : Telling) → times ≡ printed_known desk.old.work.known
+        → told.course.found ≡ FindingWord.Consistent → told.row.from ≡ pair.from → told.row.to ≡ pair.to
+        → Goes (sized net.now wanted.budget wanted.cert times) drawn (at_bound told greatest [])
         (λ both. bounded told (least_by both.greatest) both.least) (λ _. [])
         (K.told sink.old) (K.told sink.new) result }
 {
     let greatest = tell_bound(
-        Which::Max,
-        pair,
+        Extreme {
+            which: Which::Max,
+            pair,
+        },
         net,
         wanted,
         &mut desk.work,
@@ -208,8 +184,10 @@ fn tell_searched<K: Sink>(
         sink,
     )?;
     let least = tell_bound(
-        Which::Min,
-        pair,
+        Extreme {
+            which: Which::Min,
+            pair,
+        },
         net,
         wanted,
         &mut desk.work,

@@ -1,39 +1,36 @@
 //! Telling all rows.
 
-ghost use Rattle.std.specs.Prelude.{◌≡◌, ◌<◌, ◌≤◌, [], List, IfOk, OnErr, Some, length, slice_get};
-ghost use Rattle.itv_base.specs.declared.limits.TheConstants.{MAX_ROWS};
+ghost use Rattle.std.specs.Prelude.{◌≡◌, ◌<◌, [], List, IfOk, OnErr, length};
 ghost use Rattle.requirements.specs.declared.verdict.Verdict.{Verdict};
 ghost use Rattle.right_report.specs.Writing.{Stopped};
-ghost use Rattle.slack_report.specs.Right.At.{at_row, at_rows};
-ghost use Rattle.unroll.specs.Drawn.{IsRowOf};
-ghost use Rattle.unroll.specs.Reported.{reported};
+ghost use Rattle.right_report.specs.Right.At.{at_row, at_rows};
 ghost use Rattle.bounds_report.specs.Step.Ready.{IsReady, IsTally, behind_known, behind_rows, tally_course};
-ghost use Rattle.bounds_report.specs.Step.Searched.{sized};
+ghost use Rattle.bounds_report.specs.Step.Searched.{printed_known, sized};
 ghost use Rattle.bounds_report.specs.Step.Told.{Told};
 
 use crate::desk::Desk;
 use crate::row::tell_row;
 use crate::tally::Tally;
 use crate::wanted::Wanted;
+use drawn::DrawnNetwork;
 use itv_base::{PutFailed, Sink};
+use jobs::row_at;
 use slack_report::{FindingWord, Item, write_item};
-use unroll::{Row, Unrolled};
 
 /// Tells how many rows there are, and each of them; behind an inconsistent finding nothing.
 pub fn tell_rows<K: Sink>(
     found: FindingWord,
-    drawn: &Unrolled,
+    drawn: &DrawnNetwork,
     wanted: Wanted,
     desk: &mut Desk,
     sink: &mut K,
 ) -> Result<Tally, PutFailed>
     requires budget { 0 < wanted.budget }
-    requires rows { length drawn.now.rows ≤ MAX_ROWS }
     requires ready { IsReady drawn.now.net found desk.old }
     ensures tells { IfOk result (λ tally. (words : List Verdict) × IsTally tally words
-        × Told (sized drawn.now.net wanted.budget wanted.cert) (reported drawn.now) (behind_known found)
+        × Told (sized drawn.now.net wanted.budget wanted.cert (printed_known desk.old.work.known)) drawn.now (behind_known found)
         (behind_rows found tally (length drawn.now.rows)) words (K.told sink.old) (K.told sink.new)) }
-    ensures stops { OnErr result (Stopped (sized drawn.now.net wanted.budget wanted.cert) (reported drawn.now) (behind_known found)
+    ensures stops { OnErr result (Stopped (sized drawn.now.net wanted.budget wanted.cert (printed_known desk.old.work.known)) drawn.now (behind_known found)
         (K.told sink.old) (K.told sink.new)) }
 {
     match found {
@@ -47,19 +44,18 @@ pub fn tell_rows<K: Sink>(
 // Tells how many rows there are, and each of them.
 fn tell_each<K: Sink>(
     found: FindingWord,
-    drawn: &Unrolled,
+    drawn: &DrawnNetwork,
     wanted: Wanted,
     desk: &mut Desk,
     sink: &mut K,
 ) -> Result<Tally, PutFailed>
     requires budget { 0 < wanted.budget }
-    requires rows { length drawn.now.rows ≤ MAX_ROWS }
     requires found { found ≡ FindingWord.Inconsistent → ⊥ }
     requires ready { IsReady drawn.now.net found desk.old }
     ensures tells { IfOk result (λ tally. (words : List Verdict) × IsTally tally words
-        × Told (sized drawn.now.net wanted.budget wanted.cert) (reported drawn.now) (at_rows found)
+        × Told (sized drawn.now.net wanted.budget wanted.cert (printed_known desk.old.work.known)) drawn.now (at_rows found)
         (at_row (tally_course found tally) (length drawn.now.rows) []) words (K.told sink.old) (K.told sink.new)) }
-    ensures stops { OnErr result (Stopped (sized drawn.now.net wanted.budget wanted.cert) (reported drawn.now) (at_rows found)
+    ensures stops { OnErr result (Stopped (sized drawn.now.net wanted.budget wanted.cert (printed_known desk.old.work.known)) drawn.now (at_rows found)
         (K.told sink.old) (K.told sink.new)) }
 {
     let count = drawn.rows().len() as u32;
@@ -71,13 +67,4 @@ fn tell_each<K: Sink>(
         tally = tally.after(end);
     }
     Ok(tally)
-}
-
-// The row of a number.
-fn row_at(drawn: &Unrolled, number: u32) -> &Row
-    requires number { number < length drawn.now.rows }
-    ensures row { slice_get drawn.now.rows number ≡ Some result.now }
-    ensures within { IsRowOf drawn.now.net result.now }
-{
-    drawn.rows().get(u64::from(number))
 }

@@ -2,10 +2,11 @@
 
 ghost use Rattle.std.specs.Prelude.{◌≡◌, ◌<◌, ◌↔◌, All, IsSome, IsSomeAnd, IfOk, IfSome, OnOk, OnErr, Ok, true, List};
 ghost use Rattle.event_graph.specs.Proof.{ProofLine};
-ghost use Rattle.branch.specs.Answers.{Answers, Finds, IsCounted};
-ghost use Rattle.branch.specs.Work.{IsClose, IsMadeFor};
+ghost use Rattle.branch.specs.Answers.{IsCounted, evidence};
+ghost use Rattle.branch.specs.Work.{IsClose, IsMadeFor, IsReached, known_separation};
 ghost use Rattle.event_graph.specs.Satisfying.{Satisfies};
-ghost use Rattle.bounds_report.specs.Step.Searched.{Tells, WasCut};
+ghost use Rattle.event_graph.specs.Times.{separation};
+ghost use Rattle.bounds_report.specs.Step.Searched.{AnswersBy, FindsBy, Tells, WasCut, search_of};
 
 use crate::pair::Pair;
 use crate::wanted::Wanted;
@@ -29,7 +30,7 @@ pub fn find_times<K: Sink>(
     ensures known { IsSome work.new.known ↔ (result ≡ Ok Found.Consistent) }
     ensures close { IfSome work.new.known (All IsClose) }
     ensures finds { IfOk result (λ found. Tells wanted.cert (K.told sink.old) (K.told sink.new)
-        (λ lines. Finds net.now wanted.budget lines work.new.leaves work.new.known found)) }
+        (λ lines. FindsBy net.now wanted.budget lines work.new.leaves work.new.known found)) }
     ensures count { OnOk result (IsCounted net.now wanted.budget work.new.leaves) }
     ensures cut { OnErr result (WasCut (K.told sink.old) (K.told sink.new)) }
 {
@@ -57,10 +58,11 @@ pub fn greatest_of<K: Sink>(
     ensures made { IsMadeFor net.now work.new }
     ensures known { work.new.known ≡ work.old.known }
     ensures answers { IfOk result (λ answer. Tells wanted.cert (K.told sink.old) (K.told sink.new)
-        (λ lines. Answers net.now pair.from pair.to wanted.budget lines work.new.leaves work.new.times work.new.ray answer)) }
+        (λ lines. AnswersBy (search_of net.now pair wanted.budget) (known_separation work.old pair.from pair.to) (evidence lines work.new) answer)) }
     ensures count { OnOk result (IsCounted net.now wanted.budget work.new.leaves) }
     ensures times { OnOk result (Satisfies work.new.times net.now) }
     ensures close { OnOk result (All IsClose work.new.times) }
+    ensures reached { OnOk result (IsReached (separation work.new.times pair.from pair.to)) }
     ensures cut { OnErr result (WasCut (K.told sink.old) (K.told sink.new)) }
 {
     if wanted.cert {
@@ -85,7 +87,7 @@ fn find_printing<K: Sink>(
     ensures known { IsSome work.new.known ↔ (result ≡ Ok Found.Consistent) }
     ensures close { IfSome work.new.known (All IsClose) }
     ensures finds { IfOk result (λ found. Tells true (K.told sink.old) (K.told sink.new)
-        (λ lines. Finds net.now budget lines work.new.leaves work.new.known found)) }
+        (λ lines. FindsBy net.now budget lines work.new.leaves work.new.known found)) }
     ensures count { OnOk result (IsCounted net.now budget work.new.leaves) }
     ensures cut { OnErr result (WasCut (K.told sink.old) (K.told sink.new)) }
 {
@@ -112,10 +114,11 @@ fn greatest_printing<K: Sink>(
     ensures made { IsMadeFor net.now work.new }
     ensures known { work.new.known ≡ work.old.known }
     ensures answers { IfOk result (λ answer. Tells true (K.told sink.old) (K.told sink.new)
-        (λ lines. Answers net.now pair.from pair.to budget lines work.new.leaves work.new.times work.new.ray answer)) }
+        (λ lines. AnswersBy (search_of net.now pair budget) (known_separation work.old pair.from pair.to) (evidence lines work.new) answer)) }
     ensures count { OnOk result (IsCounted net.now budget work.new.leaves) }
     ensures times { OnOk result (Satisfies work.new.times net.now) }
     ensures close { OnOk result (All IsClose work.new.times) }
+    ensures reached { OnOk result (IsReached (separation work.new.times pair.from pair.to)) }
     ensures cut { OnErr result (WasCut (K.told sink.old) (K.told sink.new)) }
 {
     let mut scribe = SinkScribe { buffer, sink };
@@ -134,7 +137,7 @@ fn find_quietly(work: &mut Work, net: &Network, budget: u64) -> Found
     ensures known { IsSome work.new.known ↔ (result ≡ Found.Consistent) }
     ensures close { IfSome work.new.known (All IsClose) }
     ensures finds { (lines : List ProofLine)
-        × Finds net.now budget lines work.new.leaves work.new.known result }
+        × FindsBy net.now budget lines work.new.leaves work.new.known result }
     ensures count { IsCounted net.now budget work.new.leaves }
 {
     match find(work, net, budget, &mut Quiet) {
@@ -152,10 +155,11 @@ fn greatest_quietly(work: &mut Work, net: &Network, pair: Pair, budget: u64) -> 
     ensures made { IsMadeFor net.now work.new }
     ensures known { work.new.known ≡ work.old.known }
     ensures answers { (lines : List ProofLine)
-        × Answers net.now pair.from pair.to budget lines work.new.leaves work.new.times work.new.ray result }
+        × AnswersBy (search_of net.now pair budget) (known_separation work.old pair.from pair.to) (evidence lines work.new) result }
     ensures count { IsCounted net.now budget work.new.leaves }
     ensures times { Satisfies work.new.times net.now }
     ensures close { All IsClose work.new.times }
+    ensures reached { IsReached (separation work.new.times pair.from pair.to) }
 {
     match greatest(work, net, pair.from, pair.to, budget, &mut Quiet) {
         Ok(answer) => answer,

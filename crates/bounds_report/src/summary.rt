@@ -1,11 +1,11 @@
 //! What a report comes to.
 
-use job_answer::Answer;
+use slack_report::EndWord;
 
 /// What a report comes to: its end, and how many requirements pass, fail and are left undecided.
 #[derive(Clone, Copy, Debug, PartialEq, Eq)]
 pub struct Summary {
-    pub answer: Answer,
+    pub end: EndWord,
     pub passes: u32,
     pub fails: u32,
     pub undecided: u32,

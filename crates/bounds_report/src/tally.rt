@@ -5,7 +5,7 @@ ghost use Rattle.std.specs.Option.{option_to_list};
 ghost use Rattle.bounds_report.specs.Step.Ready.{IsTally, course_after, tally_course};
 ghost use Rattle.requirements.specs.declared.verdict.Verdict.{Verdict as Word};
 ghost use Rattle.slack_report.specs.declared.words.FindingWord.{FindingWord as Found};
-ghost use Rattle.slack_report.specs.Right.At.{course_of, end_word};
+ghost use Rattle.right_report.specs.Right.At.{course_of, end_word};
 
 use requirements::Verdict;
 use slack_report::{EndWord, FindingWord};

@@ -1,9 +1,9 @@
 //! Telling the verdict on a row.
 
-ghost use Rattle.std.specs.Prelude.{◌≡◌, ◌<◌, ◌+◌, ◌∷◌, ℕ, Bool, [], List, OnOk};
+ghost use Rattle.std.specs.Prelude.{◌≡◌, ◌<◌, ◌+◌, ◌∷◌, ℕ, ℤ, Bool, [], List, OnOk};
 ghost use Rattle.requirements.specs.Bounds.{HasTimes};
-ghost use Rattle.slack_report.specs.Right.At.{Telling, at_row, at_verdict, with_bounds, with_verdict};
-ghost use Rattle.slack_report.specs.Right.Drawn.{Drawn};
+ghost use Rattle.right_report.specs.Right.At.{Telling, at_row, at_verdict, with_bounds, with_verdict};
+ghost use Rattle.drawn.specs.Drawn.{Drawn};
 ghost use Rattle.bounds_report.specs.Step.Kept.{HasTold, IsKept};
 ghost use Rattle.bounds_report.specs.Step.Ready.{IsSet};
 ghost use Rattle.bounds_report.specs.Step.Searched.{sized};
@@ -35,8 +35,8 @@ pub fn tell_verdict<K: Sink>(
     requires least { HasTold both.now.least → IsKept net.now pair Which.Min both.now.least desk.old.least.times.items desk.old.least.set.items }
     ensures set { OnOk result (IsSet net.now desk.new) }
     ensures known { OnOk result (desk.new.work.known ≡ desk.old.work.known) }
-    ensures goes { (most : ℕ) (cert : Bool) (drawn : Drawn) (told : Telling) → told.row.from ≡ pair.from → told.row.to ≡ pair.to
-        → Goes (sized net.now most cert) drawn (at_verdict told range both.now.least both.now.greatest)
+    ensures goes { (most : ℕ) (cert : Bool) (times : List ℤ) (drawn : Drawn) (told : Telling) → told.row.from ≡ pair.from → told.row.to ≡ pair.to
+        → Goes (sized net.now most cert times) drawn (at_verdict told range both.now.least both.now.greatest)
         (λ word. at_row (with_verdict (with_bounds told.course both.now.least both.now.greatest) word) (told.number + 1) told.later)
         (λ word. word ∷ []) (K.told sink.old) (K.told sink.new) result }
 {

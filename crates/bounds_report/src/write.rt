@@ -1,51 +1,48 @@
 //! Writing a report.
 
-ghost use Rattle.std.specs.Prelude.{◌≡◌, ◌≤◌, ◌∷◌, ℕ, Bool, [], List, All, IfOk, OnErr, length};
+ghost use Rattle.std.specs.Prelude.{◌≡◌, ◌≤◌, ◌∷◌, ℕ, ℤ, Bool, [], List, All, IfOk, OnErr, length};
 ghost use Rattle.itv_base.specs.declared.limits.TheConstants.{MAX_BUDGET, MAX_ROWS};
 ghost use Rattle.itv_base.specs.Outside.{CutShort, Puts, grown};
 ghost use Rattle.slack_report.specs.Entry.{heading, budget as entry_budget};
-ghost use Rattle.slack_report.specs.Right.At.{at_event, at_events};
+ghost use Rattle.right_report.specs.Right.At.{at_event, at_events};
 ghost use Rattle.event_graph.specs.Network.{Net};
 ghost use Rattle.bounds_report.specs.Step.Searched.{sized};
 ghost use Rattle.slack_report.specs.Text.{report_text};
 ghost use Rattle.bounds_report.specs.Step.Ready.{IsSet};
 ghost use Rattle.bounds_report.specs.Step.Told.{Goes};
-ghost use Rattle.job_answer.specs.Works.{Works};
-ghost use Rattle.unroll.specs.Drawn.{IsRowOf};
-ghost use Rattle.unroll.specs.Reported.{reported};
-ghost use Rattle.bounds_report.specs.Reports.{BeginsReport, Reports, answer_of};
+ghost use Rattle.jobs.specs.Works.{Works};
+ghost use Rattle.drawn.specs.Drawn.{IsRowOf};
+ghost use Rattle.bounds_report.specs.Reports.{BeginsReport, Reports};
 
 use crate::desk::Desk;
 use crate::finding::tell_finding;
 use crate::rows::tell_rows;
 use crate::summary::Summary;
-use crate::tally::Tally;
 use crate::wanted::Wanted;
-use itv_base::{EventId, PutFailed, Sink};
-use job_answer::{Answer, Unanswered};
+use drawn::DrawnNetwork;
+use itv_base::{PutFailed, Sink};
+use jobs::Unanswered;
 use line_words::LineBuffer;
-use slack_report::{EndWord, Item, write_item};
+use slack_report::{Item, write_item};
 use std::alloc::Global;
-use unroll::Unrolled;
 
 /// Writes the report of a drawn network: whether some times satisfy it, and the bounds and the verdict of each of its rows. Each
 /// search closes at most `budget` cases. With `cert` the lines of their proofs stand before what they show. All memory is taken
 /// before the first put.
 pub fn write_bounds<K: Sink>(
     alloc: Global,
-    drawn: &Unrolled,
+    drawn: &DrawnNetwork,
     budget: u64,
     cert: bool,
     sink: &mut K,
 ) -> Result<Summary, Unanswered>
     requires least { 1 ≤ budget }
     requires most { budget ≤ MAX_BUDGET }
-    requires rows { length drawn.now.rows ≤ MAX_ROWS }
-    ensures works { Works (Reports (reported drawn.now) budget cert) (BeginsReport (reported drawn.now) budget cert)
+    ensures works { Works (Reports drawn.now budget cert) (BeginsReport drawn.now budget cert)
         (K.told sink.old) (K.told sink.new) result }
 {
     let mut desk = Desk::new(alloc, drawn.network())?;
-    // The rows are between events.
+    // The rows are between events, and within their limit.
     let _rows = drawn.rows();
     let wanted = Wanted { budget, cert };
     Ok(tell_report(drawn, wanted, &mut desk, sink)?)
@@ -53,7 +50,7 @@ pub fn write_bounds<K: Sink>(
 
 // Tells the whole report.
 fn tell_report<K: Sink>(
-    drawn: &Unrolled,
+    drawn: &DrawnNetwork,
     wanted: Wanted,
     desk: &mut Desk,
     sink: &mut K,
@@ -63,9 +60,9 @@ fn tell_report<K: Sink>(
     requires rows { length drawn.now.rows ≤ MAX_ROWS }
     requires within { All (IsRowOf drawn.now.net) drawn.now.rows }
     requires set { IsSet drawn.now.net desk.old }
-    ensures reports { IfOk result (λ summary. (text : List ℕ) × Reports (reported drawn.now) wanted.budget wanted.cert summary text
+    ensures reports { IfOk result (λ summary. (text : List ℕ) × Reports drawn.now wanted.budget wanted.cert summary text
         × (K.told sink.new ≡ grown (K.told sink.old) text)) }
-    ensures begins { OnErr result ((text : List ℕ) × BeginsReport (reported drawn.now) wanted.budget wanted.cert text
+    ensures begins { OnErr result ((text : List ℕ) × BeginsReport drawn.now wanted.budget wanted.cert text
         × CutShort (K.told sink.old) (K.told sink.new) text) }
 {
     put_front(wanted.budget, &mut desk.buffer, sink)?;
@@ -74,7 +71,12 @@ fn tell_report<K: Sink>(
     let tally = tell_rows(found, drawn, wanted, desk, sink)?;
     let word = tally.end_word(found);
     write_item(&Item::End(word), &mut desk.buffer, sink)?;
-    Ok(summary_of(word, tally))
+    Ok(Summary {
+        end: word,
+        passes: tally.passes,
+        fails: tally.fails,
+        undecided: tally.undecided,
+    })
 }
 
 // The heading, and how many cases each search may close.
@@ -85,44 +87,17 @@ fn put_front<K: Sink>(budget: u64, buffer: &mut LineBuffer, sink: &mut K) -> Res
     write_item(&Item::Budget { budget }, buffer, sink)
 }
 
-// The names of the events.
+// How many events there are, and their names.
 fn put_events<K: Sink>(
-    drawn: &Unrolled,
+    drawn: &DrawnNetwork,
     buffer: &mut LineBuffer,
     sink: &mut K,
 ) -> Result<(), PutFailed>
-    ensures goes { (net : Net) (most : ℕ) (cert : Bool) → Goes (sized net most cert) (reported drawn.now) at_events (λ _. at_event drawn.now.net.events []) (λ _. [])
+    ensures goes { (net : Net) (most : ℕ) (cert : Bool) (times : List ℤ) → Goes (sized net most cert times) drawn.now at_events
+        (λ _. at_event drawn.now.net.events []) (λ _. [])
         (K.told sink.old) (K.told sink.new) result }
 {
-    let count = drawn.network().events();
-    write_item(&Item::Events { count }, buffer, sink)?;
-    for number in 0..count {
-        let name = drawn.name(EventId(number));
-        write_item(&Item::Event { number, name }, buffer, sink)?;
-    }
-    Ok(())
-}
-
-// What a report comes to, by its end and the counts of its verdicts.
-fn summary_of(word: EndWord, tally: Tally) -> Summary
-    ensures { result ≡ record { answer = answer_of word; passes = tally.passes; fails = tally.fails; undecided = tally.undecided } }
-{
-    Summary {
-        answer: answer_of(word),
-        passes: tally.passes,
-        fails: tally.fails,
-        undecided: tally.undecided,
-    }
-}
-
-// What the job answers by the word at the end.
-fn answer_of(word: EndWord) -> Answer
-    ensures { result ≡ answer_of word }
-{
-    match word {
-        EndWord::Pass => Answer::AllPass,
-        EndWord::Fail => Answer::SomeFail,
-        EndWord::Inconsistent => Answer::Inconsistent,
-        EndWord::Undecided => Answer::Undecided,
-    }
+    // There is a name for each event.
+    let _network = drawn.network();
+    jobs::put_events(drawn, buffer, sink)
 }

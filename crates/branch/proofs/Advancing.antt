@@ -1,19 +1,17 @@
 -- One step of a search after what it has come to.
-use Rattle.std.proofs.Common.{◌≡◌, ◌≤ℤ◌, ℕ, ℤ, List, [], ◌∷◌, ◌++◌, slice_get, refl, sym, subst, arith}
+use Rattle.std.proofs.Common.{◌≡◌, ◌+◌, ◌≤ℤ◌, ℕ, ℤ, List, [], ◌∷◌, ◌++◌, slice_get, refl, sym, subst, arith}
 use Rattle.std.proofs.lemmas.Int.{ints}
 use Rattle.event_graph.specs.Network.{Net}
-use Rattle.event_graph.specs.Proof.{Bound, Case, Nothing, ProofGoal, ProofLine, Reads, Split, path_sum}
+use Rattle.event_graph.specs.Proof.{Bound, Case, Nothing, ProofGoal, ProofLine, Split, closing_lines, path_sum}
 use Rattle.event_graph.specs.Satisfying.{Breaks}
 use Rattle.event_graph.specs.Usable.{MeetsUsable}
-use Rattle.branch.specs.Lines.{IsAccepted}
 use Rattle.branch.specs.Needed.{IsNeededToBound, IsNeededToFind}
 use Rattle.branch.specs.Step.Cases.{IsFree, first_of, open_cases}
-use Rattle.branch.specs.Step.Searched.{IsBoundSearched, IsCutAfter, IsFindCutAfter, IsFindSearched, IsOpen, IsSearched, Steps, left_after}
+use Rattle.branch.specs.Step.Searched.{IsBoundSearched, IsCutAfter, IsFindCutAfter, IsFindSearched, IsOpen, IsSearched, Steps, StepsShort, left_after}
 use Rattle.branch.specs.declared.best.Aim.{Aim}
 use Rattle.branch.specs.declared.search.Entry.{Entry}
 use Rattle.branch.specs.declared.search.Search.{Search}
 use Rattle.branch.proofs.CaseCounts.{splittable_causes}
-use Rattle.event_graph.proofs.ReadingOn.{reads-append}
 use Rattle.branch.proofs.SearchedLines.{paths_within, searched_closes, searched_higher, searched_splits}
 
 -- what is open above the best is needed, since no path before is above it
@@ -57,14 +55,15 @@ goes_split net goal IsNeeded earlier lines chosen number before now entry free n
     (goes net goal IsNeeded (earlier ++ Split number ∷ []) lines (open_cases net (first_of number chosen)) before now entry
     (searched_splits net goal IsNeeded earlier chosen number before searched free.may need (splittable_causes (slice_get net.constraints number) free.causes)) steps)
 
--- the lines are accepted up to a failure after a split
-cut_split : (net : Net) (goal : ProofGoal) (IsNeeded : List ProofLine → Case → ℕ → Type 0) (earlier lines : List ProofLine) (chosen : Case) (number before : ℕ) (left : List Case)
+-- so does one that a failure cut short after a split
+cut_split : (net : Net) (goal : ProofGoal) (IsNeeded : List ProofLine → Case → ℕ → Type 0) (earlier lines : List ProofLine) (chosen : Case) (number before : ℕ) (now : Search)
     → IsFree net chosen number → IsNeeded earlier chosen number → IsSearched net goal IsNeeded earlier (open_cases net chosen) before
-    → Reads net goal (open_cases net (first_of number chosen)) lines left → IsAccepted net goal (earlier ++ Split number ∷ lines)
-cut_split net goal IsNeeded earlier lines chosen number before left free need searched reads =
-    let split = searched_splits net goal IsNeeded earlier chosen number before searched free.may need (splittable_causes (slice_get net.constraints number) free.causes) in
-    subst (IsAccepted net goal) (one_more earlier lines (Split number))
-    (left, reads-append net goal (earlier ++ Split number ∷ []) lines ([] ∷ []) (open_cases net (first_of number chosen)) left split.reads reads)
+    → (short : StepsShort net goal (open_cases net (first_of number chosen)) before now lines)
+    → IsSearched net goal IsNeeded (earlier ++ Split number ∷ lines) short.left (before + closing_lines lines)
+cut_split net goal IsNeeded earlier lines chosen number before now free need searched short =
+    subst (λ ls. IsSearched net goal IsNeeded ls short.left (before + closing_lines lines)) (one_more earlier lines (Split number))
+    (searched_closes net goal IsNeeded (earlier ++ Split number ∷ []) lines (open_cases net (first_of number chosen)) short.left before
+    (searched_splits net goal IsNeeded earlier chosen number before searched free.may need (splittable_causes (slice_get net.constraints number) free.causes)) short.closes)
 
 -- the search for a bound goes on after a split
 pub split_goes : (net : Net) (aim : Aim) (best : ℤ) (before : ℕ) (earlier lines : List ProofLine) (chosen : Case) (now : Search) (entry : Entry) (number : ℕ)
@@ -83,23 +82,33 @@ path_goes net aim was best before earlier lines chosen now entry up steps search
     goes net (Bound aim.from aim.to best) (IsNeededToBound net aim.from aim.to aim.known) earlier lines (open_cases net chosen) before now entry
     (searched_higher net aim.from aim.to was best (IsNeededToBound net aim.from aim.to aim.known) earlier (open_cases net chosen) before up searched) steps
 
--- the lines are accepted up to a failure after a split
-pub split_cut : (net : Net) (aim : Aim) (best : ℤ) (before : ℕ) (lines : List ProofLine) (chosen : Case) (number : ℕ) (left : List Case)
-    → aim.known ≤ℤ best → IsOpen net aim.from aim.to best chosen number → Reads net (Bound aim.from aim.to best) (open_cases net (first_of number chosen)) lines left
-    → IsCutAfter net aim best chosen before (Split number ∷ lines)
-split_cut net aim best before lines chosen number left least open' reads =
-    λ earlier searched. (
-      best,
-      cut_split net (Bound aim.from aim.to best) (IsNeededToBound net aim.from aim.to aim.known) earlier lines chosen number before left open'.free
-          (needed_open net aim best earlier (open_cases net chosen) before chosen number least searched open') searched reads,
-    )
+-- the search for a bound is cut short after a split
+pub split_cut : (net : Net) (aim : Aim) (best : ℤ) (before : ℕ) (lines : List ProofLine) (chosen : Case) (number : ℕ) (now : Search)
+    → aim.known ≤ℤ best → IsOpen net aim.from aim.to best chosen number → StepsShort net (Bound aim.from aim.to best) (open_cases net (first_of number chosen)) before now lines
+    → IsCutAfter net aim best chosen before now.leaves (Split number ∷ lines)
+split_cut net aim best before lines chosen number now least open' short =
+    λ earlier searched. record {
+      value = best;
+      left = short.left;
+      closed = before + closing_lines lines;
+      searched = cut_split net (Bound aim.from aim.to best) (IsNeededToBound net aim.from aim.to aim.known) earlier lines chosen number before now open'.free
+          (needed_open net aim best earlier (open_cases net chosen) before chosen number least searched open') searched short;
+      count = short.count;
+    }
 
-pub path_cut : (net : Net) (aim : Aim) (was best : ℤ) (before : ℕ) (lines : List ProofLine) (chosen : Case) (left : List Case)
-    → was ≤ℤ best → Reads net (Bound aim.from aim.to best) (open_cases net chosen) lines left → IsCutAfter net aim was chosen before lines
-path_cut net aim was best before lines chosen left up reads =
+-- or in lines that close cases
+pub path_cut : (net : Net) (aim : Aim) (was best : ℤ) (before : ℕ) (lines : List ProofLine) (chosen : Case) (now : Search)
+    → was ≤ℤ best → StepsShort net (Bound aim.from aim.to best) (open_cases net chosen) before now lines → IsCutAfter net aim was chosen before now.leaves lines
+path_cut net aim was best before lines chosen now up short =
     λ earlier searched.
     let higher = searched_higher net aim.from aim.to was best (IsNeededToBound net aim.from aim.to aim.known) earlier (open_cases net chosen) before up searched in
-    (best, (left, reads-append net (Bound aim.from aim.to best) earlier lines ([] ∷ []) (open_cases net chosen) left higher.reads reads))
+    record {
+      value = best;
+      left = short.left;
+      closed = before + closing_lines lines;
+      searched = searched_closes net (Bound aim.from aim.to best) (IsNeededToBound net aim.from aim.to aim.known) earlier lines (open_cases net chosen) short.left before higher short.closes;
+      count = short.count;
+    }
 
 -- the search for satisfying times goes on after a split on what they break
 pub find_goes : (net : Net) (before : ℕ) (earlier lines : List ProofLine) (chosen : Case) (now : Search) (entry : Entry) (number : ℕ) (times : List ℤ) → IsFree net chosen number
@@ -108,7 +117,14 @@ pub find_goes : (net : Net) (before : ℕ) (earlier lines : List ProofLine) (cho
 find_goes net before earlier lines chosen now entry number times free meets breaks steps searched =
     goes_split net Nothing (IsNeededToFind net) earlier lines chosen number before now entry free (times, meets, breaks) searched steps
 
-pub find_cut : (net : Net) (before : ℕ) (lines : List ProofLine) (chosen : Case) (number : ℕ) (times : List ℤ) (left : List Case) → IsFree net chosen number
-    → MeetsUsable net chosen times → Breaks times net number → Reads net Nothing (open_cases net (first_of number chosen)) lines left → IsFindCutAfter net chosen before (Split number ∷ lines)
-find_cut net before lines chosen number times left free meets breaks reads =
-    λ earlier searched. cut_split net Nothing (IsNeededToFind net) earlier lines chosen number before left free (times, meets, breaks) searched reads
+-- and is cut short after one
+pub find_cut : (net : Net) (before : ℕ) (lines : List ProofLine) (chosen : Case) (number : ℕ) (times : List ℤ) (now : Search) → IsFree net chosen number
+    → MeetsUsable net chosen times → Breaks times net number → StepsShort net Nothing (open_cases net (first_of number chosen)) before now lines
+    → IsFindCutAfter net chosen before now.leaves (Split number ∷ lines)
+find_cut net before lines chosen number times now free meets breaks short =
+    λ earlier searched. record {
+      left = short.left;
+      closed = before + closing_lines lines;
+      searched = cut_split net Nothing (IsNeededToFind net) earlier lines chosen number before now free (times, meets, breaks) searched short;
+      count = short.count;
+    }

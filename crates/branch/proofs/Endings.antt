@@ -6,12 +6,12 @@ use Rattle.event_graph.specs.Network.{IsNet, Net}
 use Rattle.event_graph.specs.Proof.{Bound, Case, ClosesByLoop, IsStoppedProof, Loop, Nothing, ProofGoal, ProofLine}
 use Rattle.event_graph.specs.RootBound.{IsRootBound, MeetsAlways}
 use Rattle.event_graph.specs.Satisfying.{Satisfies}
-use Rattle.event_graph.specs.Times.{IsTime}
+use Rattle.event_graph.specs.Limits.{IsReach}
 use Rattle.event_graph.proofs.SoundProofs.{proof_bounds, proof_of_nothing}
 use Rattle.event_graph.proofs.ProofCounts.{proof_is_within_choices, stopped_proof_is_below_choices}
 use Rattle.branch.specs.Answers.{IsClosedAt, IsCounted, IsEnclosedBy, IsFoundConsistent, IsFoundInconsistent, IsFoundUnsettled, IsShownUnbounded}
 use Rattle.branch.specs.Step.Cases.{open_cases, siblings}
-use Rattle.branch.specs.Step.Searched.{AreBest, AreRays, IsBoundSearched, IsClosing, IsFindSearched, IsSearched}
+use Rattle.branch.specs.Step.Searched.{AreBest, AreRays, IsBoundSearched, IsClosing, IsFindSearched, IsSearched, aimed}
 use Rattle.branch.specs.declared.best.Aim.{Aim}
 use Rattle.branch.specs.declared.best.Best.{Best}
 use Rattle.branch.proofs.SearchedLines.{none_searched, searched_closes}
@@ -24,9 +24,10 @@ is_stopped net goal IsNeeded lines chosen closed searched = record {
   closed = searched.count;
 }
 
-pub closed_at : (net : Net) (aim : Aim) (best : Best) (lines : List ProofLine) (leaves : ℕ) → AreBest net aim best
-    → IsBoundSearched net aim best.value lines [] leaves → IsClosedAt net aim.from aim.to best.value lines leaves best.times.items
-closed_at net aim best lines leaves are_best searched = record {
+pub closed_at : (net : Net) (aim : Aim) (best : Best) (budget : ℕ) (lines : List ProofLine) (leaves : ℕ) (ray : List Bool) → AreBest net aim best
+    → IsBoundSearched net aim best.value lines [] leaves
+    → IsClosedAt (aimed net aim budget) best.value (record { lines = lines; leaves = leaves; times = best.times.items; ray = ray })
+closed_at net aim best budget lines leaves ray are_best searched = record {
   greatest = record {
     attained = (best.times.items, are_best.satisfies, are_best.attained);
     most = λ times satisfies. proof_bounds net aim.from aim.to best.value lines times searched.reads satisfies;
@@ -50,10 +51,21 @@ stopped_count net goal IsNeeded budget lines leaves closed chosen is_net within 
   within_choices = omega (arith, stopped_proof_is_below_choices net goal lines closed is_net (is_stopped net goal IsNeeded lines chosen closed searched));
 }
 
-pub enclosed_by : (net : Net) (aim : Aim) (upper : Option ℤ) (best : Best) (budget : ℕ) (lines : List ProofLine) (leaves : ℕ) (chosen : Case) → IsNet net
-    → IsRootBound net aim.from aim.to upper → IfSome upper IsTime → AreBest net aim best → leaves ≡ budget → IsBoundSearched net aim best.value lines (open_cases net chosen) leaves
-    → IsEnclosedBy net aim.from aim.to upper best.value budget lines leaves best.times.items
-enclosed_by net aim upper best budget lines leaves chosen is_net root within are_best used searched =
+pub cut_count : (net : Net) (goal : ProofGoal) (IsNeeded : List ProofLine → Case → ℕ → Type 0) (budget : ℕ) (lines : List ProofLine) (leaves closed : ℕ) (left : List Case) → IsNet net
+    → leaves ≤ budget → leaves ≤ closed → IsSearched net goal IsNeeded lines left closed → IsCounted net budget leaves
+cut_count net goal IsNeeded budget lines leaves closed [] is_net within most searched = record {
+  within_budget = within;
+  within_choices = omega (arith, most, proof_is_within_choices net goal lines is_net searched.reads, searched.count);
+}
+cut_count net goal IsNeeded budget lines leaves closed (chosen ∷ cases) is_net within most searched = record {
+  within_budget = within;
+  within_choices = omega (arith, most, stopped_proof_is_below_choices net goal lines closed is_net (record { open_case = (chosen, cases, searched.reads); closed = searched.count }));
+}
+
+pub enclosed_by : (net : Net) (aim : Aim) (upper : Option ℤ) (best : Best) (budget : ℕ) (lines : List ProofLine) (leaves : ℕ) (ray : List Bool) (chosen : Case) → IsNet net
+    → IsRootBound net aim.from aim.to upper → IfSome upper IsReach → AreBest net aim best → leaves ≡ budget → IsBoundSearched net aim best.value lines (open_cases net chosen) leaves
+    → IsEnclosedBy (aimed net aim budget) upper best.value (record { lines = lines; leaves = leaves; times = best.times.items; ray = ray })
+enclosed_by net aim upper best budget lines leaves ray chosen is_net root within are_best used searched =
     let stopped = is_stopped net (Bound aim.from aim.to best.value) _ lines chosen leaves searched in
     record {
       root = root;
@@ -64,9 +76,9 @@ enclosed_by net aim upper best budget lines leaves chosen is_net root within are
       below_choices = omega (arith, used, stopped_proof_is_below_choices net (Bound aim.from aim.to best.value) lines leaves is_net stopped);
     }
 
-pub shown_unbounded : (net : Net) (aim : Aim) (value : ℤ) (lines : List ProofLine) (leaves closed : ℕ) (times : List ℤ) (ray : List Bool) (chosen : Case) → AreRays net aim times ray
-    → IsBoundSearched net aim value lines (open_cases net chosen) closed → leaves ≡ closed + 1 → IsShownUnbounded net aim.from aim.to lines leaves times ray
-shown_unbounded net aim value lines leaves closed times ray chosen rays searched one_more = record {
+pub shown_unbounded : (net : Net) (aim : Aim) (budget : ℕ) (value : ℤ) (lines : List ProofLine) (leaves closed : ℕ) (times : List ℤ) (ray : List Bool) (chosen : Case) → AreRays net aim times ray
+    → IsBoundSearched net aim value lines (open_cases net chosen) closed → leaves ≡ closed + 1 → IsShownUnbounded (aimed net aim budget) (record { lines = lines; leaves = leaves; times = times; ray = ray })
+shown_unbounded net aim budget value lines leaves closed times ray chosen rays searched one_more = record {
   raised = rays.raises;
   stopped = (value, closed, is_stopped net (Bound aim.from aim.to value) _ lines chosen closed searched, one_more);
 }

@@ -6,7 +6,7 @@ use Rattle.event_graph.specs.Network.{Net}
 use Rattle.event_graph.specs.Proof.{Case, ClosesByLoop, ClosesByPath, Loop, Path, ProofGoal, ProofLine, Reads, Split, closing_lines}
 use Rattle.event_graph.specs.Network.{splittable_count}
 use Rattle.branch.specs.Step.Cases.{IsCase, open_cases, siblings, work_left}
-use Rattle.branch.specs.Step.Searched.{Closes, IsAtCase, IsClosing, IsNext, IsSearched, Keeps, LeavesFor, Steps, left_after}
+use Rattle.branch.specs.Step.Searched.{Closes, IsAtCase, IsClosing, IsNext, IsSearched, Keeps, LeavesFor, Steps, StepsShort, left_after}
 use Rattle.branch.specs.Step.Standing.{AreOfSame, StandsOn}
 use Rattle.branch.specs.declared.search.Entry.{Entry}
 use Rattle.branch.specs.declared.search.Entry.TheVariants.{Entered, AllClosed, Stopped}
@@ -96,6 +96,34 @@ steps_after net goal cases mid before between now entry lines more closed steps 
     closing = All-append IsClosing lines more closed.closes.closing steps.closes.closing;
   };
   count = omega (arith, closed.count, steps.count, closing_lines-append lines more);
+}
+
+-- nothing is closed where the first line fails
+pub short_none : (net : Net) (goal : ProofGoal) (cases : List Case) (before : ℕ) (now : Search) → now.leaves ≡ before → StepsShort net goal cases before now []
+short_none net goal cases before now same = record {
+  left = cases;
+  closes = record { reads = refl; closing = All-nil IsClosing };
+  count = omega (arith, same);
+}
+
+-- a line that closes the case at hand fails
+pub short_one : (net : Net) (goal : ProofGoal) (cases : List Case) (chosen : Case) (before leaves : ℕ) (now : Search) (lines : List ProofLine) (line : ProofLine)
+    → HasClosed net goal cases (open_cases net chosen) before leaves lines → IsClosing line → Reads net goal (open_cases net chosen) (line ∷ []) (siblings net chosen)
+    → now.leaves ≡ leaves → StepsShort net goal cases before now (lines ++ line ∷ [])
+short_one net goal cases chosen before leaves now lines line closed closing reads same =
+    let one = closed_one net goal cases chosen before leaves (leaves + 1) lines line closed closing reads refl in
+    record { left = siblings net chosen; closes = one.closes; count = omega (arith, one.count, same) }
+
+-- a failure after closed cases
+pub short_after : (net : Net) (goal : ProofGoal) (cases mid : List Case) (before between : ℕ) (now : Search) (lines more : List ProofLine)
+    → HasClosed net goal cases mid before between lines → StepsShort net goal mid between now more → StepsShort net goal cases before now (lines ++ more)
+short_after net goal cases mid before between now lines more closed short = record {
+  left = short.left;
+  closes = record {
+    reads = reads-append net goal lines more cases mid short.left closed.closes.reads short.closes.reads;
+    closing = All-append IsClosing lines more closed.closes.closing short.closes.closing;
+  };
+  count = omega (arith, closed.count, short.count, closing_lines-append lines more);
 }
 
 -- the case at hand is entered

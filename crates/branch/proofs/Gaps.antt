@@ -12,7 +12,7 @@ use Rattle.event_graph.specs.Network.{Constraint, IsConstraint, IsNet, Net, caus
 use Rattle.event_graph.specs.Satisfying.{HoldsAs, IsAfter, IsBefore, Satisfies}
 use Rattle.event_graph.specs.Times.{raised, time_of}
 use Rattle.event_graph.proofs.EdgesMet.{All-found}
-use Rattle.diff_bounds.specs.Limits.{weight_limit}
+use Rattle.event_graph.specs.Limits.{weight_limit}
 use Rattle.branch.specs.Step.Raising.{IsApart, raised_to}
 
 -- the time of an event, raised or not

@@ -9,7 +9,7 @@ use Rattle.event_graph.specs.Proof.{Case}
 use Rattle.event_graph.specs.Satisfying.{Breaks, Satisfies}
 use Rattle.event_graph.specs.Times.{IsTime, separation}
 use Rattle.event_graph.specs.Usable.{MeetsUsable}
-use Rattle.diff_bounds.specs.Limits.{IsNear}
+use Rattle.diff_bounds.specs.Limits.{IsTimely}
 use Rattle.branch.specs.Step.Cases.{IsCase, IsFree}
 use Rattle.branch.specs.Step.Raising.{AreRaised, IsNearSeparation}
 use Rattle.branch.specs.Step.Searched.{IsOpen}
@@ -54,11 +54,11 @@ pub ray_at : (net : Net) (chosen : Case) (from to : EventId) (reach : ℤ) (old 
 ray_at net chosen from to reach old new ray is_net is_ray are_raised satisfies =
     apart_is_ray net from to ray new is_net is_ray.count is_ray.holds is_ray.lacks are_raised.apart satisfies
 
-pub near_times : (times : List ℤ) → All IsNear times → All IsTime times
-near_times times near = All-weaker IsNear IsTime (λ t n. (omega (arith, ints), omega (arith, ints))) times near
+pub near_times : (times : List ℤ) → All IsTimely times → All IsTime times
+near_times times near = All-weaker IsTimely IsTime (λ t n. (omega (arith, ints), omega (arith, ints))) times near
 
--- the separation of near times is near
-pub near_separation : (times : List ℤ) (from to : EventId) → All IsNear times → from.0 < length times → to.0 < length times → IsNearSeparation (separation times from to)
+-- the separation of timely times is near
+pub near_separation : (times : List ℤ) (from to : EventId) → All IsTimely times → from.0 < length times → to.0 < length times → IsNearSeparation (separation times from to)
 near_separation times from to near from_within to_within =
     let first = near from.0 (pos 0) from_within in
     let last = near to.0 (pos 0) to_within in

@@ -7,7 +7,8 @@ use Rattle.std.proofs.lemmas.List.Elements.{All-from_get_or, All-weaker}
 use Rattle.std.proofs.lemmas.Option.{get_or_from_slice_get, slice_get-get_or, slice_get_within}
 use Rattle.itv_base.specs.declared.names.EventId.{EventId}
 use Rattle.event_graph.specs.Times.{IsTime, raised, separation, time_of}
-use Rattle.diff_bounds.specs.Limits.{IsNear, near_limit, weight_limit}
+use Rattle.event_graph.specs.Limits.{reach_limit, weight_limit}
+use Rattle.diff_bounds.specs.Limits.{IsTimely}
 use Rattle.branch.specs.Work.{IsClose}
 use Rattle.branch.specs.Step.Raising.{AreRaised, IsApart, IsGap, IsNearSeparation, IsRise, raised_to}
 use Rattle.branch.proofs.Gaps.{length-raised, time_of-raised}
@@ -40,10 +41,10 @@ rest_step now times i value rest k past =
     let other : i ≡ k → ⊥ = λ same. omega arith in
     get_or-set_other now i k value (pos 0) (λ same. other (sym same)) ∙ rest k (omega arith)
 
--- the number to raise by is within five times the limit of near times
-pub rise_high : (highest lowest first last reach gap short most result : ℤ) → IsNear highest → IsNear lowest → IsNear first → IsNear last → IsNearSeparation reach
+-- the number to raise by is within six times the reach of a path
+pub rise_high : (highest lowest first last reach gap short most result : ℤ) → IsTimely highest → IsTimely lowest → IsTimely first → IsTimely last → IsNearSeparation reach
     → gap ≡ ((highest -ℤ lowest) +ℤ pos (weight_limit + 1)) → short ≡ reach -ℤ (last -ℤ first) → (most ≡ gap) ⊎ (most ≡ short) → (result ≡ most) ⊎ (result ≡ pos 0)
-    → result ≤ℤ pos (5 * near_limit)
+    → result ≤ℤ pos (6 * reach_limit)
 rise_high highest lowest first last reach gap short most result h l f t r is_gap is_short (inl by_gap) (inl is) = omega (arith, ints)
 rise_high highest lowest first last reach gap short most result h l f t r is_gap is_short (inr by_short) (inl is) = omega (arith, ints)
 rise_high highest lowest first last reach gap short most result h l f t r is_gap is_short (inl by_gap) (inr is) = omega (arith, ints)
@@ -61,18 +62,18 @@ natural (pos n) low = (n, refl)
 natural (negsuc n) low = absurd (omega (arith, ints))
 
 -- what is raised is within the range of times
-range_after : (flag : Bool) (time : ℤ) (n : ℕ) → IsNear time → pos n ≤ℤ pos (5 * near_limit) → IsTime (raised_to flag time n)
+range_after : (flag : Bool) (time : ℤ) (n : ℕ) → IsTimely time → pos n ≤ℤ pos (6 * reach_limit) → IsTime (raised_to flag time n)
 range_after true time n near high = (omega (arith, ints), omega (arith, ints))
 range_after false time n near high = (omega (arith, ints), omega (arith, ints))
 
--- and below 2^58
-close_after : (flag : Bool) (time : ℤ) (n : ℕ) → IsNear time → pos n ≤ℤ pos (5 * near_limit) → IsClose (raised_to flag time n)
+-- and close
+close_after : (flag : Bool) (time : ℤ) (n : ℕ) → IsTimely time → pos n ≤ℤ pos (6 * reach_limit) → IsClose (raised_to flag time n)
 close_after true time n near high = (omega (arith, ints), omega (arith, ints))
 close_after false time n near high = (omega (arith, ints), omega (arith, ints))
 
--- so are near times
-pub near_close : (times : List ℤ) → All IsNear times → All IsClose times
-near_close times near = All-weaker IsNear IsClose (λ t n. (omega (arith, ints), omega (arith, ints))) times near
+-- so are timely ones
+pub near_close : (times : List ℤ) → All IsTimely times → All IsClose times
+near_close times near = All-weaker IsTimely IsClose (λ t n. (omega (arith, ints), omega (arith, ints))) times near
 
 -- the events of the set and all others are apart after the rise
 
@@ -83,7 +84,7 @@ apart_after flags times by n is count gap low high out in_set =
     let past = gap low high out in_set in
     omega (arith, ints)
 
-pub are_raised : (flags : List Bool) (from to : EventId) (reach : ℤ) (old new : List ℤ) (by : ℤ) → All IsNear old → length flags ≡ length old → slice_get flags from.0 ≡ Some false
+pub are_raised : (flags : List Bool) (from to : EventId) (reach : ℤ) (old new : List ℤ) (by : ℤ) → All IsTimely old → length flags ≡ length old → slice_get flags from.0 ≡ Some false
     → slice_get flags to.0 ≡ Some true → IsRise flags from to reach old by → ((n : ℕ) → by ≡ pos n → new ≡ raised flags n old) → AreRaised flags from to reach old new
 are_raised flags from to reach old new by near count out in_set rise is_raised =
     let number = natural by rise.low in
@@ -92,7 +93,7 @@ are_raised flags from to reach old new by near count out in_set rise is_raised =
     let is_new : new ≡ raised flags n old = is_raised n is_by in
     let from_time : time_of (raised flags n old) from ≡ time_of old from = time_of-raised flags n old from.0 false out (omega (arith, slice_get_within flags from.0 false out)) in
     let to_time : time_of (raised flags n old) to ≡ time_of old to +ℤ pos n = time_of-raised flags n old to.0 true in_set (omega (arith, slice_get_within flags to.0 true in_set)) in
-    let high : pos n ≤ℤ pos (5 * near_limit) = subst (λ z. z ≤ℤ pos (5 * near_limit)) is_by rise.high in
+    let high : pos n ≤ℤ pos (6 * reach_limit) = subst (λ z. z ≤ℤ pos (6 * reach_limit)) is_by rise.high in
     let reached : reach ≤ℤ separation (raised flags n old) from to = let enough = rise.reached in omega (arith, ints) in
     record {
       by = n;
@@ -135,7 +136,7 @@ upper_more flags times i was now rises here before k within at =
 pub rise_of : (flags : List Bool) (from to : EventId) (reach : ℤ) (times : List ℤ) (lowest highest by : ℤ) → length flags ≡ length times
     → ((k : ℕ) → k < length times → slice_get flags k ≡ Some false → get_or times k (pos 0) ≤ℤ highest)
     → ((k : ℕ) → k < length times → slice_get flags k ≡ Some true → lowest ≤ℤ get_or times k (pos 0))
-    → pos 0 ≤ℤ by → by ≤ℤ pos (5 * near_limit) → (highest +ℤ pos weight_limit) <ℤ (lowest +ℤ by) → reach ≤ℤ (separation times from to +ℤ by) → IsRise flags from to reach times by
+    → pos 0 ≤ℤ by → by ≤ℤ pos (6 * reach_limit) → (highest +ℤ pos weight_limit) <ℤ (lowest +ℤ by) → reach ≤ℤ (separation times from to +ℤ by) → IsRise flags from to reach times by
 rise_of flags from to reach times lowest highest by count most least low high gap reached = record {
   low = low;
   high = high;

@@ -1,27 +1,28 @@
 -- Signed numbers that are passed on as they are.
 use Rattle.std.proofs.Common.{◌≡◌, ◌+◌, ◌*◌, ◌⊎◌, ℤ, pos, neg_ℤ, ◌+ℤ◌, ◌-ℤ◌, ◌≤ℤ◌, SFits, to_z, of_z, w64, sym, subst, inl, inr, rules, arith}
 use Rattle.std.proofs.lemmas.Int.{ints, to_z-of_z}
-use Rattle.diff_bounds.specs.Limits.{IsNear, near_limit, weight_limit}
+use Rattle.event_graph.specs.Limits.{reach_limit, weight_limit}
+use Rattle.diff_bounds.specs.Limits.{IsTimely}
 use Rattle.branch.specs.Step.Raising.{IsNearSeparation}
 use Rattle.branch.proofs.RaisingSets.{rise_high, rise_reaches}
 
--- a near time is passed on as it is
-pub passed_near : (value : ℤ) → IsNear value → to_z w64 (of_z w64 value) ≡ value
+-- a timely time is passed on as it is
+pub passed_near : (value : ℤ) → IsTimely value → to_z w64 (of_z w64 value) ≡ value
 passed_near value near = let fits : SFits w64 value = search rules in to_z-of_z w64 value fits
 
 pub passed_separation : (value : ℤ) → IsNearSeparation value → to_z w64 (of_z w64 value) ≡ value
 passed_separation value near = let fits : SFits w64 value = search rules in to_z-of_z w64 value fits
 
 -- so is a number to raise by
-pub passed_rise : (value : ℤ) → pos 0 ≤ℤ value → value ≤ℤ pos (5 * near_limit) → to_z w64 (of_z w64 value) ≡ value
+pub passed_rise : (value : ℤ) → pos 0 ≤ℤ value → value ≤ℤ pos (6 * reach_limit) → to_z w64 (of_z w64 value) ≡ value
 passed_rise value low high = let fits : SFits w64 value = search rules in to_z-of_z w64 value fits
 
 -- and a raised time
-pub passed_raised : (value : ℤ) → neg_ℤ (pos near_limit) ≤ℤ value → value ≤ℤ pos (6 * near_limit) → to_z w64 (of_z w64 value) ≡ value
+pub passed_raised : (value : ℤ) → neg_ℤ (pos reach_limit) ≤ℤ value → value ≤ℤ pos (8 * reach_limit) → to_z w64 (of_z w64 value) ≡ value
 passed_raised value low high = let fits : SFits w64 value = search rules in to_z-of_z w64 value fits
 
--- and any number within six times the limit of near times
-pub passed_wide : (value : ℤ) → neg_ℤ (pos (6 * near_limit)) ≤ℤ value → value ≤ℤ pos (6 * near_limit) → to_z w64 (of_z w64 value) ≡ value
+-- and any number within six times the reach of a path
+pub passed_wide : (value : ℤ) → neg_ℤ (pos (6 * reach_limit)) ≤ℤ value → value ≤ℤ pos (6 * reach_limit) → to_z w64 (of_z w64 value) ≡ value
 passed_wide value low high = let fits : SFits w64 value = search rules in to_z-of_z w64 value fits
 
 abbrev pub passed : ℤ → ℤ
@@ -29,10 +30,10 @@ passed value = to_z w64 (of_z w64 value)
 
 -- what is enough to raise by, where each number is passed on
 pub record IsEnough (highest lowest first last reach result : ℤ) : Type 0 where
-  pub high : to_z w64 (of_z w64 result) ≤ℤ pos (5 * near_limit)
+  pub high : to_z w64 (of_z w64 result) ≤ℤ pos (6 * reach_limit)
   pub reached : reach ≤ℤ ((last -ℤ first) +ℤ to_z w64 (of_z w64 result))
 
-pub is_enough : (highest lowest first last reach gap short most result : ℤ) → IsNear highest → IsNear lowest → IsNear first → IsNear last → IsNearSeparation reach
+pub is_enough : (highest lowest first last reach gap short most result : ℤ) → IsTimely highest → IsTimely lowest → IsTimely first → IsTimely last → IsNearSeparation reach
     → gap ≡ ((highest -ℤ lowest) +ℤ pos (weight_limit + 1)) → short ≡ passed reach -ℤ (passed last -ℤ passed first)
     → (most ≡ passed gap) ⊎ (most ≡ passed short) → passed short ≤ℤ most → (result ≡ passed most) ⊎ (result ≡ pos 0) → passed most ≤ℤ result
     → IsEnough highest lowest first last reach result
@@ -57,6 +58,6 @@ is_enough highest lowest first last reach gap short most result h l f t r is_gap
       | inr is ↦ passed_wide result (omega (arith, ints)) (omega (arith, ints))
     ] in
     record {
-      high = subst (λ (z : ℤ). z ≤ℤ pos (5 * near_limit)) (sym passed_result) high;
+      high = subst (λ (z : ℤ). z ≤ℤ pos (6 * reach_limit)) (sym passed_result) high;
       reached = subst (λ (z : ℤ). reach ≤ℤ ((last -ℤ first) +ℤ z)) (sym passed_result) (rise_reaches first last reach short most result short_is up_most up_result);
     }

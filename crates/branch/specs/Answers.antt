@@ -3,12 +3,14 @@ use Rattle.std.specs.Prelude.{◌≡◌, ◌+◌, ◌<◌, ◌≤◌, ℕ, ℤ, 
 use Rattle.itv_base.specs.declared.names.EventId.{EventId}
 use Rattle.event_graph.specs.Bounds.{IsGreatest, IsInconsistent, IsRay}
 use Rattle.event_graph.specs.Edges.{cause_choices}
+use Rattle.event_graph.specs.Limits.{IsReach}
 use Rattle.event_graph.specs.Network.{Net}
 use Rattle.event_graph.specs.Proof.{IsProof, IsStoppedProof, Nothing, ProofLine, closing_lines}
 use Rattle.event_graph.specs.Proof.{Bound as BoundGoal}
 use Rattle.event_graph.specs.RootBound.{HasNoRoot, IsRootBound, MeetsAlways}
 use Rattle.event_graph.specs.Satisfying.{Satisfies}
-use Rattle.event_graph.specs.Times.{IsTime, separation}
+use Rattle.event_graph.specs.Times.{separation}
+use Rattle.branch.specs.Work.{View}
 use Rattle.branch.specs.declared.answer.Answer.{Answer}
 use Rattle.branch.specs.declared.answer.Answer.TheVariants.{Closed, Unbounded, Enclosed}
 use Rattle.branch.specs.declared.answer.Found.{Found}
@@ -21,34 +23,52 @@ pub record IsCounted (net : Net) (budget leaves : ℕ) : Type 0 where
   pub within_budget : leaves ≤ budget
   pub within_choices : leaves ≤ cause_choices net.constraints
 
+-- a search for the greatest separation of a pair of events in a network, and how many cases it may close
+pub record PairSearch : Type 0 where
+  pub net : Net
+  pub from : EventId
+  pub to : EventId
+  pub budget : ℕ
+
+-- what a search leaves for its answer: the lines of its proof, how many cases it closed, times, and the events that can be raised from them
+pub record Evidence : Type 0 where
+  pub lines : List ProofLine
+  pub leaves : ℕ
+  pub times : List ℤ
+  pub ray : List Bool
+
+-- these lines, and what the working memory holds behind the search
+abbrev pub evidence : List ProofLine → View → Evidence
+evidence lines work = record { lines = lines; leaves = work.leaves; times = work.times; ray = work.ray }
+
 -- the value is the greatest separation, the times attain it, and the lines prove it with a closing line for each closed case
-pub record IsClosedAt (net : Net) (from to : EventId) (value : ℤ) (lines : List ProofLine) (leaves : ℕ) (times : List ℤ) : Type 0 where
-  pub greatest : IsGreatest net from to value
-  pub attained : separation times from to ≡ value
-  pub proof : IsProof net (BoundGoal from to value) lines
-  pub count : closing_lines lines ≡ leaves
+pub record IsClosedAt (search : PairSearch) (value : ℤ) (left : Evidence) : Type 0 where
+  pub greatest : IsGreatest search.net search.from search.to value
+  pub attained : separation left.times search.from search.to ≡ value
+  pub proof : IsProof search.net (BoundGoal search.from search.to value) left.lines
+  pub count : closing_lines left.lines ≡ left.leaves
 
 -- the events of the ray can be raised from the times without end, and the lines are a stopped proof of some value, with a closing line for
 -- each closed case but the last, whose times these are
-pub record IsShownUnbounded (net : Net) (from to : EventId) (lines : List ProofLine) (leaves : ℕ) (times : List ℤ) (ray : List Bool) : Type 0 where
-  pub raised : IsRay net from to times ray
-  pub stopped : (value : ℤ) × (count : ℕ) × IsStoppedProof net (BoundGoal from to value) lines count × (leaves ≡ count + 1)
+pub record IsShownUnbounded (search : PairSearch) (left : Evidence) : Type 0 where
+  pub raised : IsRay search.net search.from search.to left.times left.ray
+  pub stopped : (value : ℤ) × (count : ℕ) × IsStoppedProof search.net (BoundGoal search.from search.to value) left.lines count × (left.leaves ≡ count + 1)
 
--- the budget ended the search: the root bound encloses, which is below 2^61 in absolute value, the times attain the other value, and the lines are a stopped proof of it with
--- as many closing lines as the budget, which is less than the cause choices
-pub record IsEnclosedBy (net : Net) (from to : EventId) (upper : Option ℤ) (attained : ℤ) (budget : ℕ) (lines : List ProofLine) (leaves : ℕ) (times : List ℤ) : Type 0 where
-  pub root : IsRootBound net from to upper
-  pub within : IfSome upper IsTime
-  pub attains : separation times from to ≡ attained
-  pub stopped : IsStoppedProof net (BoundGoal from to attained) lines leaves
-  pub used : leaves ≡ budget
-  pub below_choices : budget < cause_choices net.constraints
+-- the budget ended the search: the root bound encloses, which is within the reach of a path, the times attain the other value, and the lines are
+-- a stopped proof of it with as many closing lines as the budget, which is less than the cause choices
+pub record IsEnclosedBy (search : PairSearch) (upper : Option ℤ) (attained : ℤ) (left : Evidence) : Type 0 where
+  pub root : IsRootBound search.net search.from search.to upper
+  pub within : IfSome upper IsReach
+  pub attains : separation left.times search.from search.to ≡ attained
+  pub stopped : IsStoppedProof search.net (BoundGoal search.from search.to attained) left.lines left.leaves
+  pub used : left.leaves ≡ search.budget
+  pub below_choices : search.budget < cause_choices search.net.constraints
 
--- what an answer says of the greatest separation, with the lines of the search
-abbrev pub Answers : Net → EventId → EventId → ℕ → List ProofLine → ℕ → List ℤ → List Bool → Answer → Type 0
-Answers net from to budget lines leaves times ray (Closed value) = IsClosedAt net from to value lines leaves times
-Answers net from to budget lines leaves times ray Unbounded = IsShownUnbounded net from to lines leaves times ray
-Answers net from to budget lines leaves times ray (Enclosed upper attained) = IsEnclosedBy net from to upper attained budget lines leaves times
+-- what an answer says of the greatest separation, with what the search leaves
+abbrev pub Answers : PairSearch → Evidence → Answer → Type 0
+Answers search left (Closed value) = IsClosedAt search value left
+Answers search left Unbounded = IsShownUnbounded search left
+Answers search left (Enclosed upper attained) = IsEnclosedBy search upper attained left
 
 -- there are known times, which satisfy, and the lines are a stopped proof that none do, with a closing line for each closed case but the
 -- last, whose times these are
@@ -76,10 +96,10 @@ Finds net budget lines leaves known Consistent = IsFoundConsistent net lines lea
 Finds net budget lines leaves known Inconsistent = IsFoundInconsistent net lines leaves
 Finds net budget lines leaves known Unsettled = IsFoundUnsettled net budget lines leaves
 
--- the number of a root bound is below 2^61 in absolute value
-abbrev pub IsRootTime : Root → Type 0
-IsRootTime NoTimes = Unit {0}
-IsRootTime (Bound upper) = IfSome upper IsTime
+-- the number of a root bound is within the reach of a path
+abbrev pub IsRootReach : Root → Type 0
+IsRootReach NoTimes = Unit {0}
+IsRootReach (Bound upper) = IfSome upper IsReach
 
 -- the root bound of a pair, or none where no times meet the always-edges
 abbrev pub IsRoot : Net → EventId → EventId → Root → Type 0

@@ -1,8 +1,9 @@
 -- The working memory of the searches, as its callers see it.
-use Rattle.std.specs.Prelude.{◌≡◌, ◌≤◌, ◌^◌, ℕ, ℤ, pos, neg_ℤ, ◌<ℤ◌, Bool, List, [], length, Option, unwrap_or}
+use Rattle.std.specs.Prelude.{◌≡◌, ◌≤◌, ◌*◌, ℕ, ℤ, pos, neg_ℤ, ◌≤ℤ◌, Bool, List, [], length, Option, unwrap_or}
 use Rattle.itv_base.specs.declared.names.EventId.{EventId}
 use Rattle.event_graph.specs.Network.{IsNet, Net}
 use Rattle.event_graph.specs.Times.{separation}
+use Rattle.event_graph.specs.Limits.{reach_limit}
 use Rattle.diff_bounds.specs.Standing.{Standing}
 use Rattle.diff_bounds.specs.Standing.{IsMadeFor as IsBoundsFor}
 use Rattle.event_graph.specs.Network.{splittable_count}
@@ -27,9 +28,13 @@ pub record IsMadeFor (net : Net) (work : View) : Type 0 where
   pub splits : AreSplits net work.splits
   pub places : length work.times ≡ net.events
 
--- a time is below 2^58 in absolute value, so that separations of such times are below 2^59
+-- a time that bounds tell, or one that was raised: no earlier than the reach of a path before 0, and no later than eight times that reach
 abbrev pub IsClose : ℤ → Type 0
-IsClose time = (neg_ℤ (pos (2 ^ 58)) <ℤ time) × (time <ℤ pos (2 ^ 58))
+IsClose time = (neg_ℤ (pos reach_limit) ≤ℤ time) × (time ≤ℤ pos (8 * reach_limit))
+
+-- a separation is no less than that of known times can be, which are times that bounds tell
+abbrev pub IsReached : ℤ → Type 0
+IsReached value = neg_ℤ (pos (3 * reach_limit)) ≤ℤ value
 
 -- the separation of a pair in the known times
 abbrev pub known_separation : View → EventId → EventId → ℤ

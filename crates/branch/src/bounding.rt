@@ -7,16 +7,16 @@ ghost use Rattle.event_graph.specs.Proof.{Bound, ProofLine};
 ghost use Rattle.event_graph.specs.Satisfying.{Satisfies};
 ghost use Rattle.event_graph.specs.Times.{separation};
 ghost use Rattle.diff_bounds.specs.Standing.{IsMadeFor};
-ghost use Rattle.branch.specs.Answers.{Answers, IsCounted, IsRoot, IsRootTime};
+ghost use Rattle.branch.specs.Answers.{Answers, IsCounted, IsRoot, IsRootReach};
 ghost use Rattle.event_graph.specs.Reading.{AtEachSplit};
 ghost use Rattle.event_graph.specs.Network.{splittable_count};
 ghost use Rattle.branch.specs.Lines.{IsAccepted};
 ghost use Rattle.branch.specs.Needed.{IsNeededToBound};
 ghost use Rattle.branch.specs.Work.{IsClose};
 ghost use Rattle.branch.specs.Step.Cases.{work_left};
-ghost use Rattle.diff_bounds.specs.Limits.{IsNear};
+ghost use Rattle.diff_bounds.specs.Limits.{IsTimely};
 ghost use Rattle.branch.specs.Step.Raising.{IsNearSeparation};
-ghost use Rattle.branch.specs.Step.Searched.{Advances, AreBest, EndsAs, EndsWith, IsAtCase, IsCutAfter, IsTrialFor, Keeps};
+ghost use Rattle.branch.specs.Step.Searched.{Advances, AreBest, EndsAs, EndsWith, IsAtCase, IsBoundCut, IsCutAfter, IsTrialFor, Keeps, aimed};
 
 use crate::answer::{Answer, Root};
 use crate::best::{Aim, Best};
@@ -54,14 +54,16 @@ pub fn bound_pair<S: Scribe>(
     ensures trial { IsTrialFor net.now trial.new }
     ensures places { length best.new.times.items ≡ net.now.events }
     ensures lines { IfOk result (λ answer. (lines : List ProofLine) × S.Grew scribe.old lines scribe.new
-        × Answers net.now aim.from aim.to budget lines search.new.leaves best.new.times.items trial.new.ray.items answer
+        × Answers (aimed net.now aim budget)
+        (record { lines = lines; leaves = search.new.leaves; times = best.new.times.items; ray = trial.new.ray.items }) answer
         × AtEachSplit net.now (IsNeededToBound net.now aim.from aim.to aim.known) lines) }
-    ensures count { OnOk result (IsCounted net.now budget search.new.leaves) }
+    ensures count { IsCounted net.now budget search.new.leaves }
     ensures times { OnOk result (Satisfies best.new.times.items net.now) }
     ensures close { OnOk result (All IsClose best.new.times.items) }
     ensures least { OnOk result (aim.known ≤ℤ separation best.new.times.items aim.from aim.to) }
     ensures cut { OnErr result ((lines : List ProofLine) × S.WasCut scribe.old lines scribe.new
-        × ((value : ℤ) × IsAccepted net.now (Bound aim.from aim.to value) lines)) }
+        × ((value : ℤ) × IsAccepted net.now (Bound aim.from aim.to value) lines)
+        × AtEachSplit net.now (IsNeededToBound net.now aim.from aim.to aim.known) lines) }
     ensures rose { OnErr result (Rose (S.faults scribe.old) (S.faults scribe.new)) }
 {
     if start(net, search, Some(aim.from), budget) == Fit::Loop {
@@ -86,7 +88,7 @@ pub fn root_of(net: &Network, search: &mut Search, from: EventId, to: EventId) -
     requires from { from.0 < net.now.events }
     requires to { to.0 < net.now.events }
     ensures root { IsRoot net.now from to result }
-    ensures within { IsRootTime result }
+    ensures within { IsRootReach result }
     ensures made { IsMadeFor net.now search.new.bounds }
     ensures room { search.new.cases.room ≡ search.old.cases.room }
     ensures leaves { search.new.leaves ≡ search.old.leaves }
@@ -134,11 +136,11 @@ fn search_bound<S: Scribe>(
     ensures same { Keeps net.now search.old search.new }
     ensures trial { IsTrialFor net.now trial.new }
     ensures places { length best.new.times.items ≡ net.now.events }
-    ensures within { OnOk result (search.new.leaves ≤ search.new.budget) }
+    ensures within { search.new.leaves ≤ search.new.budget }
     ensures ends { IfOk result (λ ending. (lines : List ProofLine) × S.Grew scribe.old lines scribe.new
         × EndsWith net.now aim search.new best.new trial.new.ray.items lines ending) }
     ensures cut { OnErr result ((lines : List ProofLine) × S.WasCut scribe.old lines scribe.new
-        × ((value : ℤ) × IsAccepted net.now (Bound aim.from aim.to value) lines)) }
+        × IsBoundCut net.now aim search.new.leaves lines) }
     ensures rose { OnErr result (Rose (S.faults scribe.old) (S.faults scribe.new)) }
 {
     'cases: loop {
@@ -175,7 +177,8 @@ fn step<S: Scribe>(
     ensures advances { IfOk result (λ end. (lines : List ProofLine) × S.Grew scribe.old lines scribe.new
         × Advances net.now aim search.old search.new best.old best.new trial.new.ray.items lines end) }
     ensures cut { OnErr result ((lines : List ProofLine) × S.WasCut scribe.old lines scribe.new
-        × IsCutAfter net.now aim best.old.value search.old.cases.chosen search.old.leaves lines) }
+        × IsCutAfter net.now aim best.old.value search.old.cases.chosen search.old.leaves search.new.leaves lines) }
+    ensures within { OnErr result (search.new.leaves ≤ search.new.budget) }
     ensures rose { OnErr result (Rose (S.faults scribe.old) (S.faults scribe.new)) }
     ensures work { IfOk result (λ end. end ≡ Some Entry.Entered
         → work_left net.now search.new.budget search.new.leaves search.new.cases.chosen
@@ -200,7 +203,7 @@ fn step<S: Scribe>(
 pub fn separation_of(times: &[i64], from: EventId, to: EventId) -> i64
     requires from { from.0 < length times.now }
     requires to { to.0 < length times.now }
-    requires near { All IsNear times.now }
+    requires near { All IsTimely times.now }
     ensures value { result ≡ separation times.now from to }
     ensures near { IsNearSeparation result }
 {
@@ -209,8 +212,8 @@ pub fn separation_of(times: &[i64], from: EventId, to: EventId) -> i64
 
 // How much later one time is than another.
 fn difference(from: i64, to: i64) -> i64
-    requires from { IsNear from }
-    requires to { IsNear to }
+    requires from { IsTimely from }
+    requires to { IsTimely to }
     ensures value { result ≡ to -ℤ from }
     ensures near { IsNearSeparation result }
 {

@@ -13,7 +13,7 @@ ghost use Rattle.branch.specs.Lines.{IsAccepted};
 ghost use Rattle.branch.specs.Needed.{IsNeededToFind};
 ghost use Rattle.branch.specs.Splits.{AreSplits};
 ghost use Rattle.branch.specs.Step.Cases.{work_left};
-ghost use Rattle.diff_bounds.specs.Limits.{IsNear};
+ghost use Rattle.diff_bounds.specs.Limits.{IsTimely};
 ghost use Rattle.branch.specs.Step.Searched.{EndsAs, FindAdvances, IsAtCase, IsFindCutAfter, IsTrialFor, Keeps};
 
 use crate::answer::Found;
@@ -42,13 +42,13 @@ pub fn find_times<S: Scribe>(
     requires budget { 0 < budget }
     ensures made { IsMadeFor net.now search.new.bounds }
     ensures room { search.new.cases.room ≡ search.old.cases.room }
-    ensures near { result ≡ Ok Found.Consistent → All IsNear candidate.new }
+    ensures near { result ≡ Ok Found.Consistent → All IsTimely candidate.new }
     ensures lines { IfOk result (λ found. (lines : List ProofLine) × S.Grew scribe.old lines scribe.new
         × Finds net.now budget lines search.new.leaves (Some candidate.new) found
         × AtEachSplit net.now (IsNeededToFind net.now) lines) }
-    ensures count { OnOk result (IsCounted net.now budget search.new.leaves) }
+    ensures count { IsCounted net.now budget search.new.leaves }
     ensures cut { OnErr result ((lines : List ProofLine) × S.WasCut scribe.old lines scribe.new
-        × IsAccepted net.now Nothing lines) }
+        × IsAccepted net.now Nothing lines × AtEachSplit net.now (IsNeededToFind net.now) lines) }
     ensures rose { OnErr result (Rose (S.faults scribe.old) (S.faults scribe.new)) }
 {
     if start(net, search, None, budget) == Fit::Loop {
@@ -84,7 +84,8 @@ fn try_times<S: Scribe>(
     ensures advances { IfOk result (λ end. (lines : List ProofLine) × S.Grew scribe.old lines scribe.new
         × FindAdvances net.now search.old search.new candidate.new lines end) }
     ensures cut { OnErr result ((lines : List ProofLine) × S.WasCut scribe.old lines scribe.new
-        × IsFindCutAfter net.now search.old.cases.chosen search.old.leaves lines) }
+        × IsFindCutAfter net.now search.old.cases.chosen search.old.leaves search.new.leaves lines) }
+    ensures within { OnErr result (search.new.leaves ≤ search.new.budget) }
     ensures rose { OnErr result (Rose (S.faults scribe.old) (S.faults scribe.new)) }
     ensures work { IfOk result (λ end. end ≡ Some Entry.Entered
         → work_left net.now search.new.budget search.new.leaves search.new.cases.chosen

@@ -2,10 +2,10 @@
 
 ghost use Rattle.std.specs.Prelude.{◌≡◌, ◌<◌, ◌≤◌, ◌≤ℤ◌, ℕ, ℤ, List, ◌∷◌, [], IfSome, MatchOption, Some, None, length};
 ghost use Rattle.itv_base.specs.declared.names.EventId.{EventId};
+ghost use Rattle.event_graph.specs.Limits.{IsReach};
 ghost use Rattle.event_graph.specs.Network.{IsNet};
 ghost use Rattle.event_graph.specs.Proof.{Bound, Case, ClosesByLoop, ClosesByPath};
 ghost use Rattle.event_graph.specs.RootBound.{HasNoRoot};
-ghost use Rattle.event_graph.specs.Times.{IsTime};
 ghost use Rattle.diff_bounds.specs.Standing.{IsMadeFor};
 ghost use Rattle.branch.specs.Step.Cases.{IsCase};
 ghost use Rattle.branch.specs.Step.Edges.{choice_name};
@@ -72,7 +72,7 @@ pub fn upper_in(net: &Network, search: &Search, to: EventId) -> Option<i64>
     requires stands { StandsOn net.now search.now.cases.chosen search.now.bounds }
     requires case { IsCase net.now search.now.cases.chosen }
     requires to { to.0 < net.now.events }
-    ensures within { IfSome result IsTime }
+    ensures within { IfSome result IsReach }
     ensures value { MatchOption result (HasNoUpper search.now.bounds to) (HasUpper search.now.bounds to) }
     ensures upper { (from : EventId) → search.now.bounds.source ≡ Some from
         → IsUpperIn net.now search.now.cases.chosen from to result }

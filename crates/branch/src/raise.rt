@@ -2,7 +2,8 @@
 
 ghost use Rattle.std.specs.Prelude.{◌≡◌, ◌+◌, ◌*◌, ◌⊎◌, ℕ, pos, ◌+ℤ◌, ◌-ℤ◌, ◌≤ℤ◌, ◌<ℤ◌, true, false, All, Some, length, slice_get};
 ghost use Rattle.event_graph.specs.Times.{raised};
-ghost use Rattle.diff_bounds.specs.Limits.{IsNear, near_limit, weight_limit};
+ghost use Rattle.event_graph.specs.Limits.{reach_limit, weight_limit};
+ghost use Rattle.diff_bounds.specs.Limits.{IsTimely};
 ghost use Rattle.branch.specs.Step.Raising.{AreRaised, IsNearSeparation, IsRise, raised_to};
 
 use itv_base::{END_LIMIT, EventId};
@@ -10,7 +11,7 @@ use itv_base::{END_LIMIT, EventId};
 /// Raises the events of a set by one number, so that each of them is above every other event by more than the limit of ends, and
 /// the separation of a pair is at least one that is to be reached. No finite end reaches across such a gap.
 pub fn raise(times: &mut [i64], set: &[bool], from: EventId, to: EventId, reach: i64)
-    requires near { All IsNear times.old }
+    requires near { All IsTimely times.old }
     requires count { length set.now ≡ length times.old }
     requires lacks { slice_get set.now from.0 ≡ Some false }
     requires holds { slice_get set.now to.0 ≡ Some true }
@@ -23,10 +24,10 @@ pub fn raise(times: &mut [i64], set: &[bool], from: EventId, to: EventId, reach:
 
 // Raises the events of a set by a number.
 fn raise_by(times: &mut [i64], set: &[bool], by: i64)
-    requires near { All IsNear times.old }
+    requires near { All IsTimely times.old }
     requires count { length set.now ≡ length times.old }
     requires low { pos 0 ≤ℤ by }
-    requires high { by ≤ℤ pos (5 * near_limit) }
+    requires high { by ≤ℤ pos (6 * reach_limit) }
     ensures { (n : ℕ) → by ≡ pos n → times.new ≡ raised set.now n times.old }
 {
     for event in 0..times.len() {
@@ -36,9 +37,9 @@ fn raise_by(times: &mut [i64], set: &[bool], by: i64)
 
 // The time of an event that is raised by a number if it is in the set.
 fn moved(time: i64, is_in: bool, by: i64) -> i64
-    requires time { IsNear time }
+    requires time { IsTimely time }
     requires low { pos 0 ≤ℤ by }
-    requires high { by ≤ℤ pos (5 * near_limit) }
+    requires high { by ≤ℤ pos (6 * reach_limit) }
     ensures { (n : ℕ) → by ≡ pos n → result ≡ raised_to is_in time n }
 {
     if is_in { later(time, by) } else { time }
@@ -46,9 +47,9 @@ fn moved(time: i64, is_in: bool, by: i64) -> i64
 
 // A time that comes a number later.
 fn later(time: i64, by: i64) -> i64
-    requires time { IsNear time }
+    requires time { IsTimely time }
     requires low { pos 0 ≤ℤ by }
-    requires high { by ≤ℤ pos (5 * near_limit) }
+    requires high { by ≤ℤ pos (6 * reach_limit) }
     ensures { result ≡ time +ℤ by }
 {
     time + by
@@ -63,7 +64,7 @@ struct Span {
 
 // By how much the events of the set have to be raised.
 fn rise(times: &[i64], set: &[bool], from: EventId, to: EventId, reach: i64) -> i64
-    requires near { All IsNear times.now }
+    requires near { All IsTimely times.now }
     requires count { length set.now ≡ length times.now }
     requires lacks { slice_get set.now from.0 ≡ Some false }
     requires holds { slice_get set.now to.0 ≡ Some true }
@@ -84,11 +85,11 @@ fn rise(times: &[i64], set: &[bool], from: EventId, to: EventId, reach: i64) -> 
 
 // The span of one more time.
 fn widened(span: Span, time: i64, is_in: bool) -> Span
-    requires lowest { IsNear span.lowest }
-    requires highest { IsNear span.highest }
-    requires time { IsNear time }
-    ensures lowest { IsNear result.lowest }
-    ensures highest { IsNear result.highest }
+    requires lowest { IsTimely span.lowest }
+    requires highest { IsTimely span.highest }
+    requires time { IsTimely time }
+    ensures lowest { IsTimely result.lowest }
+    ensures highest { IsTimely result.highest }
     ensures falls { result.lowest ≤ℤ span.lowest }
     ensures rises { span.highest ≤ℤ result.highest }
     ensures set { is_in ≡ true → result.lowest ≤ℤ time }
@@ -127,13 +128,13 @@ fn greater(a: i64, b: i64) -> i64
 
 // The number that closes the gap and reaches the separation.
 fn enough(span: Span, first: i64, last: i64, reach: i64) -> i64
-    requires lowest { IsNear span.lowest }
-    requires highest { IsNear span.highest }
-    requires first { IsNear first }
-    requires last { IsNear last }
+    requires lowest { IsTimely span.lowest }
+    requires highest { IsTimely span.highest }
+    requires first { IsTimely first }
+    requires last { IsTimely last }
     requires reach { IsNearSeparation reach }
     ensures low { pos 0 ≤ℤ result }
-    ensures high { result ≤ℤ pos (5 * near_limit) }
+    ensures high { result ≤ℤ pos (6 * reach_limit) }
     ensures gap { (span.highest +ℤ pos weight_limit) <ℤ (span.lowest +ℤ result) }
     ensures reached { reach ≤ℤ ((last -ℤ first) +ℤ result) }
 {
@@ -142,8 +143,8 @@ fn enough(span: Span, first: i64, last: i64, reach: i64) -> i64
 
 // How much it takes to lift the lowest above the highest by more than the limit of ends.
 fn gap(span: Span) -> i64
-    requires lowest { IsNear span.lowest }
-    requires highest { IsNear span.highest }
+    requires lowest { IsTimely span.lowest }
+    requires highest { IsTimely span.highest }
     ensures { result ≡ ((span.highest -ℤ span.lowest) +ℤ pos (weight_limit + 1)) }
 {
     span.highest - span.lowest + END_LIMIT + 1
@@ -151,8 +152,8 @@ fn gap(span: Span) -> i64
 
 // How much a separation lacks of one that is to be reached.
 fn shortfall(first: i64, last: i64, reach: i64) -> i64
-    requires first { IsNear first }
-    requires last { IsNear last }
+    requires first { IsTimely first }
+    requires last { IsTimely last }
     requires reach { IsNearSeparation reach }
     ensures { result ≡ reach -ℤ (last -ℤ first) }
 {

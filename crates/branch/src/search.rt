@@ -4,9 +4,9 @@ ghost use Rattle.std.specs.Prelude.{◌≡◌, ◌+◌, ◌<◌, ◌≤◌, ◌�
 ghost use Rattle.itv_base.specs.Outside.{Rose};
 ghost use Rattle.itv_base.specs.declared.names.EventId.{EventId};
 ghost use Rattle.event_graph.specs.Network.{IsNet};
-ghost use Rattle.event_graph.specs.Proof.{Bound, Case, ProofGoal, ProofLine, Reads, Split, count_causes};
+ghost use Rattle.event_graph.specs.Proof.{Bound, ProofGoal, ProofLine, Split, count_causes};
 ghost use Rattle.branch.specs.Step.Cases.{IsCase, IsFree, IsSplittable, first_of, open_cases, siblings, work_left};
-ghost use Rattle.branch.specs.Step.Searched.{EndsAs, IsAtCase, IsBelowCase, IsNext, Keeps, LeavesFor, Steps};
+ghost use Rattle.branch.specs.Step.Searched.{EndsAs, IsAtCase, IsBelowCase, IsNext, Keeps, LeavesFor, Steps, StepsShort};
 ghost use Rattle.branch.specs.Step.Standing.{HasUpper, StandsBelow};
 
 use crate::choice::Choice;
@@ -52,8 +52,9 @@ pub fn split_case<S: Scribe>(
         × ((goal : ProofGoal) → Steps net.now goal (open_cases net.now (first_of number search.old.cases.chosen))
         search.old.leaves search.new entry lines)) }
     ensures cut { OnErr result ((lines : List ProofLine) × S.WasCut scribe.old (Split number ∷ lines) scribe.new
-        × ((goal : ProofGoal) → (left : List Case)
-        × Reads net.now goal (open_cases net.now (first_of number search.old.cases.chosen)) lines left)) }
+        × ((goal : ProofGoal) → StepsShort net.now goal (open_cases net.now (first_of number search.old.cases.chosen))
+        search.old.leaves search.new lines)) }
+    ensures within { OnErr result (search.new.leaves ≤ search.new.budget) }
     ensures rose { OnErr result (Rose (S.faults scribe.old) (S.faults scribe.new)) }
     ensures work { IfOk result (λ entry. entry ≡ Entry.Entered
         → work_left net.now search.new.budget search.new.leaves search.new.cases.chosen
@@ -88,8 +89,9 @@ pub fn close_case<S: Scribe>(
     ensures cut { OnErr result ((lines : List ProofLine) × S.WasCut scribe.old lines scribe.new
         × ((from : EventId) (value best : ℤ) → search.old.bounds.source ≡ Some from
         → HasUpper search.old.bounds to value → value ≤ℤ best
-        → (left : List Case)
-        × Reads net.now (Bound from to best) (open_cases net.now search.old.cases.chosen) lines left)) }
+        → StepsShort net.now (Bound from to best) (open_cases net.now search.old.cases.chosen)
+        search.old.leaves search.new lines)) }
+    ensures within { OnErr result (search.new.leaves ≤ search.new.budget) }
     ensures rose { OnErr result (Rose (S.faults scribe.old) (S.faults scribe.new)) }
     ensures work { IfOk result (λ entry. entry ≡ Entry.Entered
         → work_left net.now search.new.budget search.new.leaves search.new.cases.chosen
@@ -118,8 +120,9 @@ fn enter_case<S: Scribe>(
         × ((goal : ProofGoal) → Steps net.now goal (open_cases net.now search.old.cases.chosen)
         search.old.leaves search.new entry lines)) }
     ensures cut { OnErr result ((lines : List ProofLine) × S.WasCut scribe.old lines scribe.new
-        × ((goal : ProofGoal) → (left : List Case)
-        × Reads net.now goal (open_cases net.now search.old.cases.chosen) lines left)) }
+        × ((goal : ProofGoal) → StepsShort net.now goal (open_cases net.now search.old.cases.chosen)
+        search.old.leaves search.new lines)) }
+    ensures within { OnErr result (search.new.leaves ≤ search.new.budget) }
     ensures rose { OnErr result (Rose (S.faults scribe.old) (S.faults scribe.new)) }
     ensures work { IfOk result (λ entry. entry ≡ Entry.Entered
         → work_left net.now search.new.budget search.new.leaves search.new.cases.chosen

@@ -5,12 +5,12 @@ ghost use Rattle.itv_base.specs.Outside.{Rose};
 ghost use Rattle.event_graph.specs.Proof.{Bound, Nothing, ProofLine};
 ghost use Rattle.event_graph.specs.Satisfying.{Satisfies};
 ghost use Rattle.event_graph.specs.Times.{separation};
-ghost use Rattle.branch.specs.Answers.{Answers, Finds, IsCounted, IsRoot, IsRootTime};
+ghost use Rattle.branch.specs.Answers.{Answers, Finds, IsCounted, IsRoot, IsRootReach, evidence};
 ghost use Rattle.event_graph.specs.Reading.{AtEachSplit};
 ghost use Rattle.event_graph.specs.Network.{splittable_count};
 ghost use Rattle.branch.specs.Lines.{IsAccepted};
 ghost use Rattle.branch.specs.Needed.{IsNeededToBound, IsNeededToFind};
-ghost use Rattle.branch.specs.Work.{IsClose, IsMadeFor, known_separation};
+ghost use Rattle.branch.specs.Work.{IsClose, IsMadeFor, IsReached, known_separation};
 
 use crate::answer::{Answer, Found, Root};
 use crate::best::{Aim, Best};
@@ -135,9 +135,9 @@ pub fn find<S: Scribe>(
     ensures lines { IfOk result (λ found. (lines : List ProofLine) × S.Grew scribe.old lines scribe.new
         × Finds net.now budget lines work.new.leaves work.new.known found
         × AtEachSplit net.now (IsNeededToFind net.now) lines) }
-    ensures count { OnOk result (IsCounted net.now budget work.new.leaves) }
+    ensures count { IsCounted net.now budget work.new.leaves }
     ensures cut { OnErr result ((lines : List ProofLine) × S.WasCut scribe.old lines scribe.new
-        × IsAccepted net.now Nothing lines) }
+        × IsAccepted net.now Nothing lines × AtEachSplit net.now (IsNeededToFind net.now) lines) }
     ensures close { IfSome work.new.known (All IsClose) }
     ensures rose { OnErr result (Rose (S.faults scribe.old) (S.faults scribe.new)) }
 {
@@ -176,14 +176,16 @@ pub fn greatest<S: Scribe>(
     ensures made { IsMadeFor net.now work.new }
     ensures known { work.new.known ≡ work.old.known }
     ensures lines { IfOk result (λ answer. (lines : List ProofLine) × S.Grew scribe.old lines scribe.new
-        × Answers net.now from to budget lines work.new.leaves work.new.times work.new.ray answer
+        × Answers (record { net = net.now; from = from; to = to; budget = budget }) (evidence lines work.new) answer
         × AtEachSplit net.now (IsNeededToBound net.now from to (known_separation work.old from to)) lines) }
-    ensures count { OnOk result (IsCounted net.now budget work.new.leaves) }
+    ensures count { IsCounted net.now budget work.new.leaves }
     ensures times { OnOk result (Satisfies work.new.times net.now) }
     ensures close { OnOk result (All IsClose work.new.times) }
+    ensures reached { OnOk result (IsReached (separation work.new.times from to)) }
     ensures least { OnOk result (known_separation work.old from to ≤ℤ separation work.new.times from to) }
     ensures cut { OnErr result ((lines : List ProofLine) × S.WasCut scribe.old lines scribe.new
-        × ((value : ℤ) × IsAccepted net.now (Bound from to value) lines)) }
+        × ((value : ℤ) × IsAccepted net.now (Bound from to value) lines)
+        × AtEachSplit net.now (IsNeededToBound net.now from to (known_separation work.old from to)) lines) }
     ensures rose { OnErr result (Rose (S.faults scribe.old) (S.faults scribe.new)) }
 {
     let known = separation_of(&work.known, from, to);
@@ -207,7 +209,7 @@ pub fn root_bound(work: &mut Work, net: &Network, from: EventId, to: EventId) ->
     requires from { from.0 < net.now.events }
     requires to { to.0 < net.now.events }
     ensures root { IsRoot net.now from to result }
-    ensures within { IsRootTime result }
+    ensures within { IsRootReach result }
     ensures made { IsMadeFor net.now work.new }
     ensures others { work.new ≡ record work.old { bounds = work.new.bounds } }
 {

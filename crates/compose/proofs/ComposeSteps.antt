@@ -11,13 +11,11 @@ use Rattle.sheet.specs.Rule.{SheetRule}
 use Rattle.compose.specs.declared.fault.JoinFault.{JoinFault}
 use Rattle.compose.specs.declared.joins.Join.{Join}
 use Rattle.compose.specs.declared.wires.NumberedWires.{NumberedWires}
-use Rattle.compose.specs.declared.wire_row.WireRow.{WireRow}
 use Rattle.compose.specs.Compose.{composed_on}
 use Rattle.compose.specs.Fault.{is_memory}
 use Rattle.compose.specs.Nets.{joins_of}
-use Rattle.compose.specs.Rule.{DesignRule}
 use Rattle.compose.specs.Step.{rules_and_rows}
-use Rattle.compose.specs.Wires.{design_row, design_rule, wire_links}
+use Rattle.compose.specs.Wires.{wire_links}
 
 same_fault : {B : Type 0} (read : Result (List Link) JoinFault) (f : List Link → Result B JoinFault) (fault : JoinFault) → rules_and_rows read ≡ Err fault → (read >>= f) ≡ Err fault
 same_fault (Ok links) f fault e = absurd cc
@@ -39,12 +37,12 @@ module _ (netlist : Netlist) (sheets : List Contents) where
     unfolding composed_on
     wires-fault fault h = rw joined (HasFault-on is_memory _ _ fault (λ d is. same_fault (wire_links netlist.parts sheets netlist.wires) _ d is) h)
 
-    pub composed-ok : (wires : NumberedWires) (cycles : ℕ) (parts : List (List ℕ)) (rules : List DesignRule) (rows : List WireRow) → rules_and_rows (wire_links netlist.parts sheets netlist.wires) ≡ Ok wires
-        → cycles ≡ netlist.cycles → parts ≡ map (λ (part : Part). part.name) netlist.parts → rules ≡ map (design_rule sheets) wires.rules → rows ≡ map (design_row sheets) wires.rows
-        → composed_on netlist sheets ≡ Ok (record { cycles = cycles; parts = parts; sheets = sheets; joins = joins; rules = rules; rows = rows })
+    pub composed-ok : (wires : NumberedWires) (cycles : ℕ) (parts : List (List ℕ)) → rules_and_rows (wire_links netlist.parts sheets netlist.wires) ≡ Ok wires
+        → cycles ≡ netlist.cycles → parts ≡ map (λ (part : Part). part.name) netlist.parts
+        → composed_on netlist sheets ≡ Ok (record { cycles = cycles; parts = parts; sheets = sheets; joins = joins; rules = wires.rules; rows = wires.rows })
     unfolding composed_on
-    composed-ok wires cycles parts rules rows read c p r w =
-        rw (c, p, r, w, joined)
+    composed-ok wires cycles parts read c p =
+        rw (c, p, joined)
         (same_design (wire_links netlist.parts sheets netlist.wires)
-        (λ all asked. record { cycles = netlist.cycles; parts = map (λ (part : Part). part.name) netlist.parts; sheets = sheets; joins = joins; rules = map (design_rule sheets) all; rows = map (design_row sheets) asked })
+        (λ all asked. record { cycles = netlist.cycles; parts = map (λ (part : Part). part.name) netlist.parts; sheets = sheets; joins = joins; rules = all; rows = asked })
         wires read)

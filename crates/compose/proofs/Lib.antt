@@ -1,3 +1,4 @@
+pub mod Keys
 pub mod JoinLists
 pub mod WireWalk
 pub mod PartSheets

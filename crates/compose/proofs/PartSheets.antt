@@ -1,17 +1,14 @@
 -- The sheets of parts, one by one.
-use Rattle.std.proofs.Common.{◌≡◌, ℕ, zero, suc, ◌+◌, ◌-◌, ◌<◌, ◌≤◌, true, List, [], ◌∷◌, ◌++◌, length, map, take, drop, get_or, All, Option, Some, Ok, refl, sym, ap, ◌∙◌, Bor, arith, if◌then◌else◌}
-use Rattle.std.specs.Prelude.{filter_map, nat_lt, slice_get}
-use Rattle.std.proofs.lemmas.Bool.{lt-ltb, le-ltb}
+use Rattle.std.proofs.Common.{◌≡◌, ℕ, zero, suc, ◌+◌, ◌<◌, true, List, [], ◌∷◌, ◌++◌, length, map, take, get_or, All, Option, Some, Ok, refl, sym, ap, ◌∙◌, Bor, arith}
+use Rattle.std.specs.Prelude.{filter_map, slice_get}
 use Rattle.std.proofs.lemmas.List.{take_more, map_push}
 use Rattle.std.proofs.lemmas.List.Sums.{sum_by-cons}
 use Rattle.std.proofs.lemmas.List.Elements.{All-push, filter_map-append}
-use Rattle.netlist.proofs.PinLists.{next_seen}
 use Rattle.sheet.specs.Contents.{Contents}
 use Rattle.sheet.specs.Whole.{IsWhole}
 use Rattle.compose.specs.declared.terminal.Terminal.{Terminal}
 use Rattle.compose.specs.Nets.{kinds_fit, kind_at, marks_at, pins_at}
 use Rattle.compose.specs.Numbers.{mark_count}
-use Rattle.compose.specs.Wires.{mark_from}
 use Rattle.wave_string.specs.Kinds.{may_join}
 
 -- the sheets that borrows point to
@@ -45,19 +42,6 @@ marks_more (sheet ∷ sheets) (suc part) within =
     let front : mark_count (take (suc part) (sheet ∷ sheets)) ≡ length sheet.marks + mark_count (take part sheets) = sum_by-cons (λ (s : Contents). length s.marks) sheet (take part sheets) in
     let same : length (marks_at (sheet ∷ sheets) (suc part)) ≡ length (marks_at sheets part) = refl in
     omega (arith, longer, front, same, marks_more sheets part (omega arith))
-
-module _ (sheets : List (Bor Contents)) (part : ℕ) (sheet : Bor Contents) (mark : ℕ) (within : part < length sheets) (read : sheet ≡ get_or sheets part sheet) where
-  from_next : mark_from part (drop part (seen sheets)) mark
-      ≡ (if nat_lt mark (length sheet.now.marks) then record { part = part; mark = mark } else mark_from (part + 1) (drop (part + 1) (seen sheets)) (mark - length sheet.now.marks))
-  from_next = ap (λ rest. mark_from part rest mark) (next_seen (λ (s : Bor Contents). s.now) sheets part sheet within read)
-
-  -- the mark is on this sheet
-  pub mark_here : mark < length sheet.now.marks → mark_from part (drop part (seen sheets)) mark ≡ record { part = part; mark = mark }
-  mark_here below = from_next ∙ rw (lt-ltb mark (length sheet.now.marks) below) refl
-
-  -- it is on a later one
-  pub mark_later : length sheet.now.marks ≤ mark → mark_from part (drop part (seen sheets)) mark ≡ mark_from (part + 1) (drop (part + 1) (seen sheets)) (mark - length sheet.now.marks)
-  mark_later past = from_next ∙ rw (le-ltb mark (length sheet.now.marks) past) refl
 
 -- ---- kinds
 

@@ -1,11 +1,11 @@
 -- What is composed of a whole netlist and whole sheets is a design.
-use Rattle.std.proofs.Common.{◌≡◌, ℕ, zero, suc, ◌+◌, ◌-◌, ◌<◌, ◌≤◌, Bool, true, false, cond, ◌==◌, ltb, List, [], ◌∷◌, ◌++◌, length, take, All, Option, Some, None, IfSome, position, unwrap_or, Result, Ok, Err, IfOk, refl, sym, ap, ◌∙◌, append_assoc, arith}
-use Rattle.std.specs.Prelude.{find, nat_lt, ok_or, option_map, slice_get, IsSomeAnd, ⊤}
+use Rattle.std.proofs.Common.{◌≡◌, ℕ, zero, suc, ◌+◌, ◌<◌, ◌≤◌, Bool, true, false, cond, ◌==◌, ltb, List, [], ◌∷◌, ◌++◌, length, take, All, Option, Some, None, IfSome, position, unwrap_or, Result, Ok, Err, IfOk, refl, sym, ◌∙◌, arith}
+use Rattle.std.specs.Prelude.{find, ok_or, option_map, slice_get, IsSomeAnd, ⊤}
 use Rattle.std.specs.List.{position_or_len}
 use Rattle.std.specs.Str.{bytes_eq}
-use Rattle.std.proofs.lemmas.Bool.{cond_both, eqb-true, ltb-true, ltb-false}
-use Rattle.std.proofs.lemmas.List.{length-map, length_push}
-use Rattle.std.proofs.lemmas.List.Elements.{All-append, All-cons, All-head, All-map, All-nil, All-push, All-tail, All-weaker}
+use Rattle.std.proofs.lemmas.Bool.{cond_both, eqb-true, ltb-true}
+use Rattle.std.proofs.lemmas.List.{length-map}
+use Rattle.std.proofs.lemmas.List.Elements.{All-append, All-cons, All-head, All-nil, All-push, All-tail}
 use Rattle.std.proofs.lemmas.List.Sums.{sum_by-cons}
 use Rattle.std.proofs.lemmas.Option.{get_or_from_slice_get, slice_get_within}
 use Rattle.itv_base.specs.Range.{Ends, IsRange}
@@ -19,11 +19,9 @@ use Rattle.netlist.specs.Contents.{Contents as Netlist}
 use Rattle.netlist.specs.Whole.{IsNetlist, IsWholeWire}
 use Rattle.sheet.specs.declared.mark.Mark.{Mark}
 use Rattle.sheet.specs.declared.pin.Pin.{Pin}
-use Rattle.sheet.specs.declared.row.SheetRow.{SheetRow}
 use Rattle.sheet.specs.Contents.{Contents}
-use Rattle.sheet.specs.Links.{Link, is_full, link_rows, link_rules, open_ends}
-use Rattle.sheet.specs.Rule.{SheetRule}
-use Rattle.sheet.specs.Whole.{IsWhole, IsWholeRow, IsWholeRule, IsWholeSource}
+use Rattle.sheet.specs.Links.{Link, is_full, open_ends}
+use Rattle.sheet.specs.Whole.{IsWhole}
 use Rattle.sheet.proofs.WholeSheets.{AreWhole, AreWhole-none, IsWholeLink, few_push, link_rows_whole, link_rules_whole}
 use Rattle.compose.specs.declared.fault.JoinFault.{JoinFault}
 use Rattle.compose.specs.declared.fault.JoinFault.TheVariants.{NoPart, NoPin, MarkCounts, WireNoPart, WireNoMark, TooManyCauses}
@@ -31,13 +29,12 @@ use Rattle.compose.specs.declared.joins.Join.{Join}
 use Rattle.compose.specs.declared.mark.DesignMark.{DesignMark}
 use Rattle.compose.specs.declared.terminal.Terminal.{Terminal}
 use Rattle.compose.specs.declared.wires.WireEnds.{WireEnds}
-use Rattle.compose.specs.declared.wire_rule.WireSource.{WireSource}
 use Rattle.compose.specs.Compose.{composed_on}
-use Rattle.compose.specs.Design.{IsDesign, IsJoinOf, IsMarkOf, IsRuleOf, IsWireRowOf}
+use Rattle.compose.specs.Design.{IsDesign, IsJoinOf, IsMarkOf}
 use Rattle.compose.specs.Joins.{first_joins, join_at, pin_joins}
 use Rattle.compose.specs.Nets.{joins_of, part_named, pins_joined, same_count, kinds_fit, terminal_by, terminal_named, terminal_of, terminals_of, with_net, with_pin, with_terminal, with_terminals}
 use Rattle.compose.specs.Numbers.{mark_count, number_of}
-use Rattle.compose.specs.Wires.{design_row, design_rule, design_source, ends_of, mark_from, mark_named, mark_numbered, wire_link, wire_links, with_wire}
+use Rattle.compose.specs.Wires.{ends_of, mark_named, wire_link, wire_links, with_wire}
 
 -- ---- answers
 
@@ -82,34 +79,6 @@ number_below (sheet ∷ sheets) (suc part) mark there =
 number_within : (sheets : List Contents) (mark : DesignMark) → IsMarkOf sheets mark → number_of sheets mark < mark_count sheets
 number_within sheets mark there = number_below sheets mark.part mark.mark there
 
--- the element behind a front
-behind_front : {X : Type 0} (front : List X) (x : X) (rest : List X) → slice_get (front ++ x ∷ rest) (length front) ≡ Some x
-behind_front [] x rest = refl
-behind_front (y ∷ front) x rest = behind_front front x rest
-
--- the mark with a number below that of all marks is there
-mark_from_there : (all before rest : List Contents) (part number : ℕ) → all ≡ before ++ rest → length before ≡ part → number < mark_count rest → IsMarkOf all (mark_from part rest number)
-mark_from_there all before [] part number is long below = absurd (omega (arith, below))
-mark_from_there all before (sheet ∷ rest) part number is long below =
-    cond_both (nat_lt number (length sheet.marks)) (record { part = part; mark = number }) (mark_from (part + 1) rest (number - length sheet.marks)) (IsMarkOf all)
-    (λ here. let at : slice_get all part ≡ Some sheet = rw (is, ← long) (behind_front before sheet rest) in let within : number < length sheet.marks = ltb-true number (length sheet.marks) here in rw at within)
-    (λ past. let not_here : length sheet.marks ≤ number = ltb-false number (length sheet.marks) past in
-    mark_from_there all (before ++ sheet ∷ []) rest (part + 1) (number - length sheet.marks) (is ∙ sym (append_assoc before (sheet ∷ []) rest)) (length_push before sheet ∙ ap (λ k. k + 1) long) (omega (arith, below, mark_count_cons sheet rest)))
-
-mark_there : (sheets : List Contents) (number : ℕ) → number < mark_count sheets → IsMarkOf sheets (mark_numbered sheets number)
-mark_there sheets number below = mark_from_there sheets [] sheets 0 number refl refl below
-
-rule_there : (sheets : List Contents) (rule : SheetRule) → IsWholeRule (mark_count sheets) rule → IsRuleOf sheets (design_rule sheets rule)
-rule_there sheets rule h = record {
-  target = mark_there sheets rule.target h.target;
-  causes = All-map (λ (source : WireSource). IsMarkOf sheets source.mark) (design_source sheets) rule.causes
-      (All-weaker (IsWholeSource (mark_count sheets)) (λ source. IsMarkOf sheets (mark_numbered sheets source.mark)) (λ source there. mark_there sheets source.mark there.mark) rule.causes h.causes);
-  count = rw (length-map rule.causes (design_source sheets)) h.count;
-}
-
-row_there : (sheets : List Contents) (row : SheetRow) → IsWholeRow (mark_count sheets) row → IsWireRowOf sheets (design_row sheets row)
-row_there sheets row h = (mark_there sheets row.from h.from, mark_there sheets row.to h.to)
-
 -- ---- pins
 
 -- the marks of a pin are there
@@ -152,11 +121,12 @@ module _ (parts : List Part) (sheets : List Contents) (whole : All IsWhole sheet
       let inside : t.first + k < length sheet.marks = omega arith in
       rw at inside
 
-  first_joins_whole : (driver other : Terminal) (delay : Ends) (k : ℕ) → IsTerminalOf sheets driver → IsTerminalOf sheets other → k ≤ driver.count → k ≤ other.count
-      → All (IsJoinOf sheets) (first_joins (pins_joined driver delay other) k)
-  first_joins_whole driver other delay zero from to less small = All-nil (IsJoinOf sheets)
-  first_joins_whole driver other delay (suc k) from to less small =
-      All-push (IsJoinOf sheets) (first_joins (pins_joined driver delay other) k) (join_at (pins_joined driver delay other) k) (first_joins_whole driver other delay k from to (omega arith) (omega arith))
+  first_joins_whole : (net pin : ℕ) (driver other : Terminal) (delay : Ends) (k : ℕ) → IsTerminalOf sheets driver → IsTerminalOf sheets other → k ≤ driver.count → k ≤ other.count
+      → All (IsJoinOf sheets) (first_joins (pins_joined net pin driver delay other) k)
+  first_joins_whole net pin driver other delay zero from to less small = All-nil (IsJoinOf sheets)
+  first_joins_whole net pin driver other delay (suc k) from to less small =
+      All-push (IsJoinOf sheets) (first_joins (pins_joined net pin driver delay other) k) (join_at (pins_joined net pin driver delay other) k)
+      (first_joins_whole net pin driver other delay k from to (omega arith) (omega arith))
       (mark_within driver k (slice_get sheets driver.part) refl from (omega arith), mark_within other k (slice_get sheets other.part) refl to (omega arith))
 
   -- a pin that is there has as many marks as the driver
@@ -168,7 +138,7 @@ module _ (parts : List Part) (sheets : List Contents) (whole : All IsWhole sheet
       → IfOk (with_pin sheets driver delay n k done other) (All (IsJoinOf sheets))
   with_pin_whole driver delay n k done other from to all =
       IfOk-bind (λ _. Unit {0}) (All (IsJoinOf sheets)) (walk_to (kinds_fit sheets driver other n k) 0 tt driver.count) _ (IfOk-any (walk_to (kinds_fit sheets driver other n k) 0 tt driver.count))
-      (λ _ _. All-append (IsJoinOf sheets) done (pin_joins (pins_joined driver delay other)) all (first_joins_whole driver other delay driver.count from to.there (omega arith) (omega (arith, to.count))))
+      (λ _ _. All-append (IsJoinOf sheets) done (pin_joins (pins_joined n k driver delay other)) all (first_joins_whole n k driver other delay driver.count from to.there (omega arith) (omega (arith, to.count))))
 
   pins_whole : (driver : Terminal) (delay : Ends) (n k : ℕ) (done : List Join) (others : List Terminal) → IsTerminalOf sheets driver → All (IsCounted driver) others → All (IsJoinOf sheets) done
       → IfOk (walk (with_pin sheets driver delay n) k done others) (All (IsJoinOf sheets))
@@ -249,8 +219,8 @@ module _ (parts : List Part) (sheets : List Contents) where
       (λ to here. record { from = there; to = here }))))
 
   -- a wire between marks that are there is a whole link
-  link_whole : (wire : Wire) (ends : WireEnds) → IsWholeWire wire → AreEnds sheets ends → IsWholeLink (mark_count sheets) (wire_link sheets wire ends)
-  link_whole wire ends h there = record {
+  link_whole : (n : ℕ) (wire : Wire) (ends : WireEnds) → IsWholeWire wire → AreEnds sheets ends → IsWholeLink (mark_count sheets) (wire_link sheets n wire ends)
+  link_whole n wire ends h there = record {
     from = number_within sheets ends.from there.from;
     to = number_within sheets ends.to there.to;
     shift = h.shift;
@@ -264,10 +234,10 @@ module _ (parts : List Part) (sheets : List Contents) where
   with_wire_whole n done None h whole = whole
   with_wire_whole n done (Some wire) h whole =
       IfOk-bind (AreEnds sheets) AreLinks (ends_of parts sheets n wire) _ (ends_whole n wire)
-      (λ ends there. cond_both (is_full done (wire_link sheets wire ends)) (Err (TooManyCauses n)) (Ok (done ++ wire_link sheets wire ends ∷ [])) (λ r. IfOk r AreLinks) (λ _. tt)
+      (λ ends there. cond_both (is_full done (wire_link sheets n wire ends)) (Err (TooManyCauses n)) (Ok (done ++ wire_link sheets n wire ends ∷ [])) (λ r. IfOk r AreLinks) (λ _. tt)
       (λ room. record {
-        all = All-push (IsWholeLink (mark_count sheets)) done (wire_link sheets wire ends) whole.all (link_whole wire ends h there);
-        few = few_push done (wire_link sheets wire ends) whole.few room;
+        all = All-push (IsWholeLink (mark_count sheets)) done (wire_link sheets n wire ends) whole.all (link_whole n wire ends h there);
+        few = few_push done (wire_link sheets n wire ends) whole.few room;
       }))
 
   wires_whole_from : (n : ℕ) (done : List Link) (wires : List (Option Wire)) → All (λ wire. IfSome wire IsWholeWire) wires → AreLinks done → IfOk (walk (with_wire parts sheets) n done wires) AreLinks
@@ -294,8 +264,6 @@ composed_whole netlist sheets h whole long =
       few = omega (arith, long, h.few_parts);
       sheets = whole;
       joins = joined;
-      rules = All-map (IsRuleOf sheets) (design_rule sheets) (link_rules links)
-          (All-weaker (IsWholeRule (mark_count sheets)) (λ rule. IsRuleOf sheets (design_rule sheets rule)) (rule_there sheets) (link_rules links) (link_rules_whole (mark_count sheets) links are));
-      rows = All-map (IsWireRowOf sheets) (design_row sheets) (link_rows links)
-          (All-weaker (IsWholeRow (mark_count sheets)) (λ row. IsWireRowOf sheets (design_row sheets row)) (row_there sheets) (link_rows links) (link_rows_whole (mark_count sheets) links are.all));
+      rules = link_rules_whole (mark_count sheets) links are;
+      rows = link_rows_whole (mark_count sheets) links are.all;
     }))

@@ -8,8 +8,7 @@ use Rattle.sheet.specs.declared.groups.GroupFault.{GroupFault}
 use Rattle.sheet.specs.declared.groups.GroupFault.TheVariants.{TooManyCauses, NoMemory}
 use Rattle.sheet.specs.declared.row.SheetRow.{SheetRow}
 use Rattle.sheet.specs.Contents.{Contents}
-use Rattle.sheet.specs.Groups.{Places, StandsFor, TellsFull, place_of}
-use Rattle.sheet.specs.declared.groups.Group.{Group}
+use Rattle.sheet.specs.Groups.{Places, StandsFor, TellsFull}
 use Rattle.sheet.specs.Links.{Link, is_full, link_rows}
 use Rattle.sheet.specs.Rule.{SheetRule}
 use Rattle.compose.specs.declared.fault.JoinFault.{JoinFault}
@@ -25,11 +24,8 @@ pub record WiresRead (parts : List Part) (sheets : List Contents) (wires : List 
   pub asked : rows ≡ link_rows links
   pub left : walk (with_wire parts sheets) n links (drop n wires) ≡ wire_links parts sheets wires
 
-pub WiresRead-none : (parts : List Part) (sheets : List Contents) (wires : List (Option Wire)) (places : Places) → ((g : Group) → place_of places g ≡ None) → WiresRead parts sheets wires 0 [] places []
-WiresRead-none parts sheets wires places empty = record { links = []; stands = record { stand = refl; found = empty }; asked = refl; left = refl }
-
 full_fault : (parts : List Part) (sheets : List Contents) (links : List Link) (n : ℕ) (wire : Wire) (ends : WireEnds) (fault : GroupFault) → ends_of parts sheets n wire ≡ Ok ends
-    → TellsFull n (is_full links (wire_link sheets wire ends)) fault → HasFault is_memory (with_wire parts sheets n links (Some wire)) (join_fault fault)
+    → TellsFull n (is_full links (wire_link sheets n wire ends)) fault → HasFault is_memory (with_wire parts sheets n links (Some wire)) (join_fault fault)
 full_fault parts sheets links n wire ends (TooManyCauses m) found full = rw (found, full.1, full.0) refl
 full_fault parts sheets links n wire ends NoMemory found full = tt
 
@@ -44,13 +40,13 @@ module _ (parts : List Part) (sheets : List Contents) (wires : List (Option Wire
     wire-fault fault h = walk_fault is_memory (with_wire parts sheets) n n links wires wire fault within read (rw is (HasFault-first is_memory (ends_of parts sheets n some) _ fault h))
 
     module _ (ends : WireEnds) (found : ends_of parts sheets n some ≡ Ok ends) where
-      pub wire-full : (fault : GroupFault) → TellsFull n (is_full links (wire_link sheets some ends)) fault → HasFault is_memory (walk (with_wire parts sheets) n links (drop n wires)) (join_fault fault)
+      pub wire-full : (fault : GroupFault) → TellsFull n (is_full links (wire_link sheets n some ends)) fault → HasFault is_memory (walk (with_wire parts sheets) n links (drop n wires)) (join_fault fault)
       wire-full fault full =
           walk_fault is_memory (with_wire parts sheets) n n links wires wire (join_fault fault) within read (rw is (full_fault parts sheets links n some ends fault found full))
 
-      pub wire-link : is_full links (wire_link sheets some ends) ≡ false
-          → walk (with_wire parts sheets) n links (drop n wires) ≡ walk (with_wire parts sheets) (n + 1) (links ++ wire_link sheets some ends ∷ []) (drop (n + 1) wires)
-      wire-link room = walk_on (with_wire parts sheets) n n links (links ++ wire_link sheets some ends ∷ []) wires wire within read (rw (is, found, room) refl)
+      pub wire-link : is_full links (wire_link sheets n some ends) ≡ false
+          → walk (with_wire parts sheets) n links (drop n wires) ≡ walk (with_wire parts sheets) (n + 1) (links ++ wire_link sheets n some ends ∷ []) (drop (n + 1) wires)
+      wire-link room = walk_on (with_wire parts sheets) n n links (links ++ wire_link sheets n some ends ∷ []) wires wire within read (rw (is, found, room) refl)
 
 rules_fault : (read : Result (List Link) JoinFault) (fault : JoinFault) → read ≡ Err fault → rules_and_rows read ≡ Err fault
 rules_fault (Ok links) fault e = absurd cc

@@ -9,7 +9,7 @@ use Rattle.compose.specs.declared.fault.JoinFault.{JoinFault}
 use Rattle.compose.specs.Design.{Composed}
 use Rattle.compose.specs.Nets.{joins_of}
 use Rattle.compose.specs.Sheets.{SheetMap, sheets_of}
-use Rattle.compose.specs.Wires.{design_rule, design_row, wire_links}
+use Rattle.compose.specs.Wires.{wire_links}
 
 -- The design of a netlist whose parts are drawn on these sheets. The wires are grouped into rules as the edges of a sheet are,
 -- as links between the numbers of their marks.
@@ -22,8 +22,8 @@ composed_on netlist sheets = do
     parts = map (λ (part : Part). part.name) netlist.parts;
     sheets = sheets;
     joins = joins;
-    rules = map (design_rule sheets) (link_rules links);
-    rows = map (design_row sheets) (link_rows links);
+    rules = link_rules links;
+    rows = link_rows links;
   })
 
 -- the design of a netlist and the sheets that its parts name

@@ -11,7 +11,7 @@ mark_behind mark k = record { part = mark.part; mark = mark.mark + k }
 
 -- mark k of the driver, joined to mark k of the pin
 abbrev pub join_at : PinJoins → ℕ → Join
-join_at pin k = record { from = mark_behind pin.driver k; to = mark_behind pin.driven k; delay = pin.delay }
+join_at pin k = record { from = mark_behind pin.driver k; to = mark_behind pin.driven k; delay = pin.delay; origin = pin.origin }
 
 -- the joins of the first marks of the two pins
 abbrev pub first_joins : PinJoins → ℕ → List Join

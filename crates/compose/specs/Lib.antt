@@ -1,10 +1,9 @@
 pub use Rattle.itv_base.specs.Range
 pub use Rattle.itv_base.specs.Reading
 pub use Rattle.sheet.specs.Links
-pub mod Rule
 pub mod Joins
-pub mod Design
 pub mod Numbers
+pub mod Design
 pub mod Fault
 pub mod Sheets
 pub mod Nets

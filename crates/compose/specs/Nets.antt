@@ -9,6 +9,7 @@ use Rattle.wave_string.specs.Kinds.{may_join}
 use Rattle.sheet.specs.declared.mark.Mark.{Mark}
 use Rattle.sheet.specs.declared.pin.Pin.{Pin}
 use Rattle.sheet.specs.Contents.{Contents}
+use Rattle.origin.specs.declared.origin.Origin.TheVariants.{Pin as FromPin}
 use Rattle.netlist.specs.declared.part.Part.{Part}
 use Rattle.netlist.specs.declared.pin.PinText.{PinText}
 use Rattle.netlist.specs.Contents.{JoinedPins}
@@ -70,20 +71,21 @@ abbrev pub kinds_fit : List Contents → Terminal → Terminal → ℕ → ℕ �
 kinds_fit sheets driver other n k m done =
     if may_join (kind_at (marks_at sheets driver.part) (driver.first + m)) (kind_at (marks_at sheets other.part) (other.first + m)) then Ok tt else Err (KindsDiffer n k m)
 
--- the marks of the driver and those of another pin, joined one by one
-abbrev pub pins_joined : Terminal → Ends → Terminal → PinJoins
-pins_joined driver delay other = record {
+-- the marks of the driver and those of pin k of net n, joined one by one
+abbrev pub pins_joined : ℕ → ℕ → Terminal → Ends → Terminal → PinJoins
+pins_joined n k driver delay other = record {
   driver = record { part = driver.part; mark = driver.first };
   driven = record { part = other.part; mark = other.first };
   marks = driver.count;
   delay = delay;
+  origin = FromPin n k;
 }
 
 -- the marks of pin k joined, where the kinds of all of them fit
 abbrev pub with_pin : List Contents → Terminal → Ends → ℕ → ℕ → List Join → Terminal → Result (List Join) JoinFault
 with_pin sheets driver delay n k done other = do
   _ ← walk_to (kinds_fit sheets driver other n k) 0 tt driver.count
-  Ok (done ++ pin_joins (pins_joined driver delay other))
+  Ok (done ++ pin_joins (pins_joined n k driver delay other))
 
 -- The joins of net n, whose pins are found: all pins have as many marks as the driver, and then each pin is joined.
 abbrev pub with_terminals : List Contents → Ends → ℕ → List Join → List Terminal → Result (List Join) JoinFault

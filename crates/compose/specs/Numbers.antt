@@ -1,16 +1,11 @@
--- The marks of a design, numbered part by part and on each part as on its sheet, and joins, rules and rows between those
--- numbers, as if one cycle of the design were one large sheet.
-use Rattle.std.specs.Prelude.{ℕ, ◌+◌, List, [], ◌∷◌, length, map, sum_by, take}
+-- The marks of a design, numbered part by part and on each part as on its sheet, and joins between those numbers, as if one
+-- cycle of the design were one large sheet.
+use Rattle.std.specs.Prelude.{ℕ, ◌+◌, List, [], ◌∷◌, length, sum_by, take}
 use Rattle.itv_base.specs.declared.names.RuleKind.TheVariants.{Lin}
-use Rattle.sheet.specs.declared.row.SheetRow.{SheetRow}
-use Rattle.sheet.specs.declared.rule.Source.{Source}
 use Rattle.sheet.specs.Rule.{SheetRule}
 use Rattle.sheet.specs.Contents.{Contents}
 use Rattle.compose.specs.declared.mark.DesignMark.{DesignMark}
 use Rattle.compose.specs.declared.joins.Join.{Join}
-use Rattle.compose.specs.declared.wire_rule.WireSource.{WireSource}
-use Rattle.compose.specs.declared.wire_row.WireRow.{WireRow}
-use Rattle.compose.specs.Rule.{DesignRule}
 
 -- how many marks sheets have together
 abbrev pub mark_count : List Contents → ℕ
@@ -25,16 +20,5 @@ abbrev pub join_rule : List Contents → Join → SheetRule
 join_rule sheets join = record {
   kind = Lin;
   target = number_of sheets join.to;
-  causes = record { mark = number_of sheets join.from; shift = 0; range = join.delay } ∷ [];
+  causes = record { mark = number_of sheets join.from; shift = 0; range = join.delay; origin = join.origin } ∷ [];
 }
-
-abbrev pub wire_source : List Contents → WireSource → Source
-wire_source sheets source = record { mark = number_of sheets source.mark; shift = source.shift; range = source.range }
-
--- a rule of wires
-abbrev pub wire_rule : List Contents → DesignRule → SheetRule
-wire_rule sheets rule = record { kind = rule.kind; target = number_of sheets rule.target; causes = map (wire_source sheets) rule.causes }
-
--- the row of a wire
-abbrev pub wire_row : List Contents → WireRow → SheetRow
-wire_row sheets row = record { kind = row.kind; from = number_of sheets row.from; to = number_of sheets row.to; shift = row.shift }

@@ -1,20 +1,29 @@
--- Sheets by name.
-use Rattle.std.specs.Prelude.{ℕ, nat_eq, List, Option}
+-- Sheets by name and speed grade.
+use Rattle.std.specs.Prelude.{Bool, List, Option}
 use Rattle.std.specs.List.{filter_map}
-use Rattle.std.specs.Cmp.Lexicographic.{pointwise}
 use Rattle.std.specs.declared.hash.FoldHasher.{FoldHasher}
 use Rattle.std.specs.declared.hash.BuildHasherDefault.{BuildHasherDefault}
 use Rattle.indexmap.specs.IndexMap.{IndexMap, get}
 use Rattle.netlist.specs.declared.part.Part.{Part}
 use Rattle.sheet.specs.Contents.{Contents}
+use Rattle.compose.specs.declared.sheet_key.SheetKey.{SheetKey}
+use Rattle.compose.specs.contracts.sheet_key.SheetKeyPartialEq.TheImpl as key_eq
+
+-- the key of the sheet of a part
+abbrev pub key_of : Part → SheetKey
+key_of part = record { sheet = part.sheet; grade = part.grade }
+
+-- two keys have the same name of a sheet, and the same grade or none
+abbrev pub same_key : SheetKey → SheetKey → Bool
+same_key = (key_eq.ghosts).eq
 
 abbrev pub SheetMap : Type 0
-SheetMap = IndexMap (List ℕ) Contents (BuildHasherDefault FoldHasher)
+SheetMap = IndexMap SheetKey Contents (BuildHasherDefault FoldHasher)
 
--- the sheet of a name
-abbrev pub sheet_named : SheetMap → List ℕ → Option Contents
-sheet_named sheets name = get (pointwise nat_eq) sheets name
+-- the sheet of a key
+abbrev pub sheet_named : SheetMap → SheetKey → Option Contents
+sheet_named sheets key = get same_key sheets key
 
 -- the sheets that parts are drawn on
 abbrev pub sheets_of : SheetMap → List Part → List Contents
-sheets_of sheets parts = filter_map (λ part. sheet_named sheets part.sheet) parts
+sheets_of sheets parts = filter_map (λ part. sheet_named sheets (key_of part)) parts

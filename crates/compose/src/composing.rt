@@ -5,20 +5,19 @@ ghost use Rattle.itv_base.specs.Reading.{Gives};
 ghost use Rattle.netlist.specs.declared.part.Part.{Part as PartSeen};
 ghost use Rattle.compose.specs.Compose.{composed};
 ghost use Rattle.compose.specs.Fault.{is_memory};
-ghost use Rattle.compose.specs.Sheets.{sheet_named};
+ghost use Rattle.compose.specs.Sheets.{key_of, sheet_named};
 
 use crate::design::Design;
 use crate::fault::JoinFault;
 use crate::nets::join_nets;
-use crate::numbered::{design_rows, design_rules};
 use crate::sheets::{Sheets, sheets_of};
 use crate::wires::read_wires;
 use itv_base::{NoMemory, Texts};
 use netlist::{Netlist, Part};
 use std::alloc::Global;
 
-/// The design of a netlist and its sheets, or the first fault in the order of [`JoinFault`]. Each part's sheet is among the
-/// sheets, which the design borrows.
+/// The design of a netlist and its sheets, or the first fault in the order of [`JoinFault`]. The sheet of each part at its speed grade
+/// is among the sheets, which the design borrows.
 ///
 /// The first pin of a net drives each other one: mark k of the driver is joined to mark k of the other pin, with the net's
 /// delay. Wires are grouped into rules as the edges of a sheet are: the latest causes of one target with one tag are those of
@@ -30,7 +29,7 @@ pub fn compose<'a>(
     netlist: &Netlist,
     sheets: &'a Sheets,
 ) -> Result<Design<'a>, JoinFault>
-    requires sheets { All (λ (part : PartSeen). IsSome (sheet_named sheets.now part.sheet)) netlist.now.parts }
+    requires sheets { All (λ (part : PartSeen). IsSome (sheet_named sheets.now (key_of part))) netlist.now.parts }
     ensures answer { Gives is_memory (λ design. design) result (composed netlist.now sheets.now) }
 {
     let cycles = netlist.cycles();
@@ -38,16 +37,14 @@ pub fn compose<'a>(
     let drawn = sheets_of(alloc, parts, sheets)?;
     let joins = join_nets(alloc, parts, &drawn, netlist.nets().as_slice())?;
     let wires = read_wires(alloc, parts, &drawn, netlist.wires().as_slice())?;
-    let rules = design_rules(alloc, &drawn, wires.rules.as_slice())?;
-    let rows = design_rows(alloc, &drawn, wires.rows.as_slice())?;
     let parts = names_of(alloc, parts)?;
     Ok(Design {
         cycles,
         parts,
         sheets: drawn,
         joins,
-        rules,
-        rows,
+        rules: wires.rules,
+        rows: wires.rows,
     })
 }
 

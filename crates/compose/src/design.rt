@@ -4,22 +4,20 @@ ghost use Rattle.std.specs.Prelude.{◌≡◌, ◌<◌, Some, length, slice_get}
 ghost use Rattle.compose.specs.Design.{IsDesign};
 
 use crate::joins::Joins;
-use crate::wire_row::WireRows;
-use crate::wire_rule::WireRules;
 use itv_base::Texts;
-use sheet::Sheet;
+use sheet::{Rules, Sheet, SheetRows};
 use std::marker::Model;
 
 /// A design: its cycles, its parts with their names and sheets, the joins of its nets, and the rules and rows of its wires.
-/// It borrows the sheets and copies none of them.
+/// Rules and rows are between the numbers of the design's marks. It borrows the sheets and copies none of them.
 #[derive(Debug, Drop)]
 pub struct Design<'a> {
     pub(crate) cycles: u32,
     pub(crate) parts: Texts,
     pub(crate) sheets: Vec<&'a Sheet>,
     pub(crate) joins: Joins,
-    pub(crate) rules: WireRules,
-    pub(crate) rows: WireRows,
+    pub(crate) rules: Rules,
+    pub(crate) rows: SheetRows,
 }
 
 impl<'a> Model for Design<'a> {
@@ -64,15 +62,15 @@ impl<'a> Design<'a> {
         &self.joins
     }
 
-    /// The rules of the wires in the order of their first wires.
-    pub fn wire_rules(&self) -> &WireRules
+    /// The rules of the wires, between the numbers of their marks, in the order of their first wires.
+    pub fn wire_rules(&self) -> &Rules
         ensures rules { result.now ≡ self.now.rules }
     {
         &self.rules
     }
 
-    /// The rows of the wires in order.
-    pub fn wire_rows(&self) -> &WireRows
+    /// The rows of the wires, between the numbers of their marks, in order.
+    pub fn wire_rows(&self) -> &SheetRows
         ensures rows { result.now ≡ self.now.rows }
     {
         &self.rows

@@ -5,25 +5,29 @@ ghost use Rattle.compose.specs.Joins.{join_at, joins_of_pins, pin_joins};
 
 use crate::mark::DesignMark;
 use itv_base::{NoMemory, Range};
+use origin::Origin;
 use std::alloc::Global;
 use std::marker::Model;
 
-/// A join: the mark `from` drives the mark `to` of the same cycle, with a delay in picoseconds.
+/// A join: the mark `from` drives the mark `to` of the same cycle, with a delay in picoseconds. Its origin says which pin of which
+/// net has the mark `to`.
 #[derive(Clone, Copy, Debug, PartialEq, Eq)]
 pub struct Join {
     pub from: DesignMark,
     pub to: DesignMark,
     pub delay: Range,
+    pub origin: Origin,
 }
 
 /// The joins of one pin of a net: mark k of the driving pin drives mark k of this pin, for each of their `marks` marks, with
-/// the net's delay. `driver` and `driven` are the first marks of the two pins.
+/// the net's delay. `driver` and `driven` are the first marks of the two pins, and `origin` says which pin this is.
 #[derive(Clone, Copy, Debug, PartialEq, Eq)]
 pub struct PinJoins {
     pub driver: DesignMark,
     pub driven: DesignMark,
     pub marks: u32,
     pub delay: Range,
+    pub origin: Origin,
 }
 
 impl PinJoins {
@@ -37,6 +41,7 @@ impl PinJoins {
             from: mark_behind(self.driver, k),
             to: mark_behind(self.driven, k),
             delay: self.delay,
+            origin: self.origin,
         }
     }
 }

@@ -12,6 +12,7 @@ use crate::mark::DesignMark;
 use crate::terminal::{Terminal, sheet_at, terminals_of};
 use itv_base::{MAX_PARTS, Range};
 use netlist::{Net, Part};
+use origin::Origin;
 use sheet::{MAX_MARKS, Mark, Sheet};
 use std::alloc::Global;
 use wave_string::{MarkKind, may_join};
@@ -119,12 +120,13 @@ fn push_pin(
         (with_pin (map (λ s. s.now) sheets.now) driver delay n k joins.old other) }
 {
     check_kinds(sheets, driver, other, n, k)?;
-    joins.push(pins_joined(driver, delay, other))?;
+    joins.push(pins_joined(n, k, driver, delay, other))?;
     Ok(())
 }
 
-fn pins_joined(driver: Terminal, delay: Range, other: Terminal) -> PinJoins
-    ensures { result ≡ pins_joined driver delay other }
+// The joins of the driver and pin k of net n.
+fn pins_joined(n: u64, k: u64, driver: Terminal, delay: Range, other: Terminal) -> PinJoins
+    ensures { result ≡ pins_joined n k driver delay other }
 {
     PinJoins {
         driver: DesignMark {
@@ -137,6 +139,7 @@ fn pins_joined(driver: Terminal, delay: Range, other: Terminal) -> PinJoins
         },
         marks: driver.count,
         delay,
+        origin: Origin::Pin { net: n, pin: k },
     }
 }
 

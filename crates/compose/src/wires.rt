@@ -15,6 +15,7 @@ use crate::terminal::part_named;
 use itv_base::{MAX_PARTS, Text};
 use label_grammar::Label;
 use netlist::{Part, Wire};
+use origin::Origin;
 use sheet::{Link, MAX_MARKS, Mark, Places, Rules, Sheet, SheetRows, push_link, push_row};
 use std::alloc::Global;
 
@@ -57,6 +58,7 @@ pub fn read_wires(
         let link = Link {
             from: number_of(sheets, ends.from),
             to: number_of(sheets, ends.to),
+            origin: Origin::Wire(n),
             label,
         };
         push_link(alloc, &mut rules, &mut places, n, &link)?;

@@ -5,15 +5,14 @@ use Rattle.std.proofs.lemmas.Option.{same_Some}
 use Rattle.std.specs.Option.{option_map_or}
 use Rattle.itv_base.specs.Memory.{MemSink, sink_told}
 use Rattle.itv_base.specs.Outside.{CutShort, Files, Rose, file_of}
-use Rattle.unroll.specs.Drawn.{Drawn}
-use Rattle.unroll.specs.Reported.{reported}
+use Rattle.drawn.specs.Drawn.{Drawn}
 use Rattle.reading.specs.declared.place.Place.{Place}
 use Rattle.reading.specs.Design.{design_at}
 use Rattle.reading.specs.Opening.{Opening, gives, refuses, fetches, ◌>>=◌, End, ready, refused, unread, told_end}
 use Rattle.reading.specs.Refusal.{unread_text}
 use Rattle.bounds_report.specs.Reports.{BeginsReport}
 use Rattle.bounds_report.proofs.WrittenLaws.{begun_is_right}
-use Rattle.itv_cli.specs.Task.{Task, bounds}
+use Rattle.words.specs.Task.{Task, bounds}
 use Rattle.itv_cli.specs.Job.{opening}
 use Rattle.itv_cli.specs.Run.{Call, CameTo, HasReadFault, IsUntouched, Means, ToWrite, Wanted, for_help, for_bad_words, at_end}
 use Rattle.itv_cli.specs.declared.outcome.Outcome.{Outcome}
@@ -60,8 +59,8 @@ module _ (call : Call) (files : Files) (asked : Task) (told : call.shelf_before.
 -- of job bounds it is a front of a right report
 pub front_right : (files : Files) (design : List ℕ) (budget : ℕ) (cert : Bool) (drawn : Drawn) (bytes : List ℕ) → Draws files design drawn → IsFrontOf files (bounds design budget cert) bytes → IsFrontOfRight drawn bytes
 front_right files design budget cert drawn bytes draws f =
-    let begins : BeginsReport (reported drawn) budget cert f.text = subst (λ e. ToWrite e f.text) (bounds_ready files design budget cert drawn draws) f.wanted in
-    let (lines, right, same) = begun_is_right (reported drawn) budget cert f.text begins in
+    let begins : BeginsReport drawn budget cert f.text = subst (λ e. ToWrite e f.text) (bounds_ready files design budget cert drawn draws) f.wanted in
+    let (lines, right, same) = begun_is_right drawn budget cert f.text begins in
     record { lines = lines; begins_right = right; rest = f.rest; text = sym same ∙ f.front }
 
 -- what a sink in memory holds that was new before a text was cut short

@@ -1,35 +1,58 @@
 -- What the ends of runs say over files that are told.
-use Rattle.std.proofs.Common.{◌≡◌, ◌<◌, ◌∙◌, ◌⊎◌, inl, inr, ℕ, Bool, List, [], ◌++◌, take, Option, Some, None, IfSome, refl, sym, ap, subst}
+use Rattle.std.proofs.Common.{◌≡◌, ◌<◌, ◌∙◌, ◌⊎◌, inl, inr, ℕ, ℤ, ◌≤ℤ◌, ◌<ℤ◌, Bool, true, false, if◌then◌else◌, nat_lt, List, [], ◌++◌, length, take, Option, Some, None, Result, Ok, Err, IfSome, IsSomeAnd, refl, sym, ap, subst, arith}
+use Rattle.std.proofs.lemmas.Int.{ints}
 use Rattle.std.proofs.lemmas.Option.{same_Some}
 use Rattle.std.specs.Option.{option_map_or}
 use Rattle.event_graph.specs.Bounds.{IsInconsistent}
 use Rattle.event_graph.specs.Edges.{cause_choices}
-use Rattle.event_graph.specs.Network.{Net}
+use Rattle.event_graph.specs.Times.{separation}
 use Rattle.fall_report.specs.Fall.{AnswersFall}
 use Rattle.fall_report.proofs.Ending.{inconsistent_has_no_times, undecided_has_few_turns}
 use Rattle.falling.specs.Cap.{enough_turns}
+use Rattle.falling.specs.View.{view_of}
+use Rattle.falling.specs.declared.fault.Mixed.{Mixed}
+use Rattle.falling.specs.declared.view.View.{View}
+use Rattle.itv_base.specs.Range.{Allows, Ends as RangeEnds}
+use Rattle.itv_base.specs.declared.limits.TheConstants.{MAX_MATRIX_EVENTS, REPORT_LIMIT}
 use Rattle.itv_base.specs.Memory.{MemSink, sink_told}
 use Rattle.itv_base.specs.Outside.{Files, Rose, ShelfTold, SinkTold, file_of, grown}
-use Rattle.job_answer.specs.declared.answer.Answer.{Answer}
-use Rattle.job_answer.specs.declared.answer.Answer.TheVariants as answers
-use Rattle.slack_report.specs.Right.At.{at_heading, at_last}
-use Rattle.slack_report.specs.Right.Facts.{right}
-use Rattle.slack_report.specs.Right.Following.{Implies}
-use Rattle.slack_report.proofs.RightOrder.{reads_weaker}
-use Rattle.unroll.specs.Drawn.{Drawn}
-use Rattle.unroll.specs.Reported.{reported}
+use Rattle.jobs.specs.declared.answer.Answer.{Answer}
+use Rattle.jobs.specs.declared.answer.Answer.TheVariants as answers
+use Rattle.jobs.specs.Ending.{answer_of}
+use Rattle.requirements.specs.declared.verdict.Verdict.{Verdict}
+use Rattle.requirements.specs.declared.verdict.Verdict.TheVariants as verdicts
+use Rattle.slack_report.specs.Entry.{Entry}
+use Rattle.slack_report.specs.declared.words.EndWord.{EndWord}
+use Rattle.slack_report.specs.declared.words.EndWord.TheVariants as endings
+use Rattle.right_report.specs.Right.At.{at_last}
+use Rattle.right_report.specs.Right.Facts.{Breaks}
+use Rattle.right_report.specs.Told.{end_in}
+use Rattle.right_report.proofs.Ending.{pass_end_is_so}
+use Rattle.drawn.specs.Drawn.{Drawn}
+use Rattle.drawn.specs.declared.row.Row.{Row}
+use Rattle.redraw_report.specs.Failed.{Failed, IsBroken}
+use Rattle.redraw_report.specs.Redraw.{AnswersRedraw, Says, is_wide}
 use Rattle.reading.specs.declared.place.Place.{Place}
-use Rattle.reading.specs.declared.place.Place.TheVariants.{Design}
+use Rattle.reading.specs.declared.place.Place.TheVariants.{Design, Edits, Report}
+use Rattle.reading.specs.declared.refusal.Refusal.TheVariants as refusals
+use Rattle.edits.specs.EditsFile.{edits_of}
+use Rattle.edits.specs.declared.edit.RangeEdit.{RangeEdit}
+use Rattle.edits.specs.declared.file.TheConstants.{MAX_EDITS_BYTES}
+use Rattle.itv_base.specs.declared.row_kind.RowKind.{RowKind}
+use Rattle.unroll.specs.declared.limit.TheConstants.{MAX_SESSION_ROWS}
+use Rattle.whatif.specs.Session.{View as SessionView}
+use Rattle.whatif_report.specs.Text.{ending_of, last_note}
+use Rattle.whatif_report.specs.Whatif.{AnswersFrom, kinds_of}
 use Rattle.reading.specs.declared.refusal.Refusal.{Refusal}
 use Rattle.reading.specs.Design.{design_at}
-use Rattle.reading.specs.Opening.{Opening, gives, refuses, fetches, ◌>>=◌, End, Ends, ready, refused, unread, told_end}
+use Rattle.reading.specs.Opening.{Opening, gives, refuses, fetches, at, file_at, ◌>>=◌, End, Ends, ready, refused, unread, told_end}
 use Rattle.reading.specs.Refusal.{refusal_text}
 use Rattle.reading.proofs.Opens.{told_ready, told_refused}
-use Rattle.itv_cli.specs.Task.{Task, bounds, fall, taken, task}
-use Rattle.bounds_report.specs.Written.{written}
+use Rattle.words.specs.Task.{Task, bounds, check, fall, generated, matrix, redraw, taken, task, whatif}
+use Rattle.bounds_report.proofs.WrittenLaws.{written_is_right}
 use Rattle.itv_cli.specs.Bounds.{AnswersBounds}
-use Rattle.itv_cli.specs.Job.{Answers, fall_at, made_for, mixed_in, opening}
-use Rattle.itv_cli.specs.Run.{Call, CameTo, Completes, EndsBy, EndsOver, FilesDecide, HasAnswered, IsRefused, Means, call_of}
+use Rattle.itv_cli.specs.Job.{Answers, edits_at, edits_in, fall_at, fall_in, made_for, matrix_at, opening, whatif_at}
+use Rattle.itv_cli.specs.Run.{Call, CameTo, Completes, EndsBy, EndsOver, FilesDecide, HasAnswered, HasRefused, IsRefused, Means, Wrote, call_of}
 use Rattle.itv_cli.specs.declared.outcome.Outcome.{Outcome}
 use Rattle.itv_cli.specs.declared.outcome.Outcome.TheVariants as ends
 use Rattle.itv_cli.specs.declared.ready.Ready.{Ready}
@@ -44,7 +67,7 @@ then_by : {A B : Type 0} (files : Files) (next : List ℕ → Opening A) (k : A 
 then_by files next k most place name y None more e = absurd (cc e)
 then_by files next k most place name y (Some bytes) more e = more (take most bytes) e
 
-told_behind : {A B : Type 0} (files : Files) (o : Opening A) (k : A → Opening B) (y : B) → told_end files (o >>= k) ≡ ready y → (x : A) × (told_end files o ≡ ready x) × (told_end files (k x) ≡ ready y)
+pub told_behind : {A B : Type 0} (files : Files) (o : Opening A) (k : A → Opening B) (y : B) → told_end files (o >>= k) ≡ ready y → (x : A) × (told_end files o ≡ ready x) × (told_end files (k x) ≡ ready y)
 told_behind files (gives x) k y e = (x, refl, e)
 told_behind files (refuses place why) k y e = absurd (cc e)
 told_behind files (fetches place name most next) k y e = then_by files next k most place name y (file_of files name) (λ bytes h. told_behind files (next bytes) k y h) e
@@ -52,13 +75,13 @@ told_behind files (fetches place name most next) k y e = then_by files next k mo
 pub same_ready : {A : Type 0} (x y : A) → ready x ≡ ready y → x ≡ y
 same_ready x y e = cc
 
-told_then : {A B : Type 0} (files : Files) (o : Opening A) (f : A → B) (y : B) → told_end files (o >>= (λ x. gives (f x))) ≡ ready y → (x : A) × (told_end files o ≡ ready x) × (f x ≡ y)
+pub told_then : {A B : Type 0} (files : Files) (o : Opening A) (f : A → B) (y : B) → told_end files (o >>= (λ x. gives (f x))) ≡ ready y → (x : A) × (told_end files o ≡ ready x) × (f x ≡ y)
 told_then files o f y e = let (x, comes, is) = told_behind files o (λ x. gives (f x)) y e in (x, comes, same_ready (f x) y is)
 
 task_is : (a b : Task) → task a ≡ task b → a ≡ b
 task_is a b e = cc
 
-same_asked : (given : List (List ℕ)) (asked other : Task) → taken given ≡ task asked → taken given ≡ task other → other ≡ asked
+pub same_asked : (given : List (List ℕ)) (asked other : Task) → taken given ≡ task asked → taken given ≡ task other → other ≡ asked
 same_asked given asked other is also = task_is other asked (sym also ∙ is)
 
 -- over told files the end of a run's reading is theirs
@@ -91,16 +114,6 @@ reported_over files design budget cert answer bytes h =
     let found = told_then files (design_at design) (λ drawn. given.Bounds drawn budget cert) h.given h.reads in
     record { drawn = found.0; draws = found.1; answers = subst (λ g. Answers g answer bytes) (sym found.2) h.answers }
 
-written_right : (net : Net) (most : ℕ) (cert : Bool) → Implies (written net most cert) (right net)
-written_right net most cert = record {
-  finding = λ lines word h. h.0;
-  known = λ list h. h.1;
-  bound = λ found r side lines value h. h.1;
-  times = λ r value list h. h.1;
-  raise = λ r side list set h. h;
-  past = λ r range word list h. h.1;
-}
-
 pub right_over : (files : Files) (design : List ℕ) (budget : ℕ) (cert : Bool) (answer : Answer) (bytes : List ℕ) → HasReported files design budget cert answer bytes → IsRightReportOf files design bytes
 right_over files design budget cert answer bytes h =
     let reports = h.answers.reports in
@@ -108,7 +121,7 @@ right_over files design budget cert answer bytes h =
       drawn = h.drawn;
       draws = h.draws;
       lines = reports.lines;
-      is_right = reads_weaker (written h.drawn.net budget cert) (right h.drawn.net) (reported h.drawn) reports.lines at_heading at_last (written_right h.drawn.net budget cert) reports.is_written.reads;
+      is_right = written_is_right h.drawn budget cert reports.lines reports.is_written;
       text = reports.is_text;
     }
 
@@ -123,28 +136,30 @@ below_over files design budget cert bytes drawn h draws =
 pub record HasFallen (files : Files) (design : List ℕ) (budget : ℕ) (cert : Bool) (answer : Answer) (bytes : List ℕ) : Type 0 where
   pub drawn : Drawn
   pub draws : Draws files design drawn
-  pub answers : AnswersFall (reported drawn) budget cert answer bytes
+  pub answers : AnswersFall drawn budget cert answer bytes
 
--- a network that is not refused is given
-given_unmixed : (files : Files) (mixed : Option Refusal) (given given' : Ready) → told_end files (option_map_or (refuses Design) mixed (gives given)) ≡ ready given' → given ≡ given'
-given_unmixed files None given given' e = same_ready given given' e
-given_unmixed files (Some why) given given' e = absurd (cc e)
+-- a network that is not refused is given with its view
+given_unmixed : (files : Files) (budget : ℕ) (cert : Bool) (drawn : Drawn) (seen : Result View Mixed) (to : Ready) → told_end files (fall_in budget cert drawn seen) ≡ ready to
+    → (view : View) × (given.Fall drawn view budget cert ≡ to)
+given_unmixed files budget cert drawn (Ok view) to e = (view, same_ready (given.Fall drawn view budget cert) to e)
+given_unmixed files budget cert drawn (Err choices) to e = absurd (cc e)
 
 fallen_over : (files : Files) (design : List ℕ) (budget : ℕ) (cert : Bool) (answer : Answer) (bytes : List ℕ) → IsAnswerOf files (fall design budget cert) answer bytes → HasFallen files design budget cert answer bytes
 fallen_over files design budget cert answer bytes h =
     let (drawn, draws, comes) = told_behind files (design_at design) (fall_at budget cert) h.given h.reads in
-    record { drawn = drawn; draws = draws; answers = subst (λ g. Answers g answer bytes) (sym (given_unmixed files (mixed_in drawn.net) (given.Fall drawn budget cert) h.given comes)) h.answers }
+    let (view, is) = given_unmixed files budget cert drawn (view_of drawn.net) h.given comes in
+    record { drawn = drawn; draws = draws; answers = subst (λ g. Answers g answer bytes) (sym is) h.answers }
 
 -- what was fallen of a network that is drawn
 fallen_of : (files : Files) (design : List ℕ) (budget : ℕ) (cert : Bool) (answer : Answer) (bytes : List ℕ) (drawn : Drawn) → HasFallen files design budget cert answer bytes → Draws files design drawn
-    → AnswersFall (reported drawn) budget cert answer bytes
+    → AnswersFall drawn budget cert answer bytes
 fallen_of files design budget cert answer bytes drawn h draws =
-    subst (λ (d : Drawn). AnswersFall (reported d) budget cert answer bytes) (same_ready h.drawn drawn (sym h.draws ∙ draws)) h.answers
+    subst (λ (d : Drawn). AnswersFall d budget cert answer bytes) (same_ready h.drawn drawn (sym h.draws ∙ draws)) h.answers
 
 -- ---- runs
 
 -- what a sink in memory holds behind a text
-sink_bytes : (old new : MemSink) (text : List ℕ) → sink_told new ≡ grown (sink_told old) text → new.bytes ≡ old.bytes ++ text
+pub sink_bytes : (old new : MemSink) (text : List ℕ) → sink_told new ≡ grown (sink_told old) text → new.bytes ≡ old.bytes ++ text
 sink_bytes old new text e = same_Some new.bytes (old.bytes ++ text) (ap (λ (t : SinkTold). t.written) e)
 
 -- where it was new, that text
@@ -170,16 +185,140 @@ passed_right call files bytes told m is design budget cert words =
     right_over files design budget cert answers.AllPass bytes
     (reported_over files design budget cert answers.AllPass bytes (answer_over call files (bounds design budget cert) answers.AllPass bytes told m is (record { words = words; own = refl })))
 
--- a run that is refused
-pub refused_so : (call : Call) (files : Files) (bytes : List ℕ) → call.shelf_before.files ≡ Some files → (m : IsRefused call) → refusal_text m.place m.why ≡ bytes → (asked : Task) → Asks call.words asked
+-- a run that is refused by its reading
+refused_so : (call : Call) (files : Files) (bytes : List ℕ) → call.shelf_before.files ≡ Some files → (m : IsRefused call) → refusal_text m.place m.why ≡ bytes → (asked : Task) → Asks call.words asked
     → IsRefusalOf files asked bytes
 refused_so call files bytes told m is asked asks = record { place = m.place; why = m.why; reads = refused_over call files asked m.place m.why told asks m.came; text = sym is }
+
+-- the line that it wrote
+abbrev pub refused_line : (call : Call) → HasRefused call → List ℕ
+refused_line call (inl m) = refusal_text m.place m.why
+refused_line call (inr m) = m.text
+
+pub refused_wrote : (call : Call) (m : HasRefused call) → Wrote call (refused_line call m)
+refused_wrote call (inl m) = m.wrote
+refused_wrote call (inr m) = m.wrote
+
+-- a run that is refused
+pub refused_over_files : (call : Call) (files : Files) (bytes : List ℕ) → call.shelf_before.files ≡ Some files → (m : HasRefused call) → refused_line call m ≡ bytes → (asked : Task) → Asks call.words asked
+    → IsRefusalOf files asked bytes ⊎ IsAnswerOf files asked answers.DesignRefused bytes
+refused_over_files call files bytes told (inl m) is asked asks = inl (refused_so call files bytes told m is asked asks)
+refused_over_files call files bytes told (inr m) is asked asks = inr (answer_over call files asked answers.DesignRefused bytes told m is asks)
+
+-- a network that a matrix is not refused of
+small_by : (files : Files) (b : Bool) (drawn : Drawn) (why : Refusal) (to : Ready) → told_end files (if b then refuses Design why else gives (given.Matrix drawn)) ≡ ready to → given.Matrix drawn ≡ to
+small_by files true drawn why to e = absurd (cc e)
+small_by files false drawn why to e = same_ready (given.Matrix drawn) to e
+
+-- job redraw alone refuses a design for what it found
+pub never_refused : (word : EndWord) → answers.DesignRefused ≡ answer_of word → ⊥
+never_refused endings.Pass e = cc e
+never_refused endings.Fail e = cc e
+never_refused endings.Inconsistent e = cc e
+never_refused endings.Undecided e = cc e
+
+-- a job of edits refuses nothing for what it found
+never_from : (first : SessionView) (kinds : List RowKind) (edits : List RangeEdit) (text : List ℕ) → AnswersFrom first kinds edits answers.DesignRefused text → ⊥
+never_from first kinds edits text a = never_refused (ending_of kinds (last_note a.note a.notes).found (last_note a.note a.notes).answers) a.is_answer
+
+few_by : (files : Files) (b : Bool) (why : Refusal) (next : Opening Ready) (to : Ready) → told_end files (if b then refuses Design why else next) ≡ ready to → told_end files next ≡ ready to
+few_by files true why next to e = absurd (cc e)
+few_by files false why next to e = e
+
+refused_redraws : (files : Files) (asked : Task) (bytes : List ℕ) → made_for asked ≡ None → IsAnswerOf files asked answers.DesignRefused bytes
+    → (design : List ℕ) × (budget : ℕ) × (asked ≡ redraw design budget)
+refused_redraws files (bounds design budget cert) bytes own h =
+    let r = reported_over files design budget cert answers.DesignRefused bytes h in
+    absurd (never_refused r.answers.summary.end r.answers.is_answer)
+refused_redraws files (fall design budget cert) bytes own h =
+    let r = fallen_over files design budget cert answers.DesignRefused bytes h in
+    absurd (never_refused r.answers.word r.answers.is_answer)
+refused_redraws files (redraw design budget) bytes own h = (design, budget, refl)
+refused_redraws files (matrix design) bytes own h =
+    let (drawn, draws, comes) = told_behind files (design_at design) matrix_at h.given h.reads in
+    absurd (subst (λ g. Answers g answers.DesignRefused bytes) (sym (small_by files (nat_lt MAX_MATRIX_EVENTS drawn.net.events) drawn _ h.given comes)) h.answers)
+refused_redraws files (check design report) bytes own h =
+    let (drawn, draws, comes) = told_behind files (design_at design) (λ drawn. file_at Report report REPORT_LIMIT >>= (λ bytes. gives (given.Check drawn bytes))) h.given h.reads in
+    let (read, fetched, is) = told_then files (file_at Report report REPORT_LIMIT) (λ bytes. given.Check drawn bytes) h.given comes in
+    absurd (subst (λ g. Answers g answers.DesignRefused bytes) (sym is) h.answers)
+refused_redraws files (generated size budget) bytes own h = absurd (cc own)
+refused_redraws files (whatif design edits budget) bytes own h =
+    let (drawn, draws, comes) = told_behind files (design_at design) (whatif_at edits budget) h.given h.reads in
+    let few = few_by files (nat_lt MAX_SESSION_ROWS (length drawn.rows)) _ (edits_at edits budget drawn) h.given comes in
+    let (file, fetched, behind) = told_behind files (file_at Edits edits MAX_EDITS_BYTES) (edits_in budget drawn) h.given few in
+    let (list, had, is) = told_then files (at Edits refusals.Edits (edits_of drawn.net file)) (λ es. given.Whatif drawn es budget) h.given behind in
+    let answered : Answers (given.Whatif drawn list budget) answers.DesignRefused bytes = subst (λ g. Answers g answers.DesignRefused bytes) (sym is) h.answers in
+    absurd (never_from answered.0 (kinds_of drawn.rows) list bytes answered.2)
+
+pub refused_others : (files : Files) (asked : Task) (bytes : List ℕ) → made_for asked ≡ None → ((design : List ℕ) (budget : ℕ) → asked ≡ redraw design budget → ⊥)
+    → IsRefusalOf files asked bytes ⊎ IsAnswerOf files asked answers.DesignRefused bytes → IsRefusalOf files asked bytes
+refused_others files asked bytes own other (inl h) = h
+refused_others files asked bytes own other (inr h) = let (design, budget, is) = refused_redraws files asked bytes own h in absurd (other design budget is)
 
 -- the reading of a task gave something over some files, so that it is not refused over them
 pub not_both : (first second : Call) (files : Files) (asked : Task) → first.shelf_before.files ≡ Some files → second.shelf_before.files ≡ Some files → Asks first.words asked → Asks second.words asked
     → HasAnswered first answers.AllPass → IsRefused second → ⊥
 not_both first second files asked told again asks also m r =
     cc (ready_over first files asked m.given told asks m.came, refused_over second files asked r.place r.why again also r.came)
+
+-- ---- job redraw
+
+drawn_or_refused : (b : Bool) (answer : Answer) → answer ≡ answers.AllPass → answer ≡ (if b then answers.DesignRefused else answers.SomeFail) → ⊥
+drawn_or_refused true answer e f = cc (e, f)
+drawn_or_refused false answer e f = cc (e, f)
+
+-- what the word at the end says where nothing failed
+passes_end : (drawn : Drawn) (lines : List Entry) (word : EndWord) (text : List ℕ) → Says drawn lines word answers.AllPass text → word ≡ endings.Pass
+passes_end drawn lines endings.Pass text s = refl
+passes_end drawn lines endings.Fail text s = absurd (drawn_or_refused (is_wide drawn s.failed) answers.AllPass refl s.is_answer)
+passes_end drawn lines endings.Inconsistent text s = absurd (cc s.0)
+passes_end drawn lines endings.Undecided text s = absurd (cc s.0)
+
+-- and where a design is refused
+refused_fails : (drawn : Drawn) (lines : List Entry) (word : EndWord) (text : List ℕ) → Says drawn lines word answers.DesignRefused text → (failed : Failed) × IsBroken drawn failed
+refused_fails drawn lines endings.Pass text s = absurd (cc s.0)
+refused_fails drawn lines endings.Fail text s = (s.failed, s.broken)
+refused_fails drawn lines endings.Inconsistent text s = absurd (cc s.0)
+refused_fails drawn lines endings.Undecided text s = absurd (cc s.0)
+
+past_high : (high : Option ℤ) (s : ℤ) → IsSomeAnd high (λ h. h <ℤ s) → IfSome high (λ h. s ≤ℤ h) → ⊥
+past_high None s past allows = absurd past
+past_high (Some h) s past allows = omega (arith, ints, past, allows)
+
+past_low : (low : Option ℤ) (s : ℤ) → IsSomeAnd low (λ l. s <ℤ l) → IfSome low (λ l. l ≤ℤ s) → ⊥
+past_low None s past allows = absurd past
+past_low (Some l) s past allows = omega (arith, ints, past, allows)
+
+breaks_none : (asked : Row) (range : RangeEnds) (side : Verdict) (times : List ℤ) → Breaks asked range side times → Allows range (separation times asked.from asked.to) → ⊥
+breaks_none asked range verdicts.Pass times b a = absurd b
+breaks_none asked range verdicts.FailHigh times b a = past_high range.high (separation times asked.from asked.to) b a.1
+breaks_none asked range verdicts.FailLow times b a = past_low range.low (separation times asked.from asked.to) b a.0
+breaks_none asked range verdicts.Undecided times b a = absurd b
+
+-- a design that passes is not refused for what was found
+passed_not_refused : (drawn : Drawn) (most : ℕ) (one two : List ℕ) → AnswersRedraw drawn most answers.AllPass one → AnswersRedraw drawn most answers.DesignRefused two → ⊥
+passed_not_refused drawn most one two a b =
+    let is_right = written_is_right drawn most false a.lines a.is_written in
+    let ends : end_in a.lines ≡ Some endings.Pass = a.ends ∙ ap (λ w. Some w) (passes_end drawn a.lines a.word one a.says) in
+    let met = (pass_end_is_so drawn a.lines (at_last, is_right) ends).1 in
+    let (failed, broken) = refused_fails drawn b.lines b.word two b.says in
+    breaks_none broken.asked broken.range failed.side failed.times broken.broken
+    (met failed.row broken.asked broken.range broken.is_row broken.demands failed.times broken.satisfied.satisfied)
+
+redraws_once : (files : Files) (design : List ℕ) (budget : ℕ) (one two : List ℕ) → IsAnswerOf files (redraw design budget) answers.AllPass one → IsAnswerOf files (redraw design budget) answers.DesignRefused two → ⊥
+redraws_once files design budget one two a b =
+    let found = told_then files (design_at design) (λ drawn. given.Redraw drawn budget) a.given a.reads in
+    let same : given.Redraw found.0 budget ≡ b.given = found.2 ∙ same_ready a.given b.given (sym a.reads ∙ b.reads) in
+    passed_not_refused found.0 budget one two (subst (λ g. Answers g answers.AllPass one) (sym found.2) a.answers).0 (subst (λ g. Answers g answers.DesignRefused two) (sym same) b.answers).0
+
+-- what passed is not refused for what was found
+pub not_found : (first second : Call) (files : Files) (asked : Task) → first.shelf_before.files ≡ Some files → second.shelf_before.files ≡ Some files → Asks first.words asked → Asks second.words asked
+    → HasAnswered first answers.AllPass → HasAnswered second answers.DesignRefused → ⊥
+not_found first second files asked told again asks also m r =
+    let a = answer_over first files asked answers.AllPass m.text told m refl asks in
+    let b = answer_over second files asked answers.DesignRefused r.text again r refl also in
+    let (design, budget, is) = refused_redraws files asked r.text asks.own b in
+    redraws_once files design budget m.text r.text (subst (λ t. IsAnswerOf files t answers.AllPass m.text) is a) (subst (λ t. IsAnswerOf files t answers.DesignRefused r.text) is b)
 
 -- the shelf of a run that passed tells the files that it told
 pub passed_kept : (call : Call) → HasAnswered call answers.AllPass → (asked : Task) → Asks call.words asked → call.shelf_after ≡ call.shelf_before
@@ -190,9 +329,11 @@ pub twice : (words : List (List ℕ)) (shelf mid last : ShelfTold) (one one' two
     → Means (call_of words shelf mid one one') once → Means (call_of words mid last two two') again → Asks words asked → once ≡ ends.AllPass → again ≡ ends.Refused → ⊥
 twice words shelf mid last one one' two two' files asked once again told means means' asks e e' =
     let m : HasAnswered (call_of words shelf mid one one') answers.AllPass = subst (λ end. Means (call_of words shelf mid one one') end) e means in
-    let r : IsRefused (call_of words mid last two two') = subst (λ end. Means (call_of words mid last two two') end) e' means' in
-    not_both (call_of words shelf mid one one') (call_of words mid last two two') files asked told
-    (ap (λ (t : ShelfTold). t.files) (passed_kept (call_of words shelf mid one one') m asked asks) ∙ told) asks asks m r
+    let again_told = ap (λ (t : ShelfTold). t.files) (passed_kept (call_of words shelf mid one one') m asked asks) ∙ told in
+    elim (subst (λ end. Means (call_of words mid last two two') end) e' means') [
+      | inl r ↦ not_both (call_of words shelf mid one one') (call_of words mid last two two') files asked told again_told asks asks m r
+      | inr r ↦ not_found (call_of words shelf mid one one') (call_of words mid last two two') files asked told again_told asks asks m r
+    ]
 
 -- which end comes over told files
 pub decided : (call : Call) (files : Files) (result : Outcome) (asked : Task) → call.shelf_before.files ≡ Some files → Completes call result → Asks call.words asked → ¬ (Rose call.shelf_before.faults call.shelf_after.faults)
@@ -209,7 +350,7 @@ decided call files result asked told completes asks quiet silent = by_files (rw 
 
 -- a run of job fall that answered
 fall_answered : (call : Call) (files : Files) (answer : Answer) (design : List ℕ) (budget : ℕ) (cert : Bool) (drawn : Drawn) → call.shelf_before.files ≡ Some files → HasAnswered call answer
-    → taken call.words ≡ task (fall design budget cert) → Draws files design drawn → (bytes : List ℕ) × AnswersFall (reported drawn) budget cert answer bytes
+    → taken call.words ≡ task (fall design budget cert) → Draws files design drawn → (bytes : List ℕ) × AnswersFall drawn budget cert answer bytes
 fall_answered call files answer design budget cert drawn told m is draws = (
   m.text,
   fallen_of files design budget cert answer m.text drawn
@@ -221,11 +362,11 @@ pub fall_below : (call : Call) (files : Files) (result : Outcome) (design : List
     → taken call.words ≡ task (fall design budget cert) → Draws files design drawn → result ≡ ends.Undecided → budget < enough_turns drawn.net
 fall_below call files result design budget cert drawn told means is draws e =
     let (bytes, a) = fall_answered call files answers.Undecided design budget cert drawn told (subst (λ end. Means call end) e means) is draws in
-    undecided_has_few_turns (reported drawn) budget cert bytes a
+    undecided_has_few_turns drawn budget cert bytes a
 
 -- one that ends inconsistent
 pub fall_none : (call : Call) (files : Files) (result : Outcome) (design : List ℕ) (budget : ℕ) (cert : Bool) (drawn : Drawn) → call.shelf_before.files ≡ Some files → Means call result
     → taken call.words ≡ task (fall design budget cert) → Draws files design drawn → result ≡ ends.Inconsistent → IsInconsistent drawn.net
 fall_none call files result design budget cert drawn told means is draws e =
     let (bytes, a) = fall_answered call files answers.Inconsistent design budget cert drawn told (subst (λ end. Means call end) e means) is draws in
-    inconsistent_has_no_times (reported drawn) budget cert bytes a
+    inconsistent_has_no_times drawn budget cert bytes a

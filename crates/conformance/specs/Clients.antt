@@ -1,20 +1,28 @@
 -- What callers of `run` know of files and a sink in memory, from its clauses alone.
-use Rattle.std.specs.Prelude.{◌≡◌, ℕ, List, ◌++◌, None}
-use Rattle.itv_base.specs.Outside.{FailedFor, Files, ShelfTold}
-use Rattle.job_answer.specs.declared.answer.Answer.{Answer}
+use Rattle.std.specs.Prelude.{◌≡◌, ℕ, Bool, List, ◌++◌, Some, None, codes}
+use Rattle.itv_base.specs.Memory.{MemSink}
+use Rattle.itv_base.specs.Outside.{FailedFor, Files, ShelfTold, file_of}
+use Rattle.design_gen.specs.Files.{design_files}
+use Rattle.bounds_report.specs.Reports.{Sums}
+use Rattle.bounds_report.specs.declared.summary.Summary.{Summary}
+use Rattle.jobs.specs.Ending.{answer_of}
+use Rattle.summary_report.specs.Summary.{summary_text}
+use Rattle.jobs.specs.declared.answer.Answer.{Answer}
 use Rattle.slack_report.specs.Entry.{Entry}
+use Rattle.slack_report.specs.declared.words.EndWord.{EndWord}
 use Rattle.slack_report.specs.Text.{report_text}
-use Rattle.slack_report.specs.Right.Facts.{BeginsRightReport, IsRightReport}
-use Rattle.unroll.specs.Drawn.{Drawn}
-use Rattle.unroll.specs.Reported.{reported}
+use Rattle.right_report.specs.Right.Facts.{BeginsRightReport, IsRightReport}
+use Rattle.right_report.specs.Texts.{IsRefusedText, IsRightText}
+use Rattle.drawn.specs.Drawn.{Drawn}
 use Rattle.reading.specs.declared.place.Place.{Place}
 use Rattle.reading.specs.declared.refusal.Refusal.{Refusal}
 use Rattle.reading.specs.Design.{design_at}
 use Rattle.reading.specs.Opening.{Comes, ready, refused, told_end, unread}
 use Rattle.reading.specs.Refusal.{refusal_text, unread_text}
-use Rattle.itv_cli.specs.Task.{Task, taken, task}
+use Rattle.words.specs.Task.{Task, bounds, check, matrix, taken, task}
 use Rattle.itv_cli.specs.Job.{Answers, made_for, opening}
-use Rattle.itv_cli.specs.Run.{ToWrite}
+use Rattle.itv_cli.specs.Run.{ToWrite, outcome_of}
+use Rattle.itv_cli.specs.declared.outcome.Outcome.{Outcome}
 use Rattle.itv_cli.specs.declared.ready.Ready.{Ready}
 
 -- what the design of a file draws, over some files
@@ -26,7 +34,7 @@ pub record IsRightReportOf (files : Files) (design bytes : List ℕ) : Type 0 wh
   pub drawn : Drawn
   pub draws : Draws files design drawn
   pub lines : List Entry
-  pub is_right : IsRightReport (reported drawn) lines
+  pub is_right : IsRightReport drawn lines
   pub text : bytes ≡ report_text lines
 
 -- the words ask for a task that reads these files
@@ -57,7 +65,7 @@ pub record IsFrontOf (files : Files) (asked : Task) (bytes : List ℕ) : Type 0 
 -- the bytes are a front of the text of lines that begin a right report of a drawn network
 pub record IsFrontOfRight (drawn : Drawn) (bytes : List ℕ) : Type 0 where
   pub lines : List Entry
-  pub begins_right : BeginsRightReport (reported drawn) lines
+  pub begins_right : BeginsRightReport drawn lines
   pub rest : List ℕ
   pub text : report_text lines ≡ bytes ++ rest
 
@@ -69,3 +77,58 @@ pub record IsUnreadOf (old new : ShelfTold) (asked : Task) (bytes : List ℕ) : 
   pub reads : Comes old (opening asked) (unread place name)
   pub failed : FailedFor name old new
   pub text : bytes ≡ unread_text place
+
+-- ---- jobs
+
+-- a run wrote a text of a kind behind what the sink held
+abbrev pub WroteOne : MemSink → MemSink → (List ℕ → Type 0) → Type 0
+WroteOne old new Is = (text : List ℕ) × Is text × (new.bytes ≡ old.bytes ++ text)
+
+-- the run ended as a whole report ends
+abbrev pub IsReportEnd : Outcome → Type 0
+IsReportEnd outcome = (word : EndWord) × (outcome ≡ outcome_of (answer_of word))
+
+-- the words ask for the bounds of a design, and its files draw a network
+pub record AsksBounds (given : List (List ℕ)) (files : Files) (budget : ℕ) (cert : Bool) (drawn : Drawn) : Type 0 where
+  pub design : List ℕ
+  pub words : taken given ≡ task (bounds design budget cert)
+  pub draws : Draws files design drawn
+
+-- the words ask whether a file is a right report of a design, whose files draw a network
+pub record AsksCheck (given : List (List ℕ)) (files : Files) (report : List ℕ) (drawn : Drawn) : Type 0 where
+  pub design : List ℕ
+  pub words : taken given ≡ task (check design report)
+  pub draws : Draws files design drawn
+
+-- the words ask for the matrix of a design, whose files draw a network
+pub record AsksMatrix (given : List (List ℕ)) (files : Files) (drawn : Drawn) : Type 0 where
+  pub design : List ℕ
+  pub words : taken given ≡ task (matrix design)
+  pub draws : Draws files design drawn
+
+-- the file of a name is there, and is the text of a right report
+pub record IsRightFile (files : Files) (report : List ℕ) (drawn : Drawn) : Type 0 where
+  pub bytes : List ℕ
+  pub is_file : file_of files report ≡ Some bytes
+  pub is_right : IsRightText drawn bytes
+
+-- the file of a name is there, and this is its one wrong line
+pub record IsWrongFile (files : Files) (report : List ℕ) (drawn : Drawn) (line : ℕ) : Type 0 where
+  pub bytes : List ℕ
+  pub is_file : file_of files report ≡ Some bytes
+  pub is_wrong : IsRefusedText drawn bytes line
+  pub one : (other : ℕ) → IsRefusedText drawn bytes other → other ≡ line
+
+-- no line of the file of a name is a wrong one
+abbrev pub HasNoWrong : Files → List ℕ → Drawn → Type 0
+HasNoWrong files report drawn = (bytes : List ℕ) (line : ℕ) → file_of files report ≡ Some bytes → IsRefusedText drawn bytes line → ⊥
+
+-- the text is what a right report comes to of what the generated design of a size draws
+pub record IsSummaryOf (size : ℕ) (text : List ℕ) : Type 0 where
+  pub drawn : Drawn
+  pub draws : Draws (design_files size) (codes "bus.json") drawn
+  pub lines : List Entry
+  pub is_right : IsRightReport drawn lines
+  pub summary : Summary
+  pub sums : Sums summary lines
+  pub is_text : text ≡ summary_text drawn size summary

@@ -4,8 +4,7 @@ use Rattle.itv_base.specs.Outside.{ShelfTold}
 use Rattle.slack_report.specs.Entry.{Entry}
 use Rattle.slack_report.specs.Text.{report_text}
 use Rattle.right_report.specs.Texts.{IsAcceptedText}
-use Rattle.unroll.specs.Drawn.{Drawn}
-use Rattle.unroll.specs.Reported.{reported}
+use Rattle.drawn.specs.Drawn.{Drawn}
 use Rattle.reading.specs.Design.{design_at}
 use Rattle.reading.specs.Opening.{Comes, ready}
 use Rattle.bounds_report.specs.Reports.{IsWrittenReport}
@@ -14,4 +13,4 @@ use Rattle.bounds_report.specs.Reports.{IsWrittenReport}
 -- one that job check accepts for it
 abbrev pub OwnReportIsAccepted : Type 0
 OwnReportIsAccepted = (shelf : ShelfTold) (design : List ℕ) (drawn : Drawn) (most : ℕ) (lines : List Entry) → Comes shelf (design_at design) (ready drawn)
-    → IsWrittenReport (reported drawn) most true lines → IsAcceptedText (reported drawn) (report_text lines)
+    → IsWrittenReport drawn most true lines → IsAcceptedText drawn (report_text lines)

@@ -7,12 +7,12 @@ ghost use Rattle.event_graph.specs.Edges.{cause_choices};
 ghost use Rattle.falling.specs.Cap.{enough_turns};
 ghost use Rattle.itv_base.specs.Memory.{shelf_told, sink_told};
 ghost use Rattle.itv_base.specs.Outside.{Rose};
-ghost use Rattle.job_answer.specs.declared.answer.Answer.TheVariants as answers;
+ghost use Rattle.jobs.specs.declared.answer.Answer.TheVariants as answers;
 ghost use Rattle.reading.specs.declared.place.Place.{Place};
 ghost use Rattle.reading.specs.Opening.{told_end};
 ghost use Rattle.reading.specs.Refusal.{unread_text};
-ghost use Rattle.unroll.specs.Drawn.{Drawn};
-ghost use Rattle.itv_cli.specs.Task.{Task, bad_words, bounds, fall, help, taken, task};
+ghost use Rattle.drawn.specs.Drawn.{Drawn};
+ghost use Rattle.words.specs.Task.{Task, bad_words, bounds, fall, help, redraw, taken, task};
 ghost use Rattle.itv_cli.specs.Job.{opening};
 ghost use Rattle.itv_cli.specs.Run.{EndsBy};
 ghost use Rattle.conformance.specs.Clients.{Asks, Draws, IsAnswerOf, IsFrontOf, IsFrontOfRight, IsRefusalOf, IsRightReportOf, IsUnreadOf};
@@ -41,7 +41,8 @@ pub fn report_of(
     }
 }
 
-/// The bytes that a run writes, where its files are refused: the line of the first refusal.
+/// The bytes that a run writes, where its files are refused: the line of the first refusal. Job redraw alone may refuse a design for
+/// what its search found, with the line that it answers then.
 pub fn refusal_of(
     alloc: Global,
     words: &Texts,
@@ -49,7 +50,11 @@ pub fn refusal_of(
     room: u32,
 ) -> Result<Option<Vec<u8>>, NoMemory>
     ensures right { IfOk result (λ refusal. IfSome refusal (λ bytes.
-        (asked : Task) → Asks words.now asked → IsRefusalOf shelf.old.files asked bytes.items)) }
+        (asked : Task) → Asks words.now asked → IsRefusalOf shelf.old.files asked bytes.items
+        ⊎ IsAnswerOf shelf.old.files asked answers.DesignRefused bytes.items)) }
+    ensures others { IfOk result (λ refusal. IfSome refusal (λ bytes.
+        (asked : Task) → Asks words.now asked → ((design : List ℕ) (budget : ℕ) → asked ≡ redraw design budget → ⊥)
+        → IsRefusalOf shelf.old.files asked bytes.items)) }
 {
     let mut sink = SinkMem::new(alloc, room)?;
     match run(alloc, words, shelf, &mut sink) {
@@ -139,6 +144,8 @@ pub fn end_of(alloc: Global, words: &Texts, shelf: &mut ShelfMem, sink: &mut Sin
     ensures help { taken words.now ≡ help → ¬ (Rose sink.old.faults sink.new.faults)
         → (result ≡ Outcome.NoMemory) ⊎ (result ≡ Outcome.Help) }
     ensures faults { sink.old.faults < sink.new.faults → result ≡ Outcome.WriteFault }
+    ensures fetches { shelf.old.faults < shelf.new.faults
+        → (result ≡ Outcome.ReadFault) ⊎ (result ≡ Outcome.WriteFault) }
 {
     run(alloc, words, shelf, sink)
 }

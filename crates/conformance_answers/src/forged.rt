@@ -1,8 +1,9 @@
 //! Forged reports: each with the line at which it is refused.
 
 use conformance_kit::{
-    CONTRADICTS, CONTRADICTS_PROVED, FIRST, FIRST_PROVED, edited, edits_end, reports_end,
+    CONTRADICTS, CONTRADICTS_PROVED, FIRST, FIRST_PROVED, edited, edits_end, reports_end, with_ends,
 };
+use itv_base::{END_LIMIT, MAX_EVENTS};
 use std::alloc::Global;
 use std::test::Fail;
 
@@ -190,6 +191,10 @@ slack 3 *
 end fail
 ";
     reports_end(alloc, design, &[(report, 0)])?;
+    let too_wide = with_ends(alloc, "row 0 req U.a@0 U.b@0 [-PAST,1000]\n")?;
+    // the greatest time that a report tells, which may be any that is far enough
+    let farthest = 12 * i64::from(MAX_EVENTS) * END_LIMIT + END_LIMIT + 1;
+    let far = format!(in alloc; "times 0 {farthest} {farthest}\n")?;
     edits_end(
         alloc,
         design,
@@ -197,10 +202,13 @@ end fail
         &[
             (10, "row 0 req U.a@0 U.b@0 [-3,1001]\n", 10),
             (10, "row 0 req U.a@0 U.b@0 [1000,-3]\n", 10),
-            (10, "row 0 req U.a@0 U.b@0 [-1000000000001,1000]\n", 10),
+            (10, too_wide.as_str(), 10),
             (12, "times 0 -1 -1\n", 12),
             (12, "times 0 3 9\n", 12),
             (12, "times 7 8 9\n", 12),
+            (12, far.as_str(), 0),
+            (12, "times 0 2305843009213693951 2305843009213693951\n", 0),
+            (12, "times 0 2305843009213693952 2305843009213693952\n", 12),
             // the set: its own order, the right pair, and all that has to go along
             (13, "raise 2 1\n", 13),
             (13, "raise 1 1\n", 13),
@@ -218,6 +226,7 @@ end fail
             (18, "times 0 1000 1000\n", 18),
             (18, "times 0 1001 1007\n", 18),
             (18, "times 1 1002 1002\n", 18),
+            (18, far.as_str(), 0),
             (18, "", 18),
             (19, "slack 3 0\n", 19),
             (19, "slack 2 *\n", 19),

@@ -13,6 +13,10 @@ mod falls;
 #[cfg(test)]
 mod forged;
 #[cfg(test)]
+mod redraws;
+#[cfg(test)]
 mod separations;
 #[cfg(test)]
 mod verdicts;
+#[cfg(test)]
+mod whatifs;

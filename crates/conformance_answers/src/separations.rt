@@ -1,6 +1,6 @@
 //! Greatest and least separations over linear rules, worked out by hand from the rules of each file.
 
-use conformance_kit::{FIRST, all_answered};
+use conformance_kit::{FIRST, all_answered, with_ends};
 use std::test::Fail;
 
 #[test]
@@ -60,15 +60,24 @@ fn bounds_go_through_several_rules(rt: HostRuntime) -> Result<(), Fail> {
                 "abcd",
                 "ask a d\nmax 30\ntimes 0 10 20 30\nmin 0\ntimes 0 0 0 0\n",
             ),
-            // the greatest ends: twice a second forwards, and backwards once, since c is never before b
-            (
-                r#"{"signal":[{"node":"abc"}],"edge":["a->b @lin [-1000000000000,1000000000000]",
-                "b->c @lin [0,1000000000000]","a->c @ask","c->a @ask"]}"#,
-                "abc",
-                "ask a c\nmax 2000000000000\ntimes 0 1000000000000 2000000000000\nmin -1000000000000\ntimes 0 -1000000000000 -1000000000000\nask c a\nmax 1000000000000\ntimes 1000000000000 0 0\nmin -2000000000000\ntimes -2000000000000 -1000000000000 0\n",
-            ),
         ],
     )
+}
+
+// The greatest ends: twice forwards, and backwards once, since c is never before b.
+#[test]
+fn bounds_go_through_the_greatest_ends(rt: HostRuntime) -> Result<(), Fail> {
+    let alloc = rt.alloc();
+    let file = with_ends(
+        alloc,
+        r#"{"signal":[{"node":"abc"}],"edge":["a->b @lin [-MOST,MOST]","b->c @lin [0,MOST]","a->c @ask","c->a @ask"]}"#,
+    )?;
+    let rows = with_ends(
+        alloc,
+        "ask a c\nmax TWICE\ntimes 0 MOST TWICE\nmin -MOST\ntimes 0 -MOST -MOST\n\
+        ask c a\nmax MOST\ntimes MOST 0 0\nmin -TWICE\ntimes -TWICE -MOST 0\n",
+    )?;
+    all_answered(alloc, &[(file.as_str(), "abc", rows.as_str())])
 }
 
 // Beside each file stands which events can be put off. The times are open.

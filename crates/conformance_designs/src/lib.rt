@@ -7,6 +7,8 @@ mod designers;
 #[cfg(test)]
 mod diagrams;
 #[cfg(test)]
+mod grade_tables;
+#[cfg(test)]
 mod joins;
 #[cfg(test)]
 mod json;

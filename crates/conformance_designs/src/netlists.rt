@@ -1,6 +1,6 @@
 //! Netlists that are none: each fault in its place, and the first of two.
 
-use conformance_kit::files_end;
+use conformance_kit::{files_end, with_ends};
 use itv_cli::Outcome;
 use std::alloc::Global;
 use std::test::Fail;
@@ -19,12 +19,13 @@ fn netlists_end(alloc: Global, table: &[(&str, &str)]) -> Result<(), Fail> {
     Ok(())
 }
 
-// The same, of a netlist of one cycle with the part U1, told by what stands behind its parts.
+// The same, of a netlist of one cycle with the part U1, told by what stands behind its parts, which may name the limit of an end.
 fn tails_end(alloc: Global, table: &[(&str, &str)]) -> Result<(), Fail> {
     for (tail, line) in table {
         let netlist = format!(in alloc;
             r#"{{"itv":1,"cycles":1,"parts":[{{"name":"U1","sheet":"s"}}],{tail}}}"#
         )?;
+        let netlist = with_ends(alloc, netlist.as_str())?;
         netlists_end(alloc, &[(netlist.as_str(), line)])?;
     }
     Ok(())
@@ -37,7 +38,7 @@ fn the_version_and_the_cycles_are_whole_numbers(rt: HostRuntime) -> Result<(), F
         rt.alloc(),
         &[
             (
-                r#"{"itv":2,"cycles":1,"parts":[]}"#,
+                r#"{"itv":3,"cycles":1,"parts":[]}"#,
                 "refused file 0 Version",
             ),
             (
@@ -195,7 +196,7 @@ fn nets_have_their_form(rt: HostRuntime) -> Result<(), Fail> {
                 "refused file 0 Delay 0 TooWide",
             ),
             (
-                r#""nets":[{"pins":["U1.D"],"delay":[null,1000000000001]}]"#,
+                r#""nets":[{"pins":["U1.D"],"delay":[null,PAST]}]"#,
                 "refused file 0 Delay 0 TooWide",
             ),
             (
@@ -246,7 +247,7 @@ fn wires_have_their_form(rt: HostRuntime) -> Result<(), Fail> {
                 "refused file 0 Label 0 BadLabel",
             ),
             (
-                r#""edges":["U1.a U1.b @lin [1000000000001,*]"]"#,
+                r#""edges":["U1.a U1.b @lin [PAST,*]"]"#,
                 "refused file 0 Label 0 TooWide",
             ),
             // wire by wire, the form before the label
@@ -268,7 +269,7 @@ fn the_first_fault_of_a_netlist_is_told(rt: HostRuntime) -> Result<(), Fail> {
     netlists_end(
         rt.alloc(),
         &[
-            (r#"{"itv":2,"cycles":0}"#, "refused file 0 Version"),
+            (r#"{"itv":3,"cycles":0}"#, "refused file 0 Version"),
             (r#"{"itv":1,"cycles":0,"parts":7}"#, "refused file 0 Cycles"),
             (
                 r#"{"itv":1,"cycles":1,"parts":7,"nets":7}"#,

@@ -3,7 +3,7 @@
 use conformance_kit::{
     BOARD, CIRCLE, CONTRADICTS, EARLIEST, FIRST, FIRST_REPORT, LATEST, MEMORY, MET, MISSED,
     OPEN_ABOVE, OUT, PAIR, PROCESSOR, RISES, UNMET, all_answered, all_refused, bytes_end,
-    contradicts, files_end, inconsistent_of, joined, lone_names,
+    contradicts, files_end, inconsistent_of, joined, lone_names, with_ends,
 };
 use itv_cli::Outcome;
 use std::test::Fail;
@@ -195,11 +195,12 @@ fn rows_that_are_refused(rt: HostRuntime) -> Result<(), Fail> {
         ("@lin [5,3]", "refused file 0 Label 0 EmptyRange\n"),
         ("@lin [05,7]", "refused file 0 Label 0 BadLabel\n"),
         ("@lin  [5,7]", "refused file 0 Label 0 BadLabel\n"),
-        ("@lin [1000000000001,*]", "refused file 0 Label 0 TooWide\n"),
+        ("@lin [PAST,*]", "refused file 0 Label 0 TooWide\n"),
     ] {
         let file = format!(in alloc;
             r#"{{"signal":[{{"name":"D","node":"a"}},{{"name":"Q","node":"b"}}],"edge":["a->b {label}","a->b @ask"]}}"#
         )?;
+        let file = with_ends(alloc, file.as_str())?;
         all_refused(alloc, &[(file.as_str(), line)])?;
     }
     Ok(())

@@ -120,12 +120,20 @@ const ROWS: [Run<'static>; 17] = [
     (&[("s", r#"{"signal":[]}"#)], &["s"], AllPass),
 ];
 
+// A requirement that fails at the widest end.
+const WIDEST: &str =
+    r#"{"signal":[{"node":"a"},{"node":"b"}],"edge":["a->b @lin [0,*]","a->b @req [0,10000000000000]"]}"#;
+
 // The other jobs, and lines of a few words.
-const JOBS: [Run<'static>; 12] = [
+const JOBS: [Run<'static>; 16] = [
     (&[("s", LATEST)], &["--job=matrix", "s"], AllPass),
     (&[("s", CIRCLE)], &["--job=matrix", "s"], Inconsistent),
     (&[("s", LATEST)], &["--job=fall", "--cert", "s"], AllPass),
     (&[("s", OPEN_ABOVE)], &["--job=fall", "s"], AllPass),
+    (&[("s", MISSED)], &["--job=redraw", "s"], SomeFail),
+    (&[("s", MET)], &["--job=redraw", "s"], AllPass),
+    (&[("s", CIRCLE)], &["--job=redraw", "s"], Inconsistent),
+    (&[("s", WIDEST)], &["--job=redraw", "s"], Refused),
     (
         &[("s", FIRST), ("r", FIRST_PROVED)],
         &["--job=check", "--report=r", "s"],

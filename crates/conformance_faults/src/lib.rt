@@ -7,7 +7,9 @@ mod codes;
 #[cfg(test)]
 mod faults;
 #[cfg(test)]
-mod jobs;
+mod job_texts;
+#[cfg(test)]
+mod large;
 #[cfg(test)]
 mod limits;
 #[cfg(test)]

@@ -3,7 +3,7 @@
 use conformance_kit::{
     FIRST, all_refused, bytes_end, events_of, run_ends, shelf_of, shelf_with, words_of,
 };
-use itv_base::{ShelfMem, SinkMem};
+use itv_base::{MAX_EVENTS, ShelfMem, SinkMem};
 use itv_cli::{Outcome, run};
 use std::alloc::Global;
 use std::process::Abort;
@@ -151,12 +151,33 @@ fn cycles_end(rt: &impl Abort, alloc: Global, entry: Cycled<'_>) -> Result<(), F
     }
 }
 
-const WIDE_SHEET: &str = r#"{"signal":[{"node":"abcdefghijklmnop"}]}"#;
+const WIDE_SHEET: &str =
+    r#"{"signal":[{"node":"abcdefghijklmnopqrstuvwxyzABCDEFGHIJKLMNOPQRSTUVWXYZ0123456789!?"}]}"#;
 
-// 16 marks over 256 cycles are 4,096 events.
+// 64 marks over 256 cycles are as many events as there may be.
 #[test]
-fn a_design_has_4096_events(rt: HostRuntime) -> Result<(), Fail> {
+fn a_design_has_all_its_events(rt: HostRuntime) -> Result<(), Fail> {
+    assert_eq!(rt; 64 * 256, MAX_EVENTS);
     cycles_end(&rt, rt.alloc(), (WIDE_SHEET, 256, None))
+}
+
+// Each of the 93 marks that there are, and 52 of them, over 113 cycles are one event more.
+#[test]
+fn a_design_has_no_event_more(rt: HostRuntime) -> Result<(), Fail> {
+    let alloc = rt.alloc();
+    assert_eq!(rt; (93 + 52) * 113, MAX_EVENTS + 1);
+    let design =
+        r#"{"itv":1,"cycles":113,"parts":[{"name":"U1","sheet":"all"},{"name":"U2","sheet":"letters"}]}"#;
+    let all = r##"{"signal":[{"node":"abcdefghijklmnopqrstuvwxyzABCDEFGHIJKLMNOPQRSTUVWXYZ"},
+        {"node":"0123456789!\"#$%&'()*+,-/:;<=>?@[\\]^_`{|}~"}]}"##;
+    let letters = r#"{"signal":[{"node":"abcdefghijklmnopqrstuvwxyzABCDEFGHIJKLMNOPQRSTUVWXYZ"}]}"#;
+    let mut shelf = shelf_of(
+        alloc,
+        &[("n.json", design), ("all", all), ("letters", letters)],
+    )?;
+    let line = format!(in alloc; "refused design TooMany Events {}\n", MAX_EVENTS + 1)?;
+    let wanted = (Outcome::Refused, line.as_str());
+    run_ends(alloc, &["n.json"], &mut shelf, wanted)
 }
 
 // 4 marks over 250 cycles are 1,000 events. With 4 rows in each cycle they are 1,000,000 cells.
@@ -177,19 +198,17 @@ fn a_design_has_2097152_cells_of_the_search(rt: HostRuntime) -> Result<(), Fail>
     cycles_end(&rt, rt.alloc(), (shifted, 256, None))
 }
 
-// 17 marks over 241 cycles are 4,097 events; 1,000 events with 5 rows in each of 250 cycles are 1,250,000 cells; and two latest rules of
+// 1,000 events with 5 rows in each of 250 cycles are 1,250,000 cells; and two latest rules of
 // 256 cycles are 512 rules with two causes, and 4,096 * 513 cells of the search.
 #[test]
 fn cycles_multiply_what_a_sheet_holds(rt: HostRuntime) -> Result<(), Fail> {
     let alloc = rt.alloc();
-    let wider = r#"{"signal":[{"node":"abcdefghijklmnopq"}]}"#;
     let five = r#"{"signal":[{"node":"abcd"}],
         "edge":["a->b @ask","b->c @ask","c->d @ask","d->a @ask","a->a @ask"]}"#;
     let unshifted =
         r#"{"signal":[{"node":"abcdefghijklmnop"}],"edge":["a->c @late [0,9]","b->c @late [0,9]",
         "a->d @late [0,9]","b->d @late [0,9]"]}"#;
     for (sheet, cycles, line) in [
-        (wider, 241, "refused design TooMany Events 4097\n"),
         (five, 250, "refused design TooMany Cells 1250000\n"),
         (
             unshifted,

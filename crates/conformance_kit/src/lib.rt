@@ -4,7 +4,8 @@
 #![tactic(auto)]
 
 mod again;
-mod edits;
+mod edited_reports;
+mod ends;
 mod examples;
 mod files;
 mod frames;
@@ -13,7 +14,8 @@ mod runs;
 mod tables;
 
 pub use again::is_written_again;
-pub use edits::{edited, edits_end, reports_end};
+pub use edited_reports::{edited, edits_end, reports_end};
+pub use ends::with_ends;
 pub use examples::{
     BOARD, CIRCLE, CONTRADICTS, CONTRADICTS_PROVED, EARLIEST, FIRST, FIRST_PROVED, FIRST_REPORT,
     LATEST, MEMORY, MET, MISSED, OPEN_ABOVE, OUT, PAIR, PROCESSOR, RISES, SETTLES, UNMET,

@@ -5,7 +5,7 @@ ghost use Rattle.falling.specs.Checking.{IsBegun};
 
 use crate::building::{add, cause, of_two_causes};
 use event_graph::Network;
-use falling::{FallCheckFault, FallChecker, FallFault, Fallen, Falling, NoNotes};
+use falling::{FallCheckFault, FallChecker, Fallen, Falling, Mixed, NoNotes, View};
 use itv_base::{EdgeName, EventId, RuleKind, Side};
 use std::alloc::Global;
 use std::test::Fail;
@@ -29,7 +29,7 @@ fn answer(
     to: u32,
     turns: u64,
 ) -> Result<(Fallen, Vec<i64>, Vec<bool>, u64), Fail> {
-    let mut falling = Falling::new(alloc, net)?;
+    let mut falling = Falling::new(alloc, net, View::of(net)?)?;
     if net.events() <= from || net.events() <= to {
         Err("no such event")?;
     }
@@ -135,8 +135,8 @@ fn finds_bounds_of_both_kinds(rt: HostRuntime) -> Result<(), Fail> {
     let early = of_two_causes(alloc, RuleKind::Early)?;
     assert_eq!(&rt; answer(alloc, &early, 0, 2, 1000)?.0, Fallen::Closed(700));
     assert_eq!(&rt; answer(alloc, &early, 2, 0, 1000)?.0, Fallen::Closed(-300));
-    assert!(&rt; Falling::new(alloc, &early)?.is_negated());
-    assert!(&rt; !Falling::new(alloc, &late)?.is_negated());
+    assert_eq!(&rt; View::of(&early), Ok(View::Negated));
+    assert_eq!(&rt; View::of(&late), Ok(View::Plain));
     Ok(())
 }
 
@@ -159,7 +159,7 @@ fn shows_an_inconsistent_network(rt: HostRuntime) -> Result<(), Fail> {
         0,
         &[cause(1, (Some(1), None))?],
     )?;
-    let falling = Falling::new(alloc, &net)?;
+    let falling = Falling::new(alloc, &net, View::of(&net)?)?;
     assert_eq!(&rt; falling.enough(), 2 * (3 * 2 * 2 + 1));
     assert_eq!(&rt; answer(alloc, &net, 0, 1, 26)?.0, Fallen::Inconsistent);
     Ok(())
@@ -175,12 +175,6 @@ fn refuses_choices_of_both_kinds(rt: HostRuntime) -> Result<(), Fail> {
     add(alloc, &mut net, RuleKind::Early, 1, &one)?;
     add(alloc, &mut net, RuleKind::Late, 1, &two)?;
     add(alloc, &mut net, RuleKind::Early, 1, &two)?;
-    match Falling::new(alloc, &net) {
-        Err(FallFault::Mixed(late, early)) => {
-            assert_eq!(&rt; late, 1);
-            assert_eq!(&rt; early, 2);
-        }
-        _ => Err("the network is mixed")?,
-    }
+    assert_eq!(&rt; View::of(&net), Err(Mixed { late: 1, early: 2 }));
     Ok(())
 }

@@ -4,7 +4,7 @@ use crate::building::{Ends, add, cause, of_two_causes};
 use RuleKind::{Early, Late, Lin};
 use Side::{Lower, Upper};
 use event_graph::{Cause, Network, PushFault, ScribeFailed};
-use itv_base::{EdgeName, EventId, Range, RuleKind, Side};
+use itv_base::{END_LIMIT, EdgeName, EventId, MAX_EVENTS, Range, RuleKind, Side};
 use std::alloc::Global;
 use std::process::Abort;
 use std::test::Fail;
@@ -223,7 +223,7 @@ fn one_cause_makes_both_sides_hold(rt: HostRuntime) -> Result<(), Fail> {
 #[test]
 fn times_may_be_near_the_limit(rt: HostRuntime) -> Result<(), Fail> {
     const MOST: i64 = (1 << 61) - 1;
-    const END: i64 = 1_000_000_000_000;
+    const END: i64 = END_LIMIT;
     let ends = (Some(-END), Some(END));
     let net = of_two_ranges(rt.alloc(), Late, ends, ends)?;
     expect_broken(
@@ -284,7 +284,7 @@ fn cause_choices_may_pass_64_bits(rt: HostRuntime) -> Result<(), Fail> {
 
 #[test]
 fn a_network_has_room_for_65536_constraints(rt: HostRuntime) -> Result<(), Fail> {
-    let mut net = Network::new(rt.alloc(), 4_096)?;
+    let mut net = Network::new(rt.alloc(), MAX_EVENTS)?;
     let range = Range::new(Some(0), None)?;
     for _ in 0..65_536 {
         add(
@@ -293,12 +293,12 @@ fn a_network_has_room_for_65536_constraints(rt: HostRuntime) -> Result<(), Fail>
             Early,
             0,
             &[Cause {
-                event: EventId(4_095),
+                event: EventId(MAX_EVENTS - 1),
                 range,
             }],
         )?;
     }
-    assert_eq!(rt; net.events(), 4_096);
+    assert_eq!(rt; net.events(), MAX_EVENTS);
     let fault = net.push_linear(rt.alloc(), EventId(1), EventId(2), range);
     assert_eq!(rt; fault, Err(PushFault::Full(65_536)));
     assert_eq!(rt; net.len(), 65_536);

@@ -8,10 +8,13 @@ use crate::networks::{Rule, event_of, network_of, rules_of};
 use crate::plain::{Arc, add_arcs, arc_of, separations};
 use diff_bounds::{Bounds, Fit};
 use event_graph::{Cause, Network};
-use itv_base::{EdgeName, EventId, Range, Side};
+use itv_base::{END_LIMIT, EdgeName, EventId, MAX_EVENTS, Range, Side};
 use std::alloc::Global;
 use std::process::Abort;
 use std::test::Fail;
+
+// The last event that there may be.
+const LAST: u32 = MAX_EVENTS - 1;
 
 // The greatest separations of all events from the source.
 fn uppers(alloc: Global, net: &Network, bounds: &Bounds) -> Result<Vec<Option<i64>>, Fail>
@@ -123,11 +126,11 @@ fn separations_are_those_by_hand(rt: HostRuntime) -> Result<(), Fail> {
     Ok(())
 }
 
-// The chain of 4,096 events, each in this range after the one before.
+// The chain of as many events as there may be, each in this range after the one before.
 fn chain_of(alloc: Global, low: i64, high: i64) -> Result<Network, Fail> {
     let range = Range::new(Some(low), Some(high))?;
-    let mut rules = Vec::with_capacity(alloc, 4_095)?;
-    for target in 1..4_096 {
+    let mut rules = Vec::with_capacity(alloc, LAST as usize)?;
+    for target in 1..MAX_EVENTS {
         let event = EventId(target - 1);
         rules.push(Rule {
             kind: "lin",
@@ -135,21 +138,24 @@ fn chain_of(alloc: Global, low: i64, high: i64) -> Result<Network, Fail> {
             causes: Vec::from_slice(alloc, &[Cause { event, range }])?,
         })?;
     }
-    network_of(alloc, 4_096, rules.as_slice())
+    network_of(alloc, MAX_EVENTS, rules.as_slice())
 }
 
 // Each event of a chain is as many times an end from the first and from the last as it has events between.
 #[test]
 fn the_greatest_ends_add_up_along_a_chain(rt: HostRuntime) -> Result<(), Fail> {
-    let most = 1_000_000_000_000i64;
-    for (low, high) in [(-most, most), (-most, -most)] {
+    for (low, high) in [
+        (-END_LIMIT, END_LIMIT),
+        (END_LIMIT, END_LIMIT),
+        (-END_LIMIT, -END_LIMIT),
+    ] {
         let net = chain_of(rt.alloc(), low, high)?;
         let up = found(rt.alloc(), &net, 0)?.ok_or("a loop")?;
-        let down = found(rt.alloc(), &net, 4_095)?.ok_or("a loop")?;
-        for place in 0..4_096i64 {
+        let down = found(rt.alloc(), &net, LAST)?.ok_or("a loop")?;
+        for place in 0..=i64::from(LAST) {
             let index = usize::try_from(place)?;
             let above = high.wrapping_mul(place);
-            let below = low.wrapping_mul(place.wrapping_sub(4_095));
+            let below = low.wrapping_mul(place.wrapping_sub(i64::from(LAST)));
             assert_eq!(rt; up.get(index).copied(), Some(Some(above)));
             assert_eq!(rt; down.get(index).copied(), Some(Some(below)));
         }

@@ -1,7 +1,7 @@
 //! Networks that are told by a text.
 
 use event_graph::{Cause, Network};
-use itv_base::{EventId, Range};
+use itv_base::{EventId, MAX_EVENTS, Range};
 use std::alloc::Global;
 use std::test::Fail;
 
@@ -78,7 +78,7 @@ fn add(alloc: Global, net: &mut Network, rule: &Rule) -> Result<(), Fail> {
 
 /// The network of some events with these rules.
 pub fn network_of(alloc: Global, events: u32, rules: &[Rule]) -> Result<Network, Fail> {
-    let mut net = Network::new(alloc, events.min(4_096))?;
+    let mut net = Network::new(alloc, events.min(MAX_EVENTS))?;
     for rule in rules {
         add(alloc, &mut net, rule)?;
     }

@@ -26,9 +26,15 @@ fn task_line(alloc: Global, task: Task<'_>) -> Result<String, AllocError> {
             budget,
             cert,
         } => format!(in alloc; "fall {design} {budget} {cert}"),
+        Task::Redraw { design, budget } => format!(in alloc; "redraw {design} {budget}"),
         Task::Matrix { design } => format!(in alloc; "matrix {design}"),
         Task::Check { design, report } => format!(in alloc; "check {design} {report}"),
         Task::Generated { size, budget } => format!(in alloc; "self {size} {budget}"),
+        Task::Whatif {
+            design,
+            edits,
+            budget,
+        } => format!(in alloc; "whatif {design} {edits} {budget}"),
     }
 }
 
@@ -54,12 +60,30 @@ const TABLE: &[(&[&str], &str)] = &[
         "fall x 7 true",
     ),
     (&["--job=fall"], "bad words"),
+    (&["--job", "redraw", "x"], "redraw x 100000"),
+    (&["--job=redraw", "--cert", "--budget=7", "x"], "redraw x 7"),
+    (&["--job=redraw"], "bad words"),
+    (
+        &["--job", "whatif", "--edits", "e", "x"],
+        "whatif x e 100000",
+    ),
+    (
+        &["x", "--edits=e", "--budget=7", "--cert", "--job=whatif"],
+        "whatif x e 7",
+    ),
+    (&["--job=whatif", "x"], "bad words"),
+    (&["--job=whatif", "--edits", "e"], "bad words"),
+    (
+        &["--job=whatif", "--edits", "e", "--edits", "e", "x"],
+        "bad words",
+    ),
     (&["--job", "nope", "x"], "bad words"),
     (&["--job=", "x"], "bad words"),
     (&["--job"], "bad words"),
     // What a job does not need is passed over.
     (&["--report", "r", "x"], "bounds x 100000 false"),
     (&["--size", "3", "x"], "bounds x 100000 false"),
+    (&["--edits", "e", "x"], "bounds x 100000 false"),
     (
         &["--job=matrix", "--cert", "--budget", "9", "x"],
         "matrix x",
@@ -142,6 +166,8 @@ fn help_tells_what_a_person_needs(rt: HostRuntime) -> Result<(), Fail> {
                 "--budget <N>",
                 "  matrix  Prints",
                 "  fall    Bounds",
+                "  whatif  Bounds",
+                "--edits <FILE>",
                 "  10 The system",
                 "Example:",
             ] {

@@ -1,5 +1,5 @@
 //! What the crates answer that read and write texts, each by itself: waves, labels, drawings, sheets, the words of the command line, the generated
-//! design, and the lines of proofs, of reports and of derivations. They stand apart from those crates, which so are proved once.
+//! design, and the lines of proofs and of reports. They stand apart from those crates, which so are proved once.
 #![tactic(auto)]
 
 #[cfg(test)]
@@ -7,11 +7,13 @@ mod commands;
 #[cfg(test)]
 mod drawings;
 #[cfg(test)]
-mod fall_lines;
+mod edit_files;
 #[cfg(test)]
 mod generated;
 #[cfg(test)]
 mod labels;
+#[cfg(test)]
+mod parameters;
 #[cfg(test)]
 mod proof_lines;
 #[cfg(test)]

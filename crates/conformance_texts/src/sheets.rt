@@ -1,9 +1,9 @@
 //! The marks, pins, rules and rows of a sheet.
 
-use itv_base::{Range, RuleKind};
+use itv_base::{Range, RowKind, RuleKind};
 use label_grammar::LabelFault;
 use serde_json::Value;
-use sheet::{Mark, Pin, RowKind, Rule, Sheet, SheetFault, SheetRow, read_sheet};
+use sheet::{Mark, Pin, Rule, Sheet, SheetFault, SheetRow, read_sheet};
 use std::alloc::{AllocError, Global};
 use std::fmt::Write;
 use std::test::Fail;

@@ -1,3 +1,5 @@
 pub mod Slaves
 pub mod Depth
+pub mod Floats
 pub mod Filling
+pub mod Lengths

@@ -1,10 +1,11 @@
 //! The files of the generated design.
 
-ghost use Rattle.std.specs.Prelude.{◌≤◌, IfErr, IfOk, OnOk};
+ghost use Rattle.std.specs.Prelude.{◌≡◌, ◌≤◌, false, IfErr, IfOk, OnOk};
 ghost use Rattle.serde_json.specs.Data.{depth};
 ghost use Rattle.serde_json.specs.View.{view};
 ghost use Rattle.serde_json.specs.Read.{max_depth};
-ghost use Rattle.design_gen.specs.Files.{AddsTree, IsDesign, IsGenFault, IsSize};
+ghost use Rattle.serde_json.specs.Written.{has_float};
+ghost use Rattle.design_gen.specs.Files.{IsDesign, IsGenFault, IsSize, ReadBack, ReadsBack, with_tree};
 
 use crate::fault::GenFault;
 use crate::netlist::bus;
@@ -14,10 +15,12 @@ use serde_json::Value;
 use std::alloc::Global;
 
 /// The files of the generated design of a size from 1 to [`MAX_SELF_SIZE`], on a new shelf: the netlist
-/// `bus.json` of that many slaves, and the sheets `master.json`, `slave.json` and `merge.json`. For any other
-/// size the answer is `OutOfRange`, and takes no memory.
+/// `bus.json` of that many slaves, and the sheets `master.json`, `slave.json` and `merge.json`. Each is the text
+/// of its tree without spaces, which reads as the tree. For any other size the answer is `OutOfRange`, and takes
+/// no memory.
 pub fn make(alloc: Global, n: u32) -> Result<ShelfMem, GenFault>
     ensures design { IfOk result (IsDesign n) }
+    ensures reads_back { OnOk result (ReadBack n) }
     ensures size { OnOk result (IsSize n) }
     ensures fault { IfErr result (IsGenFault n) }
 {
@@ -29,7 +32,8 @@ pub fn make(alloc: Global, n: u32) -> Result<ShelfMem, GenFault>
 
 // The files of a size.
 fn files(alloc: Global, n: u32) -> Result<ShelfMem, NoMemory>
-    ensures { IfOk result (IsDesign n) }
+    ensures design { IfOk result (IsDesign n) }
+    ensures reads_back { OnOk result (ReadBack n) }
 {
     let mut shelf = ShelfMem::new(alloc)?;
     add_tree(alloc, &mut shelf, "bus.json", &bus(alloc, n)?)?;
@@ -39,10 +43,14 @@ fn files(alloc: Global, n: u32) -> Result<ShelfMem, NoMemory>
     Ok(shelf)
 }
 
-// Adds a file that spells a tree.
+// Adds a file with the text of a tree.
 fn add_tree(alloc: Global, shelf: &mut ShelfMem, name: &str, tree: &Value) -> Result<(), NoMemory>
-    requires { depth (view tree.now) ≤ max_depth }
-    ensures { OnOk result (AddsTree shelf.old name.now (view tree.now) shelf.new) }
+    requires depth { depth (view tree.now) ≤ max_depth }
+    requires no_float { has_float (view tree.now) ≡ false }
+    ensures adds { OnOk result (shelf.new ≡ record shelf.old {
+      files = with_tree shelf.old.files name.now (view tree.now);
+    }) }
+    ensures reads_back { OnOk result (ReadsBack (view tree.now)) }
 {
     let bytes = tree.to_vec(alloc)?;
     shelf.add(alloc, name, &bytes)

@@ -13,7 +13,7 @@ use Rattle.event_graph.specs.Network.{Net}
 use Rattle.event_graph.specs.Proof.{IsWalk, path_sum, weight_of}
 use Rattle.diff_bounds.specs.Current.{IsCurrent}
 use Rattle.diff_bounds.specs.Labels.{Follows, IsAmong, IsClimb, IsForest, IsHeld, IsWithin, Labels, Parents, Scope, is_lower, number}
-use Rattle.diff_bounds.specs.Limits.{weight_limit}
+use Rattle.event_graph.specs.Limits.{weight_limit}
 use Rattle.diff_bounds.specs.Step.Falling.{IsPotential, Undercuts, fresh}
 use Rattle.diff_bounds.proofs.NamedWalks.{and_some, event, walk-append}
 use Rattle.diff_bounds.proofs.Climbs.{ChangesAt, StartBelow, all_rooted, climb_within, no_way_on, rest_of, top_climb_short}

@@ -18,3 +18,4 @@ pub mod Lifting
 pub mod Descending
 pub mod Linking
 pub mod Tracing
+pub mod AtOnce

@@ -7,7 +7,7 @@ use Rattle.std.proofs.lemmas.List.Elements.{All-from_get_or}
 use Rattle.std.proofs.lemmas.Grind.{get_or-set_at}
 use Rattle.trail.specs.declared.stamp.Stamp.{Stamp}
 use Rattle.diff_bounds.specs.Labels.{labels_from, number, stamp_at}
-use Rattle.diff_bounds.specs.Limits.{IsNear}
+use Rattle.diff_bounds.specs.Limits.{IsTimely}
 
 abbrev pub LiftsBelow : ℕ → List Stamp → ℕ → ℤ → Type 0
 LiftsBelow events stamps count lift =
@@ -35,10 +35,10 @@ lift_more events stamps count lift lift' label time is time_is more above below 
 -- the times of the events below a number are written
 pub record AreWritten (g : ℕ → ℤ) (out : List ℤ) (count : ℕ) : Type 0 where
   pub times : (v : ℕ) → v < count → get_or out v (pos 0) ≡ g v
-  pub range : (v : ℕ) → v < count → IsNear (get_or out v (pos 0))
+  pub range : (v : ℕ) → v < count → IsTimely (get_or out v (pos 0))
 
 -- one more time is written
-pub times_more : (g : ℕ → ℤ) (out new : List ℤ) (k : ℕ) (x : ℤ) → k < length out → new ≡ set out k x → x ≡ g k → IsNear x → AreWritten g out k → AreWritten g new (k + 1)
+pub times_more : (g : ℕ → ℤ) (out new : List ℤ) (k : ℕ) (x : ℤ) → k < length out → new ≡ set out k x → x ≡ g k → IsTimely x → AreWritten g out k → AreWritten g new (k + 1)
 times_more g out new k x within is value near written =
     let P : List ℤ → Type 0 = λ ts. AreWritten g ts (k + 1) in
     subst P (sym is) (record {
@@ -47,10 +47,10 @@ times_more g out new k x within is value near written =
         | inr off ↦ get_or-set_other out k v x (pos 0) off ∙ written.times v (omega arith)
       ];
       range = λ v below. elim (cases_eq v k) [
-        | inl same ↦ let Q : ℤ → Type 0 = IsNear in subst Q (sym (get_or-set_at out k v x (pos 0) same within)) near
-        | inr off ↦ let Q : ℤ → Type 0 = IsNear in subst Q (sym (get_or-set_other out k v x (pos 0) off)) (written.range v (omega arith))
+        | inl same ↦ let Q : ℤ → Type 0 = IsTimely in subst Q (sym (get_or-set_at out k v x (pos 0) same within)) near
+        | inr off ↦ let Q : ℤ → Type 0 = IsTimely in subst Q (sym (get_or-set_other out k v x (pos 0) off)) (written.range v (omega arith))
       ];
     })
 
-pub all_near : (out : List ℤ) (n : ℕ) → length out ≡ n → ((v : ℕ) → v < n → IsNear (get_or out v (pos 0))) → All IsNear out
-all_near out n is near = All-from_get_or IsNear out (pos 0) (λ i below. near i (omega arith))
+pub all_timely : (out : List ℤ) (n : ℕ) → length out ≡ n → ((v : ℕ) → v < n → IsTimely (get_or out v (pos 0))) → All IsTimely out
+all_timely out n is timely = All-from_get_or IsTimely out (pos 0) (λ i below. timely i (omega arith))

@@ -11,7 +11,7 @@ use Rattle.trail.specs.Stack.{Stack}
 use Rattle.diff_bounds.specs.declared.arc.Arc.{Arc}
 use Rattle.diff_bounds.specs.declared.falling.Run.{Run}
 use Rattle.diff_bounds.specs.Labels.{Follows, HasFallen, HaveSettled, IsClimb, IsForest, IsRooted, Labels, Parents, Scope, is_lower, labels_from, number, parents_from, stamp_at}
-use Rattle.diff_bounds.specs.Limits.{weight_limit}
+use Rattle.event_graph.specs.Limits.{weight_limit}
 use Rattle.diff_bounds.specs.Settled.{AreNear, HaveLabels, IsFeasible, IsSettled, at_source, zeros}
 use Rattle.diff_bounds.specs.Step.Falling.{AllDone, AreAbove, Closes, Falls, HasRun, IsDone, IsPlaced, IsPotential, IsRunning, RunsOn, fresh, scope_of, with_stamps}
 use Rattle.diff_bounds.specs.Step.Poised.{AreLow, AreOthersFollowed, AreRestFollowed, IsPoised, IsReady, feasible_run, scope_from, upper_run}
@@ -140,10 +140,10 @@ either_at old new (inl same) = inl (ap (λ (x : Stamp). x.label) same, ap (λ (x
 either_at old new (inr lower) = inr lower
 
 -- labels that have run on and settled
-pub labels_on : (s : Scope) (run : Run) (from : EventId) (start : Labels) (old new : List Stamp) → IsPoised s from start old run.base → HasRun s run old new → HaveSettled s (labels_from new run.base) → HaveLabels s start new run.base
-labels_on s run from start old new poised ran settled = record {
+pub labels_on : (s : Scope) (run : Run) (start : Labels) (old new : List Stamp) → IsForest s start (labels_from old run.base) (parents_from old run.base) → HasRun s run old new → HaveSettled s (labels_from new run.base) → HaveLabels s start new run.base
+labels_on s run start old new was ran settled = record {
   forest = forest_on s start (labels_from old run.base) (labels_from new run.base) (parents_from old run.base) (parents_from new run.base) (record {
-    was = poised.forest;
+    was = was;
     fell = ran.forest;
     each = λ v below. either_at (stamp_at old (run.base + v)) (stamp_at new (run.base + v)) (ran.fallen (run.base + v));
     settled = settled;
@@ -177,7 +177,7 @@ pub feasible_after : (net : Net) (out : List (List Arc)) (arcs : List Arc) (from
     → HasRun (scope_from net st first) (feasible_run net from first) st.current.stamps new → HaveSettled (scope_from net st first) (labels_from new net.events) → IsFeasible (scope_from net st first) new
 feasible_after net out arcs from first st w new ready low ran settled = record {
   slots = ran.count ∙ ready.slots;
-  labels = labels_on (scope_from net st first) (feasible_run net from first) from zeros st.current.stamps new ready.poised ran settled;
+  labels = labels_on (scope_from net st first) (feasible_run net from first) zeros st.current.stamps new ready.poised.forest ran settled;
   low = low_kept (scope_from net st first) (feasible_run net from first) st.current.stamps new (parents_from st.current.stamps net.events) refl ready.poised.forest low ran;
 }
 
@@ -240,7 +240,7 @@ pub settled_after : (net : Net) (out : List (List Arc)) (arcs : List Arc) (from 
 settled_after net out arcs from source st w new ready within feasible ran settled = record {
   feasible = feasible_stay (scope_from net st 0) st.current.stamps new ready.is_net ran.count (λ v below. ran.after (net.events + v) (omega arith)) feasible;
   near = ran.near;
-  uppers = (within, labels_on (scope_from net st 0) upper_run from (at_source source) st.current.stamps new ready.poised ran settled);
+  uppers = (within, labels_on (scope_from net st 0) upper_run (at_source source) st.current.stamps new ready.poised.forest ran settled);
 }
 
 -- ---- the loop

@@ -14,7 +14,8 @@ use Rattle.trail.specs.declared.stamp.Stamp.{Stamp}
 use Rattle.trail.specs.Stack.{empty_stamp}
 use Rattle.diff_bounds.specs.declared.falling.Run.{Run}
 use Rattle.diff_bounds.specs.Labels.{HasFallen, IsAmong, IsWithin, Scope, is_lower, labels_from, number, parents_from, stamp_at}
-use Rattle.diff_bounds.specs.Limits.{IsNear, weight_limit}
+use Rattle.event_graph.specs.Limits.{weight_limit}
+use Rattle.diff_bounds.specs.Limits.{IsNear, fall_limit}
 use Rattle.diff_bounds.specs.Settled.{AreNear}
 use Rattle.diff_bounds.specs.Step.Falling.{HasRun, IsRunning, KeepsRuns, Undercuts, fallen_stamp, fresh, height, natural_part, total_height}
 use Rattle.diff_bounds.proofs.Climbs.{ChangesAt}
@@ -115,17 +116,11 @@ natural_below (pos y) (pos z) low less = omega (arith, ints)
 natural_below (pos y) (negsuc z) low less = absurd (omega (arith, ints))
 natural_below (negsuc y) z low less = absurd (omega (arith, ints))
 
-natural_within : (z : ℤ) (n : ℕ) → z ≤ℤ pos n → natural_part z ≤ n
-natural_within (pos z) n most = omega (arith, ints)
-natural_within (negsuc z) n most = omega arith
-
-height_below : (standing : Option ℤ) (sum : ℤ) → is_lower (Some sum) standing ≡ true → pos 0 ≤ℤ (sum +ℤ pos 20000000000000000) → sum <ℤ pos 19000000000000000 → height (Some sum) < height standing
-height_below None sum lower low high =
-    let part : natural_part (sum +ℤ pos 20000000000000000) ≤ 39000000000000000 = natural_within (sum +ℤ pos 20000000000000000) 39000000000000000 (omega (arith, ints)) in
-    omega arith
+height_below : (standing : Option ℤ) (sum : ℤ) → is_lower (Some sum) standing ≡ true → pos 0 ≤ℤ (sum +ℤ pos fall_limit) → sum <ℤ pos fall_limit → height (Some sum) < height standing
+height_below None sum lower low high = natural_below (sum +ℤ pos fall_limit) (pos (2 * fall_limit)) low (omega (arith, ints))
 height_below (Some label) sum lower low high =
     let less : sum <ℤ label = lower_number sum label lower in
-    natural_below (sum +ℤ pos 20000000000000000) (label +ℤ pos 20000000000000000) low (omega (arith, ints))
+    natural_below (sum +ℤ pos fall_limit) (label +ℤ pos fall_limit) low (omega (arith, ints))
 
 -- a fall lowers the labels, all together
 pub height_falls : (s : Scope) (run : Run) (stamps : List Stamp) (name : EdgeName) (e : Edge) (f : OneFall s run stamps name e) → IsRunning s run stamps → length stamps ≤ 2 * MAX_EVENTS → s.net.events ≤ MAX_EVENTS

@@ -22,7 +22,7 @@ use Rattle.diff_bounds.specs.declared.arc.Arc.{Arc}
 use Rattle.diff_bounds.specs.Arcs.{AreAlwaysArcs, AreChosenArcs, IsArc}
 use Rattle.diff_bounds.specs.Current.{HasNoTimes, IsCurrent, IsLoop, IsPath, IsUpper, MeetsCurrent}
 use Rattle.diff_bounds.specs.Labels.{labels_from, number, parents_from}
-use Rattle.diff_bounds.specs.Limits.{IsReach, weight_limit}
+use Rattle.event_graph.specs.Limits.{IsReach, weight_limit}
 use Rattle.diff_bounds.specs.Settled.{AddsOne, AreSettled, IsFeasible, IsRoot, IsSettled, bottom, whole}
 use Rattle.diff_bounds.specs.Standing.{AreTimesOf, IsMadeFor, IsRayOf, Standing, Stands, chosen_of, feasible_of, lifted, upper_of}
 use Rattle.diff_bounds.specs.Step.Timing.{AreInReach, IsInReach}

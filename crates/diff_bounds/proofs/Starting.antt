@@ -117,7 +117,7 @@ halves_low n stamps slots uppers low slot label at =
 
 -- ---- the first labels
 
-begun_low : (n : ℕ) (stamps : List Stamp) → HasBegun n stamps → AreLow n stamps
+pub begun_low : (n : ℕ) (stamps : List Stamp) → HasBegun n stamps → AreLow n stamps
 begun_low n stamps begun v label below at =
     let zero : pos 0 ≡ label = same_Some (pos 0) label (sym (ap (λ (x : Stamp). x.label) (begun.feasible v below)) ∙ at) in omega (arith, ints)
 
@@ -133,7 +133,7 @@ none_among net chosen name e is_net among =
     omega arith
 
 -- labels without parents that are those at the start are a forest
-bare_forest : (s : Scope) (start label : Labels) (parent : Parents) → ((v : ℕ) → v < s.net.events → parent v ≡ None) → ((v : ℕ) → v < s.net.events → label v ≡ start v) → IsForest s start label parent
+pub bare_forest : (s : Scope) (start label : Labels) (parent : Parents) → ((v : ℕ) → v < s.net.events → parent v ≡ None) → ((v : ℕ) → v < s.net.events → label v ≡ start v) → IsForest s start label parent
 bare_forest s start label parent bare same = record {
   rooted = λ v below. record { root = v; way = []; climb = refl; top = bare v below };
   held = λ v name below at. absurd (none-some name (sym (bare v below) ∙ at));

@@ -16,7 +16,7 @@ use Rattle.event_graph.specs.Proof.{IsWalk, path_sum}
 use Rattle.event_graph.specs.Times.{separation, time_of}
 use Rattle.diff_bounds.specs.Current.{IsCurrent, IsPath, IsUpper, MeetsCurrent}
 use Rattle.diff_bounds.specs.Labels.{HaveSettled, IsAmong, IsClimb, IsForest, Labels, Parents, Scope, number}
-use Rattle.diff_bounds.specs.Limits.{IsReach, weight_limit}
+use Rattle.event_graph.specs.Limits.{IsReach, weight_limit}
 use Rattle.diff_bounds.specs.Settled.{at_source, whole}
 use Rattle.diff_bounds.specs.Standing.{lifted}
 use Rattle.diff_bounds.specs.Step.Falling.{IsPotential}

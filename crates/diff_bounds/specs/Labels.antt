@@ -7,7 +7,7 @@ use Rattle.event_graph.specs.Network.{Net}
 use Rattle.trail.specs.declared.stamp.Stamp.{Stamp}
 use Rattle.trail.specs.Stack.{empty_stamp}
 use Rattle.diff_bounds.specs.Current.{IsCurrent}
-use Rattle.diff_bounds.specs.Limits.{weight_limit}
+use Rattle.event_graph.specs.Limits.{weight_limit}
 
 -- the label of each event, or none where it was not reached
 abbrev pub Labels : Type 0

@@ -6,7 +6,7 @@ use Rattle.event_graph.specs.Network.{Net}
 use Rattle.trail.specs.declared.stamp.Stamp.{Stamp}
 use Rattle.trail.specs.Stack.{Graph}
 use Rattle.diff_bounds.specs.Labels.{HaveSettled, IsForest, Labels, Scope, labels_from, parents_from, stamp_at}
-use Rattle.diff_bounds.specs.Limits.{weight_limit}
+use Rattle.event_graph.specs.Limits.{weight_limit}
 
 -- the start of the feasible times: 0 at every event
 abbrev pub zeros : Labels

@@ -43,6 +43,7 @@ pub record HasRoom (b : Inside) : Type 0 where
   pub count : b.count ≤ b.events
   pub chosen : b.trail.levels ≤ b.chosen.room
   pub starts : b.chosen.events ≡ b.events
+  pub guess : length b.guess ≡ b.events
   pub events : b.events ≤ MAX_EVENTS
 
 -- the bounds were made for a network: the trail has two slots for each of its events, and a level for each constraint to split

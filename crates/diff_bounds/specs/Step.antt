@@ -5,3 +5,4 @@ pub mod Falling
 pub mod Poised
 pub mod Walking
 pub mod Timing
+pub mod Guessing

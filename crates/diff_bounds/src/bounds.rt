@@ -9,7 +9,8 @@ ghost use Rattle.event_graph.specs.RootBound.{HasNoRoot};
 ghost use Rattle.event_graph.specs.Times.{raised, separation, time_of};
 ghost use Rattle.trail.specs.Stack.{after_pop};
 ghost use Rattle.diff_bounds.specs.Current.{HasNoTimes, IsLoop, IsPath, IsUpper, MeetsCurrent, with_choice};
-ghost use Rattle.diff_bounds.specs.Limits.{IsNear, IsReach};
+ghost use Rattle.event_graph.specs.Limits.{IsReach};
+ghost use Rattle.diff_bounds.specs.Limits.{IsTimely};
 ghost use Rattle.diff_bounds.specs.contracts.bounds.Bounds.{the_row};
 ghost use Rattle.diff_bounds.specs.Standing.{AreTimesOf, HasDescended, IsMadeFor, IsRayOf, Stands, chosen_of, upper_of};
 
@@ -18,6 +19,7 @@ use crate::arc::Arc;
 use crate::chosen_edges::ChosenEdges;
 use crate::falling::label_in;
 use crate::fit::Fit;
+use crate::guess::Guess;
 use crate::out_edges::OutEdges;
 use crate::pending::Pending;
 use crate::settling::{reach, settle_root};
@@ -42,6 +44,7 @@ pub struct Bounds {
     events: u32,
     out: OutEdges,
     chosen: ChosenEdges,
+    guess: Guess,
     trail: Trail,
     pending: Pending,
     // Whether the feasible times of the first graph have settled.
@@ -80,6 +83,7 @@ impl Bounds {
             events,
             out: OutEdges::of_network(alloc, net)?,
             chosen: ChosenEdges::new(alloc, events, levels)?,
+            guess: Guess::new(alloc, events)?,
             trail: Trail::new(alloc, events + events, levels)?,
             pending: Pending::new(alloc, events)?,
             settled: false,
@@ -109,6 +113,7 @@ impl Bounds {
             net,
             &self.out,
             &self.chosen,
+            &mut self.guess,
             &mut self.trail,
             &mut self.pending,
         );
@@ -216,7 +221,7 @@ impl Bounds {
             → upper_of self.now event.0 ≡ Some value → separation out.new source event ≡ value }
         ensures origin { (net : Net) (source : EventId)
             → Stands net self.now → self.now.source ≡ Some source → time_of out.new source ≡ pos 0 }
-        ensures range { All IsNear out.new }
+        ensures range { All IsTimely out.new }
     {
         let lift = least_lift(&self.trail, self.events);
         write_times(&self.trail, self.events, lift, out);

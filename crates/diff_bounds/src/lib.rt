@@ -9,6 +9,7 @@ mod bounds;
 mod chosen_edges;
 mod falling;
 mod fit;
+mod guess;
 mod heap;
 mod out_edges;
 mod pending;

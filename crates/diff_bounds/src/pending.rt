@@ -52,7 +52,8 @@ impl Pending {
         while let Some(_event) = self.pop() {}
     }
 
-    /// Lets an event wait whose label has fallen by a number, which is not above 0. Where it waits already it has fallen further.
+    /// Lets an event wait whose label has fallen by a number, or is to come into the order as if it had. Where it waits already it has
+    /// fallen further.
     pub fn push(&mut self, event: EventId, by: i64)
         requires { event.0 < length self.old.marks }
         ensures marks { self.new.marks ≡ slice_set self.old.marks event.0 true }

@@ -1,20 +1,23 @@
 //! The labels of a graph: how they begin, and how they settle.
 
-ghost use Rattle.std.specs.Prelude.{◌≡◌, ◌+◌, ◌<◌, ◌≤◌, ℕ, false, [], IfNone, IfSome, IsTrue, Some, length};
+ghost use Rattle.std.specs.Prelude.{◌≡◌, ◌+◌, ◌<◌, ◌≤◌, ℕ, false, true, [], IfNone, IfSome, IsTrue, Some, length};
 ghost use Rattle.itv_base.specs.declared.limits.TheConstants.{MAX_EVENTS};
 ghost use Rattle.itv_base.specs.declared.names.EventId.{EventId};
 ghost use Rattle.event_graph.specs.Network.{IsNet};
+ghost use Rattle.event_graph.specs.RootBound.{MeetsAlways};
 ghost use Rattle.trail.specs.Stack.{new_stack};
 ghost use Rattle.diff_bounds.specs.Arcs.{AreAlwaysArcs, AreChosenArcs};
 ghost use Rattle.diff_bounds.specs.Labels.{HasFallen, HaveSettled, labels_from, stamp_at};
 ghost use Rattle.diff_bounds.specs.Settled.{AreNear, IsFeasible, IsRoot, IsSettled, at_source, bottom, zeros};
 ghost use Rattle.diff_bounds.specs.Step.Falling.{Closes, HasRun, IsPlaced, IsRunning, RunsOn, scope_of, with_stamps};
 ghost use Rattle.diff_bounds.specs.Step.Poised.{AreLow, AreOthersFollowed, HasBegun, HasCleared, IsFirst, IsReady, feasible_run, scope_from, upper_run};
+ghost use Rattle.diff_bounds.specs.Step.Waiting.{is_waiting};
 ghost use Rattle.diff_bounds.specs.Step.Walking.{HasLoop};
 
 use crate::arc::Arc;
 use crate::chosen_edges::ChosenEdges;
 use crate::falling::{Run, fall};
+use crate::guess::Guess;
 use crate::out_edges::OutEdges;
 use crate::pending::Pending;
 use event_graph::Network;
@@ -33,11 +36,15 @@ const ZERO: Stamp = Stamp {
 
 /// Makes the current graph the first one, with its feasible times, which are worked out where they have not settled yet. The answer
 /// is an edge that closes a loop of negative sum, if there is one.
+///
+/// Where a guess of times meets all always-edges, the feasible times settle over all of them at once. Else they settle event by event,
+/// which finds a loop where there is one. The feasible times are the same both ways.
 pub fn settle_root(
     settled: bool,
     net: &Network,
     out: &OutEdges,
     chosen: &ChosenEdges,
+    guess: &mut Guess,
     trail: &mut Trail,
     pending: &mut Pending,
 ) -> Option<Arc>
@@ -45,6 +52,7 @@ pub fn settle_root(
     requires out { AreAlwaysArcs net.now out.now }
     requires chosen { chosen.now.arcs ≡ [] }
     requires events { chosen.now.events ≡ net.now.events }
+    requires guess { length guess.old ≡ net.now.events }
     requires slots { length trail.old.current.stamps ≡ net.now.events + net.now.events }
     requires marks { length pending.old.marks ≡ net.now.events }
     requires root { IsTrue settled → IsRoot net.now (bottom trail.old.current trail.old.below) }
@@ -55,6 +63,7 @@ pub fn settle_root(
     ensures slots { length trail.new.current.stamps ≡ length trail.old.current.stamps }
     ensures marks { length pending.new.marks ≡ length pending.old.marks }
     ensures unsettled { IfSome result (λ _. settled ≡ false) }
+    ensures guess { length guess.new ≡ length guess.old }
 {
     if settled {
         pop_all(trail);
@@ -62,6 +71,10 @@ pub fn settle_root(
     }
     trail.reset();
     begin(trail, net.events());
+    if guess.make(net, out) {
+        settle_at_once(net, out, chosen, guess, trail, pending);
+        return None;
+    }
     settle_all(net, out, chosen, trail, pending)
 }
 
@@ -87,6 +100,56 @@ fn begin(trail: &mut Trail, events: u32)
 {
     for event in 0..events {
         trail.set_label(events + event, ZERO);
+    }
+}
+
+// Lets the feasible times of the first graph settle over all always-edges at once, where a guess meets these edges. All events wait, and
+// the one comes first whose feasible time is the least far above the guess: so no event falls again after it was taken.
+fn settle_at_once(
+    net: &Network,
+    out: &OutEdges,
+    chosen: &ChosenEdges,
+    guess: &Guess,
+    trail: &mut Trail,
+    pending: &mut Pending,
+)
+    requires net { IsNet net.now }
+    requires out { AreAlwaysArcs net.now out.now }
+    requires chosen { chosen.now.arcs ≡ [] }
+    requires events { chosen.now.events ≡ net.now.events }
+    requires guess { MeetsAlways guess.now net.now }
+    requires edges { trail.old.current.edges ≡ [] }
+    requires begun { HasBegun net.now.events trail.old.current.stamps }
+    requires marks { length pending.old.marks ≡ net.now.events }
+    ensures stack { trail.new ≡ with_stamps trail.old trail.new.current.stamps }
+    ensures slots { length trail.new.current.stamps ≡ length trail.old.current.stamps }
+    ensures feasible { IsFeasible (scope_from net.now trail.old 0) trail.new.current.stamps }
+    ensures marks { length pending.new.marks ≡ length pending.old.marks }
+{
+    let events = net.events();
+    push_all(events, guess, pending);
+    let run = Run {
+        base: events,
+        first: 0,
+        stop: None,
+    };
+    match fall(net, out, chosen, run, trail, pending) {
+        None => {}
+        Some(_arc) => unreachable!(),
+    }
+}
+
+// Lets all events wait, as if their labels had fallen to 0 from as far above 0 as the guess is below it.
+fn push_all(events: u32, guess: &Guess, pending: &mut Pending)
+    requires guess { length guess.now ≡ events }
+    requires marks { length pending.old.marks ≡ events }
+    ensures marks { length pending.new.marks ≡ length pending.old.marks }
+    ensures all { (event : ℕ) → event < events → is_waiting pending.new.marks event ≡ true }
+{
+    pending.clear();
+    for event in 0..events {
+        let event = EventId(event);
+        pending.push(event, guess.time(event).wrapping_neg());
     }
 }
 

@@ -4,7 +4,8 @@ ghost use Rattle.std.specs.Prelude.{◌≡◌, ◌+◌, ◌*◌, ◌<◌, ◌≤
 ghost use Rattle.std.specs.Prelude.{is_none, slice_get, slice_set};
 ghost use Rattle.itv_base.specs.declared.limits.TheConstants.{MAX_EVENTS};
 ghost use Rattle.diff_bounds.specs.Labels.{labels_from, number};
-ghost use Rattle.diff_bounds.specs.Limits.{IsNear, IsReach, near_limit};
+ghost use Rattle.event_graph.specs.Limits.{IsReach};
+ghost use Rattle.diff_bounds.specs.Limits.{IsTimely, near_limit};
 ghost use Rattle.diff_bounds.specs.Standing.{lifted};
 ghost use Rattle.diff_bounds.specs.Step.Timing.{AreInReach, LiftsAll};
 
@@ -62,7 +63,7 @@ pub fn write_times(trail: &Trail, events: u32, lift: i64, out: &mut [i64])
     requires count { length out.old ≡ events }
     ensures times { (event : ℕ) → event < events → slice_index_or out.new event (pos 0)
         ≡ lifted (labels_from trail.now.current.stamps 0 event) (number (labels_from trail.now.current.stamps events event) +ℤ lift) }
-    ensures range { All IsNear out.new }
+    ensures range { All IsTimely out.new }
 {
     for event in 0..events {
         put_time(out, event, time_in(trail, events, event, lift));
@@ -87,7 +88,7 @@ fn time_in(trail: &Trail, events: u32, event: u32, lift: i64) -> i64
     requires high { lift ≤ℤ pos near_limit }
     ensures value { result
         ≡ lifted (labels_from trail.now.current.stamps 0 event) (number (labels_from trail.now.current.stamps events event) +ℤ lift) }
-    ensures range { IsNear result }
+    ensures range { IsTimely result }
 {
     match label_in(trail, event) {
         Some(label) => label,
@@ -102,7 +103,7 @@ fn later(time: i64, lift: i64) -> i64
     requires low { pos 0 ≤ℤ lift }
     requires high { lift ≤ℤ pos near_limit }
     ensures time { result ≡ time +ℤ lift }
-    ensures range { IsNear result }
+    ensures range { IsTimely result }
 {
     time + lift
 }

@@ -1,10 +1,14 @@
 -- The names of the events of designs.
 use Rattle.std.proofs.Common.{◌≡◌, ◌<◌, ◌≤◌, ◌+◌, ℕ, zero, suc, Bool, true, false, if◌then◌else◌, List, [], ◌∷◌, ◌++◌, length, map, cond, nat_lt, All, Option, Some, None, Result, Ok, Err, refl, sym, ap, ◌∙◌, subst, arith, rules}
-use Rattle.std.specs.Prelude.{IsTrue, ◌&&◌, is_some, is_none, codes}
+use Rattle.std.specs.Prelude.{IfSome, IsTrue, ◌==◌, ◌&&◌, is_some, is_none, codes}
+use Rattle.std.proofs.lemmas.Result.{IfOk-at_ok}
 use Rattle.std.proofs.lemmas.List.Elements.{All-append, All-cons, All-head, All-map, All-nil, All-tail, All-weaker}
 use Rattle.serde_json.specs.Data.{Data}
 use Rattle.serde_json.specs.Find.{as_object, get}
-use Rattle.wavejson.specs.Drawing.{diagram_of}
+use Rattle.wavejson.specs.Drawing.{Drawing, diagram_of}
+use Rattle.grades.specs.declared.grade.Grade.{Grade}
+use Rattle.grades.specs.Grades.{AreRanges, grades_of}
+use Rattle.grades.proofs.WholeGrades.{grades_whole}
 use Rattle.itv_base.specs.Characters.{is_name}
 use Rattle.itv_base.specs.Names.{Name}
 use Rattle.itv_base.specs.Outside.{ShelfTold}
@@ -15,31 +19,34 @@ use Rattle.netlist.specs.Contents.{Contents}
 use Rattle.netlist.specs.Netlist.{lone_netlist, netlist_of, sheet_names}
 use Rattle.compose.specs.declared.fault.JoinFault.{JoinFault}
 use Rattle.netlist.specs.declared.part.Part.{Part}
+use Rattle.compose.specs.Sheets.{key_of}
 use Rattle.compose.specs.Compose.{composed_on}
 use Rattle.compose.specs.Nets.{joins_of}
 use Rattle.compose.specs.Numbers.{mark_count}
-use Rattle.compose.specs.Wires.{design_row, wire_links}
+use Rattle.compose.specs.Wires.{wire_links}
 use Rattle.sheet.specs.Links.{link_rows}
-use Rattle.sheet.specs.Sheet.{sheet_of}
+use Rattle.sheet.specs.Sheet.{sheet_by}
 use Rattle.sheet.specs.Whole.{IsWhole}
-use Rattle.sheet.proofs.WholeSheets.{sheet_whole}
+use Rattle.sheet.proofs.WholeSheets.{sheet_by_whole}
 use Rattle.compose.specs.Design.{Composed}
-use Rattle.unroll.specs.Cycles.{in_cycles}
-use Rattle.unroll.specs.Drawn.{Drawn, drawn_of, names_in}
+use Rattle.drawn.specs.Drawn.{Drawn, nameless}
+use Rattle.unroll.specs.Drawn.{drawn_of, names_in}
 use Rattle.unroll.specs.Limits.{counts_of, first_passed, unrolled, within}
 use Rattle.unroll.specs.declared.counted.Counted.{Counted}
-use Rattle.unroll.specs.declared.fault.UnrollFault.{UnrollFault}
 use Rattle.slack_report.specs.Entry.{IsName}
 use Rattle.reading.specs.declared.place.Place.{Place}
 use Rattle.reading.specs.declared.place.Place.TheVariants.{Design, File}
-use Rattle.reading.specs.declared.refusal.Refusal.TheVariants.{Diagram, Joins, Limits, Netlist, Sheet}
-use Rattle.reading.specs.Opening.{Comes, at, ready}
-use Rattle.reading.specs.Design.{NamedSheets, design_at, drawn_at, lone_at, netlist_at, sheet_at, sheet_in, tree_in, sheets_from, sheets_on, tree_drawn, with_sheet}
-use Rattle.drawn_names.specs.Law.{DrawnNamesHaveForm, DrawnRangesHaveForm, DrawnRowsAreFew}
-use Rattle.drawn_names.proofs.Rows.{DemandsDrawn, DemandsWire, cycles_hold, design_rows_hold, link_rows_hold, rows_hold, wires_hold}
-use Rattle.drawn_names.proofs.Steps.{at_gave, gave, opening_then, result_then}
-use Rattle.drawn_names.proofs.Sheets.{AreMarked, HasMarks, HoldsMarks, IsFormed, IsMarked, sheet_holds, sheets_hold, with_sheet_holds}
-use Rattle.drawn_names.proofs.Netlists.{IsNamed, IsNamedNetlist, lone_holds, netlist_holds}
+use Rattle.reading.specs.declared.refusal.Refusal.TheVariants.{Diagram, Grades, Joins, Limits, Netlist, Sheet}
+use Rattle.reading.specs.Opening.{Comes, at, each, gives, ready}
+use Rattle.reading.specs.Opening as openings
+use Rattle.reading.specs.Design.{NamedSheets, design_at, drawn_at, grades_in, is_unread, lone_at, netlist_at, plain_key, plain_sheet_at, sheets_at, sheets_in, sheets_of_files, sheets_on, tree_in, with_part, with_sheet}
+use Rattle.reading.proofs.Opens.{at_gave, each_keeps, gave, opening_then}
+use Rattle.drawn_names.specs.Law.{DrawnNamesDiffer, DrawnNamesHaveForm, DrawnRangesHaveForm, DrawnRowsAreFew}
+use Rattle.drawn_names.proofs.Apart.{AreApart, Every, MarksApart, apart_at, cycles_apart}
+use Rattle.drawn_names.proofs.Rows.{Demands, DemandsDrawn, cycles_hold, link_rows_hold, rows_hold, wires_hold}
+use Rattle.drawn_names.proofs.Steps.{result_then}
+use Rattle.drawn_names.proofs.Sheets.{AreMarked, HasMarks, HoldsMarks, IsFormed, IsMarked, sheet_by_holds, sheets_hold, with_sheet_holds}
+use Rattle.drawn_names.proofs.Netlists.{IsNamedNetlist, lone_holds, netlist_holds}
 
 -- ---- names in cycles
 
@@ -54,7 +61,7 @@ names_hold (part ∷ parts) (drawn ∷ sheets) cycle named marked few =
     let name_of : Mark → Name = λ mark. record { part = part; mark = mark.name; cycle = cycle } in
     let here : All IsName (map name_of drawn.marks) =
     All-map IsName name_of drawn.marks (All-weaker IsMarked (λ mark. IsName (name_of mark)) (λ mark is. record { part = All-head IsPartName part parts named; mark = is; cycle = few }) drawn.marks
-    (All-head HasMarks drawn sheets marked)) in
+    (All-head HasMarks drawn sheets marked).0) in
     All-append IsName (map name_of drawn.marks) (names_in parts sheets cycle) here
     (names_hold parts sheets cycle (All-tail IsPartName part parts named) (All-tail HasMarks drawn sheets marked) few)
 
@@ -62,9 +69,10 @@ names_hold (part ∷ parts) (drawn ∷ sheets) cycle named marked few =
 record IsNamedDesign (d : Composed) : Type 0 where
   cycles : d.cycles ≤ MAX_CYCLES
   parts : All IsPartName d.parts
+  apart : AreApart d.parts
   sheets : All HasMarks d.sheets
   whole : All IsWhole d.sheets
-  rows : All DemandsWire d.rows
+  rows : All Demands d.rows
 
 drawn_holds : (d : Composed) → IsNamedDesign d → All IsName (drawn_of d).names
 drawn_holds d named =
@@ -90,14 +98,15 @@ composed_holds netlist sheets d named marked whole is =
     let (links, are_links, last) = result_then (wire_links netlist.parts sheets netlist.wires) _ d rest in
     let cycles : netlist.cycles ≡ d.cycles = ok_field (λ (c : Composed). c.cycles) _ d last in
     let parts : map (λ (part : Part). part.name) netlist.parts ≡ d.parts = ok_field (λ (c : Composed). c.parts) _ d last in
-    let rows : map (design_row sheets) (link_rows links) ≡ d.rows = ok_field (λ (c : Composed). c.rows) _ d last in
+    let rows : link_rows links ≡ d.rows = ok_field (λ (c : Composed). c.rows) _ d last in
     let same : sheets ≡ d.sheets = ok_field (λ (c : Composed). c.sheets) _ d last in
     record {
       cycles = subst (λ n. n ≤ MAX_CYCLES) cycles named.cycles;
-      parts = subst (All IsPartName) parts (All-map IsPartName (λ (part : Part). part.name) netlist.parts named.parts);
+      parts = subst (All IsPartName) parts (All-map IsPartName (λ (part : Part). part.name) netlist.parts named.parts.named);
+      apart = subst AreApart parts named.parts.apart;
       sheets = subst (All HasMarks) same marked;
       whole = subst (All IsWhole) same whole;
-      rows = subst (All DemandsWire) rows (design_rows_hold sheets (link_rows links) (link_rows_hold links (wires_hold netlist.parts sheets links netlist.wires named.wires are_links)));
+      rows = subst (All Demands) rows (link_rows_hold links (wires_hold netlist.parts sheets links netlist.wires named.wires are_links));
     }
 
 -- a design was drawn that is named, and passes no limit
@@ -118,32 +127,57 @@ drawn_at_holds shelf netlist sheets drawn named marked comes =
     let both = sheets_hold sheets netlist.parts marked in
     record { design = d; named = composed_holds netlist (sheets_on sheets netlist.parts) d named both.0 both.1 joined; draws = inside.0; passes = inside.1 }
 
-sheet_at_holds : (shelf : ShelfTold) (place : Place) (tree : Data) (found : sheet.Contents) → Comes shelf (sheet_at place tree) (ready found) → IsFormed found
-sheet_at_holds shelf place tree found comes =
-    let (drawing, first, rest) = opening_then shelf (at place (λ why. Diagram why) (diagram_of tree)) _ found comes in
-    let read : sheet_of drawing ≡ Ok found = at_gave shelf place (λ why. Sheet why) _ found rest in
-    (sheet_holds drawing found read, sheet_whole drawing found read)
+sheet_by_formed : (grades : Option (List Grade)) (name : Option (List ℕ)) (drawing : Drawing) (found : sheet.Contents) → IfSome grades AreRanges → sheet_by grades name drawing ≡ Ok found → IsFormed found
+sheet_by_formed grades name drawing found ranges read =
+    (sheet_by_holds grades name drawing found read, IfOk-at_ok IsWhole read (sheet_by_whole grades name drawing ranges))
 
-sheets_from_hold : (shelf : ShelfTold) (number : ℕ) (sheets all : NamedSheets) (names : List (List ℕ)) → AreMarked sheets → Comes shelf (sheets_from number sheets names) (ready all)
-    → AreMarked all
-sheets_from_hold shelf number sheets all [] marked comes = subst AreMarked (gave shelf sheets all comes) marked
-sheets_from_hold shelf number sheets all (name ∷ names) marked comes =
-    let (found, first, rest) = opening_then shelf (sheet_in number name) _ all comes in
-    let (tree, read, drawn) = opening_then shelf (tree_in (File number) name) _ found first in
-    sheets_from_hold shelf (number + 1) (with_sheet sheets name found) all names (with_sheet_holds sheets name found marked (sheet_at_holds shelf (File number) tree found drawn)) rest
+plain_sheet_holds : (shelf : ShelfTold) (place : Place) (tree : Data) (found : sheet.Contents) → Comes shelf (plain_sheet_at place tree) (ready found) → IsFormed found
+plain_sheet_holds shelf place tree found comes =
+    let (drawing, first, rest) = opening_then shelf (at place (λ why. Diagram why) (diagram_of tree)) _ found comes in
+    sheet_by_formed None None drawing found tt (at_gave shelf place (λ why. Sheet why) _ found rest)
+
+-- the grades that are read of a file give ranges
+grades_in_hold : (shelf : ShelfTold) (version : ℕ) (place : Place) (tree : Data) (grades : Option (List Grade)) → Comes shelf (grades_in version place tree) (ready grades) → IfSome grades AreRanges
+grades_in_hold shelf version place tree grades comes = by (version == 2) comes
+  where
+    by : (b : Bool) → Comes shelf (if b then openings.◌>>=◌ (at place (λ why. Grades why) (grades_of tree)) (λ grades. gives (Some grades)) else gives None) (ready grades) → IfSome grades AreRanges
+    by false came = subst (λ o. IfSome o AreRanges) (gave shelf None grades came) tt
+    by true came =
+        let (read, first, rest) = opening_then shelf (at place (λ why. Grades why) (grades_of tree)) (λ grades. gives (Some grades)) grades came in
+        subst (λ o. IfSome o AreRanges) (gave shelf (Some read) grades rest) (grades_whole tree read (at_gave shelf place (λ why. Grades why) _ read first))
+
+-- the sheets with that of one part more
+with_part_holds : (shelf : ShelfTold) (place : Place) (name : List ℕ) (grades : Option (List Grade)) (drawing : Drawing) → IfSome grades AreRanges → (n : ℕ) (sheets more : NamedSheets) (part : Part)
+    → AreMarked sheets → Comes shelf (with_part place name grades drawing n sheets part) (ready more) → AreMarked more
+with_part_holds shelf place name grades drawing ranges n sheets more part marked comes = by (is_unread sheets name part) comes
+  where
+    by : (b : Bool) → Comes shelf (if b then openings.◌>>=◌ (at place (λ why. Sheet why) (sheet_by grades part.grade drawing)) (λ sheet. gives (with_sheet sheets (key_of part) sheet)) else gives sheets) (ready more) → AreMarked more
+    by false came = subst AreMarked (gave shelf sheets more came) marked
+    by true came =
+        let (found, first, rest) = opening_then shelf (at place (λ why. Sheet why) (sheet_by grades part.grade drawing)) (λ sheet. gives (with_sheet sheets (key_of part) sheet)) more came in
+        subst AreMarked (gave shelf (with_sheet sheets (key_of part) found) more rest)
+        (with_sheet_holds sheets (key_of part) found marked (sheet_by_formed grades part.grade drawing found ranges (at_gave shelf place (λ why. Sheet why) _ found first)))
+
+-- the sheets with those of one file more
+sheets_in_hold : (shelf : ShelfTold) (netlist : Contents) (number : ℕ) (sheets more : NamedSheets) (name : List ℕ) → AreMarked sheets → Comes shelf (sheets_in netlist number sheets name) (ready more) → AreMarked more
+sheets_in_hold shelf netlist number sheets more name marked comes =
+    let (tree, fetched, read) = opening_then shelf (tree_in (File number) name) (λ tree. sheets_at netlist number sheets name tree) more comes in
+    let (drawing, drawn, rest) = opening_then shelf (at (File number) (λ why. Diagram why) (diagram_of tree)) _ more read in
+    let (grades, told, last) = opening_then shelf (grades_in netlist.version (File number) tree) (λ grades. each (with_part (File number) name grades drawing) 0 sheets netlist.parts) more rest in
+    each_keeps AreMarked shelf (with_part (File number) name grades drawing) (with_part_holds shelf (File number) name grades drawing (grades_in_hold shelf netlist.version (File number) tree grades told)) 0 sheets more netlist.parts marked last
 
 lone_at_holds : (shelf : ShelfTold) (name : List ℕ) (tree : Data) (drawn : Drawn) → Comes shelf (lone_at name tree) (ready drawn) → IsDrawnFrom drawn
 lone_at_holds shelf name tree drawn comes =
-    let (found, first, rest) = opening_then shelf (sheet_at (File 0) tree) _ drawn comes in
-    drawn_at_holds shelf (lone_netlist name) (with_sheet [] name found) drawn (lone_holds name)
-    (with_sheet_holds [] name found (All-nil HoldsMarks) (sheet_at_holds shelf (File 0) tree found first)) rest
+    let (found, first, rest) = opening_then shelf (plain_sheet_at (File 0) tree) _ drawn comes in
+    drawn_at_holds shelf (lone_netlist name) (with_sheet [] (plain_key name) found) drawn (lone_holds name)
+    (with_sheet_holds [] (plain_key name) found (All-nil HoldsMarks) (plain_sheet_holds shelf (File 0) tree found first)) rest
 
 netlist_at_holds : (shelf : ShelfTold) (tree : Data) (drawn : Drawn) → Comes shelf (netlist_at tree) (ready drawn) → IsDrawnFrom drawn
 netlist_at_holds shelf tree drawn comes =
     let (netlist, first, rest) = opening_then shelf (at (File 0) (λ why. Netlist why) (netlist_of tree)) _ drawn comes in
-    let (sheets, fetched, last) = opening_then shelf (sheets_from 1 [] (sheet_names netlist.parts)) _ drawn rest in
+    let (sheets, fetched, last) = opening_then shelf (sheets_of_files netlist (sheet_names netlist.parts)) _ drawn rest in
     let read : netlist_of tree ≡ Ok netlist = at_gave shelf (File 0) (λ why. Netlist why) _ netlist first in
-    drawn_at_holds shelf netlist sheets drawn (netlist_holds tree netlist read) (sheets_from_hold shelf 1 [] sheets (sheet_names netlist.parts) (All-nil HoldsMarks) fetched) last
+    drawn_at_holds shelf netlist sheets drawn (netlist_holds tree netlist read) (each_keeps AreMarked shelf (sheets_in netlist) (sheets_in_hold shelf netlist) 1 [] sheets (sheet_names netlist.parts) (All-nil HoldsMarks) fetched) last
 
 either_holds : (shelf : ShelfTold) (b : Bool) (name : List ℕ) (tree : Data) (drawn : Drawn) → Comes shelf (if b then lone_at name tree else netlist_at tree) (ready drawn) → IsDrawnFrom drawn
 either_holds shelf true name tree drawn comes = lone_at_holds shelf name tree drawn comes
@@ -154,6 +188,10 @@ drawn_from shelf name drawn comes =
     let (tree, first, rest) = opening_then shelf (tree_in (File 0) name) _ drawn comes in
     either_holds shelf (is_some (as_object tree) && is_none (get (codes "itv") tree)) name tree drawn rest
 
+each_apart : (sheets : List sheet.Contents) → All HasMarks sheets → Every MarksApart sheets
+each_apart [] all = tt
+each_apart (first ∷ sheets) all = ((All-head HasMarks first sheets all).1, each_apart sheets (All-tail HasMarks first sheets all))
+
 -- ---- the laws
 
 -- each event of a drawn network has a name of its form
@@ -161,6 +199,14 @@ pub drawn_names_have_form : DrawnNamesHaveForm
 drawn_names_have_form shelf name drawn comes =
     let from = drawn_from shelf name drawn comes in
     subst (λ (x : Drawn). All IsName x.names) from.draws (drawn_holds from.design from.named)
+
+-- and none stands twice
+pub drawn_names_differ : DrawnNamesDiffer
+drawn_names_differ shelf name drawn comes i j less within same =
+    let from = drawn_from shelf name drawn comes in
+    apart_at drawn.names i j nameless
+    (subst (λ (x : Drawn). AreApart x.names) from.draws (cycles_apart from.design.parts from.design.sheets from.design.cycles from.named.apart (each_apart from.design.sheets from.named.sheets)))
+    less within same
 
 -- what each row demands is a range
 pub drawn_ranges_have_form : DrawnRangesHaveForm

@@ -1,4 +1,5 @@
 pub mod Steps
+pub mod Apart
 pub mod Sheets
 pub mod Netlists
 pub mod Rows

@@ -1,13 +1,13 @@
 -- What rows demand.
-use Rattle.std.proofs.Common.{◌≡◌, ◌<◌, ◌+◌, ℕ, zero, suc, Bool, true, false, if◌then◌else◌, List, [], ◌∷◌, ◌++◌, length, map, All, Option, Some, None, IfSome, unwrap_or, Result, Ok, Err, refl, sym, ap, ◌∙◌, subst, arith}
+use Rattle.std.proofs.Common.{◌≡◌, ◌<◌, ◌+◌, ℕ, zero, suc, Bool, true, false, if◌then◌else◌, List, [], ◌∷◌, ◌++◌, length, map, All, Option, Some, None, IfSome, unwrap_or, Result, Ok, Err, subst, arith}
 use Rattle.std.specs.List.{cons_option, filter_map}
 use Rattle.std.proofs.lemmas.List.Elements.{All-append, All-cons, All-head, All-map, All-nil, All-push, All-tail, All-weaker}
 use Rattle.itv_base.specs.Range.{Ends, IsRange}
 use Rattle.itv_base.specs.Reading.{walk}
 use Rattle.label_grammar.specs.declared.label.Kind.{Kind}
 use Rattle.label_grammar.specs.declared.label.Kind.TheVariants.{Lin, Late, Early, Req, Ask}
-use Rattle.sheet.specs.declared.row.RowKind.{RowKind}
-use Rattle.sheet.specs.declared.row.RowKind.TheVariants as asked
+use Rattle.itv_base.specs.declared.row_kind.RowKind.{RowKind}
+use Rattle.itv_base.specs.declared.row_kind.RowKind.TheVariants as asked
 use Rattle.sheet.specs.declared.row.SheetRow.{SheetRow}
 use Rattle.sheet.specs.Contents as sheet
 use Rattle.sheet.specs.Links.{Link, is_full, link_rows, open_ends, row_by}
@@ -18,14 +18,12 @@ use Rattle.netlist.specs.declared.wire.Wire.{Wire}
 use Rattle.compose.specs.Design.{Composed}
 use Rattle.compose.specs.declared.fault.JoinFault.{JoinFault}
 use Rattle.compose.specs.declared.fault.JoinFault.TheVariants.{TooManyCauses}
-use Rattle.compose.specs.declared.wire_row.WireRow.{WireRow}
-use Rattle.compose.specs.Numbers.{wire_row}
-use Rattle.compose.specs.Wires.{design_row, ends_of, wire_link, wire_links, with_wire}
+use Rattle.compose.specs.Wires.{ends_of, wire_link, wire_links, with_wire}
 use Rattle.unroll.specs.Cycle.{part_rows, row_behind, rows_of}
-use Rattle.unroll.specs.Cycles.{event_in, in_cycles, row_exists, row_in, rows_in}
-use Rattle.unroll.specs.declared.row.Row.{Row}
+use Rattle.unroll.specs.Cycles.{in_cycles, row_exists, row_in, rows_in}
+use Rattle.drawn.specs.declared.row.Row.{Row}
 use Rattle.slack_report.specs.Entry.{IsKind}
-use Rattle.drawn_names.proofs.Steps.{result_then, walk_keeps}
+use Rattle.drawn_names.proofs.Steps.{result_then}
 
 -- ---- lists
 
@@ -88,7 +86,7 @@ with_wire_holds : (parts : List Part) (sheets : List sheet.Contents) (n : ℕ) (
 with_wire_holds parts sheets n done last None whole all is = let same : done ≡ last = cc is in subst (All HasRange) same all
 with_wire_holds parts sheets n done last (Some wire) whole all is =
     let (ends, are_ends, rest) = result_then (ends_of parts sheets n wire) _ last is in
-    pushed (is_full done (wire_link sheets wire ends)) (TooManyCauses n) done last (wire_link sheets wire ends) all (range_of wire.range whole.ends) rest
+    pushed (is_full done (wire_link sheets n wire ends)) (TooManyCauses n) done last (wire_link sheets n wire ends) all (range_of wire.range whole.ends) rest
 
 wires_walk : (parts : List Part) (sheets : List sheet.Contents) (n : ℕ) (done last : List Link) (wires : List (Option Wire)) → All IsWholeIf wires → All HasRange done
     → walk (with_wire parts sheets) n done wires ≡ Ok last → All HasRange last
@@ -102,12 +100,6 @@ pub wires_hold : (parts : List Part) (sheets : List sheet.Contents) (links : Lis
 wires_hold parts sheets links wires whole is = wires_walk parts sheets 0 [] links wires whole (All-nil HasRange) is
 
 -- ---- rows of a design
-
-abbrev pub DemandsWire : WireRow → Type 0
-DemandsWire row = IsKind row.kind
-
-pub design_rows_hold : (sheets : List sheet.Contents) (rows : List SheetRow) → All Demands rows → All DemandsWire (map (design_row sheets) rows)
-design_rows_hold sheets rows all = All-map DemandsWire (design_row sheets) rows all
 
 kind_holds : (kind : RowKind) → IsWholeKind kind → IsKind kind
 kind_holds asked.Ask is = tt
@@ -123,9 +115,8 @@ part_rows_hold first (drawn ∷ sheets) all =
     All-append Demands (map (row_behind first) drawn.rows) (part_rows (first + length drawn.marks) sheets) (All-map Demands (row_behind first) drawn.rows here)
     (part_rows_hold (first + length drawn.marks) sheets (All-tail IsWhole drawn sheets all))
 
-rows_of_hold : (d : Composed) → All IsWhole d.sheets → All DemandsWire d.rows → All Demands (rows_of d)
-rows_of_hold d whole demands =
-    All-append Demands (part_rows 0 d.sheets) (map (wire_row d.sheets) d.rows) (part_rows_hold 0 d.sheets whole) (All-map Demands (wire_row d.sheets) d.rows demands)
+rows_of_hold : (d : Composed) → All IsWhole d.sheets → All Demands d.rows → All Demands (rows_of d)
+rows_of_hold d whole demands = All-append Demands (part_rows 0 d.sheets) d.rows (part_rows_hold 0 d.sheets whole) demands
 
 -- ---- rows in cycles
 
@@ -137,7 +128,7 @@ row_if : (b : Bool) (row : Row) → DemandsDrawn row → IfSome (if b then Some 
 row_if true row demands = demands
 row_if false row demands = tt
 
-pub rows_hold : (marks : ℕ) (d : Composed) → All IsWhole d.sheets → All DemandsWire d.rows → All DemandsDrawn (rows_in marks (rows_of d) d.cycles)
+pub rows_hold : (marks : ℕ) (d : Composed) → All IsWhole d.sheets → All Demands d.rows → All DemandsDrawn (rows_in marks (rows_of d) d.cycles)
 rows_hold marks d whole demands =
     cycles_hold DemandsDrawn (λ cycle. filter_map (row_in marks cycle) (rows_of d)) d.cycles (λ cycle less.
     all_given Demands DemandsDrawn (row_in marks cycle) (λ row is. row_if (row_exists cycle row) _ is) (rows_of d) (rows_of_hold d whole demands))

@@ -1,9 +1,8 @@
 -- The marks of sheets.
-use Rattle.std.proofs.Common.{◌≡◌, ◌+◌, ℕ, Bool, true, false, if◌then◌else◌, List, [], ◌∷◌, ◌++◌, cond, All, Option, Some, None, Result, Ok, Err, refl, sym, ap, ◌∙◌, subst, nat_eq, position}
+use Rattle.std.proofs.Common.{◌≡◌, ◌+◌, ℕ, Bool, true, false, if◌then◌else◌, List, [], ◌∷◌, ◌++◌, map, cond, All, Option, Some, None, Result, Ok, Err, refl, sym, ap, ◌∙◌, subst, nat_eq, position}
 use Rattle.std.specs.Prelude.{IsTrue, IfSome}
 use Rattle.std.specs.List.{cons_option, filter_map, flat_map, enumerate_from}
 use Rattle.std.specs.Map.{lookup}
-use Rattle.std.specs.Cmp.Lexicographic.{pointwise}
 use Rattle.std.proofs.lemmas.List.Elements.{All-append, All-cons, All-head, All-nil, All-tail, All-weaker}
 use Rattle.itv_base.specs.Characters.{is_mark}
 use Rattle.wavejson.specs.Drawing.{Drawing}
@@ -15,19 +14,28 @@ use Rattle.sheet.specs.declared.fault.SheetFault.{SheetFault}
 use Rattle.sheet.specs.declared.fault.SheetFault.TheVariants.{BadNode, DoubleMark}
 use Rattle.itv_base.specs.Reading.{unless}
 use Rattle.sheet.specs.Lanes.{drawn_kind, first_repeated, has_bad_node, lane_marks, mark_at, marks_of, node_of}
-use Rattle.sheet.specs.Links.{links_of}
-use Rattle.sheet.specs.Sheet.{read_marks, read_pins, sheet_of}
+use Rattle.grades.specs.declared.grade.Grade.{Grade}
+use Rattle.sheet.specs.Links.{Labels, plain, graded, links_of}
+use Rattle.sheet.specs.Sheet.{grade_named, read_marks, read_pins, sheet_at, sheet_by, sheet_of}
+use Rattle.compose.specs.Sheets.{key_of, same_key}
+use Rattle.compose.specs.declared.sheet_key.SheetKey.{SheetKey}
 use Rattle.sheet.specs.Whole.{IsWhole}
 use Rattle.indexmap.specs.IndexMap.{insert_entry}
 use Rattle.reading.specs.Design.{NamedSheets, sheet_among, sheets_on, with_sheet}
-use Rattle.drawn_names.proofs.Steps.{result_then, unless_gave}
+use Rattle.std.proofs.lemmas.Bool.{eq-eqb}
+use Rattle.drawn_names.proofs.Apart.{AreApart, keys_apart}
+use Rattle.drawn_names.proofs.Steps.{result_then, unless_gave, unless_none}
 
 -- the name of a mark is one of a mark
 abbrev pub IsMarked : Mark → Type 0
 IsMarked mark = IsTrue (is_mark mark.name)
 
+-- no mark stands twice
+abbrev pub AreMarks : List Mark → Type 0
+AreMarks marks = All IsMarked marks × AreApart (map (λ (mark : Mark). mark.name) marks)
+
 abbrev pub HasMarks : Contents → Type 0
-HasMarks sheet = All IsMarked sheet.marks
+HasMarks sheet = AreMarks sheet.marks
 
 -- ---- lists that are read element by element
 
@@ -57,13 +65,15 @@ marks_hold : (lanes : List LaneText) → All IsMarked (marks_of lanes)
 marks_hold lanes =
     all_flat IsMarked lane_marks (λ lane. all_filtered IsMarked (mark_at lane.0 lane.1) (mark_holds lane.0 lane.1) (enumerate_from 0 (node_of lane.1))) (enumerate_from 0 lanes)
 
-read_marks_hold : (lanes : List LaneText) (marks : List Mark) → read_marks lanes ≡ Ok marks → All IsMarked marks
+read_marks_hold : (lanes : List LaneText) (marks : List Mark) → read_marks lanes ≡ Ok marks → AreMarks marks
 unfolding read_marks
 read_marks_hold lanes marks is =
     let (some, first, rest) = result_then (unless (position has_bad_node lanes) (λ n. BadNode n) lanes) _ marks is in
     let same : marks_of some ≡ marks =
     unless_gave (first_repeated nat_eq (λ (mark : Mark). mark.name) [] (marks_of some)) (λ (mark : Mark). DoubleMark mark.name) (marks_of some) marks rest in
-    subst (All IsMarked) same (marks_hold some)
+    let once : first_repeated nat_eq (λ (mark : Mark). mark.name) [] (marks_of some) ≡ None =
+    unless_none (first_repeated nat_eq (λ (mark : Mark). mark.name) [] (marks_of some)) (λ (mark : Mark). DoubleMark mark.name) (marks_of some) marks rest in
+    subst AreMarks same (marks_hold some, keys_apart nat_eq (λ (mark : Mark). mark.name) eq-eqb (marks_of some) once)
 
 abbrev pub IsGiven : Contents → Result Contents SheetFault → Type 0
 IsGiven found result = Ok found ≡ result
@@ -72,19 +82,26 @@ given : (found sheet : Contents) → IsGiven found (Ok sheet) → found.marks �
 given found sheet is = let same : found ≡ sheet = cc is in ap (λ (c : Contents). c.marks) same
 
 -- the marks of a sheet that was read are named so
-pub sheet_holds : (drawing : Drawing) (sheet : Contents) → sheet_of drawing ≡ Ok sheet → HasMarks sheet
+pub sheet_holds : (labels : Labels) (drawing : Drawing) (sheet : Contents) → sheet_of labels drawing ≡ Ok sheet → HasMarks sheet
 unfolding sheet_of
-sheet_holds drawing sheet is =
+sheet_holds labels drawing sheet is =
     let (marks, is_marks, rest) = result_then (read_marks drawing.lanes) _ sheet is in
     let (pins, is_pins, more) = result_then (read_pins drawing.lanes) _ sheet rest in
-    let (links, is_links, last) = result_then (links_of marks drawing.edges) _ sheet more in
+    let (links, is_links, last) = result_then (links_of labels marks drawing.edges) _ sheet more in
     let same : marks ≡ sheet.marks = given _ sheet last in
-    subst (All IsMarked) same (read_marks_hold drawing.lanes marks is_marks)
+    subst AreMarks same (read_marks_hold drawing.lanes marks is_marks)
 
--- ---- sheets by their names
+-- so are those of one that was read at a grade, or at none
+pub sheet_by_holds : (grades : Option (List Grade)) (name : Option (List ℕ)) (drawing : Drawing) (sheet : Contents) → sheet_by grades name drawing ≡ Ok sheet → HasMarks sheet
+unfolding sheet_at
+sheet_by_holds None name drawing sheet is = sheet_holds plain drawing sheet is
+sheet_by_holds (Some grades) name drawing sheet is =
+    let (grade, named, rest) = result_then (grade_named grades name) (λ g. sheet_of (graded g) drawing) sheet is in sheet_holds (graded grade) drawing sheet rest
+
+-- ---- sheets by their keys
 
 abbrev pub Entry : Type 0
-Entry = List ℕ × Contents
+Entry = SheetKey × Contents
 
 -- a sheet has such marks, and is whole
 abbrev pub IsFormed : Contents → Type 0
@@ -102,21 +119,21 @@ entered true e es more sheet holds all others = All-cons HoldsMarks (e.0, sheet)
 entered false e es more sheet holds all others = All-cons HoldsMarks e more (All-head HoldsMarks e es all) others
 
 -- one more sheet
-pub with_sheet_holds : (sheets : NamedSheets) (name : List ℕ) (sheet : Contents) → AreMarked sheets → IsFormed sheet → AreMarked (with_sheet sheets name sheet)
-with_sheet_holds [] name sheet all holds = All-cons HoldsMarks (name, sheet) [] holds (All-nil HoldsMarks)
-with_sheet_holds (e ∷ es) name sheet all holds =
-    entered (pointwise nat_eq name e.0) e es (with_sheet es name sheet) sheet holds all (with_sheet_holds es name sheet (All-tail HoldsMarks e es all) holds)
+pub with_sheet_holds : (sheets : NamedSheets) (key : SheetKey) (sheet : Contents) → AreMarked sheets → IsFormed sheet → AreMarked (with_sheet sheets key sheet)
+with_sheet_holds [] key sheet all holds = All-cons HoldsMarks (key, sheet) [] holds (All-nil HoldsMarks)
+with_sheet_holds (e ∷ es) key sheet all holds =
+    entered (same_key key e.0) e es (with_sheet es key sheet) sheet holds all (with_sheet_holds es key sheet (All-tail HoldsMarks e es all) holds)
 
 found : (b : Bool) (e : Entry) (o : Option Contents) → IsFormed e.1 → IfSome o IsFormed → IfSome (cond b (Some e.1) o) IsFormed
 found true e o here others = here
 found false e o here others = others
 
-among_holds : (sheets : NamedSheets) (name : List ℕ) → AreMarked sheets → IfSome (sheet_among sheets name) IsFormed
-among_holds [] name all = tt
-among_holds (e ∷ es) name all = found (pointwise nat_eq name e.0) e (sheet_among es name) (All-head HoldsMarks e es all) (among_holds es name (All-tail HoldsMarks e es all))
+among_holds : (sheets : NamedSheets) (key : SheetKey) → AreMarked sheets → IfSome (sheet_among sheets key) IsFormed
+among_holds [] key all = tt
+among_holds (e ∷ es) key all = found (same_key key e.0) e (sheet_among es key) (All-head HoldsMarks e es all) (among_holds es key (All-tail HoldsMarks e es all))
 
 -- the sheets of parts
 pub sheets_hold : (sheets : NamedSheets) (parts : List Part) → AreMarked sheets → All HasMarks (sheets_on sheets parts) × All IsWhole (sheets_on sheets parts)
 sheets_hold sheets parts all =
-    let both : All IsFormed (sheets_on sheets parts) = all_filtered IsFormed (λ part. sheet_among sheets part.sheet) (λ part. among_holds sheets part.sheet all) parts in
+    let both : All IsFormed (sheets_on sheets parts) = all_filtered IsFormed (λ part. sheet_among sheets (key_of part)) (λ part. among_holds sheets (key_of part) all) parts in
     (All-weaker IsFormed HasMarks (λ sheet is. is.0) (sheets_on sheets parts) both, All-weaker IsFormed IsWhole (λ sheet is. is.1) (sheets_on sheets parts) both)

@@ -1,35 +1,12 @@
 -- What one step and then another gave.
 use Rattle.std.proofs.Common.{◌≡◌, ◌+◌, ℕ, zero, suc, Bool, true, false, if◌then◌else◌, List, [], ◌∷◌, Option, Some, None, Result, Ok, Err, ok_or, refl, sym, ap, ◌∙◌, subst, inl, inr}
-use Rattle.itv_base.specs.Outside.{ShelfTold}
 use Rattle.itv_base.specs.Reading.{unless, walk}
 use Rattle.itv_base.specs.Reading as results
-use Rattle.reading.specs.declared.place.Place.{Place}
-use Rattle.reading.specs.declared.refusal.Refusal.{Refusal}
-use Rattle.reading.specs.Opening.{Opening, gives, refuses, fetches, at, Comes, ready}
-use Rattle.reading.specs.Opening as openings
 
 -- two results, one after another, gave something
 pub result_then : {A B F : Type 0} (r : Result A F) (f : A → Result B F) (y : B) → results.◌>>=◌ r f ≡ Ok y → (x : A) × (r ≡ Ok x) × (f x ≡ Ok y)
 result_then (Ok x) f y is = (x, refl, is)
 result_then (Err fault) f y is = absurd (cc is)
-
--- two readings, one after another, came to something
-pub opening_then : {A B : Type 0} (shelf : ShelfTold) (o : Opening A) (f : A → Opening B) (y : B) → Comes shelf (openings.◌>>=◌ o f) (ready y)
-    → (x : A) × Comes shelf o (ready x) × Comes shelf (f x) (ready y)
-opening_then shelf (gives x) f y comes = (x, refl, comes)
-opening_then shelf (refuses place why) f y comes = absurd (cc comes)
-opening_then shelf (fetches place name most next) f y (inl is) = absurd (cc is)
-opening_then shelf (fetches place name most next) f y (inr (bytes, front, comes)) =
-    let (x, first, then') = opening_then shelf (next bytes) f y comes in (x, inr (bytes, front, first), then')
-
--- what was read already came to itself
-pub at_gave : {A F : Type 0} (shelf : ShelfTold) (place : Place) (why : F → Refusal) (r : Result A F) (x : A) → Comes shelf (at place why r) (ready x) → r ≡ Ok x
-at_gave shelf place why (Ok y) x comes = let same : x ≡ y = cc comes in ap (λ z. Ok z) (sym same)
-at_gave shelf place why (Err fault) x comes = absurd (cc comes)
-
--- a reading that gives something came to it
-pub gave : {A : Type 0} (shelf : ShelfTold) (x y : A) → Comes shelf (gives x) (ready y) → x ≡ y
-gave shelf x y comes = cc comes
 
 -- an option that is demanded was there
 pub ok_gave : {A F : Type 0} (o : Option A) (fault : F) (x : A) → ok_or o fault ≡ Ok x → o ≡ Some x
@@ -40,6 +17,11 @@ ok_gave (Some y) fault x is = let same : y ≡ x = cc is in ap (λ z. Some z) sa
 pub unless_gave : {A X F : Type 0} (o : Option X) (fault : X → F) (value x : A) → unless o fault value ≡ Ok x → value ≡ x
 unless_gave None fault value x is = cc is
 unless_gave (Some y) fault value x is = absurd (cc is)
+
+-- and there was nothing to be wrong
+pub unless_none : {A X F : Type 0} (o : Option X) (fault : X → F) (value x : A) → unless o fault value ≡ Ok x → o ≡ None
+unless_none None fault value x is = refl
+unless_none (Some y) fault value x is = absurd (cc is)
 
 -- what each step of a loop keeps holds of what the loop gave
 pub walk_keeps : {X A F : Type 0} (P : A → Type 0) (step : ℕ → A → X → Result A F) → ((n : ℕ) (a b : A) (x : X) → P a → step n a x ≡ Ok b → P b)

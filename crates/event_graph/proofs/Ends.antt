@@ -12,20 +12,20 @@ use Rattle.event_graph.proofs.EdgesMet.{All-found}
 abbrev pub HasOwnEnds : Constraint → Type 0
 HasOwnEnds k = (cause : ℕ) (c : Cause) → slice_get k.causes cause ≡ Some c → AreEnds c.range
 
-own_ends : (k : Constraint) → All (λ (c : Cause). AreEnds c.range) k.causes → HasOwnEnds k
+pub own_ends : (k : Constraint) → All (λ (c : Cause). AreEnds c.range) k.causes → HasOwnEnds k
 own_ends k all cause c at = All-found (λ (d : Cause). AreEnds d.range) k.causes cause c at all
 
 -- the constraint of a cause that is there
-found : (o : Option Constraint) (cause : ℕ) (c : Cause) → option_and_then (λ (k : Constraint). slice_get k.causes cause) o ≡ Some c
+pub found : (o : Option Constraint) (cause : ℕ) (c : Cause) → option_and_then (λ (k : Constraint). slice_get k.causes cause) o ≡ Some c
     → (k : Constraint) × (o ≡ Some k) × (slice_get k.causes cause ≡ Some c)
 found None cause c is = absurd (cc)
 found (Some k) cause c is = (k, refl, is)
 
-all_own : (net : Net) → HasEnds net → All HasOwnEnds net.constraints
+pub all_own : (net : Net) → HasEnds net → All HasOwnEnds net.constraints
 all_own net ends = λ k d within cause c at.
     ends k cause c (ap (option_and_then (λ (x : Constraint). slice_get x.causes cause)) (slice_get-get_or net.constraints k d within) ∙ at)
 
-ends_of_all : (net : Net) → All HasOwnEnds net.constraints → HasEnds net
+pub ends_of_all : (net : Net) → All HasOwnEnds net.constraints → HasEnds net
 ends_of_all net all constraint cause c is =
     let own = found (slice_get net.constraints constraint) cause c is in
     All-found HasOwnEnds net.constraints constraint own.0 own.1 all cause c own.2

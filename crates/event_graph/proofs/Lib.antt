@@ -10,3 +10,4 @@ pub mod ProofCounts
 pub mod ReadingOn
 pub mod Rising
 pub mod Spelling
+pub mod RangeSet

@@ -1,12 +1,14 @@
 -- Laws of networks, over the definitions alone.
 use Rattle.std.specs.Prelude.{◌≡◌, ◌↔◌, ◌<◌, ◌≤◌, ℕ, ℤ, neg_ℤ, ◌≤ℤ◌, Bool, List, length, Some, IfSome, slice_get}
+use Rattle.itv_base.specs.Range.{Ends}
 use Rattle.itv_base.specs.declared.names.EdgeName.{EdgeName}
 use Rattle.itv_base.specs.declared.names.EventId.{EventId}
 use Rattle.itv_base.specs.declared.names.Side.{Side}
+use Rattle.event_graph.specs.declared.cause.Cause.{Cause}
 use Rattle.event_graph.specs.declared.edge.Edge.{Edge}
 use Rattle.event_graph.specs.Bounds.{IsGreatest, IsInconsistent, IsLeast, IsRay, IsUnbounded}
 use Rattle.event_graph.specs.Edges.{IsAlways, Meets, cause_choices, choice_side, edge}
-use Rattle.event_graph.specs.Network.{Constraint, HasNoChoices, IsNet, Net}
+use Rattle.event_graph.specs.Network.{Constraint, HasNoChoices, IsNet, Net, cause_at, with_range}
 use Rattle.event_graph.specs.Proof.{Bound, Case, HasChoice, IsProof, IsStoppedProof, Nothing, ProofGoal, ProofLine, Reads, closing_lines}
 use Rattle.event_graph.specs.Reading.{cases_left}
 use Rattle.event_graph.specs.RootBound.{HasNoRoot, IsRootBound, MeetsAlways}
@@ -88,3 +90,8 @@ ProofIsWithinChoices = (net : Net) (goal : ProofGoal) (lines : List ProofLine) �
 abbrev pub StoppedProofIsBelowChoices : Type 0
 StoppedProofIsBelowChoices = (net : Net) (goal : ProofGoal) (lines : List ProofLine) (count : ℕ) → IsNet net → IsStoppedProof net goal lines count
     → count < cause_choices net.constraints
+
+-- the range that a cause had, set again, gives the network that was there
+abbrev pub RangeSetAgain : Type 0
+RangeSetAgain = (net : Net) (constraint cause : ℕ) (range : Ends) (c : Cause) → cause_at net constraint cause ≡ Some c
+    → with_range (with_range net constraint cause range) constraint cause c.range ≡ net

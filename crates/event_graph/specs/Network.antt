@@ -1,5 +1,5 @@
 -- Networks of timing constraints.
-use Rattle.std.specs.Prelude.{◌≡◌, ◌<◌, ◌≤◌, ℕ, List, [], ◌∷◌, ◌++◌, length, All, Option, Some, option_and_then, slice_get, count_by, nat_lt}
+use Rattle.std.specs.Prelude.{◌≡◌, ◌<◌, ◌≤◌, ℕ, List, [], ◌∷◌, ◌++◌, length, All, Option, Some, None, option_and_then, slice_get, set, count_by, nat_lt}
 use Rattle.itv_base.specs.Range.{Ends, IsEnd}
 use Rattle.itv_base.specs.declared.names.EventId.{EventId}
 use Rattle.itv_base.specs.declared.names.RuleKind.{RuleKind}
@@ -88,3 +88,21 @@ with_constraint net c = record net { constraints = net.constraints ++ c ∷ [] }
 abbrev pub IsPushFault : ℕ → PushFault → Type 0
 IsPushFault count (Full n) = (n ≡ count) × (count ≡ MAX_CONSTRAINTS)
 IsPushFault count NoMemory = count < MAX_CONSTRAINTS
+
+-- ---- another range for one cause
+
+-- the causes with another range for the one of a number, where it is there
+abbrev pub causes_with : List Cause → ℕ → Ends → Option Cause → List Cause
+causes_with causes number range None = causes
+causes_with causes number range (Some cause) = set causes number (record cause { range = range })
+
+-- the constraints with another range for a cause of the one of a number, where both are there
+abbrev pub constraints_with : List Constraint → ℕ → ℕ → Ends → Option Constraint → List Constraint
+constraints_with constraints number cause range None = constraints
+constraints_with constraints number cause range (Some c) =
+    set constraints number (record c { causes = causes_with c.causes cause range (slice_get c.causes cause) })
+
+-- the network with another range for one cause of one constraint, and as it is where that cause is not there
+abbrev pub with_range : Net → ℕ → ℕ → Ends → Net
+with_range net constraint cause range =
+    record net { constraints = constraints_with net.constraints constraint cause range (slice_get net.constraints constraint) }

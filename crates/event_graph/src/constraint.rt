@@ -1,11 +1,11 @@
 //! A constraint of a network, as it is kept.
 
-ghost use Rattle.std.specs.Prelude.{◌≡◌, ◌<◌, ◌≤◌, ◌↔◌, IsTrue, length, All, Any, nat_lt};
+ghost use Rattle.std.specs.Prelude.{◌≡◌, ◌<◌, ◌≤◌, ◌↔◌, IsTrue, IsSome, length, All, Any, nat_lt, slice_get};
 ghost use Rattle.event_graph.specs.Step.Rising.{StaysAfter, StaysBefore};
 ghost use Rattle.event_graph.specs.Times.{IsTime};
 
 use crate::cause::Cause;
-use itv_base::{EventId, RuleKind, Side};
+use itv_base::{EventId, Range, RuleKind, Side};
 use std::marker::Model;
 
 /// A constraint: its kind, its target and its causes. A linear one has its from-event as its one cause.
@@ -25,7 +25,7 @@ impl Model for Constraint {
 }
 
 impl Constraint {
-    ghost use Rattle.event_graph.specs.Network.{IsCauseCount, IsConstraint, cause_count_of};
+    ghost use Rattle.event_graph.specs.Network.{IsCauseCount, IsConstraint, cause_count_of, causes_with};
     ghost use Rattle.event_graph.specs.Satisfying.{Holds};
     ghost use Rattle.event_graph.specs.Step.Rising.{Stays};
     ghost use Rattle.event_graph.specs.Edges.{choices_of, holds_always};
@@ -74,6 +74,21 @@ impl Constraint {
                 all_before(causes, times, set, target) && some_after(causes, times, set, target)
             }
         }
+    }
+
+    /// Sets the range of a cause, and tells whether that cause is there. Where it is not, the constraint is unchanged.
+    pub fn set_range(&mut self, cause: u32, range: Range) -> bool
+        ensures there { IsTrue result ↔ IsSome (slice_get self.old.causes cause) }
+        ensures set { self.new ≡ record self.old {
+          causes = causes_with self.old.causes cause range (slice_get self.old.causes cause);
+        } }
+    {
+        let place = cause as usize;
+        if self.causes.len() <= place {
+            return false;
+        }
+        self.causes[place].range = range;
+        true
     }
 
     /// Whether there are two or more causes to choose from.

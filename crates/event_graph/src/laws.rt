@@ -1,7 +1,7 @@
 //! Laws of networks and of proofs over them. Each is the contract of a function that does nothing.
 
 ghost use Rattle.event_graph.specs.Trees.{ProofIsTree};
-ghost use Rattle.event_graph.specs.Laws.{HoldsByEdges, LeastIsReversedGreatest, NoRootIsInconsistent, ProofBounds, ProofIsWithinChoices, ProofOfNothing, RayIsUnbounded, ReadingLeavesCases, RootBoundEncloses, SatisfyingIsMeetingAlways, SatisfyingMeetsAlways, ShiftKeepsSatisfying, SingleCauseIsLinear, StoppedProofIsBelowChoices};
+ghost use Rattle.event_graph.specs.Laws.{HoldsByEdges, LeastIsReversedGreatest, NoRootIsInconsistent, ProofBounds, ProofIsWithinChoices, ProofOfNothing, RangeSetAgain, RayIsUnbounded, ReadingLeavesCases, RootBoundEncloses, SatisfyingIsMeetingAlways, SatisfyingMeetsAlways, ShiftKeepsSatisfying, SingleCauseIsLinear, StoppedProofIsBelowChoices};
 
 /// Times satisfy a network exactly where they do with one number added to all of them.
 pub fn shift_keeps_satisfying()
@@ -78,4 +78,9 @@ pub fn proof_is_within_choices()
 /// A stopped proof closes fewer cases than there are cause choices.
 pub fn stopped_proof_is_below_choices()
     ensures law { StoppedProofIsBelowChoices }
+{}
+
+/// The range that a cause had, set again, gives the network that was there.
+pub fn range_set_again()
+    ensures law { RangeSetAgain }
 {}

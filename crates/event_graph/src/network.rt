@@ -6,7 +6,7 @@ ghost use Rattle.std.specs.List.{AllWithin};
 ghost use Rattle.event_graph.specs.Bounds.{IsRay};
 ghost use Rattle.event_graph.specs.Step.Rising.{Stays};
 ghost use Rattle.event_graph.specs.Times.{IsTime, raised};
-ghost use Rattle.event_graph.specs.Network.{Constraint, IsConstraint, IsNet, IsPushFault, cause_at, cause_count_of, earliest, latest, linear, splittable_count, with_constraint};
+ghost use Rattle.event_graph.specs.Network.{Constraint, IsConstraint, IsNet, IsPushFault, cause_at, cause_count_of, earliest, latest, linear, splittable_count, with_constraint, with_range};
 ghost use Rattle.event_graph.specs.Satisfying.{Holds, IsFirstBroken, Satisfies};
 ghost use Rattle.event_graph.specs.Edges.{IsAlways, cause_choices, edge};
 
@@ -208,6 +208,31 @@ impl Network {
     {
         let constraint = &self.constraints[constraint as usize];
         constraint.causes[cause as usize]
+    }
+
+    /// Whether a cause of a constraint is there. Cause 0 of a linear one is its from-event.
+    pub fn has_cause(&self, constraint: u32, cause: u32) -> bool
+        ensures there { IsTrue result ↔ IsSome (cause_at self.now constraint cause) }
+    {
+        match self.constraints.get(constraint as usize) {
+            None => false,
+            Some(constraint) => constraint.causes.get(cause as usize).is_some(),
+        }
+    }
+
+    /// Sets the range of a cause of a constraint. Cause 0 of a linear one, the only one that it has, is its from-event. The answer
+    /// is whether that cause is there; where it is not, the network is unchanged. Takes no memory.
+    pub fn set_range(&mut self, constraint: u32, cause: u32, range: Range) -> bool
+        ensures there { IsTrue result ↔ IsSome (cause_at self.old constraint cause) }
+        ensures set { self.new ≡ with_range self.old constraint cause range }
+    {
+        let place = constraint as usize;
+        if self.constraints.len() <= place {
+            return false;
+        }
+        range.low();
+        range.high();
+        self.constraints[place].set_range(cause, range)
     }
 
     /// The edge of a name. There is none exactly where the constraint or the cause is not there, or the

@@ -3,13 +3,14 @@ use Rattle.std.proofs.Common.{◌≡◌, ◌<◌, ◌+◌, ◌||◌, ℕ, Bool, 
 use Rattle.event_graph.specs.Bounds.{IsInconsistent}
 use Rattle.falling.specs.Cap.{enough_turns}
 use Rattle.falling.specs.declared.line.FallLine.{FallLine}
-use Rattle.job_answer.specs.declared.answer.Answer.TheVariants as answers
+use Rattle.jobs.specs.declared.answer.Answer.TheVariants as answers
 use Rattle.slack_report.specs.declared.words.EndWord.{EndWord}
 use Rattle.slack_report.specs.declared.words.EndWord.TheVariants.{Fail, Inconsistent, Pass, Undecided}
 use Rattle.slack_report.specs.declared.words.Which.{Which}
 use Rattle.slack_report.specs.declared.words.Which.TheVariants.{Max, Min}
-use Rattle.slack_report.specs.Right.Drawn.{Row}
-use Rattle.fall_report.specs.Fall.{Job, MayFollow, Place, Reads, Telling, answer_of, at_bound, at_end, at_finding, at_last, at_row, at_rows, before_rows, behind_bound, behind_finding, is_spent}
+use Rattle.drawn.specs.declared.row.Row.{Row}
+use Rattle.jobs.specs.Ending.{answer_of}
+use Rattle.fall_report.specs.Fall.{Job, MayFollow, Place, Reads, Telling, at_bound, at_end, at_finding, at_last, at_row, at_rows, before_rows, behind_bound, behind_finding, is_spent}
 use Rattle.fall_report.specs.Shows.{IsBound, IsFinding}
 use Rattle.fall_report.specs.Text.{Bound, Finding, bound_spent, closed, consistent, finding_spent, inconsistent, unbounded}
 use Rattle.fall_report.specs.Laws.{InconsistentHasNoTimes, UndecidedHasFewTurns}

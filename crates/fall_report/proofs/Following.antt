@@ -6,23 +6,22 @@ use Rattle.falling.specs.declared.answer.Fallen.{Fallen}
 use Rattle.falling.specs.declared.answer.Fallen.TheVariants.{Closed, Inconsistent, Spent, Unbounded}
 use Rattle.falling.specs.declared.line.FallLine.{FallLine}
 use Rattle.falling.specs.Derivation.{IsDerivation}
-use Rattle.fall_notes.specs.Text.{fall_text}
+use Rattle.fall_report.specs.FallText.{fall_text}
 use Rattle.itv_base.specs.declared.names.EventId.{EventId}
 use Rattle.slack_report.specs.declared.words.Which.{Which}
-use Rattle.slack_report.specs.Right.Drawn as drawing
-use Rattle.unroll.specs.Drawn.{Drawn}
-use Rattle.unroll.specs.Reported.{row_told}
-use Rattle.unroll.specs.declared.row.Row.{Row}
+use Rattle.drawn.specs.declared.row.Row.{Row}
+use Rattle.drawn.specs.Drawn.{Drawn}
 use Rattle.fall_report.specs.declared.desk.Desk.{Desk}
 use Rattle.fall_report.specs.declared.finding.Found.{Found}
 use Rattle.fall_report.specs.declared.finding.Found.TheVariants as founds
-use Rattle.fall_report.specs.declared.view.View.{View}
+use Rattle.falling.specs.declared.view.View.{View}
 use Rattle.fall_report.specs.declared.wanted.Wanted.{Wanted}
 use Rattle.fall_report.specs.Fall.{AreBegun, Job, MayFollow, Telling, at_bound, at_finding, at_rows, before_rows, behind_bound, behind_finding, is_spent}
 use Rattle.fall_report.specs.Shows.{IsBound, IsFinding, first_event}
 use Rattle.fall_report.specs.Step.{BeginsFrom, IsJobOf, IsSet, ShowsFinding, Told, asked, behind_found, told_bound, told_finding, was_spent}
 use Rattle.fall_report.specs.Text.{Bound, Finding, bound_text, finding_text, printed}
-use Rattle.fall_report.specs.View.{IsViewOf, seen, source}
+use Rattle.falling.specs.View.{IsViewOf}
+use Rattle.fall_report.specs.View.{seen, source}
 
 module _ {net : Net} {wanted : Wanted} {job : Job} (of : IsJobOf net wanted job) where
   in_job : (lines : List FallLine) → printed wanted.cert lines ≡ printed job.cert lines
@@ -51,7 +50,7 @@ module _ {net : Net} {wanted : Wanted} {job : Job} (of : IsJobOf net wanted job)
 
   -- ---- a bound of a row
 
-  pub begun_bound : (told : Telling) (which : Which) (r : drawing.Row) (lines : List FallLine) → told.row ≡ r → BeginsFrom net wanted.turns (λ view. source view which r) lines
+  pub begun_bound : (told : Telling) (which : Which) (r : Row) (lines : List FallLine) → told.row ≡ r → BeginsFrom net wanted.turns (λ view. source view which r) lines
       → AreBegun job (at_bound told which) (printed wanted.cert lines)
   begun_bound told which r lines same begin =
       let (values, d) = begin.1 job.view of.view in (
@@ -60,17 +59,17 @@ module _ {net : Net} {wanted : Wanted} {job : Job} (of : IsJobOf net wanted job)
         in_job lines,
         values,
         subst (λ (n : Net). IsDerivation (seen job.view n) (source job.view which told.row) lines values) (sym of.net_is)
-            (subst (λ (row : drawing.Row). IsDerivation (seen job.view net) (source job.view which row) lines values) (sym same) d),
+            (subst (λ (row : Row). IsDerivation (seen job.view net) (source job.view which row) lines values) (sym same) d),
       )
 
-  pub bound_may : (told : Telling) (which : Which) (r : drawing.Row) (lines : List FallLine) (value : Bound) → told.row ≡ r → length lines ≤ wanted.turns → IsBound job.view net wanted.turns which r lines value
+  pub bound_may : (told : Telling) (which : Which) (r : Row) (lines : List FallLine) (value : Bound) → told.row ≡ r → length lines ≤ wanted.turns → IsBound job.view net wanted.turns which r lines value
       → MayFollow job (at_bound told which) (fall_text (printed wanted.cert lines) ++ bound_text which value) (behind_bound told which (is_spent value))
   bound_may told which r lines value same few shows = (
     lines,
     in_turns lines few,
     value,
     subst (λ (n : Net). IsBound job.view n job.turns which told.row lines value) (sym of.net_is)
-        (subst (λ turns. IsBound job.view net turns which told.row lines value) (sym of.turns) (subst (λ (row : drawing.Row). IsBound job.view net wanted.turns which row lines value) (sym same) shows)),
+        (subst (λ turns. IsBound job.view net turns which told.row lines value) (sym of.turns) (subst (λ (row : Row). IsBound job.view net wanted.turns which row lines value) (sym same) shows)),
     ap (λ (ls : List FallLine). fall_text ls ++ bound_text which value) (in_job lines),
     refl,
   )
@@ -99,22 +98,22 @@ job_of drawn wanted view net same v = record { net_is = sym same; view = subst (
 -- rows up to a number were told
 pub record RowsTold (drawn : Drawn) (wanted : Wanted) (number : ℕ) (spent : Bool) (desk : Desk) (old now : SinkTold) : Type 0 where
   pub set : IsSet drawn.net desk
-  pub pieces : (view : View) → IsViewOf drawn.net view → Told (asked drawn view wanted) at_rows (before_rows spent number (drop number (map row_told drawn.rows))) old now
+  pub pieces : (view : View) → IsViewOf drawn.net view → Told (asked drawn view wanted) at_rows (before_rows spent number (drop number drawn.rows)) old now
 
 -- the next row
-pub rows_more : (rows : List Row) (number : ℕ) (row : Row) → slice_get rows number ≡ Some row → drop number (map row_told rows) ≡ row_told row ∷ drop (number + 1) (map row_told rows)
+pub rows_more : (rows : List Row) (number : ℕ) (row : Row) → slice_get rows number ≡ Some row → drop number rows ≡ row ∷ drop (number + 1) rows
 rows_more rows number row e = rw add-one (more rows number row e)
   where
-    more : (rows : List Row) (number : ℕ) (row : Row) → slice_get rows number ≡ Some row → drop number (map row_told rows) ≡ row_told row ∷ drop (suc number) (map row_told rows)
+    more : (rows : List Row) (number : ℕ) (row : Row) → slice_get rows number ≡ Some row → drop number rows ≡ row ∷ drop (suc number) rows
     more [] number row e = absurd (cc e)
     more (x ∷ rows) zero row e = one x row rows e
       where
-        one : (x row : Row) (rows : List Row) → ◌≡◌ {A = Option Row} (Some x) (Some row) → row_told x ∷ map row_told rows ≡ row_told row ∷ map row_told rows
-        one x row rows e = ap (λ (r : Row). row_told r ∷ map row_told rows) (cc e)
+        one : (x row : Row) (rows : List Row) → ◌≡◌ {A = Option Row} (Some x) (Some row) → x ∷ rows ≡ row ∷ rows
+        one x row rows e = ap (λ (r : Row). r ∷ rows) (cc e)
     more (x ∷ rows) (suc number) row e = more rows number row e
 
 -- none is left
-pub rows_none : (rows : List Row) (number : ℕ) → length rows ≤ number → drop number (map row_told rows) ≡ []
+pub rows_none : (rows : List Row) (number : ℕ) → length rows ≤ number → drop number rows ≡ []
 rows_none [] zero h = refl
 rows_none [] (suc number) h = refl
 rows_none (row ∷ rows) zero h = absurd (omega arith)

@@ -1,3 +1,4 @@
+pub mod Pieces
 pub mod Negation
 pub mod Moving
 pub mod Viewing

@@ -1,9 +1,10 @@
 -- What an answer of a solver says in the view of the network.
-use Rattle.std.proofs.Common.{◌≡◌, ◌<◌, ◌≤◌, ℕ, ℤ, pos, neg_ℤ, ◌-ℤ◌, Bool, List, [], ◌∷◌, length, All, Option, Some, None, refl, sym, subst, ap, ◌∙◌, arith}
+use Rattle.std.proofs.Common.{◌≡◌, ◌<◌, ◌≤◌, ℕ, ℤ, pos, neg_ℤ, ◌+ℤ◌, ◌-ℤ◌, Bool, List, [], ◌∷◌, length, All, Option, Some, None, refl, sym, subst, ap, ◌∙◌, arith}
 use Rattle.std.proofs.lemmas.Int.{ints}
+use Rattle.std.proofs.lemmas.List.Elements.{All-weaker}
 use Rattle.itv_base.specs.declared.names.EventId.{EventId}
-use Rattle.itv_base.specs.declared.names.RuleKind.TheVariants.{Early}
 use Rattle.event_graph.specs.Bounds.{IsGreatest, IsRay}
+use Rattle.event_graph.specs.Limits.{IsPrintedTime}
 use Rattle.event_graph.specs.Network.{IsNet, Net}
 use Rattle.event_graph.specs.Satisfying.{Satisfies}
 use Rattle.event_graph.specs.Times.{separation, time_of}
@@ -14,35 +15,29 @@ use Rattle.falling.specs.declared.limits.Limits.{Limits}
 use Rattle.falling.specs.declared.line.FallLine.{FallLine}
 use Rattle.falling.specs.Course.{AreLimits}
 use Rattle.falling.specs.Derivation.{IsDerivation, starting_values}
-use Rattle.falling.specs.Kinds.{IsPlain, first_choice, negated, negated_times}
+use Rattle.falling.specs.Kinds.{negated, negated_times}
 use Rattle.falling.specs.Solving.{AnswersAs, IsDerivationAs, IsNegationOf}
 use Rattle.falling.specs.Turns.{IsNearValue}
 use Rattle.falling.proofs.Bounding.{length-starting}
 use Rattle.falling.proofs.Negating.{all_map, length-mapped, negated_twice, satisfies_turns, time_of-negated}
 use Rattle.falling.proofs.NegatedNets.{HasTimes, limits_negated, satisfying_near}
+use Rattle.falling.proofs.Views.{one_view}
 use Rattle.slack_report.specs.declared.words.Which.{Which}
 use Rattle.slack_report.specs.declared.words.Which.TheVariants.{Max, Min}
-use Rattle.slack_report.specs.Right.Drawn.{Row}
-use Rattle.slack_report.specs.Right.Facts.{AreTimes}
+use Rattle.drawn.specs.declared.row.Row.{Row}
+use Rattle.drawn.specs.Drawn.{AreTimes}
 use Rattle.fall_report.specs.declared.finding.Found.TheVariants as founds
-use Rattle.fall_report.specs.declared.view.View.{View}
-use Rattle.fall_report.specs.declared.view.View.TheVariants.{Plain, Negated}
+use Rattle.falling.specs.declared.view.View.{View}
+use Rattle.falling.specs.declared.view.View.TheVariants.{Plain, Negated}
 use Rattle.fall_report.specs.Shows.{CanRise, IsBound, IsExtreme, IsFinding, first_event, shown_by}
 use Rattle.fall_report.specs.Step.{BeginsFrom, HasFound, ShowsFinding, found_by, told_bound, told_finding}
 use Rattle.fall_report.specs.Text.{consistent}
-use Rattle.fall_report.specs.View.{IsViewOf, moved, seen, source, target, times_seen}
+use Rattle.falling.specs.View.{IsViewOf}
+use Rattle.fall_report.specs.View.{moved, seen, source, target, times_seen}
 use Rattle.fall_report.proofs.Moving.{ray-moved, satisfies-moved, separation-moved, zero-moved}
 use Rattle.fall_report.proofs.Negation.{is_net_negated}
 
 -- ---- views
-
--- a plain network is plain where it can't be otherwise
-pub plain_stable : (net : Net) → ((IsPlain net → ⊥) → ⊥) → IsPlain net
-plain_stable net stable = go (first_choice Early net) stable
-  where
-    go : (o : Option ℕ) → ((o ≡ None → ⊥) → ⊥) → o ≡ None
-    go None stable = refl
-    go (Some number) stable = absurd (stable (λ none. cc none))
 
 -- lines that begin a derivation, in the view
 pub begins_finding : (net : Net) (negation : Option Net) (turns : ℕ) (lines : List FallLine) (after : List ℤ) → IsNegationOf net negation → length lines ≤ turns
@@ -52,8 +47,8 @@ begins_finding net negation turns lines after is few d = (few, λ view v. begins
     begins : (net : Net) (negation : Option Net) (view : View) → IsNegationOf net negation → IsDerivationAs negation net first_event first_event lines after → IsViewOf net view
         → (values : List ℤ) × IsDerivation (seen view net) first_event lines values
     begins net None Plain is d v = (after, d)
-    begins net None Negated is d v = absurd (v is)
-    begins net (Some n) Plain is d v = absurd (is.2 v)
+    begins net None Negated is d v = absurd (one_view net is v)
+    begins net (Some n) Plain is d v = absurd (one_view net v is.1)
     begins net (Some n) Negated is d v = (after, d)
 
 pub begins_row : (net : Net) (negation : Option Net) (which : Which) (r : Row) (turns : ℕ) (lines : List FallLine) (after : List ℤ) → IsNegationOf net negation → length lines ≤ turns
@@ -63,9 +58,58 @@ begins_row net negation which r turns lines after is few d = (few, λ view v. be
     begins : (net : Net) (negation : Option Net) (view : View) → IsNegationOf net negation → IsDerivationAs negation net (source Plain which r) (target Plain which r) lines after
         → IsViewOf net view → (values : List ℤ) × IsDerivation (seen view net) (source view which r) lines values
     begins net None Plain is d v = (after, d)
-    begins net None Negated is d v = absurd (v is)
-    begins net (Some n) Plain is d v = absurd (is.2 v)
+    begins net None Negated is d v = absurd (one_view net is v)
+    begins net (Some n) Plain is d v = absurd (one_view net v is.1)
     begins net (Some n) Negated is d v = (after, d)
+
+-- ---- how great the times of an answer are
+
+near_negated : (values : List ℤ) → All IsNearValue values → All IsNearValue (negated_times values)
+near_negated values near = all_map neg_ℤ IsNearValue IsNearValue values (λ value h. (omega (arith, ints, h.0, h.1), omega (arith, ints, h.0, h.1))) near
+
+near_by_negation : (net : Net) (limits : Limits) (to : EventId) (lines : List FallLine) (values times : List ℤ) → IsNet net → AreLimits net limits → to.0 < net.events
+    → IsDerivation (negated net) to lines values → times ≡ negated_times values → Satisfies times net → All IsNearValue values
+near_by_negation net limits to lines values times is_net limited in_to d turn satisfied =
+    satisfying_near (negated net) to lines values (is_net_negated net is_net) in_to (limits_negated net limits limited).small d
+    (subst (λ ts. Satisfies ts (negated net)) (ap negated_times turn ∙ negated_twice values) (satisfies_turns net times satisfied))
+
+-- the times of an answer that has some, and its number
+pub near_times : (net : Net) (limits : Limits) (negation : Option Net) (from to : EventId) (turns : ℕ) (lines : List FallLine) (times : List ℤ) (ray : List Bool) (fallen : Fallen)
+    → IsNet net → AreLimits net limits → IsNegationOf net negation → from.0 < net.events → to.0 < net.events → AnswersAs negation net from to turns lines times ray fallen
+    → HasTimes fallen → All IsNearValue times
+near_times net limits None from to turns lines times ray (Closed value) is_net limited is in_from in_to a has = satisfying_near net from lines times is_net in_from limited.small a.derivation a.satisfies
+near_times net limits None from to turns lines times ray Unbounded is_net limited is in_from in_to a has = satisfying_near net from lines times is_net in_from limited.small a.derivation a.satisfies
+near_times net limits negation from to turns lines times ray Inconsistent is_net limited is in_from in_to a has = absurd has
+near_times net limits negation from to turns lines times ray Spent is_net limited is in_from in_to a has = absurd has
+near_times net limits (Some n) from to turns lines times ray (Closed value) is_net limited is in_from in_to a has =
+    let (values, d, turn, at) = a.derivation in
+    subst (All IsNearValue) (sym turn) (near_negated values (near_by_negation net limits to lines values times is_net limited in_to d turn a.satisfies))
+near_times net limits (Some n) from to turns lines times ray Unbounded is_net limited is in_from in_to a has =
+    let (values, d, turn) = a.derivation in
+    subst (All IsNearValue) (sym turn) (near_negated values (near_by_negation net limits to lines values times is_net limited in_to d turn a.satisfies))
+
+near_at : (values : List ℤ) (event : EventId) (value : ℤ) → event.0 < length values → time_of values event ≡ value → All IsNearValue values → IsNearValue value
+near_at values event value within e near = subst IsNearValue e (near event.0 (pos 0) within)
+
+pub near_value : (net : Net) (limits : Limits) (negation : Option Net) (from to : EventId) (turns : ℕ) (lines : List FallLine) (times : List ℤ) (ray : List Bool) (value : ℤ)
+    → IsNet net → AreLimits net limits → IsNegationOf net negation → from.0 < net.events → to.0 < net.events → AnswersAs negation net from to turns lines times ray (Closed value)
+    → IsNearValue value
+near_value net limits None from to turns lines times ray value is_net limited is in_from in_to a =
+    near_at times to value (subst (λ n. to.0 < n) (sym a.satisfies.count) in_to) a.derived (satisfying_near net from lines times is_net in_from limited.small a.derivation a.satisfies)
+near_value net limits (Some n) from to turns lines times ray value is_net limited is in_from in_to a =
+    let (values, d, turn, at) = a.derivation in
+    let count : length values ≡ net.events = sym (length-mapped neg_ℤ values) ∙ sym (ap length turn) ∙ a.satisfies.count in
+    near_at values from value (subst (λ n. from.0 < n) (sym count) in_from) at (near_by_negation net limits to lines values times is_net limited in_to d turn a.satisfies)
+
+-- near times may be printed, as they are and moved
+printed_near : (times : List ℤ) → All IsNearValue times → All IsPrintedTime times
+printed_near times near = All-weaker IsNearValue IsPrintedTime (λ value h. (omega (arith, ints, h.0, h.1), omega (arith, ints, h.0, h.1))) times near
+
+printed_moved : (origin : EventId) (times : List ℤ) → origin.0 < length times → All IsNearValue times → All IsPrintedTime (moved origin times)
+printed_moved origin times within near =
+    let at : IsNearValue (time_of times origin) = near origin.0 (pos 0) within in
+    all_map (λ (time : ℤ). time +ℤ neg_ℤ (time_of times origin)) IsNearValue IsPrintedTime times
+    (λ value h. (omega (arith, ints, h.0, h.1, at.0, at.1), omega (arith, ints, h.0, h.1, at.0, at.1))) near
 
 -- ---- findings
 
@@ -78,41 +122,43 @@ at_itself time value e = omega (arith, ints)
 minus_zero : (time value : ℤ) → time ≡ value → value ≡ pos 0 → neg_ℤ time ≡ pos 0
 minus_zero time value e z = omega (arith, ints)
 
-no_events : {n : ℕ} → 0 < n → n ≡ 0 → ⊥
+no_events : {m n : ℕ} → m < n → n ≡ 0 → ⊥
 no_events some none = omega arith
 
 -- what is found of a network with events in a view, by the answer on event 0 and itself
 finding_in : (net : Net) (negation : Option Net) (turns : ℕ) (lines : List FallLine) (times : List ℤ) (ray : List Bool) (fallen : Fallen) (view : View) → 0 < net.events
-    → IsNegationOf net negation → AnswersAs negation net first_event first_event turns lines times ray fallen → IsViewOf net view
+    → IsNegationOf net negation → AnswersAs negation net first_event first_event turns lines times ray fallen → (HasTimes fallen → All IsNearValue times) → IsViewOf net view
     → IsFinding view net turns lines (told_finding (found_by fallen) times)
-finding_in net None turns lines times ray fallen Negated some is a v = absurd (v is)
-finding_in net (Some n) turns lines times ray fallen Plain some is a v = absurd (is.2 v)
-finding_in net None turns lines times ray (Closed value) Plain some is a v = record {
+finding_in net None turns lines times ray fallen Negated some is a near v = absurd (one_view net is v)
+finding_in net (Some n) turns lines times ray fallen Plain some is a near v = absurd (one_view net v is.1)
+finding_in net None turns lines times ray (Closed value) Plain some is a near v = record {
   satisfied = a.satisfies;
   at_zero = a.derived ∙ at_itself (time_of times first_event) value a.attained;
+  printed = printed_near times (near tt);
   derived = (times, a.derivation, refl);
   empty = λ none. absurd (no_events some none);
 }
-finding_in net None turns lines times ray Unbounded Plain some is a v = absurd (no_ray net first_event times ray a.raised)
-finding_in net None turns lines times ray Inconsistent Plain some is a v = record { none = a.none; derived = a.derivation }
-finding_in net None turns lines times ray Spent Plain some is a v = record { spent = (times, a.spent); few = a.few }
-finding_in net (Some n) turns lines times ray (Closed value) Negated some is a v =
+finding_in net None turns lines times ray Unbounded Plain some is a near v = absurd (no_ray net first_event times ray a.raised)
+finding_in net None turns lines times ray Inconsistent Plain some is a near v = record { none = a.none; derived = a.derivation }
+finding_in net None turns lines times ray Spent Plain some is a near v = record { spent = (times, a.spent); few = a.few }
+finding_in net (Some n) turns lines times ray (Closed value) Negated some is a near v =
     let (values, d, turned, at) = a.derivation in record {
       satisfied = a.satisfies;
       at_zero = ap (λ (list : List ℤ). time_of list first_event) turned ∙ time_of-negated values first_event
           ∙ minus_zero (time_of values first_event) value at (at_itself (time_of times first_event) value a.attained);
+      printed = printed_near times (near tt);
       derived = (values, d, turned);
       empty = λ none. absurd (no_events some none);
     }
-finding_in net (Some n) turns lines times ray Unbounded Negated some is a v = absurd (no_ray net first_event times ray a.raised)
-finding_in net (Some n) turns lines times ray Inconsistent Negated some is a v = record { none = a.none; derived = a.derivation }
-finding_in net (Some n) turns lines times ray Spent Negated some is a v = record { spent = a.spent; few = a.few }
+finding_in net (Some n) turns lines times ray Unbounded Negated some is a near v = absurd (no_ray net first_event times ray a.raised)
+finding_in net (Some n) turns lines times ray Inconsistent Negated some is a near v = record { none = a.none; derived = a.derivation }
+finding_in net (Some n) turns lines times ray Spent Negated some is a near v = record { spent = a.spent; few = a.few }
 
 -- the same in each view, by at most as many lines as turns
 pub shows_finding : (net : Net) (negation : Option Net) (turns : ℕ) (lines : List FallLine) (times : List ℤ) (ray : List Bool) (fallen : Fallen) → 0 < net.events
-    → IsNegationOf net negation → length lines ≤ turns → AnswersAs negation net first_event first_event turns lines times ray fallen
+    → IsNegationOf net negation → length lines ≤ turns → AnswersAs negation net first_event first_event turns lines times ray fallen → (HasTimes fallen → All IsNearValue times)
     → ShowsFinding net turns lines (told_finding (found_by fallen) times)
-shows_finding net negation turns lines times ray fallen some is few a = (few, λ view v. finding_in net negation turns lines times ray fallen view some is a v)
+shows_finding net negation turns lines times ray fallen some is few a near = (few, λ view v. finding_in net negation turns lines times ray fallen view some is a near v)
 
 -- no events: the times of none satisfy, and no line is needed
 nothing : (xs ys : List ℤ) → length xs ≡ 0 → length ys ≡ 0 → xs ≡ ys
@@ -144,6 +190,9 @@ none_satisfied net times is_net none count = record {
 pub found_empty : (net : Net) (times : List ℤ) → IsNet net → net.events ≡ 0 → length times ≡ net.events → HasFound net founds.Consistent
 found_empty net times is_net none count = (times, none_satisfied net times is_net none count)
 
+none_within : (i : ℕ) → i < 0 → ⊥
+none_within i within = omega arith
+
 no_lines : (turns : ℕ) → 0 ≤ turns
 no_lines turns = omega arith
 
@@ -155,6 +204,7 @@ shows_empty net turns times is_net none count = (
       let empty : length values ≡ 0 = length-starting (seen view net) first_event ∙ events_seen view net ∙ none in record {
         satisfied = none_satisfied net times is_net none count;
         at_zero = at_nothing times first_event (count ∙ none);
+        printed = λ i d within. absurd (none_within i (subst (λ n. i < n) (count ∙ none) within));
         derived = (values, refl, nothing times (times_seen view values) (count ∙ none) (length_seen view values ∙ empty));
         empty = λ _. refl;
       },
@@ -213,6 +263,9 @@ module _ (net : Net) (which : Which) (r : Row) (is_net : IsNet net) (in_from : r
     at_zero = zero-moved r.from times (subst (λ n. r.from.0 < n) (sym satisfied.count) in_from);
   }
 
+  are_printed : (times : List ℤ) → Satisfies times net → All IsNearValue times → All IsPrintedTime (moved r.from times)
+  are_printed times satisfied near = printed_moved r.from times (subst (λ n. r.from.0 < n) (sym satisfied.count) in_from) near
+
   attained_moved : (times : List ℤ) (value : ℤ) → Satisfies times net → separation times (source Plain which r) (target Plain which r) ≡ value
       → separation (moved r.from times) r.from r.to ≡ shown_by which value
   attained_moved times value satisfied e =
@@ -222,37 +275,41 @@ module _ (net : Net) (which : Which) (r : Row) (is_net : IsNet net) (in_from : r
   -- what an answer on the searched pair of a row says of its bound, where some times satisfy
   pub shows_row : (negation : Option Net) (turns : ℕ) (lines : List FallLine) (times : List ℤ) (ray : List Bool) (fallen : Fallen) (view : View) → IsViewOf net view
       → IsNegationOf net negation → (some : List ℤ) → Satisfies some net → AnswersAs negation net (source Plain which r) (target Plain which r) turns lines times ray fallen
-      → IsBound view net turns which r lines (told_bound which r.from times ray fallen)
-  shows_row None turns lines times ray fallen Negated v is some satisfied a = absurd (v is)
-  shows_row (Some n) turns lines times ray fallen Plain v is some satisfied a = absurd (is.2 v)
-  shows_row None turns lines times ray (Closed value) Plain v is some satisfied a = record {
+      → (HasTimes fallen → All IsNearValue times) → IsBound view net turns which r lines (told_bound which r.from times ray fallen)
+  shows_row None turns lines times ray fallen Negated v is some satisfied a near = absurd (one_view net is v)
+  shows_row (Some n) turns lines times ray fallen Plain v is some satisfied a near = absurd (one_view net v is.1)
+  shows_row None turns lines times ray (Closed value) Plain v is some satisfied a near = record {
     extreme = extreme net which r value a.greatest;
     times = are_times times a.satisfies;
+    printed = are_printed times a.satisfies (near tt);
     attained = attained_moved times value a.satisfies a.attained;
     derived = (times, a.derivation, (a.derived ∙ sym (shown_twice which value), refl));
   }
-  shows_row None turns lines times ray Unbounded Plain v is some satisfied a = record {
+  shows_row None turns lines times ray Unbounded Plain v is some satisfied a near = record {
     times = are_times times a.satisfies;
+    printed = are_printed times a.satisfies (near tt);
     raised = can_rise net which r times ray is_net a.raised;
     derived = (times, a.derivation, refl);
   }
-  shows_row None turns lines times ray Inconsistent Plain v is some satisfied a = absurd (a.none some satisfied)
-  shows_row None turns lines times ray Spent Plain v is some satisfied a = record { spent = (times, a.spent); few = a.few }
-  shows_row (Some n) turns lines times ray (Closed value) Negated v is some satisfied a =
+  shows_row None turns lines times ray Inconsistent Plain v is some satisfied a near = absurd (a.none some satisfied)
+  shows_row None turns lines times ray Spent Plain v is some satisfied a near = record { spent = (times, a.spent); few = a.few }
+  shows_row (Some n) turns lines times ray (Closed value) Negated v is some satisfied a near =
       let (values, d, turn, at) = a.derivation in record {
         extreme = extreme net which r value a.greatest;
         times = are_times times a.satisfies;
+        printed = are_printed times a.satisfies (near tt);
         attained = attained_moved times value a.satisfies a.attained;
         derived = (values, d, (at ∙ sym (shown_twice which value), ap (moved r.from) turn));
       }
-  shows_row (Some n) turns lines times ray Unbounded Negated v is some satisfied a =
+  shows_row (Some n) turns lines times ray Unbounded Negated v is some satisfied a near =
       let (values, d, turn) = a.derivation in record {
         times = are_times times a.satisfies;
+        printed = are_printed times a.satisfies (near tt);
         raised = can_rise net which r times ray is_net a.raised;
         derived = (values, d, ap (moved r.from) turn);
       }
-  shows_row (Some n) turns lines times ray Inconsistent Negated v is some satisfied a = absurd (a.none some satisfied)
-  shows_row (Some n) turns lines times ray Spent Negated v is some satisfied a = record { spent = a.spent; few = a.few }
+  shows_row (Some n) turns lines times ray Inconsistent Negated v is some satisfied a near = absurd (a.none some satisfied)
+  shows_row (Some n) turns lines times ray Spent Negated v is some satisfied a near = record { spent = a.spent; few = a.few }
 
 pub not_inconsistent : (net : Net) (negation : Option Net) (from to : EventId) (turns : ℕ) (lines : List FallLine) (times : List ℤ) (ray : List Bool) (fallen : Fallen) (some : List ℤ)
     → Satisfies some net → AnswersAs negation net from to turns lines times ray fallen → fallen ≡ Inconsistent → ⊥
@@ -266,42 +323,3 @@ not_inconsistent net negation from to turns lines times ray fallen some satisfie
 pub in_pair : (which : Which) (r : Row) (events : ℕ) → r.from.0 < events → r.to.0 < events → ((source Plain which r).0 < events) × ((target Plain which r).0 < events)
 in_pair Max r events in_from in_to = (in_from, in_to)
 in_pair Min r events in_from in_to = (in_to, in_from)
-
--- ---- how great the times of an answer are
-
-near_negated : (values : List ℤ) → All IsNearValue values → All IsNearValue (negated_times values)
-near_negated values near = all_map neg_ℤ IsNearValue IsNearValue values (λ value h. (omega (arith, ints, h.0, h.1), omega (arith, ints, h.0, h.1))) near
-
-near_by_negation : (net : Net) (limits : Limits) (to : EventId) (lines : List FallLine) (values times : List ℤ) → IsNet net → AreLimits net limits → to.0 < net.events
-    → IsDerivation (negated net) to lines values → times ≡ negated_times values → Satisfies times net → All IsNearValue values
-near_by_negation net limits to lines values times is_net limited in_to d turn satisfied =
-    satisfying_near (negated net) to lines values (is_net_negated net is_net) in_to (limits_negated net limits limited).small d
-    (subst (λ ts. Satisfies ts (negated net)) (ap negated_times turn ∙ negated_twice values) (satisfies_turns net times satisfied))
-
--- the times of an answer that has some, and its number
-pub near_times : (net : Net) (limits : Limits) (negation : Option Net) (from to : EventId) (turns : ℕ) (lines : List FallLine) (times : List ℤ) (ray : List Bool) (fallen : Fallen)
-    → IsNet net → AreLimits net limits → IsNegationOf net negation → from.0 < net.events → to.0 < net.events → AnswersAs negation net from to turns lines times ray fallen
-    → HasTimes fallen → All IsNearValue times
-near_times net limits None from to turns lines times ray (Closed value) is_net limited is in_from in_to a has = satisfying_near net from lines times is_net in_from limited.small a.derivation a.satisfies
-near_times net limits None from to turns lines times ray Unbounded is_net limited is in_from in_to a has = satisfying_near net from lines times is_net in_from limited.small a.derivation a.satisfies
-near_times net limits negation from to turns lines times ray Inconsistent is_net limited is in_from in_to a has = absurd has
-near_times net limits negation from to turns lines times ray Spent is_net limited is in_from in_to a has = absurd has
-near_times net limits (Some n) from to turns lines times ray (Closed value) is_net limited is in_from in_to a has =
-    let (values, d, turn, at) = a.derivation in
-    subst (All IsNearValue) (sym turn) (near_negated values (near_by_negation net limits to lines values times is_net limited in_to d turn a.satisfies))
-near_times net limits (Some n) from to turns lines times ray Unbounded is_net limited is in_from in_to a has =
-    let (values, d, turn) = a.derivation in
-    subst (All IsNearValue) (sym turn) (near_negated values (near_by_negation net limits to lines values times is_net limited in_to d turn a.satisfies))
-
-near_at : (values : List ℤ) (event : EventId) (value : ℤ) → event.0 < length values → time_of values event ≡ value → All IsNearValue values → IsNearValue value
-near_at values event value within e near = subst IsNearValue e (near event.0 (pos 0) within)
-
-pub near_value : (net : Net) (limits : Limits) (negation : Option Net) (from to : EventId) (turns : ℕ) (lines : List FallLine) (times : List ℤ) (ray : List Bool) (value : ℤ)
-    → IsNet net → AreLimits net limits → IsNegationOf net negation → from.0 < net.events → to.0 < net.events → AnswersAs negation net from to turns lines times ray (Closed value)
-    → IsNearValue value
-near_value net limits None from to turns lines times ray value is_net limited is in_from in_to a =
-    near_at times to value (subst (λ n. to.0 < n) (sym a.satisfies.count) in_to) a.derived (satisfying_near net from lines times is_net in_from limited.small a.derivation a.satisfies)
-near_value net limits (Some n) from to turns lines times ray value is_net limited is in_from in_to a =
-    let (values, d, turn, at) = a.derivation in
-    let count : length values ≡ net.events = sym (length-mapped neg_ℤ values) ∙ sym (ap length turn) ∙ a.satisfies.count in
-    near_at values from value (subst (λ n. from.0 < n) (sym count) in_from) at (near_by_negation net limits to lines values times is_net limited in_to d turn a.satisfies)

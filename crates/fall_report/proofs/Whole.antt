@@ -4,15 +4,16 @@ use Rattle.std.specs.List.{concat}
 use Rattle.std.specs.Prelude.{OnErr, Result, Ok, Err}
 use Rattle.itv_base.specs.Outside.{CutShort, SinkTold, grown}
 use Rattle.itv_base.proofs.Written.{cut_then, grown-append}
-use Rattle.fall_notes.specs.Text.{fall_text}
-use Rattle.job_answer.specs.declared.answer.Answer.{Answer}
+use Rattle.fall_report.specs.FallText.{fall_text}
+use Rattle.jobs.specs.declared.answer.Answer.{Answer}
 use Rattle.slack_report.specs.declared.words.EndWord.{EndWord}
-use Rattle.slack_report.specs.Right.Drawn.{Drawn}
-use Rattle.fall_report.specs.declared.view.View.{View}
-use Rattle.fall_report.specs.Fall.{AnswersFall, BeginsFall, Job, answer_of, at_finding, at_last}
+use Rattle.drawn.specs.Drawn.{Drawn}
+use Rattle.falling.specs.declared.view.View.{View}
+use Rattle.jobs.specs.Ending.{answer_of}
+use Rattle.fall_report.specs.Fall.{AnswersFall, BeginsFall, Job, at_finding, at_last}
 use Rattle.fall_report.specs.Step.{Stopped, Told}
 use Rattle.fall_report.specs.Text.{front_text}
-use Rattle.fall_report.specs.View.{IsViewOf}
+use Rattle.falling.specs.View.{IsViewOf}
 use Rattle.fall_report.proofs.Going.{none_begun}
 
 abbrev job_of : Drawn → View → ℕ → Bool → Job

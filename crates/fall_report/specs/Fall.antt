@@ -4,20 +4,23 @@ use Rattle.std.specs.List.{concat}
 use Rattle.itv_base.specs.declared.names.EventId.{EventId}
 use Rattle.falling.specs.Derivation.{IsDerivation}
 use Rattle.falling.specs.declared.line.FallLine.{FallLine}
-use Rattle.fall_notes.specs.Text.{fall_text}
-use Rattle.job_answer.specs.declared.answer.Answer.{Answer}
-use Rattle.job_answer.specs.declared.answer.Answer.TheVariants as answers
+use Rattle.fall_report.specs.FallText.{fall_text}
+use Rattle.jobs.specs.declared.answer.Answer.{Answer}
+use Rattle.jobs.specs.Ending.{answer_of}
+use Rattle.jobs.specs.declared.answer.Answer.TheVariants as answers
 use Rattle.slack_report.specs.declared.words.EndWord.{EndWord}
 use Rattle.slack_report.specs.declared.words.EndWord.TheVariants.{Pass, Fail, Inconsistent, Undecided}
 use Rattle.slack_report.specs.declared.words.Which.{Which}
 use Rattle.slack_report.specs.declared.words.Which.TheVariants.{Max, Min}
 use Rattle.slack_report.specs.Entry as line
-use Rattle.slack_report.specs.Right.Drawn.{Drawn, Row, name_of}
+use Rattle.drawn.specs.Drawn.{Drawn, name_of}
+use Rattle.drawn.specs.declared.row.Row.{Row}
 use Rattle.slack_report.specs.Text.{entry_text}
-use Rattle.fall_report.specs.declared.view.View.{View}
+use Rattle.falling.specs.declared.view.View.{View}
 use Rattle.fall_report.specs.Shows.{IsBound, IsFinding, first_event}
 use Rattle.fall_report.specs.Text.{Bound, Finding, bound_spent, bound_text, consistent, finding_spent, finding_text, front_text, inconsistent, closed, printed, unbounded}
-use Rattle.fall_report.specs.View.{IsViewOf, seen, source}
+use Rattle.falling.specs.View.{IsViewOf}
+use Rattle.fall_report.specs.View.{seen, source}
 
 -- what is asked: of which drawn network, in which view, with how many turns, and whether derivations are printed
 pub record Job : Type 0 where
@@ -91,13 +94,6 @@ abbrev pub AreBegun : Job → Place → List FallLine → Type 0
 AreBegun job at_finding begun = BeginAt job first_event begun
 AreBegun job (at_bound told which) begun = BeginAt job (source job.view which told.row) begun
 AreBegun job _ begun = begun ≡ []
-
--- what the job answers by the word at the end
-abbrev pub answer_of : EndWord → Answer
-answer_of Pass = answers.AllPass
-answer_of Fail = answers.SomeFail
-answer_of Inconsistent = answers.Inconsistent
-answer_of Undecided = answers.Undecided
 
 -- what the job answers and writes: the front, and pieces up to the last one, whose word is the answer
 pub record AnswersFall (drawn : Drawn) (turns : ℕ) (cert : Bool) (answer : Answer) (text : List ℕ) : Type 0 where

@@ -2,8 +2,8 @@
 use Rattle.std.specs.Prelude.{◌<◌, ℕ, Bool, List}
 use Rattle.event_graph.specs.Bounds.{IsInconsistent}
 use Rattle.falling.specs.Cap.{enough_turns}
-use Rattle.job_answer.specs.declared.answer.Answer.TheVariants.{Inconsistent, Undecided}
-use Rattle.slack_report.specs.Right.Drawn.{Drawn}
+use Rattle.jobs.specs.declared.answer.Answer.TheVariants.{Inconsistent, Undecided}
+use Rattle.drawn.specs.Drawn.{Drawn}
 use Rattle.fall_report.specs.Fall.{AnswersFall}
 
 -- an answer is undecided only where the turns are fewer than are enough

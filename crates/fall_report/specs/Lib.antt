@@ -1,5 +1,8 @@
 pub mod View
+pub mod FallText
 pub mod Text
+pub mod Noting
+pub mod NotesLaws
 pub mod Shows
 pub mod Fall
 pub mod Step

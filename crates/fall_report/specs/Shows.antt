@@ -1,7 +1,8 @@
 -- What a finding or a bound says of the network, and what the lines of its derivation show.
-use Rattle.std.specs.Prelude.{◌≡◌, ◌<◌, ℕ, ℤ, pos, neg_ℤ, Bool, List, []}
+use Rattle.std.specs.Prelude.{◌≡◌, ◌<◌, ℕ, ℤ, pos, neg_ℤ, Bool, List, [], All}
 use Rattle.itv_base.specs.declared.names.EventId.{EventId}
 use Rattle.event_graph.specs.Bounds.{IsGreatest, IsInconsistent, IsLeast, IsRay}
+use Rattle.event_graph.specs.Limits.{IsPrintedTime}
 use Rattle.event_graph.specs.Network.{Net}
 use Rattle.event_graph.specs.Satisfying.{Satisfies}
 use Rattle.event_graph.specs.Times.{separation, time_of}
@@ -11,9 +12,9 @@ use Rattle.falling.specs.Derivation.{IsDerivation, IsEnded}
 use Rattle.falling.specs.declared.line.FallLine.{FallLine}
 use Rattle.slack_report.specs.declared.words.Which.{Which}
 use Rattle.slack_report.specs.declared.words.Which.TheVariants.{Max, Min}
-use Rattle.slack_report.specs.Right.Drawn.{Row}
-use Rattle.slack_report.specs.Right.Facts.{AreTimes}
-use Rattle.fall_report.specs.declared.view.View.{View}
+use Rattle.drawn.specs.declared.row.Row.{Row}
+use Rattle.drawn.specs.Drawn.{AreTimes}
+use Rattle.falling.specs.declared.view.View.{View}
 use Rattle.fall_report.specs.View.{moved, seen, source, target, times_seen}
 use Rattle.fall_report.specs.Text.{Bound, Finding, bound_spent, consistent, finding_spent, inconsistent, closed, unbounded}
 
@@ -30,10 +31,11 @@ pub record AreSpent (view : View) (net : Net) (from : EventId) (turns : ℕ) (li
   pub spent : (values : List ℤ) × IsSpent (seen view net) from turns lines values
   pub few : turns < enough_turns net
 
--- the times satisfy with event 0 at 0; they are those of the derivation's values, and where there are no events it has no lines
+-- the printed times satisfy with event 0 at 0; they are those of the derivation's values, and where there are no events it has no lines
 pub record IsConsistentBy (view : View) (net : Net) (lines : List FallLine) (list : List ℤ) : Type 0 where
   pub satisfied : Satisfies list net
   pub at_zero : time_of list first_event ≡ pos 0
+  pub printed : All IsPrintedTime list
   pub derived : Derives view net first_event lines (λ values. list ≡ times_seen view values)
   pub empty : net.events ≡ 0 → lines ≡ []
 
@@ -62,18 +64,20 @@ abbrev pub CanRise : Which → Net → Row → List ℤ → List Bool → Type 0
 CanRise Max net r list set = IsRay net r.from r.to list set
 CanRise Min net r list set = IsRay net r.to r.from list set
 
--- the number is the bound, and the times satisfy and attain it with the from-event at 0; they are those of the derivation's values, which
+-- the number is the bound, and the printed times satisfy and attain it with the from-event at 0; they are those of the derivation's values, which
 -- give the number
 pub record IsNumberBy (view : View) (net : Net) (which : Which) (r : Row) (lines : List FallLine) (value : ℤ) (list : List ℤ) : Type 0 where
   pub extreme : IsExtreme which net r value
   pub times : AreTimes net r list
+  pub printed : All IsPrintedTime list
   pub attained : separation list r.from r.to ≡ value
   pub derived : Derives view net (source view which r) lines
       (λ values. (time_of values (target view which r) ≡ shown_by which value) × (list ≡ moved r.from (times_seen view values)))
 
--- the times satisfy with the from-event at 0, and the set can be raised from them; they are those of the derivation's values
+-- the printed times satisfy with the from-event at 0, and the set can be raised from them; they are those of the derivation's values
 pub record IsUnboundedBy (view : View) (net : Net) (which : Which) (r : Row) (lines : List FallLine) (list : List ℤ) (set : List Bool) : Type 0 where
   pub times : AreTimes net r list
+  pub printed : All IsPrintedTime list
   pub raised : CanRise which net r list set
   pub derived : Derives view net (source view which r) lines (λ values. list ≡ moved r.from (times_seen view values))
 

@@ -1,5 +1,5 @@
 -- What the steps of job fall promise one another.
-use Rattle.std.specs.Prelude.{◌≡◌, ◌≤◌, ◌^◌, ◌||◌, ◌+◌, ℕ, ℤ, pos, neg_ℤ, ◌≤ℤ◌, Bool, false, true, if◌then◌else◌, List, ◌++◌, length, Result, Ok, Err}
+use Rattle.std.specs.Prelude.{◌≡◌, ◌≤◌, ◌||◌, ◌+◌, ℕ, ℤ, pos, neg_ℤ, ◌≤ℤ◌, Bool, false, true, if◌then◌else◌, List, ◌++◌, length, Result, Ok, Err}
 use Rattle.std.specs.List.{concat}
 use Rattle.itv_base.specs.declared.names.EventId.{EventId}
 use Rattle.itv_base.specs.Outside.{CutShort, SinkTold, grown}
@@ -8,31 +8,31 @@ use Rattle.event_graph.specs.Satisfying.{Satisfies}
 use Rattle.falling.specs.declared.answer.Fallen.{Fallen}
 use Rattle.falling.specs.declared.answer.Fallen.TheVariants as fallen
 use Rattle.falling.specs.declared.line.FallLine.{FallLine}
+use Rattle.falling.specs.Cap.{cap_limit}
 use Rattle.falling.specs.Derivation.{IsDerivation}
 use Rattle.falling.specs.Solving.{AnswersAs, IsMadeFor, Solving}
-use Rattle.fall_notes.specs.Noting.{SinkGrew, SinkWasCut}
-use Rattle.fall_notes.specs.Text.{fall_text}
+use Rattle.fall_report.specs.Noting.{SinkGrew, SinkWasCut}
+use Rattle.fall_report.specs.FallText.{fall_text}
 use Rattle.slack_report.specs.declared.words.EndWord.{EndWord}
 use Rattle.slack_report.specs.declared.words.EndWord.TheVariants as endings
 use Rattle.slack_report.specs.declared.words.Which.{Which}
-use Rattle.slack_report.specs.Right.Drawn.{Row}
-use Rattle.unroll.specs.Drawn as drawing
-use Rattle.unroll.specs.Reported.{reported, row_told}
-use Rattle.unroll.specs.declared.row.Row.{Row as UnrolledRow}
+use Rattle.drawn.specs.declared.row.Row.{Row}
+use Rattle.drawn.specs.Drawn.{Drawn}
 use Rattle.fall_report.specs.declared.desk.Desk.{Desk}
 use Rattle.fall_report.specs.declared.finding.Found.{Found}
 use Rattle.fall_report.specs.declared.finding.Found.TheVariants as founds
-use Rattle.fall_report.specs.declared.view.View.{View}
-use Rattle.fall_report.specs.declared.view.View.TheVariants.{Plain}
+use Rattle.falling.specs.declared.view.View.{View}
+use Rattle.falling.specs.declared.view.View.TheVariants.{Plain}
 use Rattle.fall_report.specs.declared.wanted.Wanted.{Wanted}
 use Rattle.fall_report.specs.Fall.{AreBegun, Job, Place, Reads, Telling, at_end, at_rows, before_rows}
 use Rattle.fall_report.specs.Shows.{IsFinding, shown_by}
 use Rattle.fall_report.specs.Text.{Bound, Finding, bound_spent, consistent, finding_spent, inconsistent, closed, printed, unbounded}
-use Rattle.fall_report.specs.View.{IsViewOf, moved, seen, source, target}
+use Rattle.falling.specs.View.{IsViewOf}
+use Rattle.fall_report.specs.View.{moved, seen, source, target}
 
--- a time from which another can be taken
+-- a time is within the greatest cap in absolute value, so that another can be taken from it
 abbrev pub IsNear : ℤ → Type 0
-IsNear time = (neg_ℤ (pos (2 ^ 61)) ≤ℤ time) × (time ≤ℤ pos (2 ^ 61))
+IsNear time = (neg_ℤ (pos cap_limit) ≤ℤ time) × (time ≤ℤ pos cap_limit)
 
 -- the memory is made for a network
 pub record IsSet (net : Net) (desk : Desk) : Type 0 where
@@ -99,8 +99,8 @@ was_spent fallen.Spent = true
 -- ---- pieces of text
 
 -- a job on a drawn network
-abbrev pub asked : drawing.Drawn → View → Wanted → Job
-asked drawn view wanted = record { drawn = reported drawn; view = view; turns = wanted.turns; cert = wanted.cert }
+abbrev pub asked : Drawn → View → Wanted → Job
+asked drawn view wanted = record { drawn = drawn; view = view; turns = wanted.turns; cert = wanted.cert }
 
 -- a job is on a network, in its view, and asks for this
 pub record IsJobOf (net : Net) (wanted : Wanted) (job : Job) : Type 0 where
@@ -110,8 +110,8 @@ pub record IsJobOf (net : Net) (wanted : Wanted) (job : Job) : Type 0 where
   pub cert : job.cert ≡ wanted.cert
 
 -- a row that is told
-abbrev pub telling : Bool → ℕ → UnrolledRow → List Row → Telling
-telling spent number r later = record { spent = spent; number = number; row = row_told r; later = later }
+abbrev pub telling : Bool → ℕ → Row → List Row → Telling
+telling spent number r later = record { spent = spent; number = number; row = r; later = later }
 
 -- pieces were put whole that lead from a place to another
 pub record Told (job : Job) (here last : Place) (old new : SinkTold) : Type 0 where

@@ -6,11 +6,11 @@ use Rattle.falling.specs.declared.line.FallLine.{FallLine}
 use Rattle.slack_report.specs.declared.words.FindingWord.TheVariants.{Consistent, Inconsistent}
 use Rattle.slack_report.specs.declared.words.Which.{Which}
 use Rattle.slack_report.specs.Entry as line
-use Rattle.slack_report.specs.Right.Drawn.{Drawn}
+use Rattle.drawn.specs.Drawn.{Drawn}
 use Rattle.slack_report.specs.Text.{entry_text, report_text, which_word}
-use Rattle.matrix_report.specs.Matrix.{events_from}
-use Rattle.fall_report.specs.declared.view.View.{View}
-use Rattle.fall_report.specs.declared.view.View.TheVariants.{Plain, Negated}
+use Rattle.jobs.specs.Events.{event_lines}
+use Rattle.falling.specs.declared.view.View.{View}
+use Rattle.falling.specs.declared.view.View.TheVariants.{Plain, Negated}
 
 -- what is found of a network: it is consistent, with times; it is inconsistent; or the turns were spent before it was known
 pub data Finding : Type 0 where
@@ -32,7 +32,7 @@ view_text Negated = ended (line_of (codes "view" ∷ codes "negated" ∷ []))
 -- the heading, the view, and the events by their names
 abbrev pub front_text : Drawn → View → List ℕ
 front_text drawn view =
-    ended (codes "itv fall 1") ++ (view_text view ++ report_text (line.events (length drawn.names) ∷ events_from 0 drawn.names))
+    ended (codes "itv fall 1") ++ (view_text view ++ report_text (event_lines drawn.names))
 
 abbrev pub finding_text : Finding → List ℕ
 finding_text (consistent list) = entry_text (line.finding Consistent) ++ entry_text (line.times list)

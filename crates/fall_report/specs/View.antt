@@ -1,19 +1,14 @@
--- The view of a network: which network is solved, where a derivation starts and ends, and what its values say of the network.
+-- What a view says: the network that is solved, where a derivation starts and ends, and what its values say of the network.
 use Rattle.std.specs.Prelude.{ℤ, neg_ℤ, List}
 use Rattle.itv_base.specs.declared.names.EventId.{EventId}
 use Rattle.event_graph.specs.Network.{Net}
 use Rattle.event_graph.specs.Times.{shifted, time_of}
-use Rattle.falling.specs.Kinds.{IsPlain, negated, negated_times}
+use Rattle.falling.specs.Kinds.{negated, negated_times}
 use Rattle.slack_report.specs.declared.words.Which.{Which}
 use Rattle.slack_report.specs.declared.words.Which.TheVariants.{Max, Min}
-use Rattle.slack_report.specs.Right.Drawn.{Row}
-use Rattle.fall_report.specs.declared.view.View.{View}
-use Rattle.fall_report.specs.declared.view.View.TheVariants.{Plain, Negated}
-
--- the view is plain where no earliest constraint has two or more causes, and else negated
-abbrev pub IsViewOf : Net → View → Type 0
-IsViewOf net Plain = IsPlain net
-IsViewOf net Negated = IsPlain net → ⊥
+use Rattle.drawn.specs.declared.row.Row.{Row}
+use Rattle.falling.specs.declared.view.View.{View}
+use Rattle.falling.specs.declared.view.View.TheVariants.{Plain, Negated}
 
 -- the network that is solved
 abbrev pub seen : View → Net → Net

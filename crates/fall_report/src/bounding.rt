@@ -5,8 +5,7 @@ ghost use Rattle.event_graph.specs.Satisfying.{Satisfies};
 ghost use Rattle.falling.specs.declared.line.FallLine.{FallLine};
 ghost use Rattle.falling.specs.Solving.{IsMadeFor};
 ghost use Rattle.itv_base.specs.Outside.{Puts};
-ghost use Rattle.unroll.specs.Drawn.{IsRowOf};
-ghost use Rattle.unroll.specs.Reported.{row_told};
+ghost use Rattle.drawn.specs.Drawn.{IsRowOf};
 ghost use Rattle.fall_report.specs.Fall.{Job, Telling, at_bound, behind_bound};
 ghost use Rattle.fall_report.specs.Shows.{shown_by};
 ghost use Rattle.fall_report.specs.Step.{AnswersRow, BeginsFrom, Goes, IsJobOf, IsSet, IsNear, Tells, WasCut, told_bound, was_spent};
@@ -17,13 +16,13 @@ use crate::desk::Desk;
 use crate::search::greatest_of;
 use crate::times::take_moved;
 use crate::wanted::Wanted;
+use drawn::Row;
 use event_graph::Network;
 use falling::{Fallen, Falling};
 use itv_base::{PutFailed, Sink};
 use line_words::LineBuffer;
 use requirements::Bound;
 use slack_report::{Item, Which, write_item};
-use unroll::Row;
 
 /// Tells a bound of a row of a network that some times satisfy, and answers whether its turns were spent.
 pub fn tell_bound<K: Sink>(
@@ -38,7 +37,7 @@ pub fn tell_bound<K: Sink>(
     requires consistent { (times : List ℤ) × Satisfies times net.now }
     requires row { IsRowOf net.now row.now }
     ensures set { IsSet net.now desk.new }
-    ensures goes { (job : Job) (told : Telling) → IsJobOf net.now wanted job → told.row ≡ row_told row.now
+    ensures goes { (job : Job) (told : Telling) → IsJobOf net.now wanted job → told.row ≡ row.now
         → Goes job (at_bound told which) (behind_bound told which) (K.told sink.old) (K.told sink.new) result }
 {
     let fallen = search_bound(which, row, net, wanted, &mut desk.solver, sink)?;
@@ -68,9 +67,9 @@ fn search_bound<K: Sink>(
     requires row { IsRowOf net.now row.now }
     ensures made { IsMadeFor net.now solver.new }
     ensures answers { IfOk result (λ fallen. Tells wanted.cert (K.told sink.old) (K.told sink.new)
-        (λ lines. AnswersRow net.now which (row_told row.now) wanted.turns lines solver.new fallen)) }
+        (λ lines. AnswersRow net.now which row.now wanted.turns lines solver.new fallen)) }
     ensures cut { OnErr result (WasCut wanted.cert (K.told sink.old) (K.told sink.new)
-        (BeginsFrom net.now wanted.turns (λ view. source view which (row_told row.now)))) }
+        (BeginsFrom net.now wanted.turns (λ view. source view which row.now))) }
 {
     match which {
         Which::Max => greatest_of(solver, net, row.from, row.to, wanted, sink),
@@ -93,7 +92,7 @@ fn put_bound<K: Sink>(
     requires consistent { (times : List ℤ) × Satisfies times net.now }
     requires row { IsRowOf net.now row.now }
     requires answers { (turns : ℕ) × (lines : List FallLine)
-        × AnswersRow net.now which (row_told row.now) turns lines desk.old.solver fallen }
+        × AnswersRow net.now which row.now turns lines desk.old.solver fallen }
     ensures set { IsSet net.now desk.new }
     ensures puts { Puts (K.told sink.old) (K.told sink.new)
         (bound_text which (told_bound which row.now.from desk.old.solver.times desk.old.solver.ray fallen)) result }

@@ -6,12 +6,13 @@
 
 mod bounding;
 mod desk;
+mod fall_line;
 mod finding;
 pub mod laws;
 mod rows;
 mod search;
+mod sink_notes;
 mod times;
-mod view;
 mod wanted;
 mod write;
 

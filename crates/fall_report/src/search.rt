@@ -5,9 +5,9 @@ ghost use Rattle.falling.specs.declared.line.FallLine.{FallLine};
 ghost use Rattle.falling.specs.Solving.{AnswersAs, IsDerivationAs, IsMadeFor};
 ghost use Rattle.fall_report.specs.Step.{Tells, WasCut};
 
+use crate::sink_notes::SinkNotes;
 use crate::wanted::Wanted;
 use event_graph::Network;
-use fall_notes::SinkNotes;
 use falling::{Fallen, Falling, NoNotes, NotesFailed};
 use itv_base::{EventId, PutFailed, Sink};
 

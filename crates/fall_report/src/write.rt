@@ -1,89 +1,73 @@
 //! Writing the text of the job.
 
-ghost use Rattle.std.specs.Prelude.{◌≡◌, ◌≤◌, ◌⊎◌, ℕ, Bool, List, IfOk, OnErr, length};
-ghost use Rattle.falling.specs.Kinds.{IsNegatable, IsPlain};
-ghost use Rattle.itv_base.specs.declared.limits.TheConstants.{MAX_ROWS};
+ghost use Rattle.std.specs.Prelude.{◌≡◌, ℕ, Bool, List, IfOk, OnErr};
+ghost use Rattle.falling.specs.View.{IsViewOf};
 ghost use Rattle.itv_base.specs.Outside.{CutShort, Puts, grown};
-ghost use Rattle.job_answer.specs.Works.{Works};
-ghost use Rattle.unroll.specs.Reported.{reported};
-ghost use Rattle.fall_report.specs.Fall.{AnswersFall, BeginsFall, answer_of, at_end, at_finding, at_last};
+ghost use Rattle.jobs.specs.Works.{Works};
+ghost use Rattle.fall_report.specs.Fall.{AnswersFall, BeginsFall, at_end, at_finding, at_last};
 ghost use Rattle.fall_report.specs.Step.{Goes, HasFound, IsSet, asked, behind_found, end_word};
 ghost use Rattle.fall_report.specs.Text.{front_text, view_text};
-ghost use Rattle.fall_report.specs.View.{IsViewOf};
 
 use crate::desk::Desk;
 use crate::finding::{Found, tell_finding};
 use crate::rows::tell_rows;
-use crate::view::{View, view_of};
 use crate::wanted::Wanted;
+use drawn::DrawnNetwork;
+use falling::View;
 use itv_base::{PutFailed, Sink};
-use job_answer::{Answer, Unanswered};
+use jobs::{Answer, Unanswered, answer_of, put_events};
 use line_words::LineBuffer;
-use matrix_report::put_events;
 use slack_report::{EndWord, Item, write_item};
 use std::alloc::Global;
-use unroll::Unrolled;
 
-/// Writes the bounds of a drawn network whose choices are all latest or all earliest: the view, the events, whether some times
+/// Writes the bounds of a drawn network of a view: the view, the events, whether some times
 /// satisfy the network, and the bounds of each of its rows. Each derivation has at most so many lines as there are turns, and with
 /// `cert` they are printed. All memory is taken before the first put.
 pub fn write_fall<K: Sink>(
     alloc: Global,
-    drawn: &Unrolled,
+    drawn: &DrawnNetwork,
+    view: View,
     turns: u64,
     cert: bool,
     sink: &mut K,
 ) -> Result<Answer, Unanswered>
-    requires kinds { IsPlain drawn.now.net ⊎ IsNegatable drawn.now.net }
-    requires rows { length drawn.now.rows ≤ MAX_ROWS }
-    ensures works { Works (AnswersFall (reported drawn.now) turns cert) (BeginsFall (reported drawn.now) turns cert)
+    requires view { IsViewOf drawn.now.net view }
+    ensures works { Works (AnswersFall drawn.now turns cert) (BeginsFall drawn.now turns cert)
         (K.told sink.old) (K.told sink.new) result }
 {
-    let mut desk = Desk::new(alloc, drawn.network())?;
+    let mut desk = Desk::new(alloc, drawn.network(), view)?;
     let wanted = Wanted { turns, cert };
-    Ok(tell_text(drawn, wanted, &mut desk, sink)?)
+    Ok(tell_text(drawn, view, wanted, &mut desk, sink)?)
 }
 
 // Tells the whole text.
 fn tell_text<K: Sink>(
-    drawn: &Unrolled,
+    drawn: &DrawnNetwork,
+    view: View,
     wanted: Wanted,
     desk: &mut Desk,
     sink: &mut K,
 ) -> Result<Answer, PutFailed>
-    requires rows { length drawn.now.rows ≤ MAX_ROWS }
+    requires view { IsViewOf drawn.now.net view }
     requires set { IsSet drawn.now.net desk.old }
     ensures answers { IfOk result (λ answer. (text : List ℕ)
-        × AnswersFall (reported drawn.now) wanted.turns wanted.cert answer text × (K.told sink.new ≡ grown (K.told sink.old) text)) }
+        × AnswersFall drawn.now wanted.turns wanted.cert answer text × (K.told sink.new ≡ grown (K.told sink.old) text)) }
     ensures begins { OnErr result ((text : List ℕ)
-        × BeginsFall (reported drawn.now) wanted.turns wanted.cert text × CutShort (K.told sink.old) (K.told sink.new) text) }
+        × BeginsFall drawn.now wanted.turns wanted.cert text × CutShort (K.told sink.old) (K.told sink.new) text) }
 {
-    let view = view_of(&desk.solver);
     put_front(view, drawn, &mut desk.buffer, sink)?;
     let word = tell_bounds(drawn, wanted, desk, sink)?;
     Ok(answer_of(word))
 }
 
-// What the job answers by the word at the end.
-fn answer_of(word: EndWord) -> Answer
-    ensures { result ≡ answer_of word }
-{
-    match word {
-        EndWord::Pass => Answer::AllPass,
-        EndWord::Fail => Answer::SomeFail,
-        EndWord::Inconsistent => Answer::Inconsistent,
-        EndWord::Undecided => Answer::Undecided,
-    }
-}
-
 // The heading, the view and the events.
 fn put_front<K: Sink>(
     view: View,
-    drawn: &Unrolled,
+    drawn: &DrawnNetwork,
     buffer: &mut LineBuffer,
     sink: &mut K,
 ) -> Result<(), PutFailed>
-    ensures { Puts (K.told sink.old) (K.told sink.new) (front_text (reported drawn.now) view) result }
+    ensures { Puts (K.told sink.old) (K.told sink.new) (front_text drawn.now view) result }
 {
     sink.put(b"itv fall 1\n")?;
     put_view(view, sink)?;
@@ -101,12 +85,11 @@ fn put_view<K: Sink>(view: View, sink: &mut K) -> Result<(), PutFailed>
 
 // The finding, the rows behind a consistent one, and the word at the end.
 fn tell_bounds<K: Sink>(
-    drawn: &Unrolled,
+    drawn: &DrawnNetwork,
     wanted: Wanted,
     desk: &mut Desk,
     sink: &mut K,
 ) -> Result<EndWord, PutFailed>
-    requires rows { length drawn.now.rows ≤ MAX_ROWS }
     requires set { IsSet drawn.now.net desk.old }
     ensures goes { (view : View) → IsViewOf drawn.now.net view
         → Goes (asked drawn.now view wanted) at_finding at_last (K.told sink.old) (K.told sink.new) result }
@@ -120,12 +103,11 @@ fn tell_bounds<K: Sink>(
 // The rows behind a consistent finding. The answer is the word at the end.
 fn tell_behind<K: Sink>(
     found: Found,
-    drawn: &Unrolled,
+    drawn: &DrawnNetwork,
     wanted: Wanted,
     desk: &mut Desk,
     sink: &mut K,
 ) -> Result<EndWord, PutFailed>
-    requires rows { length drawn.now.rows ≤ MAX_ROWS }
     requires set { IsSet drawn.now.net desk.old }
     requires found { HasFound drawn.now.net found }
     ensures goes { (view : View) → IsViewOf drawn.now.net view

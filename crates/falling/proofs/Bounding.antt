@@ -68,7 +68,7 @@ above_from values times count each = record {
   within_or_past : (i n : ℕ) → (i < n) ⊎ (n ≤ i)
   within_or_past i n = grind arith
 
-start_above : (net : Net) (from : EventId) (times : List ℤ) → from.0 < net.events → IsWithinCap net from times → AreAbove (starting_values net from) times
+pub start_above : (net : Net) (from : EventId) (times : List ℤ) → from.0 < net.events → IsWithinCap net from times → AreAbove (starting_values net from) times
 start_above net from times in_from within_cap =
     let count : length times ≡ net.events = within_cap.satisfies.count in
     let starting : length (starting_values net from) ≡ net.events = length-starting net from in

@@ -1,9 +1,9 @@
 -- Climbing from value to value to a gap.
-use Rattle.std.proofs.Common.{◌≡◌, ◌+◌, ◌-◌, ◌*◌, ◌^◌, ◌<◌, ◌≤◌, ◌⊎◌, inl, inr, ℕ, zero, suc, ℤ, pos, ◌+ℤ◌, ◌≤ℤ◌, ◌<ℤ◌, Bool, true, false, if◌then◌else◌, int_lt, List, [], ◌∷◌, length, get_or, sym, ap, ◌∙◌, refl, subst, arith}
+use Rattle.std.proofs.Common.{◌≡◌, ◌+◌, ◌-◌, ◌*◌, ◌<◌, ◌≤◌, ◌⊎◌, inl, inr, ℕ, zero, suc, ℤ, pos, ◌+ℤ◌, ◌≤ℤ◌, ◌<ℤ◌, Bool, true, false, if◌then◌else◌, int_lt, List, [], ◌∷◌, length, get_or, sym, ap, ◌∙◌, refl, subst, arith}
 use Rattle.std.proofs.lemmas.Int.{ints}
 use Rattle.std.proofs.lemmas.Bool.{cases_eq}
 use Rattle.event_graph.specs.Network.{Net}
-use Rattle.falling.specs.Cap.{cap, far_line, widest_end}
+use Rattle.falling.specs.Cap.{cap, cap_limit, far_line, widest_end}
 use Rattle.falling.specs.Rays.{IsClimbed, IsStepTo, above}
 use Rattle.falling.proofs.Within.{room_below}
 
@@ -150,13 +150,13 @@ level_within net values level count high =
       le_to : (level : ℤ) (a b : ℕ) → level ≤ℤ pos a → a ≤ b → level ≤ℤ pos b
       le_to level a b h le = omega (arith, ints)
 
-pub level_small : (net : Net) (level : ℤ) → cap net ≤ 2 ^ 60 → level ≤ℤ pos (net.events * widest_end net) → level ≤ℤ pos (2 ^ 60)
+pub level_small : (net : Net) (level : ℤ) → cap net ≤ cap_limit → level ≤ℤ pos (net.events * widest_end net) → level ≤ℤ pos cap_limit
 level_small net level small high =
     le_to level (net.events * widest_end net) (cap net) high (room net.events (widest_end net)) small where
       room : (n w : ℕ) → n * w ≤ 2 * n * (w + 1)
       room n w = grind arith
 
-      le_to : (level : ℤ) (a b : ℕ) → level ≤ℤ pos a → a ≤ b → b ≤ 2 ^ 60 → level ≤ℤ pos (2 ^ 60)
+      le_to : (level : ℤ) (a b : ℕ) → level ≤ℤ pos a → a ≤ b → b ≤ cap_limit → level ≤ℤ pos cap_limit
       le_to level a b h le less = omega (arith, ints)
 
 -- below the far line there is room for a gap

@@ -1,12 +1,12 @@
 -- One more line at the end of a derivation.
-use Rattle.std.proofs.Common.{◌≡◌, ◌+◌, ◌^◌, ◌<◌, ◌≤◌, inl, inr, ℕ, zero, suc, ℤ, pos, neg_ℤ, ◌≤ℤ◌, ◌<ℤ◌, List, [], ◌∷◌, ◌++◌, All, length, get_or, set, replicate, sym, ap, ◌∙◌, refl, subst, arith}
+use Rattle.std.proofs.Common.{◌≡◌, ◌+◌, ◌<◌, ◌≤◌, inl, inr, ℕ, zero, suc, ℤ, pos, neg_ℤ, ◌≤ℤ◌, ◌<ℤ◌, List, [], ◌∷◌, ◌++◌, All, length, get_or, set, replicate, sym, ap, ◌∙◌, refl, subst, arith}
 use Rattle.std.proofs.Math.ListN.{length-set}
 use Rattle.std.proofs.lemmas.Int.{ints}
 use Rattle.itv_base.specs.declared.names.EventId.{EventId}
 use Rattle.event_graph.specs.Network.{IsNet, Net}
 use Rattle.event_graph.specs.Times.{time_of}
 use Rattle.falling.specs.declared.line.FallLine.{FallLine}
-use Rattle.falling.specs.Cap.{cap, far_line}
+use Rattle.falling.specs.Cap.{cap, cap_limit, far_line}
 use Rattle.falling.specs.Course.{Ends, HasEnded, HasSettled, IsSpent}
 use Rattle.falling.specs.Derivation.{IsAllowed, IsDerivation, IsEnded, IsSettled, Leads, fallen, starting_values}
 use Rattle.falling.specs.Turns.{IsNearValue}
@@ -77,11 +77,11 @@ ended_after net from values line lowest is_lowest within (inr low) =
       subst (λ z. line.value <ℤ z) is_lowest low,
     )
 
-near_of : (value : ℤ) (far capped : ℕ) → far ≤ capped → capped ≤ 2 ^ 60 → neg_ℤ (pos far) ≤ℤ value → value ≤ℤ pos capped → IsNearValue value
+near_of : (value : ℤ) (far capped : ℕ) → far ≤ capped → capped ≤ cap_limit → neg_ℤ (pos far) ≤ℤ value → value ≤ℤ pos capped → IsNearValue value
 near_of value far capped le small least most = (omega (arith, ints), omega (arith, ints))
 
 -- values that have not ended a derivation are near
-pub near_values : (net : Net) (from : EventId) (values : List ℤ) → cap net ≤ 2 ^ 60 → (IsEnded net from values → ⊥) → All (λ (value : ℤ). value ≤ℤ pos (cap net)) values
+pub near_values : (net : Net) (from : EventId) (values : List ℤ) → cap net ≤ cap_limit → (IsEnded net from values → ⊥) → All (λ (value : ℤ). value ≤ℤ pos (cap net)) values
     → All IsNearValue values
 near_values net from values small goes_on most = λ i d within.
     near_of (get_or values i d) (far_line net) (cap net) (far_le net) small (least_of net from values i d goes_on within) (most i d within) where

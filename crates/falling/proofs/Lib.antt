@@ -5,6 +5,7 @@ pub mod Bounding
 pub mod Between
 pub mod Counting
 pub mod Choosing
+pub mod Views
 pub mod Settling
 pub mod Closing
 pub mod Negating

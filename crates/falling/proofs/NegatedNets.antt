@@ -1,10 +1,11 @@
 -- The negation of a network, and what its answers say of the network.
-use Rattle.std.proofs.Common.{◌≡◌, ◌+◌, ◌*◌, ◌^◌, ◌<◌, ◌≤◌, ◌⊎◌, inl, inr, ℕ, zero, suc, ℤ, pos, negsuc, neg_ℤ, unsigned_abs, max, ◌+ℤ◌, Bool, true, false, not, List, [], ◌∷◌, All, length, map, Option, Some, None, option_map, slice_get, sym, ap, ◌∙◌, refl, subst, arith}
+use Rattle.std.proofs.Common.{◌≡◌, ◌+◌, ◌*◌, ◌<◌, ◌≤◌, ◌⊎◌, inl, inr, ℕ, zero, suc, ℤ, pos, negsuc, neg_ℤ, unsigned_abs, max, ◌+ℤ◌, Bool, true, false, not, List, [], ◌∷◌, All, length, map, Option, Some, None, option_map, slice_get, sym, ap, ◌∙◌, refl, subst, arith}
 use Rattle.std.proofs.lemmas.Int.{ints}
 use Rattle.itv_base.specs.declared.names.EventId.{EventId}
 use Rattle.itv_base.specs.declared.names.RuleKind.TheVariants.{Early}
 use Rattle.event_graph.specs.declared.cause.Cause.{Cause}
 use Rattle.event_graph.specs.Bounds.{IsInconsistent, IsRay}
+use Rattle.event_graph.specs.Limits.{weight_limit}
 use Rattle.event_graph.specs.Network.{Constraint, IsNet, Net}
 use Rattle.event_graph.specs.Satisfying.{Satisfies}
 use Rattle.event_graph.specs.Times.{raised, shifted}
@@ -13,7 +14,7 @@ use Rattle.falling.specs.declared.answer.Fallen.{Fallen}
 use Rattle.falling.specs.declared.answer.Fallen.TheVariants.{Closed, Inconsistent, Spent, Unbounded}
 use Rattle.falling.specs.declared.line.FallLine.{FallLine}
 use Rattle.falling.specs.declared.limits.Limits.{Limits}
-use Rattle.falling.specs.Cap.{cap, end_size, widest_end, widest_of, widest_of_causes}
+use Rattle.falling.specs.Cap.{cap, cap_limit, end_size, widest_end, widest_of, widest_of_causes}
 use Rattle.falling.specs.Course.{AreLimits}
 use Rattle.falling.specs.Derivation.{IsDerivation}
 use Rattle.falling.specs.Fallen.{Answers, IsClosedAt, IsShownInconsistent, IsShownUnbounded}
@@ -48,9 +49,9 @@ pub widest-negated : (net : Net) → widest_end (negated net) ≡ widest_end net
 widest-negated net = constraints-negated net.constraints
 
 limits_at : (events width other : ℕ) (limits : Limits) → other ≡ width → limits.cap ≡ pos (2 * events * (width + 1)) → limits.far ≡ pos (events * (width + 1)) → limits.width ≡ pos width
-    → limits.lowest ≡ neg_ℤ (pos (events * (width + 1))) → 2 * events * (width + 1) ≤ 2 ^ 60 → width ≤ 2 ^ 60
+    → limits.lowest ≡ neg_ℤ (pos (events * (width + 1))) → 2 * events * (width + 1) ≤ cap_limit → width ≤ weight_limit
     → (limits.cap ≡ pos (2 * events * (other + 1))) × (limits.far ≡ pos (events * (other + 1))) × (limits.width ≡ pos other)
-    × (limits.lowest ≡ neg_ℤ (pos (events * (other + 1)))) × (2 * events * (other + 1) ≤ 2 ^ 60) × (other ≤ 2 ^ 60)
+    × (limits.lowest ≡ neg_ℤ (pos (events * (other + 1)))) × (2 * events * (other + 1) ≤ cap_limit) × (other ≤ weight_limit)
 limits_at events width other limits e p q r s t u = rw e (p, q, r, s, t, u)
 
 pub limits_negated : (net : Net) (limits : Limits) → AreLimits net limits → AreLimits (negated net) limits
@@ -129,7 +130,7 @@ inconsistent_answer net to lines shown = record { none = inconsistent_from net s
 
 -- ---- the values of a derivation that satisfy are near
 
-pub satisfying_near : (net : Net) (from : EventId) (lines : List FallLine) (values : List ℤ) → IsNet net → from.0 < net.events → cap net ≤ 2 ^ 60 → IsDerivation net from lines values
+pub satisfying_near : (net : Net) (from : EventId) (lines : List FallLine) (values : List ℤ) → IsNet net → from.0 < net.events → cap net ≤ cap_limit → IsDerivation net from lines values
     → Satisfies values net → All IsNearValue values
 satisfying_near net from lines values is_net in_from small derivation satisfies =
     near_values net from values small (λ ended. ended_is_inconsistent net from lines values is_net in_from derivation ended values satisfies)
@@ -143,7 +144,7 @@ HasTimes Inconsistent = ⊥
 HasTimes Spent = ⊥
 
 pub near_answer : (net : Net) (from to : EventId) (turns : ℕ) (lines : List FallLine) (values : List ℤ) (ray : List Bool) (fallen : Fallen) → IsNet net → from.0 < net.events
-    → cap net ≤ 2 ^ 60 → HasTimes fallen → Answers net from to turns lines values ray fallen → All IsNearValue values
+    → cap net ≤ cap_limit → HasTimes fallen → Answers net from to turns lines values ray fallen → All IsNearValue values
 near_answer net from to turns lines values ray (Closed value) is_net in_from small has h = satisfying_near net from lines values is_net in_from small h.derivation h.satisfies
 near_answer net from to turns lines values ray Unbounded is_net in_from small has h = satisfying_near net from lines values is_net in_from small h.derivation h.satisfies
 near_answer net from to turns lines values ray Inconsistent is_net in_from small has h = absurd has

@@ -31,7 +31,7 @@ keeps_narrowed width times base less from to in_from in_to =
     rw (at_event width times base less from.0 (pos 0) in_from, at_event width times base less to.0 (pos 0) in_to)
     (kept_less width _ _ _ less (kept_narrowed width times base from.0 to.0 in_from in_to))
 
-satisfies_narrowed : (net : Net) (times : List ℤ) (base less : ℤ) → IsNet net → Satisfies times net → Satisfies (narrowed_by (widest_end net) times base less) net
+pub satisfies_narrowed : (net : Net) (times : List ℤ) (base less : ℤ) → IsNet net → Satisfies times net → Satisfies (narrowed_by (widest_end net) times base less) net
 satisfies_narrowed net times base less is_net h =
     satisfies_kept net times (narrowed_by (widest_end net) times base less) is_net (length-map times _ ∙ h.count)
     (keeps_in _ _ _ _ _ h.count (keeps_narrowed (widest_end net) times base less)) h

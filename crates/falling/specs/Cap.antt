@@ -1,6 +1,8 @@
 -- The numbers, in picoseconds, that a solver starts from and ends at.
 use Rattle.std.specs.Prelude.{◌+◌, ◌*◌, ℕ, ℤ, unsigned_abs, max, List, [], ◌∷◌, Option, Some, None}
+use Rattle.itv_base.specs.declared.limits.TheConstants.{MAX_EVENTS}
 use Rattle.event_graph.specs.declared.cause.Cause.{Cause}
+use Rattle.event_graph.specs.Limits.{weight_limit}
 use Rattle.event_graph.specs.Network.{Constraint, Net}
 
 -- the absolute value of an end, 0 where it is open
@@ -33,3 +35,11 @@ far_line net = net.events * (widest_end net + 1)
 -- a number of turns in which a derivation ends or settles
 abbrev pub enough_turns : Net → ℕ
 enough_turns net = net.events * (3 * net.events * (widest_end net + 1) + 1)
+
+-- no cap is greater, and so no value
+abbrev pub cap_limit : ℕ
+cap_limit = 2 * MAX_EVENTS * (weight_limit + 1)
+
+-- no number of turns that is enough is greater
+abbrev pub enough_limit : ℕ
+enough_limit = MAX_EVENTS * (3 * MAX_EVENTS * (weight_limit + 1) + 1)

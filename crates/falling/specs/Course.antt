@@ -1,22 +1,23 @@
 -- How a derivation goes.
-use Rattle.std.specs.Prelude.{◌≡◌, ◌⊎◌, ◌^◌, ◌≤◌, ℕ, ℤ, pos, neg_ℤ, ◌<ℤ◌, List, length}
+use Rattle.std.specs.Prelude.{◌≡◌, ◌⊎◌, ◌≤◌, ℕ, ℤ, pos, neg_ℤ, ◌<ℤ◌, List, length}
 use Rattle.itv_base.specs.declared.names.EventId.{EventId}
+use Rattle.event_graph.specs.Limits.{weight_limit}
 use Rattle.event_graph.specs.Network.{Net}
 use Rattle.falling.specs.declared.course.Course.{Course}
 use Rattle.falling.specs.declared.course.Course.TheVariants.{Settled, Ended, Spent}
 use Rattle.falling.specs.declared.limits.Limits.{Limits}
 use Rattle.falling.specs.declared.line.FallLine.{FallLine}
-use Rattle.falling.specs.Cap.{cap, far_line, widest_end}
+use Rattle.falling.specs.Cap.{cap, cap_limit, far_line, widest_end}
 use Rattle.falling.specs.Derivation.{IsAllowed, IsDerivation, IsEnded, IsSettled}
 
--- the cap and the far line of a network, which is small enough for 64 bits
+-- the cap and the far line of a network, and the limits that they keep to
 pub record AreLimits (net : Net) (limits : Limits) : Type 0 where
   pub cap_is : limits.cap ≡ pos (cap net)
   pub far_is : limits.far ≡ pos (far_line net)
   pub width_is : limits.width ≡ pos (widest_end net)
   pub lowest_is : limits.lowest ≡ neg_ℤ (pos (far_line net))
-  pub small : cap net ≤ 2 ^ 60
-  pub small_width : widest_end net ≤ 2 ^ 60
+  pub small : cap net ≤ cap_limit
+  pub small_width : widest_end net ≤ weight_limit
 
 -- the line brings the source below 0, or its event below the lowest value
 abbrev pub Ends : FallLine → EventId → ℤ → Type 0

@@ -1,5 +1,6 @@
 pub mod Cap
 pub mod Kinds
+pub mod View
 pub mod Gaps
 pub mod Derivation
 pub mod Turns

@@ -1,25 +1,24 @@
 -- What a solver made for a network is at, and what it says of a pair.
-use Rattle.std.specs.Prelude.{◌≡◌, ◌<◌, ◌⊎◌, ℕ, ℤ, Bool, List, length, Option, Some, None}
+use Rattle.std.specs.Prelude.{◌≤◌, ◌≡◌, ◌<◌, ℕ, ℤ, Bool, List, length, Option, Some, None}
 use Rattle.itv_base.specs.declared.names.EventId.{EventId}
-use Rattle.itv_base.specs.declared.names.RuleKind.TheVariants.{Late, Early}
 use Rattle.event_graph.specs.Bounds.{IsGreatest, IsInconsistent, IsRay}
 use Rattle.event_graph.specs.Network.{Net}
 use Rattle.event_graph.specs.Satisfying.{Satisfies}
 use Rattle.event_graph.specs.Times.{separation, time_of}
 use Rattle.falling.specs.declared.answer.Fallen.{Fallen}
 use Rattle.falling.specs.declared.answer.Fallen.TheVariants.{Closed, Unbounded, Inconsistent, Spent}
-use Rattle.falling.specs.declared.fault.FallFault.{FallFault}
-use Rattle.falling.specs.declared.fault.FallFault.TheVariants.{Mixed, NoMemory}
 use Rattle.falling.specs.declared.limits.Limits.{Limits}
 use Rattle.falling.specs.declared.line.FallLine.{FallLine}
+use Rattle.falling.specs.declared.view.View.TheVariants.{Plain, Negated}
 use Rattle.falling.specs.Agenda.{Agenda, IsAgendaFor}
-use Rattle.falling.specs.Cap.{enough_turns}
+use Rattle.falling.specs.Cap.{enough_limit, enough_turns}
 use Rattle.falling.specs.Course.{AreLimits, IsSpent}
 use Rattle.falling.specs.Derivation.{IsDerivation, IsEnded}
 use Rattle.falling.specs.Fallen.{Answers}
-use Rattle.falling.specs.Kinds.{IsNegatable, IsPlain, first_choice, negated, negated_times}
+use Rattle.falling.specs.Kinds.{negated, negated_times}
+use Rattle.falling.specs.View.{IsViewOf}
 
--- what a solver is at: the negation that it solves, if the network is not plain, its limits, a number of turns that is enough,
+-- what a solver is at: the negation that it solves, if that is the view of the network, its limits, a number of turns that is enough,
 -- its agenda, the times, the ray, and the turns of the last answer
 pub record Solving : Type 0 where
   pub negation : Option Net
@@ -30,10 +29,10 @@ pub record Solving : Type 0 where
   pub ray : List Bool
   pub turns : ℕ
 
--- a plain network is solved itself, and one that is negatable and not plain by its negation
+-- a network of the plain view is solved itself, and one of the negated view by its negation
 abbrev pub IsNegationOf : Net → Option Net → Type 0
-IsNegationOf net None = IsPlain net
-IsNegationOf net (Some negation) = (negation ≡ negated net) × IsNegatable net × (IsPlain net → ⊥)
+IsNegationOf net None = IsViewOf net Plain
+IsNegationOf net (Some negation) = (negation ≡ negated net) × IsViewOf net Negated
 
 -- the network that is solved: the negation, where there is one
 abbrev pub solved : Net → Option Net → Net
@@ -45,14 +44,10 @@ pub record IsMadeFor (net : Net) (solving : Solving) : Type 0 where
   pub negation : IsNegationOf net solving.negation
   pub limits : AreLimits net solving.limits
   pub enough : solving.enough ≡ enough_turns net
+  pub most : solving.enough ≤ enough_limit
   pub agenda : IsAgendaFor (solved net solving.negation) solving.agenda
   pub times : length solving.times ≡ net.events
   pub ray : length solving.ray ≡ net.events
-
--- why there is no solver for a network: it has choices of both kinds, the first of which these are, or memory is wanted
-abbrev pub IsFallFault : Net → FallFault → Type 0
-IsFallFault net (Mixed late early) = (first_choice Late net ≡ Some late) × (first_choice Early net ≡ Some early)
-IsFallFault net NoMemory = IsPlain net ⊎ IsNegatable net
 
 -- the value is the greatest separation, the times satisfy and attain it, and the lines are a derivation in the negation from the to-event,
 -- which gives it to the from-event and gives each event minus its time

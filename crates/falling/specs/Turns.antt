@@ -1,5 +1,5 @@
 -- What a solver knows between two turns.
-use Rattle.std.specs.Prelude.{◌≡◌, ◌<◌, ◌⊎◌, ◌^◌, ℕ, ℤ, pos, neg_ℤ, ◌+ℤ◌, ◌≤ℤ◌, List, All, Option, Some, None, option_map, IsSome, IsSomeAnd, IsTrue, length, slice_get}
+use Rattle.std.specs.Prelude.{◌≡◌, ◌<◌, ◌⊎◌, ℕ, ℤ, pos, neg_ℤ, ◌+ℤ◌, ◌≤ℤ◌, List, All, Option, Some, None, option_map, IsSome, IsSomeAnd, IsTrue, length, slice_get}
 use Rattle.itv_base.specs.declared.names.EdgeName.{EdgeName}
 use Rattle.itv_base.specs.declared.names.EventId.{EventId}
 use Rattle.itv_base.specs.declared.names.RuleKind.{RuleKind}
@@ -13,11 +13,12 @@ use Rattle.event_graph.specs.Times.{time_of}
 use Rattle.falling.specs.declared.line.FallLine.{FallLine}
 use Rattle.falling.specs.declared.line.Reason.{Reason}
 use Rattle.falling.specs.declared.line.Reason.TheVariants.{ByEdge, ByLatest}
+use Rattle.falling.specs.Cap.{cap_limit}
 use Rattle.falling.specs.Derivation.{IsAllowed, IsLatestHigh}
 
--- a value to which an end of a range can be added
+-- a value is within the greatest cap in absolute value, so that an end of a range can be added to it
 abbrev pub IsNearValue : ℤ → Type 0
-IsNearValue value = (neg_ℤ (pos (2 ^ 61)) ≤ℤ value) × (value ≤ℤ pos (2 ^ 61))
+IsNearValue value = (neg_ℤ (pos cap_limit) ≤ℤ value) × (value ≤ℤ pos cap_limit)
 
 -- a constraint may be looked at: it is there, and each event has a value to which an end can be added
 pub record MayLook (net : Net) (values : List ℤ) (number : ℕ) : Type 0 where

@@ -1,27 +1,27 @@
 //! The solver.
 
-ghost use Rattle.std.specs.Prelude.{◌≡◌, ◌<◌, ◌≤◌, ◌↔◌, ℤ, List, All, IsTrue, IfOk, IfErr, OnOk, OnErr, map, neg_ℤ, not, pos, set, slice_index_or, length};
+ghost use Rattle.std.specs.Prelude.{◌≡◌, ◌<◌, ◌≤◌, ℤ, List, All, IfOk, OnOk, OnErr, map, neg_ℤ, not, pos, set, slice_index_or, length};
 ghost use Rattle.itv_base.specs.Outside.{Rose};
 ghost use Rattle.event_graph.specs.Network.{Net};
 ghost use Rattle.falling.specs.declared.line.FallLine.{FallLine};
 ghost use Rattle.falling.specs.Agenda.{IsAgendaFor};
-ghost use Rattle.falling.specs.Cap.{enough_turns};
+ghost use Rattle.falling.specs.Cap.{enough_limit, enough_turns};
 ghost use Rattle.falling.specs.Course.{AreLimits};
 ghost use Rattle.falling.specs.Derivation.{IsDerivation};
-ghost use Rattle.falling.specs.Kinds.{IsNegatable, IsPlain, negated, negated_times};
-ghost use Rattle.falling.specs.Solving.{AnswersAs, AnswersByNegation, IsDerivationAs, IsFallFault, IsMadeFor, IsNegationOf, solved};
+ghost use Rattle.falling.specs.Kinds.{IsNegatable, negated, negated_times};
+ghost use Rattle.falling.specs.Solving.{AnswersAs, AnswersByNegation, IsDerivationAs, IsMadeFor, IsNegationOf, solved};
 ghost use Rattle.falling.specs.Turns.{IsNearValue};
+ghost use Rattle.falling.specs.View.{IsViewOf};
 
 use crate::agenda::Agenda;
 use crate::answer::{Fallen, Told};
-use crate::fault::FallFault;
 use crate::greatest::greatest;
-use crate::kinds::first_choice;
 use crate::limits::{Limits, limits_of};
 use crate::negation::negation_of;
 use crate::notes::{Notes, NotesFailed};
+use crate::view::View;
 use event_graph::Network;
-use itv_base::{EventId, NoMemory, RuleKind};
+use itv_base::{EventId, NoMemory};
 use std::alloc::Global;
 use std::marker::Model;
 
@@ -49,13 +49,12 @@ impl Model for Falling {
 }
 
 impl Falling {
-    /// A solver for a network. The answer is `Mixed` exactly where there is a latest constraint with two or more
-    /// causes and an earliest one too, with the least numbers of both. Takes all the memory that is ever needed.
-    pub fn new(alloc: Global, net: &Network) -> Result<Falling, FallFault>
+    /// A solver for a network of a view, or `NoMemory`. Takes all the memory that is ever needed.
+    pub fn new(alloc: Global, net: &Network, view: View) -> Result<Falling, NoMemory>
+        requires view { IsViewOf net.now view }
         ensures made { IfOk result (λ falling. IsMadeFor net.now falling) }
-        ensures fault { IfErr result (IsFallFault net.now) }
     {
-        let negation = negation_for(alloc, net)?;
+        let negation = negation_for(alloc, net, view)?;
         let agenda = agenda_for(alloc, net, &negation)?;
         let limits = limits_of(net);
         let count = net.events() as usize;
@@ -68,13 +67,6 @@ impl Falling {
             ray: vec![in alloc; false; count]?,
             turns: 0,
         })
-    }
-
-    /// Whether the negation of the network is solved: exactly where the network is not plain.
-    pub fn is_negated(&self) -> bool
-        ensures negated { (net : Net) → IsMadeFor net self.now → (IsTrue result ↔ (IsPlain net → ⊥)) }
-    {
-        self.negation.is_some()
     }
 
     /// A number of turns with which no answer is [`Fallen::Spent`].
@@ -153,21 +145,14 @@ impl Falling {
     }
 }
 
-// The negation of a network that is not plain but negatable, or nothing for a plain one.
-fn negation_for(alloc: Global, net: &Network) -> Result<Option<Network>, FallFault>
+// The negation of a network, if that is its view.
+fn negation_for(alloc: Global, net: &Network, view: View) -> Result<Option<Network>, NoMemory>
+    requires view { IsViewOf net.now view }
     ensures negation { IfOk result (IsNegationOf net.now) }
-    ensures fault { IfErr result (IsFallFault net.now) }
 {
-    let early = match first_choice(net, RuleKind::Early) {
-        Some(early) => early,
-        None => return Ok(None),
-    };
-    if let Some(late) = first_choice(net, RuleKind::Late) {
-        return Err(FallFault::Mixed(late, early));
-    }
-    match negation_of(alloc, net) {
-        Ok(negation) => Ok(Some(negation)),
-        Err(_) => Err(FallFault::NoMemory),
+    match view {
+        View::Plain => Ok(None),
+        View::Negated => Ok(Some(negation_of(alloc, net)?)),
     }
 }
 
@@ -184,7 +169,8 @@ fn agenda_for(alloc: Global, net: &Network, negation: &Option<Network>) -> Resul
 // A number of turns in which every derivation ends or settles.
 fn enough_for(net: &Network, limits: Limits) -> u128
     requires limits { AreLimits net.now limits }
-    ensures { result ≡ enough_turns net.now }
+    ensures enough { result ≡ enough_turns net.now }
+    ensures most { result ≤ enough_limit }
 {
     let events = net.events() as u128;
     events * (limits.cap as u128 + limits.far as u128 + 1)

@@ -1,61 +1,26 @@
-//! Why there is no solver for a network, and why a line of a derivation is refused.
+//! Why a network has no view, and why a line of a derivation is refused.
 
-ghost use Rattle.std.specs.Prelude.{◌≡◌};
-ghost use Rattle.falling.specs.declared.fault.FallFault.TheVariants.{NoMemory};
-
-use itv_base::NoMemory as OutOfMemory;
-use std::alloc::{AllocError, AllocFailed};
 use std::error::Error;
 use std::fmt;
 
-/// Why there is no solver for a network.
+/// Choices of both kinds: the least numbers of a latest and of an earliest constraint with two or more causes.
 #[derive(Clone, Copy, Debug, PartialEq, Eq)]
-pub enum FallFault {
-    /// These are the least numbers of a latest and of an earliest constraint with two or more causes.
-    Mixed(u32, u32),
-    /// Memory was wanted and not found.
-    NoMemory,
+pub struct Mixed {
+    pub late: u32,
+    pub early: u32,
 }
 
-impl fmt::Display for FallFault {
+impl fmt::Display for Mixed {
     fn fmt<W: fmt::Write>(&self, f: &mut fmt::Formatter<W>) -> fmt::Result {
-        match self {
-            FallFault::Mixed(late, early) => {
-                write!(
-                    f,
-                    "constraints {late} and {early} are choices of both kinds"
-                )
-            }
-            FallFault::NoMemory => write!(f, "out of memory"),
-        }
+        write!(
+            f,
+            "constraints {} and {} are choices of both kinds",
+            self.late, self.early
+        )
     }
 }
 
-impl Error for FallFault {}
-
-impl From<AllocError> for FallFault {
-    ghost from_gives = { λ _ e. e ≡ NoMemory };
-
-    fn from(_: AllocError) -> FallFault {
-        FallFault::NoMemory
-    }
-}
-
-impl<T: Drop> From<AllocFailed<T>> for FallFault {
-    ghost from_gives = { λ _ e. e ≡ NoMemory };
-
-    fn from(_: AllocFailed<T>) -> FallFault {
-        FallFault::NoMemory
-    }
-}
-
-impl From<OutOfMemory> for FallFault {
-    ghost from_gives = { λ _ e. e ≡ NoMemory };
-
-    fn from(_: OutOfMemory) -> FallFault {
-        FallFault::NoMemory
-    }
-}
+impl Error for Mixed {}
 
 /// The first fault of a line of a derivation, in the order in which they are looked for. Values are in
 /// picoseconds.

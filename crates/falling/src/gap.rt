@@ -1,14 +1,15 @@
 //! A gap among values.
 
-ghost use Rattle.std.specs.Prelude.{◌≡◌, ◌*◌, ◌^◌, ◌⊎◌, ◌<◌, pos, ◌+ℤ◌, ◌≤ℤ◌, length};
-ghost use Rattle.falling.specs.Cap.{widest_end};
+ghost use Rattle.std.specs.Prelude.{◌≡◌, ◌*◌, ◌⊎◌, ◌<◌, pos, ◌+ℤ◌, ◌≤ℤ◌, length};
+ghost use Rattle.event_graph.specs.Limits.{weight_limit};
+ghost use Rattle.falling.specs.Cap.{cap_limit, widest_end};
 ghost use Rattle.falling.specs.Course.{AreLimits};
 ghost use Rattle.falling.specs.Rays.{IsClimbed, IsGapAt, IsStepTo, above};
 
 use crate::limits::Limits;
 use event_graph::Network;
 
-// A number of picoseconds, with values at most it and beyond it.
+/// A number of picoseconds, with values at most it and beyond it.
 #[derive(Clone, Copy, Debug, PartialEq, Eq)]
 pub struct Level {
     pub value: i64,
@@ -53,9 +54,9 @@ fn climb(net: &Network, values: &[i64], level: Level, limits: Limits) -> Level
 // The level that comes a width above another.
 fn widened(level: Level, limits: Limits) -> Level
     requires low { pos 0 ≤ℤ level.value }
-    requires high { level.value ≤ℤ pos (2 ^ 60) }
+    requires high { level.value ≤ℤ pos cap_limit }
     requires width_low { pos 0 ≤ℤ limits.width }
-    requires width { limits.width ≤ℤ pos (2 ^ 60) }
+    requires width { limits.width ≤ℤ pos weight_limit }
     ensures { result.value ≡ level.value +ℤ limits.width }
 {
     Level {

@@ -3,8 +3,8 @@
 //! The contract of the crate: over a network without a choice of the earliest kind, or without one of the latest
 //! kind, [`Falling::greatest`] gives the greatest separation of a pair with times that attain it, or times and a
 //! ray that show it unbounded, or that no times satisfy, each with the lines of a derivation; and
-//! [`FallChecker`] takes a line exactly where a derivation allows it. [`first_choice`] gives the least number of a
-//! constraint of a kind with two or more causes, or none.
+//! [`FallChecker`] takes a line exactly where a derivation allows it. [`View::of`] says which network is solved, or tells the
+//! first choices of both kinds.
 #![tactic(auto)]
 
 mod agenda;
@@ -25,12 +25,15 @@ mod negation;
 mod notes;
 mod pending;
 mod turn;
+mod view;
 
 pub use answer::Fallen;
 pub use checker::FallChecker;
 pub use falling::Falling;
-pub use fault::{FallCheckFault, FallFault};
-pub use kinds::first_choice;
-pub use limits::Limits;
+pub use fault::{FallCheckFault, Mixed};
+pub use gap::{Level, gap_level};
+pub use limits::{Limits, limits_of};
 pub use line::{FallLine, Reason};
+pub use negation::negation_of;
 pub use notes::{NoNotes, Notes, NotesFailed};
+pub use view::View;

@@ -3,6 +3,7 @@
 ghost use Rattle.std.specs.Prelude.{◌≡◌, ◌<◌, ◌≤◌, max, IsSome, Some, length, slice_get};
 ghost use Rattle.itv_base.specs.Range.{IsEnd};
 ghost use Rattle.event_graph.specs.declared.cause.Cause.{Cause};
+ghost use Rattle.event_graph.specs.Limits.{weight_limit};
 ghost use Rattle.event_graph.specs.Network.{Constraint, IsNet, cause_at};
 ghost use Rattle.falling.specs.Cap.{end_size, widest_end, widest_of_causes};
 ghost use Rattle.falling.specs.Course.{AreLimits};
@@ -39,7 +40,7 @@ pub fn limits_of(net: &Network) -> Limits
 fn widest(net: &Network) -> u64
     requires net { IsNet net.now }
     ensures width { result ≡ widest_end net.now }
-    ensures most { result ≤ 1000000000000 }
+    ensures most { result ≤ weight_limit }
 {
     let mut width = 0;
     for number in 0..net.len() {
@@ -54,7 +55,7 @@ fn constraint_width(net: &Network, number: u32) -> u64
     requires number { number < length net.now.constraints }
     ensures width { (k : Constraint) → slice_get net.now.constraints number ≡ Some k
         → result ≡ widest_of_causes k.causes }
-    ensures most { result ≤ 1000000000000 }
+    ensures most { result ≤ weight_limit }
 {
     let count = net.cause_count(number);
     let mut width = 0;
@@ -69,7 +70,7 @@ fn cause_width(net: &Network, number: u32, cause: u32) -> u64
     requires { IsSome (cause_at net.now number cause) }
     ensures width { (c : Cause) → cause_at net.now number cause ≡ Some c
         → result ≡ max (end_size c.range.low) (end_size c.range.high) }
-    ensures most { result ≤ 1000000000000 }
+    ensures most { result ≤ weight_limit }
 {
     let range = net.cause(number, cause).range;
     size_of(range.low()).max(size_of(range.high()))
@@ -79,7 +80,7 @@ fn cause_width(net: &Network, number: u32, cause: u32) -> u64
 fn size_of(end: Option<i64>) -> u64
     requires { IsEnd end }
     ensures size { result ≡ end_size end }
-    ensures most { result ≤ 1000000000000 }
+    ensures most { result ≤ weight_limit }
 {
     match end {
         None => 0,

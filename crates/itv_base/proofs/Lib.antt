@@ -5,5 +5,7 @@ pub mod Numbers
 pub mod Numerals
 pub mod Printed
 pub mod Cuts
+pub mod Lists
+pub mod Ranges
 pub mod Runs
 mod Streams

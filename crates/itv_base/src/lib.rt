@@ -9,6 +9,7 @@ mod limits;
 mod listing;
 mod names;
 mod range;
+mod row_kind;
 mod scan;
 mod shelf;
 mod shelf_dir;
@@ -29,6 +30,7 @@ pub use limits::{
 pub use listing::Listing;
 pub use names::{EdgeName, EventId, EventName, RuleKind, Side};
 pub use range::{Range, RangeFault};
+pub use row_kind::RowKind;
 pub use scan::{split_digits, split_name, strip};
 pub use shelf::{FetchFault, Shelf};
 pub use shelf_dir::ShelfDir;

@@ -26,10 +26,10 @@ pub const MAX_SHIFT: u32 = 64;
 pub const MAX_CAUSES: usize = 64;
 
 /// Picoseconds of a finite end of a range, in absolute value.
-pub const END_LIMIT: i64 = 1_000_000_000_000;
+pub const END_LIMIT: i64 = 10_000_000_000_000;
 
 /// Events of a network.
-pub const MAX_EVENTS: u32 = 4_096;
+pub const MAX_EVENTS: u32 = 16_384;
 
 /// Constraints of a network.
 pub const MAX_CONSTRAINTS: u32 = 65_536;
@@ -71,9 +71,9 @@ const _: () = prove!(MAX_SHIFT == 64);
 
 const _: () = prove!(MAX_CAUSES == 64);
 
-const _: () = prove!(END_LIMIT == 1_000_000 * 1_000_000);
+const _: () = prove!(END_LIMIT == 10_000_000 * 1_000_000);
 
-const _: () = prove!(MAX_EVENTS == 4 * 1_024);
+const _: () = prove!(MAX_EVENTS == 16 * 1_024);
 
 const _: () = prove!(MAX_CONSTRAINTS == 64 * 1_024);
 

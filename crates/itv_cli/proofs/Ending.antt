@@ -1,20 +1,19 @@
 -- How a run ends, and what its end says.
-use Rattle.std.proofs.Common.{◌≡◌, ◌<◌, ◌∙◌, inl, inr, List, ℕ, Option, Some, None, IfSome, IsNone, Result, Ok, Err, refl, sym, ap, subst, arith}
+use Rattle.std.proofs.Common.{◌≡◌, ◌<◌, ◌∙◌, inl, inr, List, ℕ, Option, Some, None, IfSome, Result, Ok, Err, refl, sym, ap, subst, arith}
 use Rattle.std.specs.Bool.{⊤}
-use Rattle.itv_base.specs.Outside.{Files, ShelfTold, SinkTold, Puts, IsMissing, Rose, file_of}
-use Rattle.design_gen.specs.Files.{NamedTrees}
-use Rattle.job_answer.specs.Works.{Works}
-use Rattle.job_answer.specs.declared.answer.Answer.{Answer}
-use Rattle.job_answer.specs.declared.answer.Answer.TheVariants as answers
-use Rattle.job_answer.specs.declared.unanswered.Unanswered.{Unanswered}
-use Rattle.job_answer.specs.declared.unanswered.Unanswered.TheVariants as unanswered
+use Rattle.itv_base.specs.Outside.{Files, ShelfTold, SinkTold, Puts, Rose}
+use Rattle.jobs.specs.Works.{Works}
+use Rattle.jobs.specs.declared.answer.Answer.{Answer}
+use Rattle.jobs.specs.declared.answer.Answer.TheVariants as answers
+use Rattle.jobs.specs.declared.unanswered.Unanswered.{Unanswered}
+use Rattle.jobs.specs.declared.unanswered.Unanswered.TheVariants as unanswered
 use Rattle.reading.specs.declared.place.Place.{Place}
 use Rattle.reading.specs.declared.refusal.Refusal.{Refusal}
 use Rattle.reading.specs.declared.stop.Stop.{Stop}
 use Rattle.reading.specs.declared.stop.Stop.TheVariants as stops
 use Rattle.reading.specs.Opening.{End, ready, refused, unread, told_end}
 use Rattle.reading.specs.Refusal.{refusal_text, unread_text}
-use Rattle.reading.proofs.Opens.{told_ready, told_refused, told_unread}
+use Rattle.reading.proofs.Opens.{told_ready, told_refused}
 use Rattle.words.specs.Task.{Task, taken, task, help, bad_words}
 use Rattle.itv_cli.specs.declared.outcome.Outcome.{Outcome}
 use Rattle.itv_cli.specs.declared.outcome.Outcome.TheVariants.{AllPass, Help, SomeFail, Inconsistent, Undecided, Refused, ReadFault, WriteFault, NoMemory, BadWords, CheckRefused}
@@ -44,15 +43,16 @@ means_answer call answers.SomeFail h = h
 means_answer call answers.Inconsistent h = h
 means_answer call answers.Undecided h = h
 means_answer call answers.CheckRefused h = h
+means_answer call answers.DesignRefused h = inr h
 
 -- what a reading that gave something leaves of the shelf
-kept_by : (made : Option NamedTrees) (old new : ShelfTold) (asked : Task) (given : Ready) → EndsOver made old new asked (ready given) → new ≡ old
+kept_by : (made : Option Files) (old new : ShelfTold) (asked : Task) (given : Ready) → EndsOver made old new asked (ready given) → new ≡ old
 kept_by None old new asked given h = h.1
-kept_by (Some trees) old new asked given h = h.1
+kept_by (Some files) old new asked given h = h.1
 
-kept_refused : (made : Option NamedTrees) (old new : ShelfTold) (asked : Task) (place : Place) (why : Refusal) → EndsOver made old new asked (refused place why) → new ≡ old
+kept_refused : (made : Option Files) (old new : ShelfTold) (asked : Task) (place : Place) (why : Refusal) → EndsOver made old new asked (refused place why) → new ≡ old
 kept_refused None old new asked place why h = h.1
-kept_refused (Some trees) old new asked place why h = h.1
+kept_refused (Some files) old new asked place why h = h.1
 
 kept_ready : (call : Call) (given : Ready) → CameTo call (ready given) → IsKept call
 kept_ready call given c = kept_by (made_for c.asked) call.shelf_before call.shelf_after c.asked given c.ends
@@ -68,7 +68,7 @@ pub unworked : (call : Call) (asked : Task) (stop : Stop) (result : Outcome) →
     → Stops call.sink_before call.sink_after stop result → Means call result
 unworked call asked (stops.Refused place why) result is o s =
     told call (refusal_text place why) Refused result s (at_end (refused place why) (record { asked = asked; words = is; ends = o }) refl)
-    (λ wrote. record { place = place; why = why; came = record { asked = asked; words = is; ends = o }; wrote = wrote })
+    (λ wrote. inl (record { place = place; why = why; came = record { asked = asked; words = is; ends = o }; wrote = wrote }))
 unworked call asked (stops.ReadFault place) result is o s =
     told call (unread_text place) ReadFault result s (at_end (unread place o.0) (record { asked = asked; words = is; ends = o.1 }) refl)
     (λ wrote. record { place = place; name = o.0; came = record { asked = asked; words = is; ends = o.1 }; wrote = wrote })
@@ -87,27 +87,21 @@ when_some None P h = tt
 when_some (Some x) P h = h x refl
 
 -- the files of a reading that gave something decide
-decide_ready : (made : Option NamedTrees) (old new : ShelfTold) (asked : Task) (given : Ready) (outcome : Outcome) → EndsOver made old new asked (ready given) → EndsBy (ready given) outcome
+decide_ready : (made : Option Files) (old new : ShelfTold) (asked : Task) (given : Ready) (outcome : Outcome) → EndsOver made old new asked (ready given) → EndsBy (ready given) outcome
     → FilesDecide made old.files asked outcome
 decide_ready None old new asked given outcome h by =
     when_some old.files (λ files. EndsBy (told_end files (opening asked)) outcome) (λ files e. subst (λ end. EndsBy end outcome) (sym (told_ready old files (opening asked) given e h.0)) by)
-decide_ready (Some trees) old new asked given outcome h by =
-    (h.0.files, h.0.made, subst (λ end. EndsBy end outcome) (sym (told_ready h.0.before h.0.files (opening asked) given h.0.told h.0.ends.0)) by)
+decide_ready (Some files) old new asked given outcome h by = subst (λ end. EndsBy end outcome) h.0 by
 
-decide_refused : (made : Option NamedTrees) (old new : ShelfTold) (asked : Task) (place : Place) (why : Refusal) → EndsOver made old new asked (refused place why) → FilesDecide made old.files asked Refused
+decide_refused : (made : Option Files) (old new : ShelfTold) (asked : Task) (place : Place) (why : Refusal) → EndsOver made old new asked (refused place why) → FilesDecide made old.files asked Refused
 decide_refused None old new asked place why h =
     when_some old.files (λ files. EndsBy (told_end files (opening asked)) Refused) (λ files e. subst (λ end. EndsBy end Refused) (sym (told_refused old files (opening asked) place why e h.0)) refl)
-decide_refused (Some trees) old new asked place why h =
-    (h.0.files, h.0.made, subst (λ end. EndsBy end Refused) (sym (told_refused h.0.before h.0.files (opening asked) place why h.0.told h.0.ends.0)) refl)
+decide_refused (Some files) old new asked place why h = subst (λ end. EndsBy end Refused) h.0 refl
 
-missing_in : (told : Option Files) (files : Files) (name : List ℕ) → told ≡ Some files → IsMissing told name → IsNone (file_of files name)
-missing_in told files name e h = rw e at h
-
-decide_unread : (made : Option NamedTrees) (old new : ShelfTold) (asked : Task) (place : Place) (name : List ℕ) → ¬ (Rose old.faults new.faults) → EndsOver made old new asked (unread place name)
+decide_unread : (made : Option Files) (old new : ShelfTold) (asked : Task) (place : Place) (name : List ℕ) → ¬ (Rose old.faults new.faults) → EndsOver made old new asked (unread place name)
     → FilesDecide made old.files asked ReadFault
 decide_unread None old new asked place name quiet h = absurd (quiet h.1.rose)
-decide_unread (Some trees) old new asked place name quiet h =
-    (h.0.files, h.0.made, subst (λ end. EndsBy end ReadFault) (sym (told_unread h.0.before h.0.files (opening asked) place name h.0.told (missing_in h.0.before.files h.0.files name h.0.told (h.0.ends.1.missing h.0.faithful)) h.0.ends.0)) refl)
+decide_unread (Some files) old new asked place name quiet h = subst (λ end. EndsBy end ReadFault) h.0 refl
 
 abbrev Decides : Call → Task → Outcome → Type 0
 Decides call asked outcome = FilesDecide (made_for asked) call.shelf_before.files asked outcome
@@ -123,7 +117,8 @@ completes call Help m asked is quiet = absurd (cc (m.words, is))
 completes call SomeFail m asked is quiet = inr (by_answer call asked answers.SomeFail is m)
 completes call Inconsistent m asked is quiet = inr (by_answer call asked answers.Inconsistent is m)
 completes call Undecided m asked is quiet = inr (by_answer call asked answers.Undecided is m)
-completes call Refused m asked is quiet =
+completes call Refused (inr m) asked is quiet = inr (by_answer call asked answers.DesignRefused is m)
+completes call Refused (inl m) asked is quiet =
     inr (subst (λ t. Decides call t Refused) (same_task call asked m.came.asked is m.came.words)
     (decide_refused (made_for m.came.asked) call.shelf_before call.shelf_after m.came.asked m.place m.why m.came.ends))
 completes call ReadFault m asked is quiet =
@@ -150,7 +145,8 @@ refuses_words call Help m = λ quiet. (λ is. absurd (cc (m.words, is)), λ is. 
 refuses_words call SomeFail m = refuses_none call (ready m.given) SomeFail m.came
 refuses_words call Inconsistent m = refuses_none call (ready m.given) Inconsistent m.came
 refuses_words call Undecided m = refuses_none call (ready m.given) Undecided m.came
-refuses_words call Refused m = refuses_none call (refused m.place m.why) Refused m.came
+refuses_words call Refused (inl m) = refuses_none call (refused m.place m.why) Refused m.came
+refuses_words call Refused (inr m) = refuses_none call (ready m.given) Refused m.came
 refuses_words call ReadFault m = refuses_none call (unread m.place m.name) ReadFault m.came
 refuses_words call WriteFault m = λ quiet. absurd (quiet m.cut.rose)
 refuses_words call NoMemory m = λ quiet. (λ is. inl refl, λ is. inl refl)
@@ -179,7 +175,8 @@ shows_faults call Help m = shows_none call m.text Help m.wrote m.shelf
 shows_faults call SomeFail m = shows_answer call answers.SomeFail SomeFail m
 shows_faults call Inconsistent m = shows_answer call answers.Inconsistent Inconsistent m
 shows_faults call Undecided m = shows_answer call answers.Undecided Undecided m
-shows_faults call Refused m =
+shows_faults call Refused (inr m) = shows_answer call answers.DesignRefused Refused m
+shows_faults call Refused (inl m) =
     shows_none call (refusal_text m.place m.why) Refused m.wrote (kept_refused (made_for m.came.asked) call.shelf_before call.shelf_after m.came.asked m.place m.why m.came.ends)
 shows_faults call ReadFault m = (λ h. absurd (quiet_sink call (unread_text m.place) m.wrote h), λ h. inl refl)
 shows_faults call WriteFault m = (λ h. refl, λ h. inr refl)

@@ -1,16 +1,15 @@
 -- What the reading for a task answers, by what its steps do.
-use Rattle.std.proofs.Common.{◌≡◌, ℕ, ◌==◌, true, List, [], length, Some, None, Result, Ok, Err, refl}
+use Rattle.std.proofs.Common.{◌≡◌, ℕ, true, List, Some, None, IsNone, Result, Ok, Err, refl, sym, ap, subst}
 use Rattle.itv_base.specs.Memory.{MemShelf, shelf_told}
-use Rattle.itv_base.specs.Outside.{ShelfTold}
-use Rattle.design_gen.specs.Files.{IsDesign, NamedTrees, design_files}
+use Rattle.itv_base.specs.Outside.{FailedFor, Files, IsMissing, ShelfTold, file_of}
+use Rattle.design_gen.specs.Files.{IsDesign, design_files}
 use Rattle.reading.specs.declared.stop.Stop.{Stop}
 use Rattle.reading.specs.declared.stop.Stop.TheVariants.{Refused, ReadFault, NoMemory}
-use Rattle.reading.specs.Opening.{End, Ends, ready, refused, unread}
+use Rattle.reading.proofs.Opens.{told_ready, told_refused, told_unread}
 use Rattle.reading.specs.Step.{Opens}
 use Rattle.words.specs.Task.{Task, generated}
 use Rattle.itv_cli.specs.declared.ready.Ready.{Ready}
 use Rattle.itv_cli.specs.Job.{made_for, opening}
-use Rattle.itv_cli.specs.Run.{EndsMade}
 use Rattle.itv_cli.specs.Step.{OpensFor, OpensMade}
 
 -- what is read from the files of the shelf
@@ -21,32 +20,29 @@ opens_shelf old new asked (Err (ReadFault place)) own h = rw own h
 opens_shelf old new asked (Err NoMemory) own h = h
 
 -- what is read from made files, while the shelf stays as it is
-pub opens_made : (told : ShelfTold) (trees : NamedTrees) (asked : Task) (r : Result Ready Stop) → made_for asked ≡ Some trees → OpensMade trees asked r → OpensFor told told asked r
-opens_made told trees asked (Ok given) made h = rw made (h, refl)
-opens_made told trees asked (Err (Refused place why)) made h = rw made (h, refl)
-opens_made told trees asked (Err (ReadFault place)) made h = rw made (h.0, (h.1, refl))
-opens_made told trees asked (Err NoMemory) made h = refl
+pub opens_made : (told : ShelfTold) (files : Files) (asked : Task) (r : Result Ready Stop) → made_for asked ≡ Some files → OpensMade files asked r → OpensFor told told asked r
+opens_made told files asked (Ok given) made h = rw made (h, refl)
+opens_made told files asked (Err (Refused place why)) made h = rw made (h, refl)
+opens_made told files asked (Err (ReadFault place)) made h = rw made (h.0, (h.1, refl))
+opens_made told files asked (Err NoMemory) made h = refl
 
 -- ---- a made shelf
 
-faithful : (failing : List ℕ) → failing ≡ [] → (length failing == 0) ≡ true
-faithful failing e = rw e refl
-
 module _ (size most : ℕ) (made : MemShelf) (after : ShelfTold) (is : IsDesign size made) where
-  made_ends : (end : End Ready) → Ends (shelf_told made) after (opening (generated size most)) end → EndsMade (design_files size) (generated size most) end
-  made_ends end ends = record {
-    before = shelf_told made;
-    after = after;
-    files = made.files;
-    made = is.files;
-    told = refl;
-    faithful = faithful made.failing is.failing;
-    ends = ends;
-  }
+  files_are : (shelf_told made).files ≡ Some (design_files size)
+  files_are = ap (λ s. (shelf_told s).files) is
 
-  -- what is read from a shelf with the made files
+  faithful_is : (shelf_told made).is_faithful ≡ true
+  faithful_is = ap (λ s. (shelf_told s).is_faithful) is
+
+  -- a file whose fetch failed is not there
+  missing_in : (name : List ℕ) → FailedFor name (shelf_told made) after → IsNone (file_of (design_files size) name)
+  missing_in name h = subst (λ told. IsMissing told name) files_are (h.missing faithful_is)
+
+  -- what is read from a shelf with the made files is what they decide
   pub opens_design : (r : Result Ready Stop) → Opens (λ given. given) (shelf_told made) after (opening (generated size most)) r → OpensMade (design_files size) (generated size most) r
-  opens_design (Ok given) h = made_ends (ready given) h
-  opens_design (Err (Refused place why)) h = made_ends (refused place why) h
-  opens_design (Err (ReadFault place)) h = (h.0, made_ends (unread place h.0) h.1)
+  opens_design (Ok given) h = sym (told_ready (shelf_told made) (design_files size) (opening (generated size most)) given files_are h.0)
+  opens_design (Err (Refused place why)) h = sym (told_refused (shelf_told made) (design_files size) (opening (generated size most)) place why files_are h.0)
+  opens_design (Err (ReadFault place)) h =
+      (h.0, sym (told_unread (shelf_told made) (design_files size) (opening (generated size most)) place h.0 files_are (missing_in h.0 h.1.1) h.1.0))
   opens_design (Err NoMemory) h = tt

@@ -1,6 +1,8 @@
 mod Ending
 mod Deciding
 mod Fetching
+mod Forms
 mod Steps
 mod Working
 mod Statuses
+mod Editing

@@ -1,19 +1,25 @@
 -- What the status of the program says.
-use Rattle.std.proofs.Common.{◌≡◌, ℕ, List, Result, Ok, Err, IfOk}
+use Rattle.std.proofs.Common.{◌≡◌, ℕ, List, [], Result, Ok, Err, MatchResult, drop, map, string_bytes, refl}
 use Rattle.std.specs.declared.io.ErrorKind.{ErrorKind}
 use Rattle.std.specs.declared.io.ErrorKind.TheVariants.{OutOfMemory}
-use Rattle.itv_base.specs.declared.text.NoMemory as wanted
-use Rattle.itv_cli.specs.declared.outcome.Outcome.{Outcome}
-use Rattle.itv_cli.specs.Run.{MeansOutside}
-use Rattle.itv_cli.specs.Status.{EndsWith, status_of, status_without_words}
-use Rattle.itv_cli.specs.Status.EndsWith.{without_memory, without_words, with_run}
+use Rattle.itv_base.specs.Outside.{ShelfTold, SinkTold}
+use Rattle.itv_cli.specs.declared.outcome.Outcome.TheVariants.{NoMemory}
+use Rattle.itv_cli.specs.Run.{call_of}
+use Rattle.itv_cli.specs.Status.{EndsWith, HasNoWords, HasRun, code_of, nothing_failed, nothing_written}
+use Rattle.itv_cli.specs.Status.EndsWith.{without_words, with_run}
 
--- the status of a run, or of want of memory before it
-pub ends_with : (words : List (List ℕ)) (end : Result Outcome wanted.NoMemory) (status : ℕ) → IfOk end (MeansOutside words) → status ≡ status_of end → EndsWith status
-ends_with words (Ok outcome) status means is = with_run words outcome means is
-ends_with words (Err none) status means is = without_memory is
+-- want of memory before a run is a run that ends so
+pub without_memory : (status : ℕ) → status ≡ code_of NoMemory → EndsWith status
+without_memory status is = with_run [] nothing_failed nothing_written (NoMemory, record { sink = refl; shelf = refl }, is)
 
--- the status where the system gives no words
-pub ends_without_words : (kind : ErrorKind) (status : ℕ) → status ≡ status_without_words kind → EndsWith status
-ends_without_words OutOfMemory status is = without_memory is
-ends_without_words _ status is = without_words is
+-- where there are no words
+ends_without : (kind : ErrorKind) (shelf : ShelfTold) (sink : SinkTold) (status : ℕ) → HasNoWords kind nothing_failed shelf nothing_written sink status → EndsWith status
+ends_without OutOfMemory shelf sink status h = without_memory status h.2
+ends_without _ shelf sink status h = without_words h.2
+
+-- whatever the system gives, over files and an output of which nothing is told
+pub ends_with : {A E : Type 0} (words : A → List (List ℕ)) (kind : E → ErrorKind) (args : Result A E) (shelf : ShelfTold) (sink : SinkTold) (status : ℕ)
+    → MatchResult args (λ given. HasRun (call_of (words given) nothing_failed shelf nothing_written sink) status) (λ error. HasNoWords (kind error) nothing_failed shelf nothing_written sink status)
+    → EndsWith status
+ends_with words kind (Ok given) shelf sink status h = with_run (words given) shelf sink h
+ends_with words kind (Err error) shelf sink status h = ends_without (kind error) shelf sink status h

@@ -1,7 +1,7 @@
 -- What a job reads that reads a design and goes on.
 use Rattle.std.proofs.Common.{◌≡◌, ℕ, List, Result, Ok, Err, IsErrAnd, refl}
 use Rattle.itv_base.specs.Outside.{ShelfTold}
-use Rattle.unroll.specs.Drawn.{Drawn}
+use Rattle.drawn.specs.Drawn.{Drawn}
 use Rattle.reading.specs.declared.stop.Stop.{Stop}
 use Rattle.reading.specs.Design.{design_at}
 use Rattle.reading.specs.Opening.{Opening, gives, ◌>>=◌}

@@ -1,10 +1,10 @@
 -- What job bounds answers, and when its budget may leave a search open.
 use Rattle.std.specs.Prelude.{◌≡◌, ◌<◌, ℕ, Bool, List}
 use Rattle.event_graph.specs.Edges.{cause_choices}
-use Rattle.job_answer.specs.declared.answer.Answer.{Answer}
-use Rattle.job_answer.specs.declared.answer.Answer.TheVariants.{Undecided}
-use Rattle.unroll.specs.Drawn.{Drawn}
-use Rattle.unroll.specs.Reported.{reported}
+use Rattle.jobs.specs.declared.answer.Answer.{Answer}
+use Rattle.jobs.specs.declared.answer.Answer.TheVariants.{Undecided}
+use Rattle.drawn.specs.Drawn.{Drawn}
+use Rattle.jobs.specs.Ending.{answer_of}
 use Rattle.bounds_report.specs.Reports.{Reports}
 use Rattle.bounds_report.specs.declared.summary.Summary.{Summary}
 
@@ -15,6 +15,6 @@ DecidesWithin drawn budget answer = answer ≡ Undecided → budget < cause_choi
 -- what job bounds answers and writes: a report, what this comes to, and that it is undecided only where the budget is too low
 pub record AnswersBounds (drawn : Drawn) (budget : ℕ) (cert : Bool) (answer : Answer) (text : List ℕ) : Type 0 where
   pub summary : Summary
-  pub reports : Reports (reported drawn) budget cert summary text
-  pub is_answer : answer ≡ summary.answer
+  pub reports : Reports drawn budget cert summary text
+  pub is_answer : answer ≡ answer_of summary.end
   pub decides : DecidesWithin drawn budget answer

@@ -1,27 +1,30 @@
 -- The jobs: what each reads, what it answers, and what it may have begun to write.
-use Rattle.std.specs.Prelude.{ℕ, nat_lt, if◌then◌else◌, Bool, List, Option, Some, None, option_and_then, option_map, codes}
-use Rattle.std.specs.Option.{option_map_or}
+use Rattle.std.specs.Prelude.{ℕ, nat_lt, if◌then◌else◌, Bool, List, length, Option, Some, None, Result, Ok, Err, codes}
 use Rattle.itv_base.specs.declared.limits.TheConstants.{MAX_MATRIX_EVENTS, REPORT_LIMIT}
-use Rattle.itv_base.specs.declared.names.RuleKind.TheVariants.{Late, Early}
-use Rattle.design_gen.specs.Files.{NamedTrees, design_files}
-use Rattle.event_graph.specs.Network.{Net}
-use Rattle.job_answer.specs.declared.answer.Answer.{Answer}
-use Rattle.unroll.specs.Drawn.{Drawn}
-use Rattle.unroll.specs.Reported.{reported}
+use Rattle.itv_base.specs.Outside.{Files}
+use Rattle.design_gen.specs.Files.{design_files}
+use Rattle.jobs.specs.declared.answer.Answer.{Answer}
+use Rattle.drawn.specs.Drawn.{Drawn}
 use Rattle.unroll.specs.declared.fault.UnrollFault.TheVariants.{TooMany}
-use Rattle.unroll.specs.declared.limit.Limit.TheVariants.{MatrixEvents}
-use Rattle.reading.specs.declared.place.Place.TheVariants.{Design, Report}
-use Rattle.reading.specs.declared.refusal.Refusal.{Refusal}
-use Rattle.reading.specs.declared.refusal.Refusal.TheVariants.{Limits, Mixed}
+use Rattle.unroll.specs.declared.limit.Limit.TheVariants.{MatrixEvents, SessionRows}
+use Rattle.unroll.specs.declared.limit.TheConstants.{MAX_SESSION_ROWS}
+use Rattle.reading.specs.declared.place.Place.TheVariants.{Design, Edits, Report}
+use Rattle.reading.specs.declared.refusal.Refusal.TheVariants as refusals
 use Rattle.reading.specs.Design.{design_at}
-use Rattle.reading.specs.Opening.{Opening, gives, refuses, ◌>>=◌, file_at}
-use Rattle.words.specs.Task.{Task, bounds, fall, matrix, check, generated}
+use Rattle.reading.specs.Opening.{Opening, gives, refuses, ◌>>=◌, at, file_at}
+use Rattle.words.specs.Task.{Task, bounds, fall, redraw, matrix, check, generated, whatif}
 use Rattle.bounds_report.specs.Reports.{BeginsReport}
 use Rattle.fall_report.specs.Fall.{AnswersFall, BeginsFall}
-use Rattle.falling.specs.Kinds.{first_choice}
+use Rattle.falling.specs.View.{view_of}
+use Rattle.falling.specs.declared.fault.Mixed.{Mixed}
+use Rattle.falling.specs.declared.view.View.{View}
 use Rattle.matrix_report.specs.Matrix.{AnswersMatrix, BeginsMatrix}
+use Rattle.redraw_report.specs.Redraw.{AnswersRedraw, BeginsRedraw}
 use Rattle.report_check.specs.Check.{AnswersCheck, BeginsCheck}
 use Rattle.summary_report.specs.Summary.{AnswersSummary, BeginsSummary}
+use Rattle.edits.specs.EditsFile.{edits_of}
+use Rattle.edits.specs.declared.file.TheConstants.{MAX_EDITS_BYTES}
+use Rattle.whatif_report.specs.Whatif.{AnswersWhatif, BeginsWhatif}
 use Rattle.itv_cli.specs.Bounds.{AnswersBounds, DecidesWithin}
 use Rattle.itv_cli.specs.declared.ready.Ready.{Ready}
 use Rattle.itv_cli.specs.declared.ready.Ready.TheVariants as ready
@@ -30,15 +33,32 @@ use Rattle.itv_cli.specs.declared.ready.Ready.TheVariants as ready
 
 -- a drawn network for a matrix, which is refused where it has too many events
 abbrev pub matrix_at : Drawn → Opening Ready
-matrix_at drawn = if nat_lt MAX_MATRIX_EVENTS drawn.net.events then refuses Design (Limits (TooMany MatrixEvents drawn.net.events)) else gives (ready.Matrix drawn)
+matrix_at drawn = if nat_lt MAX_MATRIX_EVENTS drawn.net.events then refuses Design (refusals.Limits (TooMany MatrixEvents drawn.net.events)) else gives (ready.Matrix drawn)
 
--- the refusal of choices of both kinds: the first latest constraint with two or more causes, and the first such earliest one
-abbrev pub mixed_in : Net → Option Refusal
-mixed_in net = option_and_then (λ late. option_map (Mixed late) (first_choice Early net)) (first_choice Late net)
+-- a drawn network for falling values, with its view; it is refused where it has choices of both kinds, with the first of each
+abbrev pub fall_in : ℕ → Bool → Drawn → Result View Mixed → Opening Ready
+fall_in budget cert drawn (Ok view) = gives (ready.Fall drawn view budget cert)
+fall_in budget cert drawn (Err choices) = refuses Design (refusals.Mixed choices.late choices.early)
 
--- a drawn network for falling values, which is refused where it has choices of both kinds
 abbrev pub fall_at : ℕ → Bool → Drawn → Opening Ready
-fall_at budget cert drawn = option_map_or (refuses Design) (mixed_in drawn.net) (gives (ready.Fall drawn budget cert))
+fall_at budget cert drawn = fall_in budget cert drawn (view_of drawn.net)
+
+-- a drawn network for the edits in the bytes of a file
+abbrev pub edits_in : ℕ → Drawn → List ℕ → Opening Ready
+edits_in budget drawn bytes = do
+  edits ← at Edits refusals.Edits (edits_of drawn.net bytes)
+  gives (ready.Whatif drawn edits budget)
+
+-- with the file of edits behind it
+abbrev pub edits_at : List ℕ → ℕ → Drawn → Opening Ready
+edits_at name budget drawn = do
+  bytes ← file_at Edits name MAX_EDITS_BYTES
+  edits_in budget drawn bytes
+
+-- a drawn network for edits, which is refused where it has too many rows, before its edits are fetched
+abbrev pub whatif_at : List ℕ → ℕ → Drawn → Opening Ready
+whatif_at edits budget drawn =
+    if nat_lt MAX_SESSION_ROWS (length drawn.rows) then refuses Design (refusals.Limits (TooMany SessionRows (length drawn.rows))) else edits_at edits budget drawn
 
 abbrev pub opening : Task → Opening Ready
 opening (bounds design budget cert) = do
@@ -47,6 +67,9 @@ opening (bounds design budget cert) = do
 opening (fall design budget cert) = do
   drawn ← design_at design
   fall_at budget cert drawn
+opening (redraw design budget) = do
+  drawn ← design_at design
+  gives (ready.Redraw drawn budget)
 opening (matrix design) = do
   drawn ← design_at design
   matrix_at drawn
@@ -57,9 +80,12 @@ opening (check design report) = do
 opening (generated size budget) = do
   drawn ← design_at (codes "bus.json")
   gives (ready.Generated drawn size budget)
+opening (whatif design edits budget) = do
+  drawn ← design_at design
+  whatif_at edits budget drawn
 
 -- the files that are made for a task, where it reads none of the shelf
-abbrev pub made_for : Task → Option NamedTrees
+abbrev pub made_for : Task → Option Files
 made_for (generated size budget) = Some (design_files size)
 made_for _ = None
 
@@ -67,15 +93,19 @@ made_for _ = None
 
 abbrev pub Answers : Ready → Answer → List ℕ → Type 0
 Answers (ready.Bounds drawn budget cert) answer text = AnswersBounds drawn budget cert answer text
-Answers (ready.Fall drawn budget cert) answer text = AnswersFall (reported drawn) budget cert answer text
-Answers (ready.Matrix drawn) answer text = AnswersMatrix (reported drawn) answer text
-Answers (ready.Check drawn report) answer text = AnswersCheck (reported drawn) report answer text
-Answers (ready.Generated drawn size budget) answer text = AnswersSummary (reported drawn) size budget answer text × DecidesWithin drawn budget answer
+Answers (ready.Fall drawn view budget cert) answer text = AnswersFall drawn budget cert answer text
+Answers (ready.Redraw drawn budget) answer text = AnswersRedraw drawn budget answer text × DecidesWithin drawn budget answer
+Answers (ready.Matrix drawn) answer text = AnswersMatrix drawn answer text
+Answers (ready.Check drawn report) answer text = AnswersCheck drawn report answer text
+Answers (ready.Generated drawn size budget) answer text = AnswersSummary drawn size budget answer text × DecidesWithin drawn budget answer
+Answers (ready.Whatif drawn edits budget) answer text = AnswersWhatif drawn budget edits answer text
 
 -- what it may have begun to write
 abbrev pub Begins : Ready → List ℕ → Type 0
-Begins (ready.Bounds drawn budget cert) text = BeginsReport (reported drawn) budget cert text
-Begins (ready.Fall drawn budget cert) text = BeginsFall (reported drawn) budget cert text
-Begins (ready.Matrix drawn) text = BeginsMatrix (reported drawn) text
-Begins (ready.Check drawn report) text = BeginsCheck (reported drawn) report text
-Begins (ready.Generated drawn size budget) text = BeginsSummary (reported drawn) size budget text
+Begins (ready.Bounds drawn budget cert) text = BeginsReport drawn budget cert text
+Begins (ready.Fall drawn view budget cert) text = BeginsFall drawn budget cert text
+Begins (ready.Redraw drawn budget) text = BeginsRedraw drawn budget text
+Begins (ready.Matrix drawn) text = BeginsMatrix drawn text
+Begins (ready.Check drawn report) text = BeginsCheck drawn report text
+Begins (ready.Generated drawn size budget) text = BeginsSummary drawn size budget text
+Begins (ready.Whatif drawn edits budget) text = BeginsWhatif drawn budget edits text

@@ -1,8 +1,7 @@
 pub use Rattle.itv_base.specs.Outside
 pub use Rattle.itv_base.specs.Names
 pub use Rattle.event_graph.specs.Edges
-pub use Rattle.unroll.specs.Drawn
-pub use Rattle.unroll.specs.Reported
+pub use Rattle.drawn.specs.Drawn
 pub use Rattle.words.specs.Task
 pub use Rattle.reading.specs.Place
 pub use Rattle.reading.specs.Refusal

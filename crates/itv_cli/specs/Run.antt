@@ -1,10 +1,9 @@
 -- What the end of a run says: where it comes from, and what was written. The claim is `Means`; what stands above it are its words, and what
 -- stands below follows from it. Nothing here speaks of a job: what each reads and answers stands in `Job`.
-use Rattle.std.specs.Prelude.{◌≡◌, ◌<◌, ◌⊎◌, ℕ, false, true, List, [], Option, Some, None, IfSome, codes}
+use Rattle.std.specs.Prelude.{◌≡◌, ◌<◌, ◌⊎◌, ℕ, List, Option, Some, None, IfSome, codes}
 use Rattle.itv_base.specs.Outside.{Files, ShelfTold, SinkTold, Rose, grown, CutShort}
-use Rattle.design_gen.specs.Files.{AreFiles, NamedTrees}
-use Rattle.job_answer.specs.declared.answer.Answer.{Answer}
-use Rattle.job_answer.specs.declared.answer.Answer.TheVariants as answers
+use Rattle.jobs.specs.declared.answer.Answer.{Answer}
+use Rattle.jobs.specs.declared.answer.Answer.TheVariants as answers
 use Rattle.reading.specs.declared.place.Place.{Place}
 use Rattle.reading.specs.declared.refusal.Refusal.{Refusal}
 use Rattle.reading.specs.Opening.{End, Ends, ready, refused, unread, told_end}
@@ -23,36 +22,17 @@ pub record Call : Type 0 where
   pub sink_before : SinkTold
   pub sink_after : SinkTold
 
--- files of which nothing is told, before a run
-abbrev pub nothing_failed : ShelfTold
-nothing_failed = record { files = None; faults = 0; last = []; is_faithful = false }
-
--- an output of which nothing is told, before a run
-abbrev pub nothing_written : SinkTold
-nothing_written = record { written = None; faults = 0 }
-
 -- a run, from what is told before and after it
 abbrev pub call_of : List (List ℕ) → ShelfTold → ShelfTold → SinkTold → SinkTold → Call
 call_of words shelf shelf' sink sink' = record { words = words; shelf_before = shelf; shelf_after = shelf'; sink_before = sink; sink_after = sink' }
 
 -- ---- what was read
 
--- The reading for a task came to an end over files that were made with these trees. They lie on a shelf of which a fetch fails only for a
--- file that is not there.
-pub record EndsMade (trees : NamedTrees) (asked : Task) (end : End Ready) : Type 0 where
-  pub before : ShelfTold
-  pub after : ShelfTold
-  pub files : Files
-  pub made : AreFiles files trees
-  pub told : before.files ≡ Some files
-  pub faithful : before.is_faithful ≡ true
-  pub ends : Ends before after (opening asked) end
-
--- The reading for a task came to an end: over the files of the shelf, or over files that were made for it, and then the shelf tells what it told
--- before.
-abbrev pub EndsOver : Option NamedTrees → ShelfTold → ShelfTold → Task → End Ready → Type 0
+-- The reading for a task came to an end: over the files of the shelf, or over files that were made for it. These decide the end, and the
+-- shelf tells what it told before.
+abbrev pub EndsOver : Option Files → ShelfTold → ShelfTold → Task → End Ready → Type 0
 EndsOver None old new asked end = Ends old new (opening asked) end
-EndsOver (Some trees) old new asked end = EndsMade trees asked end × (new ≡ old)
+EndsOver (Some made) old new asked end = (end ≡ told_end made (opening asked)) × (new ≡ old)
 
 -- the words ask for a task, and the reading for it came to an end
 pub record CameTo (call : Call) (end : End Ready) : Type 0 where
@@ -99,6 +79,10 @@ pub record IsRefused (call : Call) : Type 0 where
   pub came : CameTo call (refused place why)
   pub wrote : Wrote call (refusal_text place why)
 
+-- the files are refused, or all was read and the job refuses the design, and the line of that is what it answers
+abbrev pub HasRefused : Call → Type 0
+HasRefused call = IsRefused call ⊎ HasAnswered call answers.DesignRefused
+
 -- the fetch of a file failed in this run, and the line that names its place was written
 pub record HasReadFault (call : Call) : Type 0 where
   pub place : Place
@@ -137,17 +121,12 @@ Means call Help = HasHelped call
 Means call SomeFail = HasAnswered call answers.SomeFail
 Means call Inconsistent = HasAnswered call answers.Inconsistent
 Means call Undecided = HasAnswered call answers.Undecided
-Means call Refused = IsRefused call
+Means call Refused = HasRefused call
 Means call ReadFault = HasReadFault call
 Means call WriteFault = HasWriteFault call
 Means call NoMemory = IsUntouched call
 Means call BadWords = HasBadWords call
 Means call CheckRefused = HasAnswered call answers.CheckRefused
-
--- What an end says of a run over files and an output of which nothing is told before it: which counts of faults rose, which name failed
--- last, and that some text or design was as it says.
-abbrev pub MeansOutside : List (List ℕ) → Outcome → Type 0
-MeansOutside words outcome = (shelf : ShelfTold) × (sink : SinkTold) × Means (call_of words nothing_failed shelf nothing_written sink) outcome
 
 -- ---- which end comes: these follow from what the ends say
 
@@ -163,6 +142,7 @@ outcome_of answers.SomeFail = SomeFail
 outcome_of answers.Inconsistent = Inconsistent
 outcome_of answers.Undecided = Undecided
 outcome_of answers.CheckRefused = CheckRefused
+outcome_of answers.DesignRefused = Refused
 
 -- the end for an end of the reading
 abbrev pub EndsBy : End Ready → Outcome → Type 0
@@ -171,9 +151,9 @@ EndsBy (refused place why) outcome = outcome ≡ Refused
 EndsBy (unread place name) outcome = outcome ≡ ReadFault
 
 -- the end is the one for the files of the shelf, where they are told, or for files that were made for a task
-abbrev pub FilesDecide : Option NamedTrees → Option Files → Task → Outcome → Type 0
+abbrev pub FilesDecide : Option Files → Option Files → Task → Outcome → Type 0
 FilesDecide None told asked outcome = IfSome told (λ files. EndsBy (told_end files (opening asked)) outcome)
-FilesDecide (Some trees) told asked outcome = (files : Files) × AreFiles files trees × EndsBy (told_end files (opening asked)) outcome
+FilesDecide (Some made) told asked outcome = EndsBy (told_end made (opening asked)) outcome
 
 -- where the words ask for a task and no fault rose, the end is the one for its files, or memory was not found
 abbrev pub Completes : Call → Outcome → Type 0

@@ -1,11 +1,11 @@
 -- The exit status of the program.
-use Rattle.std.specs.Prelude.{◌≡◌, ℕ, List, Result, Ok, Err}
+use Rattle.std.specs.Prelude.{◌≡◌, ℕ, false, List, [], None}
 use Rattle.std.specs.declared.io.ErrorKind.{ErrorKind}
 use Rattle.std.specs.declared.io.ErrorKind.TheVariants.{OutOfMemory}
-use Rattle.itv_base.specs.declared.text.NoMemory as wanted
+use Rattle.itv_base.specs.Outside.{ShelfTold, SinkTold}
 use Rattle.itv_cli.specs.declared.outcome.Outcome.{Outcome}
 use Rattle.itv_cli.specs.declared.outcome.Outcome.TheVariants.{AllPass, Help, SomeFail, Inconsistent, Undecided, Refused, ReadFault, WriteFault, NoMemory, BadWords, CheckRefused}
-use Rattle.itv_cli.specs.Run.{MeansOutside}
+use Rattle.itv_cli.specs.Run.{Call, Means, call_of}
 
 -- the status of each end of a run
 abbrev pub code_of : Outcome → ℕ
@@ -21,11 +21,6 @@ code_of NoMemory = 7
 code_of BadWords = 8
 code_of CheckRefused = 9
 
--- the status of the program, where memory for its words may be wanted before the run
-abbrev pub status_of : Result Outcome wanted.NoMemory → ℕ
-status_of (Ok outcome) = code_of outcome
-status_of (Err none) = code_of NoMemory
-
 -- the status of the program where the system does not give its words
 abbrev pub no_words : ℕ
 no_words = 10
@@ -35,8 +30,26 @@ abbrev pub status_without_words : ErrorKind → ℕ
 status_without_words OutOfMemory = code_of NoMemory
 status_without_words _ = no_words
 
--- What the status of the program says: the words were not to be had, or memory for them was not, or it is that of the end of a run.
+-- a run came to an end, and this is its status
+abbrev pub HasRun : Call → ℕ → Type 0
+HasRun call status = (outcome : Outcome) × Means call outcome × (status ≡ code_of outcome)
+
+-- for want of words nothing was read and nothing written, and this is the status of it
+abbrev pub HasNoWords : ErrorKind → ShelfTold → ShelfTold → SinkTold → SinkTold → ℕ → Type 0
+HasNoWords kind shelf shelf' sink sink' status = (shelf' ≡ shelf) × (sink' ≡ sink) × (status ≡ status_without_words kind)
+
+-- ---- the real files and the real output
+
+-- files of which nothing is told, before a run
+abbrev pub nothing_failed : ShelfTold
+nothing_failed = record { files = None; faults = 0; last = []; is_faithful = false }
+
+-- an output of which nothing is told, before a run
+abbrev pub nothing_written : SinkTold
+nothing_written = record { written = None; faults = 0 }
+
+-- What the status of the program says: the words were not to be had, or it is that of the end of a run over files and an output of which
+-- nothing is told before it. Which words the run had is not said.
 pub data EndsWith (status : ℕ) : Type 0 where
   without_words : status ≡ no_words → EndsWith status
-  without_memory : status ≡ code_of NoMemory → EndsWith status
-  with_run : (words : List (List ℕ)) (outcome : Outcome) → MeansOutside words outcome → status ≡ code_of outcome → EndsWith status
+  with_run : (words : List (List ℕ)) (shelf : ShelfTold) (sink : SinkTold) → HasRun (call_of words nothing_failed shelf nothing_written sink) status → EndsWith status

@@ -1,43 +1,49 @@
 -- What the steps of a run answer: words of contracts within this crate.
-use Rattle.std.specs.Prelude.{◌≡◌, ◌≤◌, ◌⊎◌, ℕ, ⊤, List, length, Result, Ok, Err}
-use Rattle.itv_base.specs.declared.limits.TheConstants.{MAX_MATRIX_EVENTS, MAX_ROWS}
-use Rattle.itv_base.specs.Outside.{ShelfTold, SinkTold, grown, CutShort}
-use Rattle.design_gen.specs.Files.{NamedTrees}
-use Rattle.falling.specs.Kinds.{IsNegatable, IsPlain}
-use Rattle.job_answer.specs.declared.answer.Answer.{Answer}
-use Rattle.job_answer.specs.declared.unanswered.Unanswered.{Unanswered}
-use Rattle.job_answer.specs.declared.unanswered.Unanswered.TheVariants as unanswered
+use Rattle.std.specs.Prelude.{◌≡◌, ◌≤◌, ◌⊎◌, ℕ, ⊤, List, length, All, Result, Ok, Err}
+use Rattle.itv_base.specs.declared.limits.TheConstants.{MAX_MATRIX_EVENTS}
+use Rattle.itv_base.specs.Outside.{Files, ShelfTold, SinkTold, grown, CutShort}
+use Rattle.drawn.specs.Drawn.{Drawn}
+use Rattle.falling.specs.View.{IsViewOf}
+use Rattle.slack_report.specs.Entry.{IsName}
+use Rattle.bounds_report.specs.Reports.{HasRanges}
+use Rattle.unroll.specs.declared.limit.TheConstants.{MAX_SESSION_ROWS}
+use Rattle.edits.specs.EditLine.{IsThere}
+use Rattle.jobs.specs.declared.answer.Answer.{Answer}
+use Rattle.jobs.specs.declared.unanswered.Unanswered.{Unanswered}
+use Rattle.jobs.specs.declared.unanswered.Unanswered.TheVariants as unanswered
 use Rattle.reading.specs.declared.stop.Stop.{Stop}
 use Rattle.reading.specs.declared.stop.Stop.TheVariants.{Refused, ReadFault, NoMemory}
-use Rattle.reading.specs.Opening.{ready, refused, unread}
+use Rattle.reading.specs.Opening.{ready, refused, told_end, unread}
 use Rattle.reading.specs.Refusal.{refusal_text, unread_text}
-use Rattle.unroll.specs.Drawn.{Drawn}
 use Rattle.words.specs.Task.{IsBudget, Task}
 use Rattle.itv_cli.specs.declared.outcome.Outcome.{Outcome}
 use Rattle.itv_cli.specs.declared.outcome.Outcome.TheVariants as ends
 use Rattle.itv_cli.specs.declared.ready.Ready.{Ready}
 use Rattle.itv_cli.specs.declared.ready.Ready.TheVariants as given
-use Rattle.itv_cli.specs.Job.{made_for}
-use Rattle.itv_cli.specs.Run.{EndsMade, EndsOver, outcome_of}
+use Rattle.itv_cli.specs.Job.{made_for, opening}
+use Rattle.itv_cli.specs.Run.{EndsOver, outcome_of}
 
--- a budget within its limits, and no more rows than theirs
-abbrev pub IsBoundable : Drawn → ℕ → Type 0
-IsBoundable drawn budget = IsBudget budget × (length drawn.rows ≤ MAX_ROWS)
+-- the names of the events and the ranges of the rows have their form
+pub record HasForm (drawn : Drawn) : Type 0 where
+  pub names : All IsName drawn.names
+  pub ranges : HasRanges drawn
 
 -- what a job may be given
 abbrev pub IsAllowed : Ready → Type 0
-IsAllowed (given.Bounds drawn budget cert) = IsBoundable drawn budget
-IsAllowed (given.Fall drawn budget cert) = (IsPlain drawn.net ⊎ IsNegatable drawn.net) × (length drawn.rows ≤ MAX_ROWS)
+IsAllowed (given.Bounds drawn budget cert) = IsBudget budget
+IsAllowed (given.Fall drawn view budget cert) = IsViewOf drawn.net view
+IsAllowed (given.Redraw drawn budget) = IsBudget budget × HasForm drawn
 IsAllowed (given.Matrix drawn) = drawn.net.events ≤ MAX_MATRIX_EVENTS
 IsAllowed (given.Check drawn report) = Unit {0}
-IsAllowed (given.Generated drawn size budget) = IsBoundable drawn budget
+IsAllowed (given.Generated drawn size budget) = IsBudget budget
+IsAllowed (given.Whatif drawn edits budget) = (length drawn.rows ≤ MAX_SESSION_ROWS) × IsBudget budget × All (IsThere drawn.net) edits
 
--- what the reading for a task answers over files that are made with these trees; want of memory says nothing
-abbrev pub OpensMade : NamedTrees → Task → Result Ready Stop → Type 0
-OpensMade trees asked (Ok x) = EndsMade trees asked (ready x)
-OpensMade trees asked (Err (Refused place why)) = EndsMade trees asked (refused place why)
-OpensMade trees asked (Err (ReadFault place)) = (name : List ℕ) × EndsMade trees asked (unread place name)
-OpensMade trees asked (Err NoMemory) = Unit {0}
+-- what the reading for a task answers over files that are made for it; want of memory says nothing
+abbrev pub OpensMade : Files → Task → Result Ready Stop → Type 0
+OpensMade files asked (Ok x) = ready x ≡ told_end files (opening asked)
+OpensMade files asked (Err (Refused place why)) = refused place why ≡ told_end files (opening asked)
+OpensMade files asked (Err (ReadFault place)) = (name : List ℕ) × (unread place name ≡ told_end files (opening asked))
+OpensMade files asked (Err NoMemory) = Unit {0}
 
 -- what the reading for a task answers, over the files of the shelf or over files that are made for it
 abbrev pub OpensFor : ShelfTold → ShelfTold → Task → Result Ready Stop → Type 0

@@ -1,22 +1,25 @@
 //! What each job writes.
 
 ghost use Rattle.std.specs.Prelude.{◌≡◌};
-ghost use Rattle.job_answer.specs.Works.{Works};
+ghost use Rattle.jobs.specs.Works.{Works};
 ghost use Rattle.itv_cli.specs.Job.{Answers, Begins};
 ghost use Rattle.itv_cli.specs.Job as job;
 ghost use Rattle.itv_cli.specs.declared.ready.Ready.TheVariants as ready;
-ghost use Rattle.itv_cli.specs.Step.{IsAllowed, IsBoundable};
+ghost use Rattle.words.specs.Task.{IsBudget};
+ghost use Rattle.itv_cli.specs.Step.{HasForm, IsAllowed};
 
 use crate::ready::Ready;
 use bounds_report::write_bounds;
+use drawn::DrawnNetwork;
 use fall_report::write_fall;
 use itv_base::Sink;
-use job_answer::{Answer, Unanswered};
+use jobs::{Answer, Unanswered, answer_of};
 use matrix_report::write_matrix;
+use redraw_report::write_redraw;
 use report_check::answer_check;
 use std::alloc::Global;
 use summary_report::write_summary;
-use unroll::Unrolled;
+use whatif_report::write_whatif;
 
 /// Does the job for which all is read, and writes what it answers. All memory is taken before the first put.
 pub fn answer<K: Sink>(alloc: Global, given: &Ready, sink: &mut K) -> Result<Answer, Unanswered>
@@ -31,9 +34,11 @@ pub fn answer<K: Sink>(alloc: Global, given: &Ready, sink: &mut K) -> Result<Ans
         } => answer_bounds(alloc, drawn, *budget, *cert, sink),
         Ready::Fall {
             drawn,
+            view,
             budget,
             cert,
-        } => write_fall(alloc, drawn, *budget, *cert, sink),
+        } => write_fall(alloc, drawn, *view, *budget, *cert, sink),
+        Ready::Redraw { drawn, budget } => answer_redraw(alloc, drawn, *budget, sink),
         Ready::Matrix { drawn } => write_matrix(alloc, drawn, sink),
         Ready::Check { drawn, report } => answer_check(alloc, drawn, report.as_slice(), sink),
         Ready::Generated {
@@ -41,36 +46,59 @@ pub fn answer<K: Sink>(alloc: Global, given: &Ready, sink: &mut K) -> Result<Ans
             size,
             budget,
         } => answer_generated(alloc, drawn, *size, *budget, sink),
+        Ready::Whatif {
+            drawn,
+            edits,
+            budget,
+        } => write_whatif(alloc, drawn, edits, *budget, sink),
     }
 }
 
 // Job bounds: the report.
 fn answer_bounds<K: Sink>(
     alloc: Global,
-    drawn: &Unrolled,
+    drawn: &DrawnNetwork,
     budget: u64,
     cert: bool,
     sink: &mut K,
 ) -> Result<Answer, Unanswered>
-    requires boundable { IsBoundable drawn.now budget }
+    requires budget { IsBudget budget }
     ensures works { Works (Answers (ready.Bounds drawn.now budget cert)) (Begins (ready.Bounds drawn.now budget cert))
         (K.told sink.old) (K.told sink.new) result }
 {
     // A network is within its limits, so that no search closes more cases than there are cause choices.
     let _events = drawn.network().events();
     let summary = write_bounds(alloc, drawn, budget, cert, sink)?;
-    Ok(summary.answer)
+    Ok(answer_of(summary.end))
+}
+
+// Job redraw: the drawing of a counterexample.
+fn answer_redraw<K: Sink>(
+    alloc: Global,
+    drawn: &DrawnNetwork,
+    budget: u64,
+    sink: &mut K,
+) -> Result<Answer, Unanswered>
+    requires budget { IsBudget budget }
+    requires form { HasForm drawn.now }
+    ensures works { Works (Answers (ready.Redraw drawn.now budget)) (Begins (ready.Redraw drawn.now budget))
+        (K.told sink.old) (K.told sink.new) result }
+{
+    // As in job bounds.
+    let _events = drawn.network().events();
+    let answer = write_redraw(alloc, drawn, budget, sink)?;
+    Ok(answer)
 }
 
 // Job self: the summary of the report.
 fn answer_generated<K: Sink>(
     alloc: Global,
-    drawn: &Unrolled,
+    drawn: &DrawnNetwork,
     size: u32,
     budget: u64,
     sink: &mut K,
 ) -> Result<Answer, Unanswered>
-    requires boundable { IsBoundable drawn.now budget }
+    requires budget { IsBudget budget }
     ensures works { Works (Answers (ready.Generated drawn.now size budget)) (Begins (ready.Generated drawn.now size budget))
         (K.told sink.old) (K.told sink.new) result }
 {

@@ -12,5 +12,5 @@ mod system;
 mod top;
 
 pub use outcome::Outcome;
-pub use system::{program, run_outside, status_of, words_of};
+pub use system::{program, run_words, words_of};
 pub use top::run;

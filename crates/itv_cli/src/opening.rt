@@ -1,24 +1,24 @@
 //! What each job reads before it writes.
 
-ghost use Rattle.std.specs.Prelude.{◌≡◌, ◌≤◌, ◌⊎◌, IfNone, IfOk, codes, length};
+ghost use Rattle.std.specs.Prelude.{◌≡◌, ◌≤◌, IfOk, codes, length};
 ghost use Rattle.design_gen.specs.Files.{IsSize, design_files};
-ghost use Rattle.falling.specs.Kinds.{IsNegatable, IsPlain};
-ghost use Rattle.itv_base.specs.declared.limits.TheConstants.{MAX_ROWS};
 ghost use Rattle.reading.specs.Step.{Opens, Reads};
 ghost use Rattle.words.specs.Task.{IsBudget, IsWithinLimits};
 ghost use Rattle.words.specs.Task as said;
 ghost use Rattle.words.specs.View.{task_view};
-ghost use Rattle.itv_cli.specs.Job.{fall_at, matrix_at, mixed_in, opening};
+ghost use Rattle.unroll.specs.declared.limit.TheConstants.{MAX_SESSION_ROWS};
+ghost use Rattle.itv_cli.specs.Job.{edits_at, edits_in, fall_at, matrix_at, opening, whatif_at};
 ghost use Rattle.itv_cli.specs.Step.{IsAllowed, OpensFor, OpensMade};
 
 use crate::ready::Ready;
 use design_gen::{GenFault, make};
-use event_graph::Network;
-use falling::first_choice;
-use itv_base::{MAX_MATRIX_EVENTS, REPORT_LIMIT, RuleKind, Shelf};
-use reading::{Place, Refusal, Stop, fetch_file, open_design};
+use drawn::DrawnNetwork;
+use edits::{MAX_EDITS_BYTES, read_edits};
+use falling::{Mixed, View};
+use itv_base::{MAX_MATRIX_EVENTS, REPORT_LIMIT, Shelf};
+use reading::{Place, Refusal, Stop, edits_stop, fetch_file, open_design};
 use std::alloc::Global;
-use unroll::{Limit, UnrollFault, Unrolled};
+use unroll::{Limit, MAX_SESSION_ROWS, UnrollFault};
 use words::Task;
 
 /// What a task reads. The files are those of the shelf, or for a generated design files that are made for it, and then the shelf
@@ -39,9 +39,15 @@ pub fn open<H: Shelf>(alloc: Global, task: Task<'_>, shelf: &mut H) -> Result<Re
             budget,
             cert,
         } => open_fall(alloc, design, budget, cert, shelf),
+        Task::Redraw { design, budget } => open_redraw(alloc, design, budget, shelf),
         Task::Matrix { design } => open_matrix(alloc, design, shelf),
         Task::Check { design, report } => open_check(alloc, design, report, shelf),
         Task::Generated { size, budget } => open_generated(alloc, size, budget),
+        Task::Whatif {
+            design,
+            edits,
+            budget,
+        } => open_whatif(alloc, design, edits, budget, shelf),
     }
 }
 
@@ -82,30 +88,39 @@ fn open_fall<H: Shelf>(
     for_fall(drawn, budget, cert)
 }
 
-// A drawn network whose choices are all of one kind.
-fn for_fall(drawn: Unrolled, budget: u64, cert: bool) -> Result<Ready, Stop>
-    requires rows { length drawn.rows ≤ MAX_ROWS }
+// A drawn network that has a view.
+fn for_fall(drawn: DrawnNetwork, budget: u64, cert: bool) -> Result<Ready, Stop>
     ensures reads { Reads (λ given. given) (fall_at budget cert drawn) result }
     ensures allowed { IfOk result IsAllowed }
 {
-    match mixed_in(drawn.network()) {
-        Some(why) => Err(Stop::Refused(Place::Design, why)),
-        None => Ok(Ready::Fall {
+    match View::of(drawn.network()) {
+        Ok(view) => Ok(Ready::Fall {
             drawn,
+            view,
             budget,
             cert,
         }),
+        Err(Mixed { late, early }) => Err(Stop::Refused(
+            Place::Design,
+            Refusal::Mixed(late, early),
+        )),
     }
 }
 
-// The refusal of a network with choices of both kinds.
-fn mixed_in(net: &Network) -> Option<Refusal>
-    ensures mixed { result ≡ mixed_in net.now }
-    ensures kinds { IfNone result (IsPlain net.now ⊎ IsNegatable net.now) }
+// What job redraw reads.
+fn open_redraw<H: Shelf>(
+    alloc: Global,
+    design: &str,
+    budget: u64,
+    shelf: &mut H,
+) -> Result<Ready, Stop>
+    requires budget { IsBudget budget }
+    ensures opens { Opens (λ given. given) (H.told shelf.old) (H.told shelf.new)
+        (opening (said.redraw design.now budget)) result }
+    ensures allowed { IfOk result IsAllowed }
 {
-    let late = first_choice(net, RuleKind::Late)?;
-    let early = first_choice(net, RuleKind::Early)?;
-    Some(Refusal::Mixed(late, early))
+    let drawn = open_design(alloc, design, shelf)?;
+    Ok(Ready::Redraw { drawn, budget })
 }
 
 // What job matrix reads.
@@ -119,24 +134,24 @@ fn open_matrix<H: Shelf>(alloc: Global, design: &str, shelf: &mut H) -> Result<R
 }
 
 // A drawn network that has few enough events for a matrix.
-fn for_matrix(drawn: Unrolled) -> Result<Ready, Stop>
+fn for_matrix(drawn: DrawnNetwork) -> Result<Ready, Stop>
     ensures reads { Reads (λ given. given) (matrix_at drawn) result }
     ensures allowed { IfOk result IsAllowed }
 {
     let events = drawn.network().events();
     if events > MAX_MATRIX_EVENTS {
-        return Err(too_many(events));
+        return Err(too_many(Limit::MatrixEvents, u64::from(events)));
     }
     Ok(Ready::Matrix { drawn })
 }
 
-// The refusal of a matrix of so many events.
-fn too_many(events: u32) -> Stop
-    ensures { result ≡ Stop.Refused Place.Design (Refusal.Limits (UnrollFault.TooMany Limit.MatrixEvents events)) }
+// The refusal of a network that has so much of what a job allows less of.
+fn too_many(limit: Limit, count: u64) -> Stop
+    ensures { result ≡ Stop.Refused Place.Design (Refusal.Limits (UnrollFault.TooMany limit count)) }
 {
     let fault = UnrollFault::TooMany {
-        limit: Limit::MatrixEvents,
-        count: u128::from(events),
+        limit,
+        count: u128::from(count),
     };
     Stop::Refused(Place::Design, Refusal::Limits(fault))
 }
@@ -155,6 +170,78 @@ fn open_check<H: Shelf>(
     let drawn = open_design(alloc, design, shelf)?;
     let report = fetch_file(alloc, Place::Report, report, REPORT_LIMIT, shelf)?;
     Ok(Ready::Check { drawn, report })
+}
+
+// What job whatif reads: the edits behind the design.
+fn open_whatif<H: Shelf>(
+    alloc: Global,
+    design: &str,
+    edits: &str,
+    budget: u64,
+    shelf: &mut H,
+) -> Result<Ready, Stop>
+    requires budget { IsBudget budget }
+    ensures opens { Opens (λ given. given) (H.told shelf.old) (H.told shelf.new)
+        (opening (said.whatif design.now edits.now budget)) result }
+    ensures allowed { IfOk result IsAllowed }
+{
+    let drawn = open_design(alloc, design, shelf)?;
+    for_whatif(alloc, drawn, edits, budget, shelf)
+}
+
+// A drawn network that has few enough rows for edits.
+fn for_whatif<H: Shelf>(
+    alloc: Global,
+    drawn: DrawnNetwork,
+    edits: &str,
+    budget: u64,
+    shelf: &mut H,
+) -> Result<Ready, Stop>
+    requires budget { IsBudget budget }
+    ensures opens { Opens (λ given. given) (H.told shelf.old) (H.told shelf.new)
+        (whatif_at edits.now budget drawn) result }
+    ensures allowed { IfOk result IsAllowed }
+{
+    let rows = drawn.rows().len();
+    if rows > u64::from(MAX_SESSION_ROWS) {
+        return Err(too_many(Limit::SessionRows, rows));
+    }
+    with_edits(alloc, drawn, edits, budget, shelf)
+}
+
+// The same with its edits, which are fetched.
+fn with_edits<H: Shelf>(
+    alloc: Global,
+    drawn: DrawnNetwork,
+    edits: &str,
+    budget: u64,
+    shelf: &mut H,
+) -> Result<Ready, Stop>
+    requires rows { length drawn.rows ≤ MAX_SESSION_ROWS }
+    requires budget { IsBudget budget }
+    ensures opens { Opens (λ given. given) (H.told shelf.old) (H.told shelf.new)
+        (edits_at edits.now budget drawn) result }
+    ensures allowed { IfOk result IsAllowed }
+{
+    let bytes = fetch_file(alloc, Place::Edits, edits, MAX_EDITS_BYTES as u32, shelf)?;
+    for_edits(alloc, drawn, budget, bytes.as_slice())
+}
+
+// The same with the edits in the bytes of a file.
+fn for_edits(alloc: Global, drawn: DrawnNetwork, budget: u64, bytes: &[u8]) -> Result<Ready, Stop>
+    requires rows { length drawn.rows ≤ MAX_SESSION_ROWS }
+    requires budget { IsBudget budget }
+    ensures reads { Reads (λ given. given) (edits_in budget drawn bytes.now) result }
+    ensures allowed { IfOk result IsAllowed }
+{
+    match read_edits(alloc, drawn.network(), bytes) {
+        Ok(edits) => Ok(Ready::Whatif {
+            drawn,
+            edits,
+            budget,
+        }),
+        Err(fault) => Err(edits_stop(Place::Edits, fault)),
+    }
 }
 
 // What job self reads, over files that are made for it.

@@ -16,7 +16,8 @@ pub enum Outcome {
     Inconsistent,
     /// The budget ended a search, and no requirement is known to be broken.
     Undecided,
-    /// The files are refused, and the line of the first refusal was written.
+    /// The files are refused, and the line of the first refusal was written; or the job refuses the design for what its search found, and
+    /// the line of that was.
     Refused,
     /// A file could not be read, and a line that names its place was written.
     ReadFault,

@@ -1,38 +1,52 @@
 //! What is read for a job.
 
+use drawn::DrawnNetwork;
+use edits::Edits;
+use falling::View;
 use itv_base::Listing;
-use unroll::Unrolled;
 
 /// What is read for a job, with what its words ask for.
 #[derive(Debug, Drop)]
 pub enum Ready {
     /// To bound the rows of a drawn network: the cases that each search may close, and whether proofs are written.
     Bounds {
-        drawn: Unrolled,
+        drawn: DrawnNetwork,
         budget: u64,
         cert: bool,
     },
-    /// To bound the rows of a drawn network whose choices are all of one kind by falling values: the lines that each derivation may
-    /// have, and whether they are written.
+    /// To bound the rows of a drawn network of a view by falling values: the lines that each derivation may have, and whether they are
+    /// written.
     Fall {
-        drawn: Unrolled,
+        drawn: DrawnNetwork,
+        view: View,
         budget: u64,
         cert: bool,
+    },
+    /// To draw a counterexample of a drawn network: the cases that each search may close.
+    Redraw {
+        drawn: DrawnNetwork,
+        budget: u64,
     },
     /// To print the matrix of a drawn network.
     Matrix {
-        drawn: Unrolled,
+        drawn: DrawnNetwork,
     },
     /// To check a report of a drawn network: the bytes of the report.
     Check {
-        drawn: Unrolled,
+        drawn: DrawnNetwork,
         report: Listing<u8>,
     },
     /// To bound the rows of the generated design of a size, and sum up: what it draws, the size, and the cases that each search
     /// may close.
     Generated {
-        drawn: Unrolled,
+        drawn: DrawnNetwork,
         size: u32,
+        budget: u64,
+    },
+    /// To bound the rows of a drawn network and again behind each edit: the edits, and the cases that each search may close.
+    Whatif {
+        drawn: DrawnNetwork,
+        edits: Edits,
         budget: u64,
     },
 }

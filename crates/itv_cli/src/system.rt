@@ -1,15 +1,15 @@
 //! The program around a run: the words of the system, its files and its output, and the status of the run's end.
 
-ghost use Rattle.std.specs.Prelude.{◌≡◌, IfOk, drop, map, string_bytes};
+ghost use Rattle.std.specs.Prelude.{◌≡◌, IfOk, MatchResult, drop, map, string_bytes};
 ghost use Rattle.std.specs.Vec.Iter.{into_iter_items};
 ghost use Rattle.std.specs.IoError.{error_kind};
 ghost use Rattle.std.specs.Process.{exit_status};
-ghost use Rattle.itv_cli.specs.Run.{MeansOutside};
-ghost use Rattle.itv_cli.specs.Status.{EndsWith, status_of, status_without_words};
+ghost use Rattle.itv_cli.specs.Run.{Means, call_of};
+ghost use Rattle.itv_cli.specs.Status.{EndsWith, HasNoWords, HasRun, code_of, status_without_words};
 
 use crate::outcome::Outcome;
 use crate::top::run;
-use itv_base::{NoMemory, ShelfDir, SinkOut, Texts};
+use itv_base::{NoMemory, Shelf, ShelfDir, Sink, SinkOut, Texts};
 use std::alloc::Global;
 use std::env::{Args, Env};
 use std::io::ErrorKind;
@@ -20,15 +20,62 @@ use std::{env, io};
 // The status where the system does not give the words.
 const NO_WORDS: u8 = 10;
 
-/// The whole program: a run on the words of the system, its files and its standard output, and the status of its end. Where the
-/// system does not give the words, nothing is written, and the status is 10.
+/// The whole program: a run on the words of the system, its files and its standard output, and the status of its end. It hands
+/// them on to [`run_words`], whose contract says what becomes of them; that it hands on these and no others is not proved.
 pub fn program<R: Env + Files + Print + AllocGlobal>(rt: &R) -> ExitCode
     ensures status { EndsWith (exit_status result) }
 {
-    match env::args(rt) {
-        Ok(args) => status_of(run_outside(rt.alloc(), args, rt)),
+    match ShelfDir::new(rt.alloc(), rt) {
+        Ok(mut shelf) => run_words(rt.alloc(), env::args(rt), &mut shelf, &mut SinkOut::new(rt)),
+        Err(NoMemory) => status_of(Outcome::NoMemory),
+    }
+}
+
+/// Runs on the words behind the first of those that a system gives, on a shelf and a sink, and ends with the status of the end of
+/// the run. Nothing else is read or written. Where the system gives an error in place of the words nothing is, and the status is 10,
+/// or that of [`Outcome::NoMemory`] where the system lacks the memory for them.
+pub fn run_words<H: Shelf, K: Sink>(
+    alloc: Global,
+    args: io::Result<Args<Global>>,
+    shelf: &mut H,
+    sink: &mut K,
+) -> ExitCode
+    ensures status { MatchResult args
+        (λ given. HasRun (call_of (drop 1 (map string_bytes (into_iter_items given)))
+        (H.told shelf.old) (H.told shelf.new) (K.told sink.old) (K.told sink.new)) (exit_status result))
+        (λ error. HasNoWords (error_kind error)
+        (H.told shelf.old) (H.told shelf.new) (K.told sink.old) (K.told sink.new) (exit_status result)) }
+{
+    match args {
+        Ok(given) => {
+            let outcome = run_given(alloc, given, shelf, sink);
+            status_of(outcome)
+        }
         Err(error) => status_without_words(&error),
     }
+}
+
+// The run on the words behind the first.
+fn run_given<H: Shelf, K: Sink>(
+    alloc: Global,
+    given: Args<Global>,
+    shelf: &mut H,
+    sink: &mut K,
+) -> Outcome
+    ensures means { Means (call_of (drop 1 (map string_bytes (into_iter_items given)))
+        (H.told shelf.old) (H.told shelf.new) (K.told sink.old) (K.told sink.new)) result }
+{
+    match words_of(alloc, given) {
+        Ok(words) => run(alloc, &words, shelf, sink),
+        Err(NoMemory) => Outcome::NoMemory,
+    }
+}
+
+// The status of the end of a run.
+fn status_of(outcome: Outcome) -> ExitCode
+    ensures { exit_status result ≡ code_of outcome }
+{
+    ExitCode::from(outcome.code())
 }
 
 // The status where the words are not to be had.
@@ -36,7 +83,7 @@ fn status_without_words(error: &io::Error) -> ExitCode
     ensures { exit_status result ≡ status_without_words (error_kind error.now) }
 {
     match error.kind() {
-        ErrorKind::OutOfMemory => status_of(Err(NoMemory)),
+        ErrorKind::OutOfMemory => status_of(Outcome::NoMemory),
         _ => ExitCode::from(NO_WORDS),
     }
 }
@@ -62,25 +109,4 @@ fn texts_of(alloc: Global, args: Args<Global>) -> Result<Texts, NoMemory>
         texts.push(alloc, word.as_str())?;
     }
     Ok(texts)
-}
-
-/// Runs on the words of the system, its files and its standard output.
-pub fn run_outside<R: Files + Print + Drop + Copy>(
-    alloc: Global,
-    args: Args<Global>,
-    rt: R,
-) -> Result<Outcome, NoMemory>
-    ensures means { IfOk result (MeansOutside (drop 1 (map string_bytes (into_iter_items args)))) }
-{
-    let words = words_of(alloc, args)?;
-    let mut shelf = ShelfDir::new(alloc, rt)?;
-    let mut sink = SinkOut::new(rt);
-    Ok(run(alloc, &words, &mut shelf, &mut sink))
-}
-
-/// The status of the program.
-pub fn status_of(end: Result<Outcome, NoMemory>) -> ExitCode
-    ensures status { exit_status result ≡ status_of end }
-{
-    ExitCode::from(end.unwrap_or(Outcome::NoMemory).code())
 }

@@ -12,16 +12,16 @@ use crate::job::answer;
 use crate::opening::open;
 use crate::outcome::Outcome;
 use itv_base::{NoMemory, PutFailed, Shelf, Sink, Texts};
-use job_answer::{Answer, Unanswered};
+use jobs::{Answer, Unanswered};
 use reading::{Place, Refusal, Stop, put_refusal, put_unread};
 use std::alloc::Global;
 use words::{Answer as Words, Task, read_words};
 
 /// Does what the words ask for: reads the files of a job, and writes what it answers.
 ///
-/// The words name a job and a design. The files of the design are fetched, each once, and what they draw is unrolled; the first
+/// The words name a job and a design. The files of the design are fetched, and what they draw is unrolled; the first
 /// refusal ends the run with its line, and a file that can't be read with another. Then the job writes its report, its bounds, its
-/// matrix, whether a report is right, or a summary. Bad words get a line of their own, and the wish for help the text of help. All
+/// matrix, whether a report is right, a drawing, or a summary. Bad words get a line of their own, and the wish for help the text of help. All
 /// memory is taken before the first put, and after a put that failed nothing more is put.
 ///
 /// Want of memory may come in place of any end, and nothing is written then.
@@ -78,6 +78,7 @@ fn answered(given: Result<Answer, Unanswered>) -> Outcome
         Ok(Answer::Inconsistent) => Outcome::Inconsistent,
         Ok(Answer::Undecided) => Outcome::Undecided,
         Ok(Answer::CheckRefused) => Outcome::CheckRefused,
+        Ok(Answer::DesignRefused) => Outcome::Refused,
         Err(Unanswered::PutFailed) => Outcome::WriteFault,
         Err(Unanswered::NoMemory) => Outcome::NoMemory,
     }

@@ -5,3 +5,5 @@ pub mod Whole
 pub mod Judging
 pub mod Sequence
 pub mod Proper
+pub mod Ranges
+pub mod StandingRange

@@ -11,8 +11,8 @@ use Rattle.label_grammar.specs.declared.label.Kind.TheVariants.{Lin, Late, Early
 use Rattle.itv_base.specs.Characters.{is_name, is_name_byte}
 use Rattle.itv_base.specs.Cuts.{stripped, after, after_while}
 use Rattle.itv_base.specs.Numerals.{end_text, signed_text, number_text, is_numeral, value_of}
-use Rattle.label_grammar.specs.Label.{kind_text, shift_text, tag_text, ends_text, note_text}
-use Rattle.label_grammar.specs.Reading.{◌>>=◌, first_kind, kind_of, shift_from, shift_of, tag_from, tag_of, number_from, number_of, end_of, ends_of, range_of, note_of}
+use Rattle.label_grammar.specs.Label.{Span, fixed, named, Version, version_1, version_2, has_span_form, kind_text, shift_text, tag_text, ends_text, span_text, told_text, note_text}
+use Rattle.label_grammar.specs.Reading.{◌>>=◌, first_kind, kind_of, shift_from, shift_of, tag_from, tag_of, number_from, number_of, end_of, ends_of, name_from, fixed_of, span_of, told_of, note_of}
 use Rattle.itv_base.proofs.Cuts.{stripped_some}
 use Rattle.itv_base.proofs.Runs.{stops, front_of_run, rest_of_run, run_whole}
 use Rattle.itv_base.proofs.Numbers.{numeral_is}
@@ -220,7 +220,7 @@ ends_join : (text a b c d rest low high : List ℕ) → text ≡ 32 ∷ 91 ∷ a
 ends_join text a b c d rest low high e1 e2 e3 e4 e5 =
     e1 ∙ ap (λ x. 32 ∷ 91 ∷ x) (e2 ∙ ap (λ x. low ++ x) (e3 ∙ ap (λ x. 44 ∷ x) (e4 ∙ ap (λ x. high ++ x) e5))) ∙ simp append_assoc
 
-ends_take : (text rest : List ℕ) (ends : Ends) → ends_of text ≡ Some (ends, rest) → text ≡ ends_text (Some ends) ++ rest
+pub ends_take : (text rest : List ℕ) (ends : Ends) → ends_of text ≡ Some (ends, rest) → text ≡ ends_text ends ++ rest
 unfolding ends_of
 ends_take text rest ends e =
     let a = bind_some (stripped (codes " [") text) (λ opened. end_of opened >>= λ low. stripped (codes ",") low.1 >>= λ parted. end_of parted >>= λ high. stripped (codes "]") high.1 >>= λ closed. Some (record { low = low.0; high = high.0 }, closed)) (ends, rest) e in
@@ -230,28 +230,80 @@ ends_take text rest ends e =
     let f = bind_some (stripped (codes "]") d.0.1) (λ closed. Some (record { low = b.0.0; high = d.0.0 }, closed)) (ends, rest) d.2 in
     let whole = ends_join text a.0 b.0.1 c.0 d.0.1 f.0 (end_text b.0.0) (end_text d.0.0)
     (stripped_some (codes " [") text a.0 a.1) (end_takes a.0 b.0.1 b.0.0 b.1) (stripped_some (codes ",") b.0.1 c.0 c.1) (end_takes c.0 d.0.1 d.0.0 d.1) (stripped_some (codes "]") d.0.1 f.0 f.1) in
-    found_is (λ es. ends_text (Some es)) text f.0 rest (record { low = b.0.0; high = d.0.0 }) ends f.2 whole
+    found_is ends_text text f.0 rest (record { low = b.0.0; high = d.0.0 }) ends f.2 whole
 
-ends_again : (ends : Ends) (rest : List ℕ) → ends_of (ends_text (Some ends) ++ rest) ≡ Some (ends, rest)
+pub ends_again : (ends : Ends) (rest : List ℕ) → ends_of (ends_text ends ++ rest) ≡ Some (ends, rest)
 unfolding ends_of
 ends_again ends rest =
-    let regrouped : ends_text (Some ends) ++ rest ≡ 32 ∷ 91 ∷ (end_text ends.low ++ (44 ∷ (end_text ends.high ++ (93 ∷ rest)))) = simp append_assoc in
+    let regrouped : ends_text ends ++ rest ≡ 32 ∷ 91 ∷ (end_text ends.low ++ (44 ∷ (end_text ends.high ++ (93 ∷ rest)))) = simp append_assoc in
     ap ends_of regrouped ∙ rw (end_again ends.low (44 ∷ (end_text ends.high ++ (93 ∷ rest))) refl, end_again ends.high (93 ∷ rest) refl) refl
 
-pub range_takes : (ask : Bool) (text rest : List ℕ) (ends : Option Ends) → range_of ask text ≡ Some (ends, rest) → (text ≡ ends_text ends ++ rest) × (is_some ends ≡ not ask)
-unfolding range_of
-range_takes true text rest ends e =
-    subst (λ (p : Option Ends × List ℕ). (text ≡ ends_text p.0 ++ p.1) × (is_some p.0 ≡ false)) (same_Some (None, text) (ends, rest) e) (refl, refl)
-range_takes false text rest ends e =
-    let a = bind_some (ends_of text) (λ x. Some (Some x.0, x.1)) (ends, rest) e in
-    subst (λ (p : Option Ends × List ℕ). (text ≡ ends_text p.0 ++ p.1) × (is_some p.0 ≡ true)) (same_Some (Some a.0.0, a.0.1) (ends, rest) a.2) (ends_take text a.0.1 a.0.0 a.1, refl)
+-- ---- spans
 
-pub range_again : (ask : Bool) (ends : Option Ends) (rest : List ℕ) → is_some ends ≡ not ask → range_of ask (ends_text ends ++ rest) ≡ Some (ends, rest)
-unfolding range_of
-range_again true None rest h = refl
-range_again true (Some ends) rest h = absurd cc
-range_again false None rest h = absurd cc
-range_again false (Some ends) rest h = rw (ends_again ends rest) refl
+span_takes : (text rest : List ℕ) (span : Span) → span_of text ≡ Some (span, rest) → (text ≡ span_text span ++ rest) × (has_span_form span ≡ true)
+unfolding span_of
+span_takes text rest span e =
+    elim (after_cases (stripped (codes " $") text) (λ r. name_from (take_while is_name_byte r) (after_while is_name_byte r)) (fixed_of text) (Some (span, rest)) e) [
+      | inl found ↦ (
+          let name = take_while is_name_byte found.0 in
+          let g = cond_some (is_name name) (named name, after_while is_name_byte found.0) (span, rest) found.2 in
+          let whole : text ≡ span_text (named name) ++ after_while is_name_byte found.0 = stripped_some (codes " $") text found.0 found.1 ∙ ap (λ x. 32 ∷ 36 ∷ x) (run_whole is_name_byte found.0) in
+          subst (λ (p : Span × List ℕ). (text ≡ span_text p.0 ++ p.1) × (has_span_form p.0 ≡ true)) g.1 (whole, g.0))
+      | inr other ↦ (
+          let a = bind_some (ends_of text) (λ x. Some (fixed x.0, x.1)) (span, rest) other.1 in
+          subst (λ (p : Span × List ℕ). (text ≡ span_text p.0 ++ p.1) × (has_span_form p.0 ≡ true)) (same_Some (fixed a.0.0, a.0.1) (span, rest) a.2) (ends_take text a.0.1 a.0.0 a.1, refl))
+    ]
+
+span_again : (span : Span) (rest : List ℕ) → has_span_form span ≡ true → IsSpaced rest → span_of (span_text span ++ rest) ≡ Some (span, rest)
+unfolding span_of
+span_again (fixed ends) rest h spaced = rw (ends_again ends rest) refl
+span_again (named name) rest h spaced =
+    let bytes : list_all is_name_byte name ≡ true = (and_parts (leb 1 (length name) && leb (length name) 16) (list_all is_name_byte name) h).1 in
+    rw (front_of_run is_name_byte name rest bytes (no_name_byte rest spaced), rest_of_run is_name_byte name rest bytes (no_name_byte rest spaced), h) refl
+
+-- ---- what tells the ends
+
+-- What tells the ends of a label of a version is read as it is spelled, and spelled as it is read. It stands behind a space.
+pub record Inverts {E : Type 0} (v : Version E) (tell : List ℕ → Option (E × List ℕ)) : Type 0 where
+  pub takes : (text rest : List ℕ) (told : E) → tell text ≡ Some (told, rest) → (text ≡ v.text told ++ rest) × (v.has_form told ≡ true)
+  pub again : (told : E) (rest : List ℕ) → v.has_form told ≡ true → IsSpaced rest → tell (v.text told ++ rest) ≡ Some (told, rest)
+  pub spaced : (told : E) (rest : List ℕ) → IsSpaced (v.text told ++ rest)
+
+pub ends_invert : Inverts version_1 ends_of
+ends_invert = record {
+  takes = λ text rest ends e. (ends_take text rest ends e, refl);
+  again = λ ends rest form behind. ends_again ends rest;
+  spaced = λ ends rest. refl;
+}
+
+span_spaced : (span : Span) (rest : List ℕ) → IsSpaced (span_text span ++ rest)
+span_spaced (fixed ends) rest = refl
+span_spaced (named name) rest = refl
+
+pub spans_invert : Inverts version_2 span_of
+spans_invert = record { takes = span_takes; again = span_again; spaced = span_spaced }
+
+module _ {E : Type 0} (v : Version E) (tell : List ℕ → Option (E × List ℕ)) (inverts : Inverts v tell) where
+  -- there is something that tells the ends exactly where the kind is no ask, and it can be spelled
+  pub record IsTold (ask : Bool) (told : Option E) : Type 0 where
+    pub some : is_some told ≡ not ask
+    pub form : IfSome told (λ t. v.has_form t ≡ true)
+
+  pub told_takes : (ask : Bool) (text rest : List ℕ) (told : Option E) → told_of tell ask text ≡ Some (told, rest) → (text ≡ told_text v.text told ++ rest) × IsTold ask told
+  unfolding told_of
+  told_takes true text rest told e =
+      subst (λ (p : Option E × List ℕ). (text ≡ told_text v.text p.0 ++ p.1) × IsTold true p.0) (same_Some (None, text) (told, rest) e) (refl, record { some = refl; form = tt })
+  told_takes false text rest told e =
+      let a = bind_some (tell text) (λ x. Some (Some x.0, x.1)) (told, rest) e in
+      let took = inverts.takes text a.0.1 a.0.0 a.1 in
+      subst (λ (p : Option E × List ℕ). (text ≡ told_text v.text p.0 ++ p.1) × IsTold false p.0) (same_Some (Some a.0.0, a.0.1) (told, rest) a.2) (took.0, record { some = refl; form = took.1 })
+
+  pub told_again : (ask : Bool) (told : Option E) (rest : List ℕ) → is_some told ≡ not ask → IfSome told (λ t. v.has_form t ≡ true) → IsSpaced rest → told_of tell ask (told_text v.text told ++ rest) ≡ Some (told, rest)
+  unfolding told_of
+  told_again true None rest h form behind = refl
+  told_again true (Some told) rest h form behind = absurd cc
+  told_again false None rest h form behind = absurd cc
+  told_again false (Some told) rest h form behind = rw (inverts.again told rest form behind) refl
 
 -- ---- notes
 

@@ -1,45 +1,36 @@
 -- What is read of a label has a range, where it has ends.
 use Rattle.std.proofs.Common.{◌≡◌, Bool, true, false, ◌||◌, ℕ, List, Option, Some, None, IfSome, Result, Ok, Err, IfOk, refl, arith}
-use Rattle.std.specs.Prelude.{ℤ, ◌≤ℤ◌}
-use Rattle.std.specs.Option.{option_map_or}
-use Rattle.std.proofs.lemmas.Int.{ints}
-use Rattle.itv_base.specs.Range.{Ends, IsEnd, IsRange, has_wide, is_above, is_reversed, is_wide}
+use Rattle.std.specs.Option.{option_map_or, option_and_then}
+use Rattle.itv_base.specs.Range.{Ends, IsRange, has_wide, is_reversed}
+use Rattle.itv_base.proofs.Ranges.{is_range}
 use Rattle.label_grammar.specs.declared.label.LabelFault.{LabelFault}
 use Rattle.label_grammar.specs.Answer.{judged}
-use Rattle.label_grammar.specs.Label.{LooseLabel, IsProper}
+use Rattle.label_grammar.specs.Label.{LooseLabel, Span, fixed, named, Version, version_1, version_2, fixed_ends, IsProper}
 use Rattle.label_grammar.specs.Reading.{label_of}
+use Rattle.label_grammar.proofs.Pieces.{Inverts}
 use Rattle.label_grammar.proofs.Judging.{spells_proper}
 
-both_false : (a b : Bool) → (a || b) ≡ false → (a ≡ false) × (b ≡ false)
-both_false true b e = absurd cc
-both_false false b e = (refl, e)
+-- the ends of a proper label of version 1 are a range
+pub proper_range : (label : LooseLabel Ends) → IsProper version_1 label → IfSome label.ends IsRange
+proper_range label proper = ranges label.ends proper.narrow proper.ordered
+  where
+    ranges : (ends : Option Ends) → option_map_or has_wide (option_and_then version_1.outright ends) false ≡ false → option_map_or is_reversed (option_and_then version_1.outright ends) false ≡ false → IfSome ends IsRange
+    ranges None narrow ordered = tt
+    ranges (Some ends) narrow ordered = is_range ends narrow ordered
 
-is_end : (end : Option ℤ) → is_wide end ≡ false → IsEnd end
-is_end None narrow = tt
-is_end (Some value) narrow = grind (arith, ints)
-
-is_ordered : (low high : Option ℤ) → is_above low high ≡ false → IfSome low (λ l. IfSome high (λ h. l ≤ℤ h))
-is_ordered None high ordered = tt
-is_ordered (Some low) None ordered = tt
-is_ordered (Some low) (Some high) ordered = grind (arith, ints)
-
--- ends that are within the limit and not the wrong way round are a range
-pub is_range : (ends : Ends) → has_wide ends ≡ false → is_reversed ends ≡ false → IsRange ends
-is_range ends narrow ordered =
-    let both = both_false (is_wide ends.low) (is_wide ends.high) narrow in (is_end ends.low both.0, is_end ends.high both.1, is_ordered ends.low ends.high ordered)
-
-ends_are_range : (ends : Option Ends) → option_map_or has_wide ends false ≡ false → option_map_or is_reversed ends false ≡ false → IfSome ends IsRange
-ends_are_range None narrow ordered = tt
-ends_are_range (Some ends) narrow ordered = is_range ends narrow ordered
-
--- so are those of a proper label
-pub proper_range : (label : LooseLabel) → IsProper label → IfSome label.ends IsRange
-proper_range label proper = ends_are_range label.ends proper.narrow proper.ordered
+-- the ends that a proper label of version 2 tells outright are a range
+pub proper_span : (label : LooseLabel Span) → IsProper version_2 label → IfSome label.ends (λ span. IfSome (fixed_ends span) IsRange)
+proper_span label proper = ranges label.ends proper.narrow proper.ordered
+  where
+    ranges : (span : Option Span) → option_map_or has_wide (option_and_then fixed_ends span) false ≡ false → option_map_or is_reversed (option_and_then fixed_ends span) false ≡ false → IfSome span (λ span. IfSome (fixed_ends span) IsRange)
+    ranges None narrow ordered = tt
+    ranges (Some (fixed ends)) narrow ordered = is_range ends narrow ordered
+    ranges (Some (named name)) narrow ordered = tt
 
 -- what is read of a label is proper
-pub judged_is_proper : (text : List ℕ) → IfOk (judged (label_of text)) IsProper
-judged_is_proper text = ok_at (judged (label_of text)) refl
+pub judged_is_proper : {E : Type 0} (v : Version E) (tell : List ℕ → Option (E × List ℕ)) → Inverts v tell → (text : List ℕ) → IfOk (judged v (label_of tell text)) (IsProper v)
+judged_is_proper {E} v tell inverts text = ok_at (judged v (label_of tell text)) refl
   where
-    ok_at : (r : Result LooseLabel LabelFault) → judged (label_of text) ≡ r → IfOk r IsProper
-    ok_at (Ok label) is = (spells_proper text (label_of text) label refl is).0
+    ok_at : (r : Result (LooseLabel E) LabelFault) → judged v (label_of tell text) ≡ r → IfOk r (IsProper v)
+    ok_at (Ok label) is = (spells_proper v tell inverts text (label_of tell text) label refl is).0
     ok_at (Err fault) is = tt

@@ -1,5 +1,5 @@
 -- What a label is, and the one text that spells it.
-use Rattle.std.specs.Prelude.{◌≡◌, ℕ, ◌≤◌, ◌==◌, Bool, true, false, not, if◌then◌else◌, List, [], ◌++◌, slice_index, codes, Option, Some, None, IfSome, is_some, IsTrue}
+use Rattle.std.specs.Prelude.{◌≡◌, ℕ, ◌≤◌, ◌==◌, Bool, true, false, not, if◌then◌else◌, List, [], ◌++◌, slice_index, codes, Option, Some, None, IfSome, is_some, IsTrue, option_map, option_and_then}
 use Rattle.std.specs.Option.{option_copied, option_map_or}
 use Rattle.itv_base.specs.declared.limits.TheConstants.{MAX_SHIFT}
 use Rattle.itv_base.specs.Range.{Ends, has_wide, is_reversed}
@@ -8,22 +8,39 @@ use Rattle.itv_base.specs.Numerals.{number_text, end_text}
 use Rattle.label_grammar.specs.declared.label.Kind.{Kind}
 use Rattle.label_grammar.specs.declared.label.Kind.TheVariants.{Lin, Late, Early, Req, Ask}
 use Rattle.label_grammar.specs.declared.label.Label.{Label}
+use Rattle.label_grammar.specs.declared.label2.Label2.{Label2}
+use Rattle.label_grammar.specs.declared.label2.Span as code
+use Rattle.label_grammar.specs.declared.label2.Span.TheVariants.{Fixed, Named}
 
--- A label whose ends are whole numbers of any size, and not yet known to be a range. An end that is `None` is open.
-pub record LooseLabel : Type 0 where
+-- A label. What tells its ends is in version 1 the two ends, and in version 2 a span. Ends are whole numbers of any size, and
+-- not yet known to be a range. An end that is `None` is open.
+pub record LooseLabel (E : Type 0) : Type 0 where
   pub kind : Kind
   pub shift : ℕ
   pub tag : Option (List ℕ)
-  pub ends : Option Ends
+  pub ends : Option E
   pub note : Option (List ℕ)
+
+-- two ends, or the name of a parameter that stands for them
+pub data Span : Type 0 where
+  fixed : Ends → Span
+  named : List ℕ → Span
 
 -- a label that means something: it begins with `@`
 abbrev pub is_timing_label : List ℕ → Bool
 is_timing_label label = slice_index label 0 == 64
 
 -- a label without where its texts lie in memory
-abbrev pub label_view : Label → LooseLabel
+abbrev pub label_view : Label → LooseLabel Ends
 label_view l = record { kind = l.kind; shift = l.shift; tag = option_copied l.tag; ends = l.range; note = option_copied l.note }
+
+abbrev pub span_view : code.Span → Span
+span_view (Fixed range) = fixed range
+span_view (Named name) = named name.now
+
+-- a label of version 2 without where its texts lie in memory
+abbrev pub label2_view : Label2 → LooseLabel Span
+label2_view l = record { kind = l.kind; shift = l.shift; tag = option_copied l.tag; ends = option_map span_view l.span; note = option_copied l.note }
 
 -- whether a label only asks
 abbrev pub is_ask : Kind → Bool
@@ -33,25 +50,71 @@ is_ask Early = false
 is_ask Req = false
 is_ask Ask = true
 
--- what has a spelling: the shift is within the limit, a tag is a name, and there are ends exactly where the kind is no ask
-pub record IsLoose (l : LooseLabel) : Type 0 where
+-- ---- versions
+
+-- How the labels of a version tell their ends: whether what tells them can be spelled, how it is spelled, and the ends that it
+-- tells outright.
+pub record Version (E : Type 0) : Type 0 where
+  pub has_form : E → Bool
+  pub text : E → List ℕ
+  pub outright : E → Option Ends
+
+-- the ends stand in brackets, behind a space
+abbrev pub ends_text : Ends → List ℕ
+ends_text ends = codes " [" ++ (end_text ends.low ++ (codes "," ++ (end_text ends.high ++ codes "]")))
+
+-- the name of a parameter stands behind a space and a dollar sign
+abbrev pub span_text : Span → List ℕ
+span_text (fixed ends) = ends_text ends
+span_text (named name) = codes " $" ++ name
+
+-- a parameter has the form of a name
+abbrev pub has_span_form : Span → Bool
+has_span_form (fixed ends) = true
+has_span_form (named name) = is_name name
+
+-- the ends of a span that gives them itself
+abbrev pub fixed_ends : Span → Option Ends
+fixed_ends (fixed ends) = Some ends
+fixed_ends (named name) = None
+
+-- in version 1 a label tells its ends itself
+abbrev pub version_1 : Version Ends
+version_1 = record { has_form = λ ends. true; text = ends_text; outright = λ ends. Some ends }
+
+-- in version 2 a label may name a parameter in their place
+abbrev pub version_2 : Version Span
+version_2 = record { has_form = has_span_form; text = span_text; outright = fixed_ends }
+
+-- what has a spelling: the shift is within the limit, a tag is a name, there are ends exactly where the kind is no ask, and what
+-- tells them can be spelled
+pub record IsLoose {E : Type 0} (v : Version E) (l : LooseLabel E) : Type 0 where
   pub shift : l.shift ≤ MAX_SHIFT
   pub tag : IfSome l.tag (λ tag. IsTrue (is_name tag))
   pub ends : is_some l.ends ≡ not (is_ask l.kind)
+  pub form : IfSome l.ends (λ told. IsTrue (v.has_form told))
+
+-- the ends that a label tells outright
+abbrev pub outright_ends : {E : Type 0} → Version E → LooseLabel E → Option Ends
+outright_ends v l = option_and_then v.outright l.ends
 
 -- a finite end is beyond the limit in absolute value
-abbrev pub has_wide_end : LooseLabel → Bool
-has_wide_end l = option_map_or has_wide l.ends false
+abbrev pub has_wide_end : {E : Type 0} → Version E → LooseLabel E → Bool
+has_wide_end v l = option_map_or has_wide (outright_ends v l) false
 
 -- the low end is above the high end
-abbrev pub has_reversed_ends : LooseLabel → Bool
-has_reversed_ends l = option_map_or is_reversed l.ends false
+abbrev pub has_reversed_ends : {E : Type 0} → Version E → LooseLabel E → Bool
+has_reversed_ends v l = option_map_or is_reversed (outright_ends v l) false
 
--- a label whose ends, where it has them, are a range
-pub record IsProper (l : LooseLabel) : Type 0 where
-  pub loose : IsLoose l
-  pub narrow : has_wide_end l ≡ false
-  pub ordered : has_reversed_ends l ≡ false
+-- a label whose ends, where it tells them outright, are a range
+pub record IsProper {E : Type 0} (v : Version E) (l : LooseLabel E) : Type 0 where
+  pub loose : IsLoose v l
+  pub narrow : has_wide_end v l ≡ false
+  pub ordered : has_reversed_ends v l ≡ false
+
+-- the label of version 2 that says what a label of version 1 says
+abbrev pub with_span : LooseLabel Ends → LooseLabel Span
+with_span l = record { kind = l.kind; shift = l.shift; tag = l.tag; ends = option_map fixed l.ends; note = l.note }
 
 -- ---- the spelling
 
@@ -72,10 +135,10 @@ abbrev pub tag_text : Option (List ℕ) → List ℕ
 tag_text None = []
 tag_text (Some tag) = codes ":" ++ tag
 
--- the ends stand in brackets, behind a space
-abbrev pub ends_text : Option Ends → List ℕ
-ends_text None = []
-ends_text (Some ends) = codes " [" ++ (end_text ends.low ++ (codes "," ++ (end_text ends.high ++ codes "]")))
+-- what tells the ends is spelled as its version has it
+abbrev pub told_text : {E : Type 0} → (E → List ℕ) → Option E → List ℕ
+told_text text None = []
+told_text text (Some told) = text told
 
 -- a note stands behind a space
 abbrev pub note_text : Option (List ℕ) → List ℕ
@@ -83,5 +146,5 @@ note_text None = []
 note_text (Some note) = codes " " ++ note
 
 -- the text of a label
-abbrev pub spelling : LooseLabel → List ℕ
-spelling l = kind_text l.kind ++ (shift_text l.shift ++ (tag_text l.tag ++ (ends_text l.ends ++ note_text l.note)))
+abbrev pub spelling : {E : Type 0} → Version E → LooseLabel E → List ℕ
+spelling v l = kind_text l.kind ++ (shift_text l.shift ++ (tag_text l.tag ++ (told_text v.text l.ends ++ note_text l.note)))

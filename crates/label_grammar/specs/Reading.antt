@@ -11,7 +11,7 @@ use Rattle.itv_base.specs.Cuts.{is_space, stripped, after, after_while}
 use Rattle.itv_base.specs.Numerals.{is_numeral, value_of}
 use Rattle.label_grammar.specs.declared.label.Kind.{Kind}
 use Rattle.label_grammar.specs.declared.label.Kind.TheVariants.{Lin, Late, Early, Req, Ask}
-use Rattle.label_grammar.specs.Label.{LooseLabel, is_ask, kind_text}
+use Rattle.label_grammar.specs.Label.{LooseLabel, Span, fixed, named, is_ask, kind_text}
 
 -- one thing read after another, where both can be
 infixl 10 ◌>>=◌
@@ -68,24 +68,37 @@ ends_of text = do
   closed ← stripped (codes "]") high.1
   Some (record { low = low.0; high = high.0 }, closed)
 
--- an ask has no ends
-unfoldable pub range_of : Bool → List ℕ → Option (Option Ends × List ℕ)
-range_of true text = Some (None, text)
-range_of false text = do
+-- a parameter has the form of a name
+abbrev pub name_from : List ℕ → List ℕ → Option (Span × List ℕ)
+name_from name rest = if is_name name then Some (named name, rest) else None
+
+abbrev pub fixed_of : List ℕ → Option (Span × List ℕ)
+fixed_of text = do
   ends ← ends_of text
-  Some (Some ends.0, ends.1)
+  Some (fixed ends.0, ends.1)
+
+-- a space, a dollar sign and the name of a parameter, or the ends
+unfoldable pub span_of : List ℕ → Option (Span × List ℕ)
+span_of text = after (stripped (codes " $") text) (λ rest. name_from (take_while is_name_byte rest) (after_while is_name_byte rest)) (fixed_of text)
+
+-- what tells the ends, as a version reads it; an ask has nothing that does
+unfoldable pub told_of : {E : Type 0} → (List ℕ → Option (E × List ℕ)) → Bool → List ℕ → Option (Option E × List ℕ)
+told_of tell true text = Some (None, text)
+told_of tell false text = do
+  told ← tell text
+  Some (Some told.0, told.1)
 
 -- what is left is nothing, or a space and a note
 unfoldable pub note_of : List ℕ → Option (Option (List ℕ))
 note_of [] = Some None
 note_of (b ∷ note) = if is_space b then Some (Some note) else None
 
--- the label that a whole text spells, if it does
-unfoldable pub label_of : List ℕ → Option LooseLabel
-label_of text = do
+-- The label that a whole text spells, if it does. Version 1 reads what tells the ends by `ends_of`, and version 2 by `span_of`.
+unfoldable pub label_of : {E : Type 0} → (List ℕ → Option (E × List ℕ)) → List ℕ → Option (LooseLabel E)
+label_of tell text = do
   kind ← kind_of text
   shift ← shift_of kind.1
   tag ← tag_of shift.1
-  ends ← range_of (is_ask kind.0) tag.1
-  note ← note_of ends.1
-  Some (record { kind = kind.0; shift = shift.0; tag = tag.0; ends = ends.0; note = note })
+  told ← told_of tell (is_ask kind.0) tag.1
+  note ← note_of told.1
+  Some (record { kind = kind.0; shift = shift.0; tag = tag.0; ends = told.0; note = note })

@@ -20,12 +20,19 @@ pub struct EndPair<'a> {
     pub high: Option<Number<'a>>,
 }
 
-/// A label as it is written, its ends of any size and in any order.
+/// What tells the ends of a label of version 2: the two ends, or the name of a parameter.
 #[derive(Clone, Copy)]
-pub struct Form<'a> {
+pub enum WrittenSpan<'a> {
+    Fixed(EndPair<'a>),
+    Named(&'a str),
+}
+
+/// A label as it is written, its ends of any size and in any order. What tells them is of type `T`.
+#[derive(Clone, Copy)]
+pub struct Form<'a, T> {
     pub kind: Kind,
     pub shift: u32,
     pub tag: Option<&'a str>,
-    pub ends: Option<EndPair<'a>>,
+    pub told: Option<T>,
     pub note: Option<&'a str>,
 }

@@ -3,7 +3,7 @@
 ghost use Rattle.std.specs.Prelude.{◌≡◌, option_map};
 ghost use Rattle.std.specs.Option.{option_copied};
 ghost use Rattle.label_grammar.specs.Label.{is_ask};
-ghost use Rattle.label_grammar.specs.Reading.{kind_of, shift_of, tag_of, number_of, end_of, ends_of, range_of, note_of, label_of};
+ghost use Rattle.label_grammar.specs.Reading.{kind_of, shift_of, tag_of, number_of, end_of, ends_of, told_of, note_of, label_of};
 ghost use Rattle.label_grammar.specs.Step.Form.{number_value, ends_view, form_view};
 
 use crate::form::{EndPair, Form, Number};
@@ -12,9 +12,9 @@ use itv_base::{MAX_SHIFT, is_name, is_numeral, split_digits, split_name, strip, 
 
 const KINDS: [Kind; 5] = [Kind::Lin, Kind::Late, Kind::Early, Kind::Req, Kind::Ask];
 
-// `@` and the word of a kind.
+/// `@` and the word of a kind.
 #[tactic(auto, unfolding(crate::specs::Reading::kind_of))]
-fn read_kind(text: &str) -> Option<(Kind, &str)>
+pub fn read_kind(text: &str) -> Option<(Kind, &str)>
     ensures { option_map (λ x. (x.0, x.1.now)) result ≡ kind_of text.now }
 {
     for kind in KINDS {
@@ -25,9 +25,9 @@ fn read_kind(text: &str) -> Option<(Kind, &str)>
     None
 }
 
-// `+` and a number of at least 1 within the limit, or nothing, which is a shift of 0.
+/// `+` and a number of at least 1 within the limit, or nothing, which is a shift of 0.
 #[tactic(auto, unfolding(crate::specs::Reading::shift_of))]
-fn read_shift(text: &str) -> Option<(u32, &str)>
+pub fn read_shift(text: &str) -> Option<(u32, &str)>
     ensures { option_map (λ x. (x.0, x.1.now)) result ≡ shift_of text.now }
 {
     let Some(rest) = strip(text, "+") else {
@@ -41,9 +41,9 @@ fn read_shift(text: &str) -> Option<(u32, &str)>
     (shift != 0).then_some((shift as u32, rest))
 }
 
-// `:` and a tag, or nothing.
+/// `:` and a tag, or nothing.
 #[tactic(auto, unfolding(crate::specs::Reading::tag_of))]
-fn read_tag(text: &str) -> Option<(Option<&str>, &str)>
+pub fn read_tag(text: &str) -> Option<(Option<&str>, &str)>
     ensures { option_map (λ x. (option_copied x.0, x.1.now)) result ≡ tag_of text.now }
 {
     let Some(rest) = strip(text, ":") else {
@@ -84,9 +84,9 @@ fn read_end(text: &str) -> Option<(Option<Number<'_>>, &str)>
     }
 }
 
-// A space and `[low,high]`.
+/// A space and `[low,high]`.
 #[tactic(auto, unfolding(crate::specs::Reading::ends_of))]
-fn read_ends(text: &str) -> Option<(EndPair<'_>, &str)>
+pub fn read_ends(text: &str) -> Option<(EndPair<'_>, &str)>
     ensures { option_map (λ x. (ends_view x.0, x.1.now)) result ≡ ends_of text.now }
 {
     let rest = strip(text, " [")?;
@@ -97,10 +97,10 @@ fn read_ends(text: &str) -> Option<(EndPair<'_>, &str)>
     Some((EndPair { low, high }, rest))
 }
 
-// The ends of a label of a kind. An ask has none: what follows it is a note.
-#[tactic(auto, unfolding(crate::specs::Reading::range_of))]
-fn read_range(kind: Kind, text: &str) -> Option<(Option<EndPair<'_>>, &str)>
-    ensures { option_map (λ x. (option_map ends_view x.0, x.1.now)) result ≡ range_of (is_ask kind) text.now }
+// What tells the ends of a label of a kind. An ask has nothing that does: what follows it is a note.
+#[tactic(auto, unfolding(crate::specs::Reading::told_of))]
+fn read_told(kind: Kind, text: &str) -> Option<(Option<EndPair<'_>>, &str)>
+    ensures { option_map (λ x. (option_map ends_view x.0, x.1.now)) result ≡ told_of ends_of (is_ask kind) text.now }
 {
     if kind == Kind::Ask {
         return Some((None, text));
@@ -109,9 +109,9 @@ fn read_range(kind: Kind, text: &str) -> Option<(Option<EndPair<'_>>, &str)>
     Some((Some(ends), rest))
 }
 
-// A space and the note, or nothing.
+/// A space and the note, or nothing.
 #[tactic(auto, unfolding(crate::specs::Reading::note_of))]
-fn read_note(text: &str) -> Option<Option<&str>>
+pub fn read_note(text: &str) -> Option<Option<&str>>
     ensures { option_map (λ x. option_copied x) result ≡ note_of text.now }
 {
     if text.is_empty() {
@@ -122,19 +122,19 @@ fn read_note(text: &str) -> Option<Option<&str>>
 
 /// The form of the label that the whole text is.
 #[tactic(auto, unfolding(crate::specs::Reading::label_of))]
-pub fn read_form(text: &str) -> Option<Form<'_>>
-    ensures { option_map (λ x. form_view x) result ≡ label_of text.now }
+pub fn read_form(text: &str) -> Option<Form<'_, EndPair<'_>>>
+    ensures { option_map (λ x. form_view ends_view x) result ≡ label_of ends_of text.now }
 {
     let (kind, rest) = read_kind(text)?;
     let (shift, rest) = read_shift(rest)?;
     let (tag, rest) = read_tag(rest)?;
-    let (ends, rest) = read_range(kind, rest)?;
+    let (told, rest) = read_told(kind, rest)?;
     let note = read_note(rest)?;
     Some(Form {
         kind,
         shift,
         tag,
-        ends,
+        told,
         note,
     })
 }

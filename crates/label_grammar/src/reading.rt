@@ -1,9 +1,10 @@
 //! Reading a label.
 
 ghost use Rattle.std.specs.Prelude.{◌≡◌, ◌↔◌, IfOk, IsOkAnd, IsErrOf, option_map};
-ghost use Rattle.label_grammar.specs.Label.{LooseLabel, label_view, IsProper, spelling};
-ghost use Rattle.label_grammar.specs.Reading.{label_of};
-ghost use Rattle.label_grammar.specs.Step.Form.{number_value, ends_view, capped, judged_ends};
+ghost use Rattle.itv_base.specs.Range.{Ends};
+ghost use Rattle.label_grammar.specs.Label.{LooseLabel, label_view, version_1, IsProper, spelling};
+ghost use Rattle.label_grammar.specs.Reading.{ends_of, label_of};
+ghost use Rattle.label_grammar.specs.Step.Form.{number_value, ends_view, capped, judged_ends, judged_range};
 ghost use Rattle.label_grammar.specs.Answer.{judged, Gives, IsUnspelled, SpellsWideEnd, SpellsReversedEnds};
 
 use crate::form::{EndPair, Number};
@@ -22,26 +23,33 @@ fn capped(number: Number<'_>) -> i64
     if number.is_negative { -value } else { value }
 }
 
-// The range that the two ends make, if there are ends.
-fn range_between(ends: Option<EndPair<'_>>) -> Result<Option<Range>, LabelFault>
-    ensures { result ≡ judged_ends (option_map ends_view ends.entry) }
+/// The range that two ends make, in picoseconds.
+pub fn range_of(ends: EndPair<'_>) -> Result<Range, LabelFault>
+    ensures { result ≡ judged_ends (ends_view ends.entry) }
 {
-    let Some(EndPair { low, high }) = ends else {
-        return Ok(None);
-    };
-    match Range::new(low.map(capped), high.map(capped)) {
-        Ok(range) => Ok(Some(range)),
+    match Range::new(ends.low.map(capped), ends.high.map(capped)) {
+        Ok(range) => Ok(range),
         Err(RangeFault::TooWide) => Err(LabelFault::TooWide),
         Err(RangeFault::EmptyRange) => Err(LabelFault::EmptyRange),
     }
 }
 
+// The range that the two ends make, if there are ends.
+fn range_between(ends: Option<EndPair<'_>>) -> Result<Option<Range>, LabelFault>
+    ensures { result ≡ judged_range (option_map ends_view ends.entry) }
+{
+    match ends {
+        None => Ok(None),
+        Some(ends) => Ok(Some(range_of(ends)?)),
+    }
+}
+
 // What `read_label` answers, by the reading of texts. Its other clauses follow from this one.
 fn read_judged(text: &str) -> Result<Label<'_>, LabelFault>
-    ensures { Gives result (judged (label_of text.now)) }
+    ensures { Gives label_view result (judged version_1 (label_of ends_of text.now)) }
 {
     let form = read_form(text).ok_or(LabelFault::BadLabel)?;
-    let range = range_between(form.ends)?;
+    let range = range_between(form.told)?;
     Ok(Label {
         kind: form.kind,
         shift: form.shift,
@@ -57,15 +65,15 @@ fn read_judged(text: &str) -> Result<Label<'_>, LabelFault>
 /// and that before ends that are the wrong way round.
 pub fn read_label<'a>(text: &'a str) -> Result<Label<'a>, LabelFault>
     // What is read is proper, and the text is its spelling: so its tag and its note stand in the text.
-    ensures ok { IfOk result (λ l. IsProper (label_view l) × (text.now ≡ spelling (label_view l))) }
+    ensures ok { IfOk result (λ l. IsProper version_1 (label_view l) × (text.now ≡ spelling version_1 (label_view l))) }
     // What is proper and spelled by the text is read.
-    ensures only { (l : LooseLabel) → IsProper l → text.now ≡ spelling l
+    ensures only { (l : LooseLabel Ends) → IsProper version_1 l → text.now ≡ spelling version_1 l
         → IsOkAnd result (λ found. label_view found ≡ l) }
-    ensures bad { IsErrOf result LabelFault.BadLabel ↔ IsUnspelled text.now }
-    ensures wide { IsErrOf result LabelFault.TooWide ↔ SpellsWideEnd text.now }
-    ensures empty { IsErrOf result LabelFault.EmptyRange ↔ SpellsReversedEnds text.now }
+    ensures bad { IsErrOf result LabelFault.BadLabel ↔ IsUnspelled version_1 text.now }
+    ensures wide { IsErrOf result LabelFault.TooWide ↔ SpellsWideEnd version_1 text.now }
+    ensures empty { IsErrOf result LabelFault.EmptyRange ↔ SpellsReversedEnds version_1 text.now }
     // The same by the reading of texts, as definitions above this crate name it.
-    ensures exact { Gives result (judged (label_of text.now)) }
+    ensures exact { Gives label_view result (judged version_1 (label_of ends_of text.now)) }
 {
     read_judged(text)
 }

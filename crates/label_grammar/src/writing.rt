@@ -3,7 +3,7 @@
 ghost use Rattle.std.specs.Prelude.{◌≡◌};
 ghost use Rattle.std.specs.Option.{option_copied};
 ghost use Rattle.itv_base.specs.Outside.{Puts};
-ghost use Rattle.label_grammar.specs.Label.{label_view, IsProper, spelling, shift_text, tag_text, ends_text, note_text};
+ghost use Rattle.label_grammar.specs.Label.{label_view, version_1, IsProper, spelling, shift_text, tag_text, ends_text, told_text, note_text};
 
 use crate::label::Label;
 use itoa::Buffer;
@@ -30,7 +30,7 @@ fn write_tag<K: Sink>(tag: Option<&str>, sink: &mut K) -> Result<(), PutFailed>
 }
 
 fn write_range<K: Sink>(range: Option<Range>, sink: &mut K) -> Result<(), PutFailed>
-    ensures { Puts (K.told sink.old) (K.told sink.new) (ends_text range) result }
+    ensures { Puts (K.told sink.old) (K.told sink.new) (told_text ends_text range) result }
 {
     let Some(range) = range else {
         return Ok(());
@@ -53,8 +53,8 @@ fn write_note<K: Sink>(note: Option<&str>, sink: &mut K) -> Result<(), PutFailed
 
 /// Writes the spelling of a label. Where a put failed a front of the spelling was written, and the sink's count of faults rose.
 pub fn write_label<K: Sink>(label: &Label<'_>, sink: &mut K) -> Result<(), PutFailed>
-    requires { IsProper (label_view label.now) }
-    ensures puts { Puts (K.told sink.old) (K.told sink.new) (spelling (label_view label.now)) result }
+    requires { IsProper version_1 (label_view label.now) }
+    ensures puts { Puts (K.told sink.old) (K.told sink.new) (spelling version_1 (label_view label.now)) result }
 {
     sink.put(label.kind.word().as_bytes())?;
     write_shift(label.shift, sink)?;

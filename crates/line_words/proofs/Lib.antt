@@ -4,3 +4,4 @@ pub mod Cutting
 pub mod Plain
 pub mod Printing
 pub mod Looping
+pub mod Inverting

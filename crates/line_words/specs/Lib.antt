@@ -3,3 +3,4 @@ pub mod Views
 pub mod Numbers
 pub mod Lines
 pub mod Buffer
+pub mod Laws

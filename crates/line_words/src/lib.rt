@@ -4,6 +4,7 @@
 #![tactic(auto)]
 
 mod buffer;
+pub mod laws;
 mod numbers;
 mod put;
 mod words;

@@ -1,26 +1,25 @@
 -- A matrix as it is stored, and its text line by line.
-use Rattle.std.proofs.Common.{◌≡◌, ◌+◌, ◌<◌, ℕ, zero, suc, ℤ, List, [], ◌∷◌, ◌++◌, length, get_or, drop, map, None, Ok, Err, refl, sym, subst, ap, ◌∙◌, add-one, drop-cons, unwrap_or}
+use Rattle.std.proofs.Common.{◌≡◌, ◌+◌, ◌<◌, ℕ, zero, suc, ℤ, List, [], ◌∷◌, ◌++◌, length, get_or, drop, map, None, Ok, Err, refl, sym, subst, ap, ◌∙◌, add-one, drop-cons}
 use Rattle.std.specs.List.{flat_map}
 use Rattle.std.proofs.lemmas.List.{length-map}
-use Rattle.std.proofs.lemmas.Option.{slice_get-get_or}
 use Rattle.itv_base.specs.Numerals.{end_text}
 use Rattle.itv_base.specs.declared.names.EventId.{EventId}
 use Rattle.itv_base.specs.Outside.{CutShort, SinkTold, grown}
-use Rattle.job_answer.specs.Works.{Works}
-use Rattle.job_answer.specs.declared.answer.Answer.TheVariants.{AllPass, Inconsistent}
-use Rattle.job_answer.specs.declared.unanswered.Unanswered.TheVariants.{PutFailed}
+use Rattle.jobs.specs.Works.{Works}
+use Rattle.jobs.specs.declared.answer.Answer.TheVariants.{AllPass, Inconsistent}
+use Rattle.jobs.specs.declared.unanswered.Unanswered.TheVariants.{PutFailed}
 use Rattle.event_graph.specs.Network.{Net}
 use Rattle.event_graph.specs.RootBound.{HasNoRoot, IsRootBound, MeetsAlways}
 use Rattle.line_words.specs.Lines.{spaced}
 use Rattle.minplus.specs.Matrix.{AreRootBounds, entry_of, number_of}
 use Rattle.minplus.specs.declared.rows.TheConstants.{ABSENT}
 use Rattle.slack_report.specs.declared.words.FindingWord.TheVariants as findings
-use Rattle.slack_report.specs.Entry.{event, finding}
-use Rattle.slack_report.specs.Text.{entry_text, report_text}
-use Rattle.unroll.specs.Drawn.{Drawn, name_of, nameless}
-use Rattle.unroll.specs.Reported.{reported}
-use Rattle.matrix_report.specs.Matrix.{AnswersMatrix, AreRootEntries, BeginsMatrix, IsMatrixText, entry_in, events_from, matrix_text, row_text}
-use Rattle.matrix_report.specs.Step.{entries_of, event_of, numbers_of}
+use Rattle.slack_report.specs.Entry.{finding}
+use Rattle.slack_report.specs.Text.{entry_text}
+use Rattle.drawn.specs.Drawn.{Drawn}
+use Rattle.matrix_report.specs.Matrix.{AnswersMatrix, AreRootEntries, BeginsMatrix, IsMatrixText, entry_in, matrix_text, row_text}
+use Rattle.jobs.specs.Events.{event_of}
+use Rattle.matrix_report.specs.Step.{entries_of, numbers_of}
 
 -- what stands at a place behind a function, past the end too
 at_map : {A B : Type 0} (f : A → B) (xs : List A) (i : ℕ) (d : A) → get_or (map f xs) i (f d) ≡ f (get_or xs i d)
@@ -55,19 +54,11 @@ pub rows_more : (rows : List (List ℤ)) (from : ℕ) → from < length rows
     → flat_map row_text (entries_of (drop from rows)) ≡ row_text (numbers_of (get_or rows from [])) ++ flat_map row_text (entries_of (drop (from + 1) rows))
 rows_more rows from h = texts_more row_text numbers_of rows from [] h
 
--- the lines of events from one on
-pub events_more : (drawn : Drawn) (i : ℕ) → i < length drawn.names
-    → report_text (events_from i (drop i drawn.names)) ≡ entry_text (event i (name_of drawn (event_of i))) ++ report_text (events_from (i + 1) (drop (i + 1) drawn.names))
-events_more drawn i h =
-    let more : drop i drawn.names ≡ get_or drawn.names i nameless ∷ drop (i + 1) drawn.names = rw (add-one, drop-cons drawn.names i nameless h) refl in
-    let name : name_of drawn (event_of i) ≡ get_or drawn.names i nameless = ap (λ o. unwrap_or o nameless) (slice_get-get_or drawn.names i nameless h) in
-    rw (more, name) refl
-
 -- ---- what the job answers
 
 -- the text of a stored matrix of root bounds is an answer of the job
 is_text : (drawn : Drawn) (net : Net) (rows : List (List ℤ)) → net ≡ drawn.net → AreRootBounds net rows → (times : List ℤ) × MeetsAlways times net
-    → IsMatrixText (reported drawn) (matrix_text drawn.names (entries_of rows))
+    → IsMatrixText drawn (matrix_text drawn.names (entries_of rows))
 is_text drawn net rows same are times = record {
   times = subst (λ (n : Net). (times : List ℤ) × MeetsAlways times n) same times;
   rows = entries_of rows;
@@ -76,15 +67,15 @@ is_text drawn net rows same are times = record {
 }
 
 pub matrix_put : (drawn : Drawn) (net : Net) (rows : List (List ℤ)) (old new : SinkTold) → net ≡ drawn.net → AreRootBounds net rows → (times : List ℤ) × MeetsAlways times net
-    → new ≡ grown old (matrix_text drawn.names (entries_of rows)) → Works (AnswersMatrix (reported drawn)) (BeginsMatrix (reported drawn)) old new (Ok AllPass)
+    → new ≡ grown old (matrix_text drawn.names (entries_of rows)) → Works (AnswersMatrix drawn) (BeginsMatrix drawn) old new (Ok AllPass)
 matrix_put drawn net rows old new same are times put = (matrix_text drawn.names (entries_of rows), is_text drawn net rows same are times, put)
 
 pub matrix_cut : (drawn : Drawn) (net : Net) (rows : List (List ℤ)) (old new : SinkTold) → net ≡ drawn.net → AreRootBounds net rows → (times : List ℤ) × MeetsAlways times net
-    → CutShort old new (matrix_text drawn.names (entries_of rows)) → Works (AnswersMatrix (reported drawn)) (BeginsMatrix (reported drawn)) old new (Err PutFailed)
+    → CutShort old new (matrix_text drawn.names (entries_of rows)) → Works (AnswersMatrix drawn) (BeginsMatrix drawn) old new (Err PutFailed)
 matrix_cut drawn net rows old new same are times cut =
     (matrix_text drawn.names (entries_of rows), (AllPass, is_text drawn net rows same are times), cut)
 
 pub inconsistent_cut : (drawn : Drawn) (net : Net) (old new : SinkTold) → net ≡ drawn.net → HasNoRoot net
-    → CutShort old new (entry_text (finding findings.Inconsistent)) → Works (AnswersMatrix (reported drawn)) (BeginsMatrix (reported drawn)) old new (Err PutFailed)
+    → CutShort old new (entry_text (finding findings.Inconsistent)) → Works (AnswersMatrix drawn) (BeginsMatrix drawn) old new (Err PutFailed)
 inconsistent_cut drawn net old new same none cut =
     (entry_text (finding findings.Inconsistent), (Inconsistent, (subst HasNoRoot same none, refl)), cut)

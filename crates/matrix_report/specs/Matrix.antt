@@ -7,12 +7,13 @@ use Rattle.itv_base.specs.declared.names.EventId.{EventId}
 use Rattle.event_graph.specs.Network.{Net}
 use Rattle.event_graph.specs.RootBound.{HasNoRoot, IsRootBound, MeetsAlways}
 use Rattle.line_words.specs.Lines.{ended, line_of}
-use Rattle.job_answer.specs.declared.answer.Answer.{Answer}
-use Rattle.job_answer.specs.declared.answer.Answer.TheVariants.{AllPass, SomeFail, Inconsistent, Undecided, CheckRefused}
+use Rattle.jobs.specs.declared.answer.Answer.{Answer}
+use Rattle.jobs.specs.declared.answer.Answer.TheVariants.{AllPass, SomeFail, Inconsistent, Undecided, CheckRefused, DesignRefused}
 use Rattle.slack_report.specs.declared.words.FindingWord.TheVariants as findings
-use Rattle.slack_report.specs.Entry.{Entry, event, events, finding}
-use Rattle.slack_report.specs.Right.Drawn.{Drawn}
+use Rattle.slack_report.specs.Entry.{finding}
+use Rattle.drawn.specs.Drawn.{Drawn}
 use Rattle.slack_report.specs.Text.{entry_text, report_text}
+use Rattle.jobs.specs.Events.{event_lines}
 
 -- a number of picoseconds for each pair of events, or none, row by row: the row of an event has the entries from it
 abbrev pub Entries : Type 0
@@ -39,14 +40,9 @@ pub record AreRootEntries (net : Net) (rows : Entries) : Type 0 where
 abbrev pub row_text : List (Option ℤ) → List ℕ
 row_text entries = ended (line_of (codes "row" ∷ map end_text entries))
 
--- the lines of events with these names, the first of which has a number
-abbrev pub events_from : ℕ → List Name → List Entry
-events_from number [] = []
-events_from number (name ∷ names) = event number name ∷ events_from (number + 1) names
-
 -- the heading, the events by their names, and the rows
 abbrev pub matrix_text : List Name → Entries → List ℕ
-matrix_text names rows = ended (codes "itv matrix 1") ++ (report_text (events (length names) ∷ events_from 0 names) ++ flat_map row_text rows)
+matrix_text names rows = ended (codes "itv matrix 1") ++ (report_text (event_lines names) ++ flat_map row_text rows)
 
 -- ---- what the job answers
 
@@ -64,6 +60,7 @@ AnswersMatrix drawn Inconsistent text = HasNoRoot drawn.net × (text ≡ entry_t
 AnswersMatrix drawn SomeFail text = ⊥
 AnswersMatrix drawn Undecided text = ⊥
 AnswersMatrix drawn CheckRefused text = ⊥
+AnswersMatrix drawn DesignRefused text = ⊥
 
 -- what it may have begun to write
 abbrev pub BeginsMatrix : Drawn → List ℕ → Type 0

@@ -1,6 +1,5 @@
 -- A matrix as it is stored, seen as the entries of pairs.
-use Rattle.std.specs.Prelude.{ℕ, ℤ, List, map, Option}
-use Rattle.itv_base.specs.declared.names.EventId.{EventId}
+use Rattle.std.specs.Prelude.{ℤ, List, map, Option}
 use Rattle.minplus.specs.Matrix.{number_of}
 use Rattle.matrix_report.specs.Matrix.{Entries}
 
@@ -10,7 +9,3 @@ numbers_of row = map number_of row
 
 abbrev pub entries_of : List (List ℤ) → Entries
 entries_of rows = map numbers_of rows
-
--- the event with a number
-abbrev pub event_of : ℕ → EventId
-event_of number = record { 0 = number }

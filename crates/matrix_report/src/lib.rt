@@ -6,5 +6,4 @@
 mod lines;
 mod write;
 
-pub use lines::put_events;
 pub use write::write_matrix;

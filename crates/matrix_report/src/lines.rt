@@ -1,70 +1,19 @@
-//! The lines of a matrix, each gathered before it is put.
+//! The rows of a matrix, each gathered before it is put.
 
-ghost use Rattle.std.specs.Prelude.{◌≡◌, ◌<◌, ◌∷◌, [], length, map, slice_index_or};
+ghost use Rattle.std.specs.Prelude.{◌≡◌, ◌<◌, [], length, map, slice_index_or};
 ghost use Rattle.std.specs.List.{flat_map};
 ghost use Rattle.itv_base.specs.Numerals.{end_text};
 ghost use Rattle.itv_base.specs.Outside.{Puts};
 ghost use Rattle.line_words.specs.Lines.{spaced};
 ghost use Rattle.minplus.specs.Matrix.{IsSquare, entry_of};
-ghost use Rattle.slack_report.specs.Entry.{event, events};
-ghost use Rattle.slack_report.specs.Text.{entry_text, report_text};
-ghost use Rattle.unroll.specs.Drawn.{name_of};
-ghost use Rattle.matrix_report.specs.Matrix.{events_from, row_text};
-ghost use Rattle.matrix_report.specs.Step.{entries_of, event_of, numbers_of};
+ghost use Rattle.jobs.specs.Events.{event_of};
+ghost use Rattle.matrix_report.specs.Matrix.{row_text};
+ghost use Rattle.matrix_report.specs.Step.{entries_of, numbers_of};
 
 use itoa::Buffer;
 use itv_base::{EventId, PutFailed, Sink, end_text};
 use line_words::{LineBuffer, put_spaced};
 use minplus::Matrix;
-use slack_report::{Item, write_item};
-use unroll::Unrolled;
-
-// ---- events
-
-// The line of an event.
-fn put_event<K: Sink>(
-    drawn: &Unrolled,
-    number: u32,
-    buffer: &mut LineBuffer,
-    sink: &mut K,
-) -> Result<(), PutFailed>
-    requires { number < drawn.now.net.events }
-    ensures { Puts (K.told sink.old) (K.told sink.new)
-        (entry_text (event number (name_of drawn.now (event_of number)))) result }
-{
-    let name = drawn.name(EventId(number));
-    write_item(&Item::Event { number, name }, buffer, sink)
-}
-
-// The lines of all events.
-fn put_names<K: Sink>(
-    drawn: &Unrolled,
-    buffer: &mut LineBuffer,
-    sink: &mut K,
-) -> Result<(), PutFailed>
-    ensures { Puts (K.told sink.old) (K.told sink.new) (report_text (events_from 0 drawn.now.names)) result }
-{
-    for number in 0..drawn.network().events() {
-        put_event(drawn, number, buffer, sink)?;
-    }
-    Ok(())
-}
-
-/// How many events there are, and their names.
-pub fn put_events<K: Sink>(
-    drawn: &Unrolled,
-    buffer: &mut LineBuffer,
-    sink: &mut K,
-) -> Result<(), PutFailed>
-    ensures { Puts (K.told sink.old) (K.told sink.new)
-        (report_text (events (length drawn.now.names) ∷ events_from 0 drawn.now.names)) result }
-{
-    let count = drawn.network().events();
-    write_item(&Item::Events { count }, buffer, sink)?;
-    put_names(drawn, buffer, sink)
-}
-
-// ---- rows
 
 // A space and the entry of a pair of events.
 fn put_entry<K: Sink>(matrix: &Matrix, from: u32, to: u32, sink: &mut K) -> Result<(), PutFailed>

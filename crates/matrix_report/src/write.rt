@@ -3,33 +3,32 @@
 ghost use Rattle.std.specs.Prelude.{◌≤◌};
 ghost use Rattle.itv_base.specs.Outside.{Puts};
 ghost use Rattle.itv_base.specs.declared.limits.TheConstants.{MAX_MATRIX_EVENTS};
-ghost use Rattle.job_answer.specs.Works.{Works};
+ghost use Rattle.jobs.specs.Works.{Works};
 ghost use Rattle.minplus.specs.Matrix.{IsSquare};
 ghost use Rattle.slack_report.specs.Entry.{finding};
 ghost use Rattle.slack_report.specs.Text.{entry_text};
 ghost use Rattle.slack_report.specs.declared.words.FindingWord.TheVariants.{Inconsistent};
-ghost use Rattle.unroll.specs.Reported.{reported};
 ghost use Rattle.matrix_report.specs.Matrix.{AnswersMatrix, BeginsMatrix, matrix_text};
 ghost use Rattle.matrix_report.specs.Step.{entries_of};
 
-use crate::lines::{put_events, put_rows};
+use crate::lines::put_rows;
+use drawn::DrawnNetwork;
 use itv_base::{PutFailed, Sink};
-use job_answer::{Answer, Unanswered};
+use jobs::{Answer, Unanswered, put_events};
 use line_words::LineBuffer;
 use minplus::{Matrix, MatrixFault, closure};
 use slack_report::{FindingWord, Item, LINE_ROOM, write_item};
 use std::alloc::Global;
-use unroll::Unrolled;
 
 /// Writes the root bounds of all pairs of events of a drawn network, in picoseconds, or that no times meet its always-edges. All
 /// memory is taken before the first put, and each line is written by one put.
 pub fn write_matrix<K: Sink>(
     alloc: Global,
-    drawn: &Unrolled,
+    drawn: &DrawnNetwork,
     sink: &mut K,
 ) -> Result<Answer, Unanswered>
     requires events { drawn.now.net.events ≤ MAX_MATRIX_EVENTS }
-    ensures works { Works (AnswersMatrix (reported drawn.now)) (BeginsMatrix (reported drawn.now))
+    ensures works { Works (AnswersMatrix drawn.now) (BeginsMatrix drawn.now)
         (K.told sink.old) (K.told sink.new) result }
 {
     let mut buffer = LineBuffer::new(alloc, LINE_ROOM)?;
@@ -56,7 +55,7 @@ fn put_inconsistent<K: Sink>(buffer: &mut LineBuffer, sink: &mut K) -> Result<()
 
 // The heading, the events and the rows.
 fn put_matrix<K: Sink>(
-    drawn: &Unrolled,
+    drawn: &DrawnNetwork,
     matrix: &Matrix,
     buffer: &mut LineBuffer,
     sink: &mut K,

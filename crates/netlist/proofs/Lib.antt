@@ -1,4 +1,3 @@
-pub mod Elements
 pub mod PinLists
 pub mod NetSteps
 pub mod NetlistSteps

@@ -10,7 +10,8 @@ use Rattle.netlist.specs.declared.part.Part.{Part}
 use Rattle.netlist.specs.declared.wire.Wire.{Wire}
 use Rattle.netlist.specs.Contents.{JoinedPins}
 use Rattle.netlist.specs.Fault.{is_memory}
-use Rattle.netlist.specs.Netlist.{cycles_of, list_at, list_if, parts_of, nets_of, wires_of, netlist_of, sheet_names, with_part, with_net, with_wire}
+use Rattle.json_tree.specs.Words.{list_at}
+use Rattle.netlist.specs.Netlist.{cycles_of, list_if, parts_of, nets_of, wires_of, netlist_of, sheet_names, with_part, with_net, with_wire, version_of}
 use Rattle.itv_base.specs.Reading.{walk, Unless, HasFault}
 use Rattle.itv_base.proofs.Faults.{HasFault-first}
 
@@ -22,28 +23,29 @@ holds_unless false p = p
 module _ (tree : Data) where
   -- ---- parts
 
-  pub parts-none : list_at (codes "parts") tree ≡ None → parts_of tree ≡ Err PartsNotList
-  unfolding parts_of
-  parts-none none = rw none refl
-
-  module _ (listed : List Data) (read : list_at (codes "parts") tree ≡ Some listed) where
-    pub parts-many : nat_le (length listed) MAX_PARTS ≡ false → parts_of tree ≡ Err (TooManyParts (length listed))
+  module _ (version : ℕ) where
+    pub parts-none : list_at (codes "parts") tree ≡ None → parts_of version tree ≡ Err PartsNotList
     unfolding parts_of
-    parts-many many = rw (read, many) refl
+    parts-none none = rw none refl
 
-    module _ (few : nat_le (length listed) MAX_PARTS ≡ true) where
-      pub parts-fault : (fault : NetlistFault) → HasFault is_memory (walk with_part 0 [] listed) fault → HasFault is_memory (parts_of tree) fault
+    module _ (listed : List Data) (read : list_at (codes "parts") tree ≡ Some listed) where
+      pub parts-many : nat_le (length listed) MAX_PARTS ≡ false → parts_of version tree ≡ Err (TooManyParts (length listed))
       unfolding parts_of
-      parts-fault fault h = rw (read, few) (HasFault-first is_memory (walk with_part 0 [] listed) _ fault h)
+      parts-many many = rw (read, many) refl
 
-      module _ (parts : List Part) (are : walk with_part 0 [] listed ≡ Ok parts) where
-        pub parts-sheets : nat_le (length (sheet_names parts)) MAX_SHEET_NAMES ≡ false → parts_of tree ≡ Err (TooManySheets (length (sheet_names parts)))
+      module _ (few : nat_le (length listed) MAX_PARTS ≡ true) where
+        pub parts-fault : (fault : NetlistFault) → HasFault is_memory (walk (with_part version) 0 [] listed) fault → HasFault is_memory (parts_of version tree) fault
         unfolding parts_of
-        parts-sheets many = rw (read, few, are, many) refl
+        parts-fault fault h = rw (read, few) (HasFault-first is_memory (walk (with_part version) 0 [] listed) _ fault h)
 
-        pub parts-ok : nat_le (length (sheet_names parts)) MAX_SHEET_NAMES ≡ true → parts_of tree ≡ Ok parts
-        unfolding parts_of
-        parts-ok some = rw (read, few, are, some) refl
+        module _ (parts : List Part) (are : walk (with_part version) 0 [] listed ≡ Ok parts) where
+          pub parts-sheets : nat_le (length (sheet_names parts)) MAX_SHEET_NAMES ≡ false → parts_of version tree ≡ Err (TooManySheets (length (sheet_names parts)))
+          unfolding parts_of
+          parts-sheets many = rw (read, few, are, many) refl
+
+          pub parts-ok : nat_le (length (sheet_names parts)) MAX_SHEET_NAMES ≡ true → parts_of version tree ≡ Ok parts
+          unfolding parts_of
+          parts-ok some = rw (read, few, are, some) refl
 
   -- ---- nets and wires
 
@@ -65,25 +67,31 @@ module _ (tree : Data) where
 
   -- ---- the whole
 
-  pub cycles-fault : (fault : NetlistFault) → HasFault is_memory (cycles_of tree) fault → HasFault is_memory (netlist_of tree) fault
+  pub version-fault : (fault : NetlistFault) → HasFault is_memory (version_of tree) fault → HasFault is_memory (netlist_of tree) fault
   unfolding netlist_of
-  cycles-fault fault h = HasFault-first is_memory (cycles_of tree) _ fault h
+  version-fault fault h = HasFault-first is_memory (version_of tree) _ fault h
 
-  module _ (cycles : ℕ) (counted : cycles_of tree ≡ Ok cycles) where
-    pub all_parts-fault : (fault : NetlistFault) → HasFault is_memory (parts_of tree) fault → HasFault is_memory (netlist_of tree) fault
+  module _ (version : ℕ) (told : version_of tree ≡ Ok version) where
+    pub cycles-fault : (fault : NetlistFault) → HasFault is_memory (cycles_of tree) fault → HasFault is_memory (netlist_of tree) fault
     unfolding netlist_of
-    all_parts-fault fault h = rw counted (HasFault-first is_memory (parts_of tree) _ fault h)
+    cycles-fault fault h = rw told (HasFault-first is_memory (cycles_of tree) _ fault h)
 
-    module _ (parts : List Part) (are : parts_of tree ≡ Ok parts) where
-      pub all_nets-fault : (fault : NetlistFault) → HasFault is_memory (nets_of tree) fault → HasFault is_memory (netlist_of tree) fault
+    module _ (cycles : ℕ) (counted : cycles_of tree ≡ Ok cycles) where
+      pub all_parts-fault : (fault : NetlistFault) → HasFault is_memory (parts_of version tree) fault → HasFault is_memory (netlist_of tree) fault
       unfolding netlist_of
-      all_nets-fault fault h = rw (counted, are) (HasFault-first is_memory (nets_of tree) _ fault h)
+      all_parts-fault fault h = rw (told, counted) (HasFault-first is_memory (parts_of version tree) _ fault h)
 
-      module _ (nets : List JoinedPins) (joined : nets_of tree ≡ Ok nets) where
-        pub all_wires-fault : (fault : NetlistFault) → HasFault is_memory (wires_of tree) fault → HasFault is_memory (netlist_of tree) fault
+      module _ (parts : List Part) (are : parts_of version tree ≡ Ok parts) where
+        pub all_nets-fault : (fault : NetlistFault) → HasFault is_memory (nets_of tree) fault → HasFault is_memory (netlist_of tree) fault
         unfolding netlist_of
-        all_wires-fault fault h = rw (counted, are, joined) (HasFault-first is_memory (wires_of tree) _ fault h)
+        all_nets-fault fault h = rw (told, counted, are) (HasFault-first is_memory (nets_of tree) _ fault h)
 
-        pub netlist-ok : (wires : List (Option Wire)) → wires_of tree ≡ Ok wires → netlist_of tree ≡ Ok (record { cycles = cycles; parts = parts; nets = nets; wires = wires })
-        unfolding netlist_of
-        netlist-ok wires is = rw (counted, are, joined, is) refl
+        module _ (nets : List JoinedPins) (joined : nets_of tree ≡ Ok nets) where
+          pub all_wires-fault : (fault : NetlistFault) → HasFault is_memory (wires_of tree) fault → HasFault is_memory (netlist_of tree) fault
+          unfolding netlist_of
+          all_wires-fault fault h = rw (told, counted, are, joined) (HasFault-first is_memory (wires_of tree) _ fault h)
+
+          pub netlist-ok : (wires : List (Option Wire)) → wires_of tree ≡ Ok wires
+              → netlist_of tree ≡ Ok (record { version = version; cycles = cycles; parts = parts; nets = nets; wires = wires })
+          unfolding netlist_of
+          netlist-ok wires is = rw (told, counted, are, joined, is) refl

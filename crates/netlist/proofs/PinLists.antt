@@ -1,26 +1,9 @@
--- Elements read one by one, where each can be, and names looked up one by one.
+-- Elements taken one by one, and names looked up one by one.
 use Rattle.std.proofs.Common.{◌≡◌, ℕ, ◌+◌, ◌<◌, Bool, ◌||◌, List, [], ◌∷◌, ◌++◌, length, drop, map, get_or, Option, Some, None, refl, ap, sym, ◌∙◌}
 use Rattle.std.specs.Prelude.{option_map, slice_get}
 use Rattle.std.specs.List.{list_any}
 use Rattle.std.proofs.lemmas.List.{append_assoc, drop-map, drop_more}
 use Rattle.std.proofs.lemmas.Option.{get_or_from_slice_get, slice_get_within}
-use Rattle.netlist.specs.Netlist.{all_of}
-
--- what is read of the elements that are left, behind what was read
-abbrev pub with_rest : {X Y : Type 0} → (X → Option Y) → List Y → List X → Option (List Y)
-with_rest read done xs = option_map (λ more. done ++ more) (all_of read xs)
-
--- the next element is none
-pub rest_none : {X Y : Type 0} (read : X → Option Y) (done : List Y) (x : X) (rest : List X) → read x ≡ None → with_rest read done (x ∷ rest) ≡ None
-rest_none read done x rest is = rw is refl
-
-behind : {Y : Type 0} (done : List Y) (y : Y) (o : Option (List Y)) → option_map (λ more. done ++ more) (option_map (λ ys. y ∷ ys) o) ≡ option_map (λ more. (done ++ y ∷ []) ++ more) o
-behind done y None = refl
-behind done y (Some ys) = ap Some (sym (append_assoc done (y ∷ []) ys))
-
--- the next element is one
-pub rest_more : {X Y : Type 0} (read : X → Option Y) (done : List Y) (x : X) (rest : List X) (y : Y) → read x ≡ Some y → with_rest read done (x ∷ rest) ≡ with_rest read (done ++ y ∷ []) rest
-rest_more read done x rest y is = rw is (behind done y (all_of read rest))
 
 -- what is left of a list, seen by a view, of which the next element was read
 pub next_seen : {V X : Type 0} (f : V → X) (xs : List V) (k : ℕ) (v : V) → k < length xs → v ≡ get_or xs k v → drop k (map f xs) ≡ f v ∷ drop (k + 1) (map f xs)

@@ -5,25 +5,28 @@ use Rattle.std.proofs.lemmas.Bool.{and_parts, cond_both, leb-true}
 use Rattle.std.proofs.lemmas.List.Elements.{All-nil, All-push}
 use Rattle.std.proofs.lemmas.Result.{IfOk-at_ok}
 use Rattle.serde_json.specs.Data.{Data}
-use Rattle.serde_json.specs.Find.{as_object, as_str, get}
+use Rattle.serde_json.specs.Find.{as_str, get}
 use Rattle.itv_base.specs.Range.{Ends, IsRange, has_wide, is_reversed}
 use Rattle.itv_base.specs.declared.limits.TheConstants.{MAX_CYCLES, MAX_PARTS, MAX_SHEET_NAMES}
 use Rattle.itv_base.specs.declared.range.RangeFault.TheVariants.{TooWide, EmptyRange}
 use Rattle.label_grammar.specs.declared.label.LabelFault.{LabelFault}
 use Rattle.label_grammar.specs.Answer.{judged}
-use Rattle.label_grammar.specs.Label.{LooseLabel, IsProper}
-use Rattle.label_grammar.specs.Reading.{label_of}
+use Rattle.label_grammar.specs.Label.{LooseLabel, version_1, IsProper}
+use Rattle.label_grammar.specs.Reading.{ends_of, label_of}
 use Rattle.label_grammar.specs.Wire.{PartMark, WireSeen, comment, timing, malformed, wire_of}
-use Rattle.label_grammar.proofs.Proper.{is_range, judged_is_proper, proper_range}
+use Rattle.label_grammar.proofs.Pieces.{ends_invert}
+use Rattle.label_grammar.proofs.Proper.{judged_is_proper, proper_range}
 use Rattle.netlist.specs.declared.fault.NetlistFault.{NetlistFault}
-use Rattle.netlist.specs.declared.fault.NetlistFault.TheVariants.{NotObject, Version, Cycles, PartsNotList, TooManyParts, DoublePart, TooManySheets, NetsNotList, Net, Delay, EdgesNotList, Edge}
+use Rattle.netlist.specs.declared.fault.NetlistFault.TheVariants.{Cycles, PartsNotList, TooManyParts, DoublePart, TooManySheets, NetsNotList, Net, Delay, EdgesNotList, Edge}
 use Rattle.netlist.specs.declared.fault.NetlistFault.TheVariants as faults
 use Rattle.netlist.specs.declared.part.Part.{Part}
 use Rattle.netlist.specs.declared.pin.PinText.{PinText}
 use Rattle.netlist.specs.declared.wire.Wire.{Wire}
 use Rattle.netlist.specs.Contents.{Contents, JoinedPins}
-use Rattle.netlist.specs.Netlist.{cycles_from, cycles_of, delay_of, demand, is_part, labelled, list_at, list_if, net_of, netlist_of, nets_of, part_of, parts_of, pins_of, range_of, seen_wire, sheet_names, unless_empty, version_from, whole_at, wire_at, wires_of, with_net, with_part, with_wire}
+use Rattle.json_tree.specs.Words.{list_at, whole_at}
+use Rattle.netlist.specs.Netlist.{cycles_from, cycles_of, delay_of, demand, is_part, labelled, list_if, net_of, netlist_of, nets_of, part_of, parts_of, pins_of, range_of, seen_wire, sheet_names, unless_empty, version_of, wire_at, wires_of, with_net, with_part, with_wire}
 use Rattle.itv_base.specs.Reading.{walk}
+use Rattle.itv_base.proofs.Ranges.{is_range}
 use Rattle.itv_base.proofs.Faults.{IfOk-bind, IfOk-walk}
 use Rattle.netlist.specs.Whole.{IsNetlist, IsWholeNet, IsWholeWire}
 
@@ -65,10 +68,7 @@ cycles_within (pos n) =
 
 cycles_whole : (tree : Data) → IfOk (cycles_of tree) AreCycles
 unfolding cycles_of
-cycles_whole tree =
-    IfOk-bind (λ _. Unit {0}) AreCycles (ok_or (as_object tree) NotObject) _ (IfOk-any (ok_or (as_object tree) NotObject))
-    (λ _ _. IfOk-bind (λ _. Unit {0}) AreCycles (ok_or (option_and_then version_from (whole_at (codes "itv") tree)) Version) _ (IfOk-any (ok_or (option_and_then version_from (whole_at (codes "itv") tree)) Version))
-    (λ _ _. IfOk-ok_or AreCycles (option_and_then cycles_from (whole_at (codes "cycles") tree)) Cycles (IfSome-then AreCycles cycles_from (whole_at (codes "cycles") tree) cycles_within)))
+cycles_whole tree = IfOk-ok_or AreCycles (option_and_then cycles_from (whole_at (codes "cycles") tree)) Cycles (IfSome-then AreCycles cycles_from (whole_at (codes "cycles") tree) cycles_within)
 
 -- ---- parts
 
@@ -76,9 +76,9 @@ cycles_whole tree =
 abbrev AreCounted : ℕ → List Part → Type 0
 AreCounted n parts = length parts ≡ n
 
-with_part_counted : (n : ℕ) (done : List Part) (d : Data) → AreCounted n done → IfOk (with_part n done d) (AreCounted (n + 1))
-with_part_counted n done d count =
-    IfOk-bind (λ _. Unit {0}) (AreCounted (n + 1)) (ok_or (part_of d) (faults.Part n)) _ (IfOk-any (ok_or (part_of d) (faults.Part n)))
+with_part_counted : (version n : ℕ) (done : List Part) (d : Data) → AreCounted n done → IfOk (with_part version n done d) (AreCounted (n + 1))
+with_part_counted version n done d count =
+    IfOk-bind (λ _. Unit {0}) (AreCounted (n + 1)) (ok_or (part_of version d) (faults.Part n)) _ (IfOk-any (ok_or (part_of version d) (faults.Part n)))
     (λ part _. cond_both (is_part done part.name) (Err (DoublePart n)) (Ok (done ++ part ∷ [])) (λ r. IfOk r (AreCounted (n + 1))) (λ _. tt)
     (λ _. omega (arith, length-append done (part ∷ []), count)))
 
@@ -86,12 +86,12 @@ record AreFew (parts : List Part) : Type 0 where
   count : length parts ≤ MAX_PARTS
   sheets : length (sheet_names parts) ≤ MAX_SHEET_NAMES
 
-parts_whole : (tree : Data) → IfOk (parts_of tree) AreFew
+parts_whole : (version : ℕ) (tree : Data) → IfOk (parts_of version tree) AreFew
 unfolding parts_of
-parts_whole tree =
+parts_whole version tree =
     IfOk-bind (λ _. Unit {0}) AreFew (ok_or (list_at (codes "parts") tree) PartsNotList) _ (IfOk-any (ok_or (list_at (codes "parts") tree) PartsNotList))
     (λ listed _. IfOk-bind (λ _. nat_le (length listed) MAX_PARTS ≡ true) AreFew (demand (nat_le (length listed) MAX_PARTS) (TooManyParts (length listed))) _ (IfOk-demand (nat_le (length listed) MAX_PARTS) (TooManyParts (length listed)))
-    (λ _ few. IfOk-bind (AreCounted (length listed)) AreFew (walk with_part 0 [] listed) _ (IfOk-counted AreCounted with_part with_part_counted 0 (length listed) [] listed (omega arith) refl)
+    (λ _ few. IfOk-bind (AreCounted (length listed)) AreFew (walk (with_part version) 0 [] listed) _ (IfOk-counted AreCounted (with_part version) (with_part_counted version) 0 (length listed) [] listed (omega arith) refl)
     (λ parts count. IfOk-bind (λ _. nat_le (length (sheet_names parts)) MAX_SHEET_NAMES ≡ true) AreFew (demand (nat_le (length (sheet_names parts)) MAX_SHEET_NAMES) (TooManySheets (length (sheet_names parts)))) _
     (IfOk-demand (nat_le (length (sheet_names parts)) MAX_SHEET_NAMES) (TooManySheets (length (sheet_names parts))))
     (λ _ some. record {
@@ -133,14 +133,14 @@ nets_whole tree =
 abbrev IsWholeIfAny : Option Wire → Type 0
 IsWholeIfAny wire = IfSome wire IsWholeWire
 
-labelled_whole : (n : ℕ) (from to : PartMark) (label : Result LooseLabel LabelFault) → IfOk label IsProper → IfOk (labelled n from to label) IsWholeIfAny
+labelled_whole : (n : ℕ) (from to : PartMark) (label : Result (LooseLabel Ends) LabelFault) → IfOk label (IsProper version_1) → IfOk (labelled n from to label) IsWholeIfAny
 labelled_whole n from to (Err fault) proper = tt
 labelled_whole n from to (Ok label) proper = record { shift = proper.loose.shift; ends = proper_range label proper }
 
 seen_whole : (n : ℕ) (seen : WireSeen) → IfOk (seen_wire n seen) IsWholeIfAny
 seen_whole n comment = tt
 seen_whole n malformed = tt
-seen_whole n (timing from to label) = labelled_whole n from to (judged (label_of label)) (judged_is_proper label)
+seen_whole n (timing from to label) = labelled_whole n from to (judged version_1 (label_of ends_of label)) (judged_is_proper version_1 ends_of ends_invert label)
 
 wire_whole : (n : ℕ) (d : Data) → IfOk (wire_at n d) IsWholeIfAny
 wire_whole n d =
@@ -160,11 +160,12 @@ wires_whole tree =
 read_whole : (tree : Data) → IfOk (netlist_of tree) IsNetlist
 unfolding netlist_of
 read_whole tree =
-    IfOk-bind AreCycles IsNetlist (cycles_of tree) _ (cycles_whole tree)
-    (λ cycles count. IfOk-bind AreFew IsNetlist (parts_of tree) _ (parts_whole tree)
+    IfOk-bind (λ _. Unit {0}) IsNetlist (version_of tree) _ (IfOk-any (version_of tree))
+    (λ version _. IfOk-bind AreCycles IsNetlist (cycles_of tree) _ (cycles_whole tree)
+    (λ cycles count. IfOk-bind AreFew IsNetlist (parts_of version tree) _ (parts_whole version tree)
     (λ parts few. IfOk-bind (All IsWholeNet) IsNetlist (nets_of tree) _ (nets_whole tree)
     (λ nets joined. IfOk-bind (All IsWholeIfAny) IsNetlist (wires_of tree) _ (wires_whole tree)
-    (λ wires are. record { some = count.0; few = count.1; few_parts = few.count; few_sheets = few.sheets; whole_nets = joined; whole_wires = are }))))
+    (λ wires are. record { some = count.0; few = count.1; few_parts = few.count; few_sheets = few.sheets; whole_nets = joined; whole_wires = are })))))
 
 -- the netlist of a tree is whole
 pub netlist_whole : (tree : Data) (netlist : Contents) → netlist_of tree ≡ Ok netlist → IsNetlist netlist

@@ -10,8 +10,9 @@ pub record JoinedPins : Type 0 where
   pub pins : List PinText
   pub delay : Ends
 
--- the number of cycles, and the parts, nets and wires in order; a wire that is a comment is none
+-- the version, the number of cycles, and the parts, nets and wires in order; a wire that is a comment is none
 pub record Contents : Type 0 where
+  pub version : ℕ
   pub cycles : ℕ
   pub parts : List Part
   pub nets : List JoinedPins

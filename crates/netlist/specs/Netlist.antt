@@ -1,9 +1,10 @@
 -- The netlist of a tree, or its first fault. Parts, nets and wires are numbered from 0.
-use Rattle.std.specs.Prelude.{ℕ, ◌==◌, ◌&&◌, nat_le, ℤ, pos, negsuc, Bool, true, false, if◌then◌else◌, List, [], ◌∷◌, ◌++◌, length, codes, Option, Some, None, ok_or, option_map, option_and_then, Result, Ok, Err, ⊤}
+use Rattle.std.specs.Prelude.{ℕ, ◌==◌, ◌&&◌, ◌||◌, nat_le, ℤ, pos, negsuc, Bool, true, false, if◌then◌else◌, List, [], ◌∷◌, ◌++◌, length, codes, Option, Some, None, ok_or, option_map, option_and_then, Result, Ok, Err, ⊤}
 use Rattle.std.specs.List.{list_any, before_first, after_first}
 use Rattle.std.specs.Str.{bytes_eq}
-use Rattle.serde_json.specs.Data.{Data, null, boolean, number, string, array, object, Items, no_items, item}
-use Rattle.serde_json.specs.Find.{get, as_array, as_i64, as_number, as_object, as_str}
+use Rattle.serde_json.specs.Data.{Data}
+use Rattle.serde_json.specs.Find.{get, as_object, as_str}
+use Rattle.json_tree.specs.Words.{all_of, ends_by, list_at, list_of, name_of, text_at, whole_at}
 use Rattle.itv_base.specs.Range.{Ends, has_wide, is_reversed}
 use Rattle.itv_base.specs.declared.range.RangeFault.TheVariants.{TooWide, EmptyRange}
 use Rattle.itv_base.specs.declared.limits.TheConstants.{MAX_CYCLES, MAX_PARTS, MAX_SHEET_NAMES}
@@ -11,8 +12,8 @@ use Rattle.label_grammar.specs.declared.label.LabelFault.{LabelFault}
 use Rattle.label_grammar.specs.Answer.{judged}
 use Rattle.itv_base.specs.Characters.{is_name}
 use Rattle.itv_base.specs.Cuts.{is_full_stop}
-use Rattle.label_grammar.specs.Label.{LooseLabel}
-use Rattle.label_grammar.specs.Reading.{label_of}
+use Rattle.label_grammar.specs.Label.{LooseLabel, version_1}
+use Rattle.label_grammar.specs.Reading.{ends_of, label_of}
 use Rattle.label_grammar.specs.Wire.{PartMark, WireSeen, comment, timing, malformed, wire_of}
 use Rattle.netlist.specs.declared.fault.NetlistFault.{NetlistFault}
 use Rattle.netlist.specs.declared.fault.NetlistFault.TheVariants.{NotObject, Version, Cycles, PartsNotList, TooManyParts, Part, DoublePart, TooManySheets, NetsNotList, Net, Delay, EdgesNotList, Edge, Label}
@@ -24,31 +25,10 @@ use Rattle.itv_base.specs.Reading.{◌>>=◌, walk}
 
 -- ---- what stands under a key
 
--- the elements of an array, as a list
-abbrev pub elements : Items → List Data
-elements no_items = []
-elements (item d rest) = d ∷ elements rest
-
-abbrev pub list_of : Data → Option (List Data)
-list_of d = option_map elements (as_array d)
-
-abbrev pub list_at : List ℕ → Data → Option (List Data)
-list_at key tree = option_and_then list_of (get key tree)
-
 -- the list under a key that may be missing
 abbrev pub list_if : Option Data → NetlistFault → Result (List Data) NetlistFault
 list_if None fault = Ok []
 list_if (Some d) fault = ok_or (list_of d) fault
-
-abbrev pub text_at : List ℕ → Data → Option (List ℕ)
-text_at key d = option_and_then as_str (get key d)
-
--- a number without a fraction or an exponent that fits 64 bits with a sign
-abbrev pub whole_of : Data → Option ℤ
-whole_of d = option_and_then as_i64 (as_number d)
-
-abbrev pub whole_at : List ℕ → Data → Option ℤ
-whole_at key d = option_and_then whole_of (get key d)
 
 -- nothing where a test is met, and else a fault
 abbrev pub demand : Bool → NetlistFault → Result ⊤ NetlistFault
@@ -57,10 +37,15 @@ demand false fault = Err fault
 
 -- ---- the version and the number of cycles
 
--- the version that this reads
+-- the versions that are read
 abbrev pub version_from : ℤ → Option ℕ
-version_from (pos n) = if n == 1 then Some n else None
+version_from (pos n) = if n == 1 || n == 2 then Some n else None
 version_from (negsuc n) = None
+
+unfoldable pub version_of : Data → Result ℕ NetlistFault
+version_of tree = do
+  _ ← ok_or (as_object tree) NotObject
+  ok_or (option_and_then version_from (whole_at (codes "itv") tree)) Version
 
 -- from 1 to the greatest number of cycles
 abbrev pub cycles_from : ℤ → Option ℕ
@@ -68,29 +53,36 @@ cycles_from (pos n) = if nat_le 1 n && nat_le n MAX_CYCLES then Some n else None
 cycles_from (negsuc n) = None
 
 unfoldable pub cycles_of : Data → Result ℕ NetlistFault
-cycles_of tree = do
-  _ ← ok_or (as_object tree) NotObject
-  _ ← ok_or (option_and_then version_from (whole_at (codes "itv") tree)) Version
-  ok_or (option_and_then cycles_from (whole_at (codes "cycles") tree)) Cycles
+cycles_of tree = ok_or (option_and_then cycles_from (whole_at (codes "cycles") tree)) Cycles
 
 -- ---- parts
 
-abbrev pub part_by : Option (List ℕ) → Option (List ℕ) → Option code.Part
-part_by None sheet = None
-part_by (Some name) None = None
-part_by (Some name) (Some sheet) = if is_name name then Some (record { name = name; sheet = sheet }) else None
+-- a name, if there is something; nothing where this has not the form of a name
+abbrev pub name_if : Option Data → Option (Option (List ℕ))
+name_if None = Some None
+name_if (Some d) = option_map (λ name. Some name) (name_of d)
 
--- an object with a name of a part's form and a text for its sheet
-unfoldable pub part_of : Data → Option code.Part
-part_of d = part_by (text_at (codes "name") d) (text_at (codes "sheet") d)
+-- the grade of a part; in version 1 whatever stands there is passed over
+abbrev pub grade_of : ℕ → Data → Option (Option (List ℕ))
+grade_of version d = if version == 2 then name_if (get (codes "grade") d) else Some None
+
+abbrev pub part_by : Option (List ℕ) → Option (List ℕ) → Option (Option (List ℕ)) → Option code.Part
+part_by None sheet grade = None
+part_by (Some name) None grade = None
+part_by (Some name) (Some sheet) None = None
+part_by (Some name) (Some sheet) (Some grade) = if is_name name then Some (record { name = name; sheet = sheet; grade = grade }) else None
+
+-- an object with a name of a part's form, a text for its sheet and, in version 2, a grade of a name's form or none
+unfoldable pub part_of : ℕ → Data → Option code.Part
+part_of version d = part_by (text_at (codes "name") d) (text_at (codes "sheet") d) (grade_of version d)
 
 -- a part before has the name
 abbrev pub is_part : List code.Part → List ℕ → Bool
 is_part parts name = list_any (λ (part : code.Part). bytes_eq name part.name) parts
 
-abbrev pub with_part : ℕ → List code.Part → Data → Result (List code.Part) NetlistFault
-with_part n done d = do
-  part ← ok_or (part_of d) (Part n)
+abbrev pub with_part : ℕ → ℕ → List code.Part → Data → Result (List code.Part) NetlistFault
+with_part version n done d = do
+  part ← ok_or (part_of version d) (Part n)
   if is_part done part.name then Err (DoublePart n) else Ok (done ++ part ∷ [])
 
 -- names with one more behind them, if it is new
@@ -105,11 +97,11 @@ names_from names (part ∷ parts) = names_from (with_name names part.sheet) part
 abbrev pub sheet_names : List code.Part → List (List ℕ)
 sheet_names parts = names_from [] parts
 
-unfoldable pub parts_of : Data → Result (List code.Part) NetlistFault
-parts_of tree = do
+unfoldable pub parts_of : ℕ → Data → Result (List code.Part) NetlistFault
+parts_of version tree = do
   listed ← ok_or (list_at (codes "parts") tree) PartsNotList
   _ ← demand (nat_le (length listed) MAX_PARTS) (TooManyParts (length listed))
-  parts ← walk with_part 0 [] listed
+  parts ← walk (with_part version) 0 [] listed
   _ ← demand (nat_le (length (sheet_names parts)) MAX_SHEET_NAMES) (TooManySheets (length (sheet_names parts)))
   Ok parts
 
@@ -122,11 +114,6 @@ pin_by part lane = if is_name part && nat_le 1 (length lane) then Some (record {
 unfoldable pub pin_of : List ℕ → Option PinText
 pin_of text = pin_by (before_first is_full_stop text) (after_first is_full_stop text)
 
--- all elements read, where each can be
-abbrev pub all_of : {X Y : Type 0} → (X → Option Y) → List X → Option (List Y)
-all_of read [] = Some []
-all_of read (x ∷ xs) = option_and_then (λ y. option_map (λ ys. y ∷ ys) (all_of read xs)) (read x)
-
 abbrev pub unless_empty : {X : Type 0} → List X → Option (List X)
 unless_empty [] = None
 unless_empty (x ∷ xs) = Some (x ∷ xs)
@@ -137,22 +124,6 @@ pin_at d = option_and_then pin_of (as_str d)
 -- a list of at least one text, each of a pin's form
 abbrev pub pins_of : Data → Option (List PinText)
 pins_of d = option_and_then unless_empty (option_and_then (all_of pin_at) (list_at (codes "pins") d))
-
--- an end: null is open, and else it is a whole number
-abbrev pub end_of : Data → Option (Option ℤ)
-end_of null = Some None
-end_of (boolean b) = None
-end_of (number n) = option_map (λ value. Some value) (as_i64 n)
-end_of (string s) = None
-end_of (array ds) = None
-end_of (object ms) = None
-
--- two ends
-abbrev pub ends_by : List Data → Option Ends
-ends_by [] = None
-ends_by (low ∷ []) = None
-ends_by (low ∷ high ∷ []) = option_and_then (λ l. option_map (λ h. record { low = l; high = h }) (end_of high)) (end_of low)
-ends_by (low ∷ high ∷ more ∷ rest) = None
 
 -- the two ends of a delay, which is 0 where it is missing
 abbrev pub delay_of : Option Data → Option Ends
@@ -183,7 +154,7 @@ nets_of tree = do
 
 -- ---- wires
 
-abbrev pub labelled : ℕ → PartMark → PartMark → Result LooseLabel LabelFault → Result (Option Wire) NetlistFault
+abbrev pub labelled : ℕ → PartMark → PartMark → Result (LooseLabel Ends) LabelFault → Result (Option Wire) NetlistFault
 labelled n from to (Err fault) = Err (Label n fault)
 labelled n from to (Ok label) = Ok (Some (record {
   from_part = from.part;
@@ -199,7 +170,7 @@ labelled n from to (Ok label) = Ok (Some (record {
 abbrev pub seen_wire : ℕ → WireSeen → Result (Option Wire) NetlistFault
 seen_wire n comment = Ok None
 seen_wire n malformed = Err (Edge n)
-seen_wire n (timing from to label) = labelled n from to (judged (label_of label))
+seen_wire n (timing from to label) = labelled n from to (judged version_1 (label_of ends_of label))
 
 -- what the text of wire n says: nothing where it is a comment
 abbrev pub wire_at : ℕ → Data → Result (Option Wire) NetlistFault
@@ -222,12 +193,13 @@ wires_of tree = do
 -- The netlist of a tree, or its first fault. No other key of the tree, of a part or of a net is read.
 unfoldable pub netlist_of : Data → Result Contents NetlistFault
 netlist_of tree = do
+  version ← version_of tree
   cycles ← cycles_of tree
-  parts ← parts_of tree
+  parts ← parts_of version tree
   nets ← nets_of tree
   wires ← wires_of tree
-  Ok (record { cycles = cycles; parts = parts; nets = nets; wires = wires })
+  Ok (record { version = version; cycles = cycles; parts = parts; nets = nets; wires = wires })
 
--- the netlist that the sheet of a name stands for: one part in one cycle
+-- the netlist that the sheet of a name stands for: one part in one cycle, of version 1
 abbrev pub lone_netlist : List ℕ → Contents
-lone_netlist sheet = record { cycles = 1; parts = record { name = codes "U"; sheet = sheet } ∷ []; nets = []; wires = [] }
+lone_netlist sheet = record { version = 1; cycles = 1; parts = record { name = codes "U"; sheet = sheet; grade = None } ∷ []; nets = []; wires = [] }

@@ -3,26 +3,32 @@
 ghost use Rattle.std.specs.Prelude.{◌≡◌};
 ghost use Rattle.serde_json.specs.View.{view};
 ghost use Rattle.netlist.specs.Fault.{is_memory};
-ghost use Rattle.netlist.specs.Netlist.{cycles_from, cycles_of, version_from};
+ghost use Rattle.netlist.specs.Netlist.{cycles_from, cycles_of, version_from, version_of};
 ghost use Rattle.itv_base.specs.Reading.{Gives};
 
 use crate::fault::NetlistFault;
-use crate::tree::whole_at;
 use itv_base::MAX_CYCLES;
+use json_tree::whole_at;
 use serde_json::Value;
 
-/// The number of cycles of an object of the version that is read here, or the first fault of this.
-#[tactic(auto, unfolding(crate::specs::Netlist::cycles_of))]
-pub fn read_cycles(tree: &Value) -> Result<u32, NetlistFault>
-    ensures { Gives is_memory (λ cycles. cycles) result (cycles_of (view tree.now)) }
+/// The version of an object, if it is one that is read here, or the first fault of this.
+#[tactic(auto, unfolding(crate::specs::Netlist::version_of))]
+pub fn read_version(tree: &Value) -> Result<u32, NetlistFault>
+    ensures { Gives is_memory (λ version. version) result (version_of (view tree.now)) }
 {
     if !tree.is_object() {
         return Err(NetlistFault::NotObject);
     }
-    let version = whole_at(tree, "itv").and_then(version_from);
-    if version.is_none() {
-        return Err(NetlistFault::Version);
-    }
+    whole_at(tree, "itv")
+        .and_then(version_from)
+        .ok_or(NetlistFault::Version)
+}
+
+/// The number of cycles of a tree, or its fault.
+#[tactic(auto, unfolding(crate::specs::Netlist::cycles_of))]
+pub fn read_cycles(tree: &Value) -> Result<u32, NetlistFault>
+    ensures { Gives is_memory (λ cycles. cycles) result (cycles_of (view tree.now)) }
+{
     whole_at(tree, "cycles")
         .and_then(cycles_from)
         .ok_or(NetlistFault::Cycles)
@@ -32,7 +38,11 @@ pub fn read_cycles(tree: &Value) -> Result<u32, NetlistFault>
 fn version_from(number: i64) -> Option<u32>
     ensures { result ≡ version_from number }
 {
-    if number == 1 { Some(1) } else { None }
+    match number {
+        1 => Some(1),
+        2 => Some(2),
+        _ => None,
+    }
 }
 
 // A number of cycles that may be drawn.

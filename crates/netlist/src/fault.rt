@@ -15,8 +15,8 @@ pub enum NetlistFault {
     /// The tree is no object.
     #[error("the netlist is no object")]
     NotObject,
-    /// `itv` is not the whole number 1.
-    #[error("`itv` is not 1")]
+    /// `itv` is neither the whole number 1 nor 2.
+    #[error("`itv` is neither 1 nor 2")]
     Version,
     /// `cycles` is no whole number from 1 to [`MAX_CYCLES`](itv_base::MAX_CYCLES).
     #[error("`cycles` is no number of cycles")]
@@ -27,8 +27,9 @@ pub enum NetlistFault {
     /// There are more parts than [`MAX_PARTS`](itv_base::MAX_PARTS), so many.
     #[error("{0} parts are too many")]
     TooManyParts(u64),
-    /// The part is no object with a name of 1 to 16 letters of ASCII, digits or `_` and a text for its sheet.
-    #[error("part {0} has no name and sheet")]
+    /// The part is no object with a name of 1 to 16 letters of ASCII, digits or `_` and a text for its sheet, or it has, in version 2,
+    /// a grade that has not the form of a name.
+    #[error("part {0} has no name and sheet, or a grade that is no name")]
     Part(u64),
     /// The part has the name of an earlier part.
     #[error("part {0} has the name of an earlier part")]

@@ -11,9 +11,10 @@ use itv_base::{NoMemory, Text, Texts};
 use std::alloc::Global;
 use std::marker::Model;
 
-/// The number of cycles, and the parts, nets and wires of a netlist.
+/// The version, the number of cycles, and the parts, nets and wires of a netlist.
 #[derive(Debug, Drop)]
 pub struct Netlist {
+    pub(crate) version: u32,
     pub(crate) cycles: u32,
     pub(crate) parts: Parts,
     pub(crate) sheet_names: Texts,
@@ -29,14 +30,14 @@ impl Model for Netlist {
 
     ghost Value = { Contents };
 
-    ghost view = { λ n. record { cycles = n.cycles; parts = n.parts; nets = n.nets; wires = n.wires } };
+    ghost view = { λ n. record { version = n.version; cycles = n.cycles; parts = n.parts; nets = n.nets; wires = n.wires } };
 
-    ghost invariant = { λ n. IsNetlist (record { cycles = n.cycles; parts = n.parts; nets = n.nets; wires = n.wires })
+    ghost invariant = { λ n. IsNetlist (record { version = n.version; cycles = n.cycles; parts = n.parts; nets = n.nets; wires = n.wires })
         × (n.sheet_names ≡ names_of n.parts) };
 }
 
 impl Netlist {
-    /// The netlist that the sheet of a name stands for: one part, `U`, in one cycle.
+    /// The netlist that the sheet of a name stands for: one part, `U`, in one cycle, of version 1.
     pub fn lone(alloc: Global, sheet: &str) -> Result<Netlist, NoMemory>
         ensures lone { IfOk result (λ netlist. netlist ≡ lone_netlist sheet.now) }
     {
@@ -44,16 +45,25 @@ impl Netlist {
         parts.push(Part {
             name: Text::from_text(alloc, "U")?,
             sheet: Text::from_text(alloc, sheet)?,
+            grade: None,
         })?;
         let mut sheet_names = Texts::new(alloc)?;
         sheet_names.push(alloc, sheet)?;
         Ok(Netlist {
+            version: 1,
             cycles: 1,
             parts,
             sheet_names,
             nets: Nets::new(alloc),
             wires: Wires::new(alloc),
         })
+    }
+
+    /// The version, 1 or 2: in version 2 the parts may have speed grades, and the labels of their sheets may name parameters.
+    pub fn version(&self) -> u32
+        ensures version { result ≡ self.now.version }
+    {
+        self.version
     }
 
     /// How many cycles are drawn, from 1 to [`MAX_CYCLES`](itv_base::MAX_CYCLES).

@@ -2,15 +2,16 @@
 
 ghost use Rattle.std.specs.Prelude.{◌≡◌, IfOk, map, option_map, ok_or};
 ghost use Rattle.serde_json.specs.View.{view};
+ghost use Rattle.json_tree.specs.Words.{all_of};
 ghost use Rattle.netlist.specs.Fault.{is_memory};
-ghost use Rattle.netlist.specs.Netlist.{all_of, pin_at, pin_of, pins_of};
+ghost use Rattle.netlist.specs.Netlist.{pin_at, pin_of, pins_of};
 ghost use Rattle.itv_base.specs.Reading.{Gives};
 ghost use Rattle.netlist.specs.declared.fault.NetlistFault.TheVariants as faults;
 
 use crate::fault::NetlistFault;
 use crate::pin::{PinText, PinTexts};
-use crate::tree::list_at;
 use itv_base::{NoMemory, Text, is_name};
+use json_tree::list_at;
 use serde_json::Value;
 use std::alloc::Global;
 

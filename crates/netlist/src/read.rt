@@ -6,37 +6,40 @@ ghost use Rattle.netlist.specs.Fault.{is_memory};
 ghost use Rattle.netlist.specs.Netlist.{netlist_of, nets_of, parts_of, sheet_names, wires_of};
 ghost use Rattle.itv_base.specs.Reading.{Gives};
 
-use crate::cycles::read_cycles;
+use crate::cycles::{read_cycles, read_version};
 use crate::fault::NetlistFault;
 use crate::netlist::Netlist;
 use crate::nets::read_nets;
 use crate::part::Parts;
 use crate::parts::read_parts;
 use crate::sheet_names::names_of_sheets;
-use crate::tree::{list_at, list_if};
+use crate::tree::list_if;
 use crate::wires::read_wires;
 use crate::{Nets, Wires};
 use itv_base::{MAX_PARTS, MAX_SHEET_NAMES, Texts};
+use json_tree::list_at;
 use serde_json::Value;
 use std::alloc::Global;
 
 /// The netlist of a tree, or its first fault in the order of [`NetlistFault`].
 ///
-/// A netlist is an object. `itv` is 1, and `cycles` a whole number from 1 on. `parts` is a list of objects, each with a `name`
-/// and a `sheet`. `nets` may be missing; it is a list of objects, each with `pins`, a list of texts as `U1.ADDR`, and with a
+/// A netlist is an object. `itv` is its version, 1 or 2, and `cycles` a whole number from 1 on. `parts` is a list of objects, each
+/// with a `name` and a `sheet`, and in version 2 with a `grade` or none. `nets` may be missing; it is a list of objects, each with `pins`, a list of texts as `U1.ADDR`, and with a
 /// `delay` of two ends in picoseconds (null is open), which is 0 where it is missing. `edges` may be missing; it is a list of
 /// wires as `U1.a U2.b @lin [0,250]`, and a text without two spaces or without a label that begins with `@` is a comment.
-/// Every other key is passed over unread.
+/// Every other key is passed over unread, in version 1 the `grade` of a part too.
 ///
 /// `NoMemory` may come in place of a netlist or a fault. After any fault no netlist was made.
 pub fn read_netlist(alloc: Global, tree: &Value) -> Result<Netlist, NetlistFault>
     ensures answer { Gives is_memory (λ netlist. netlist) result (netlist_of (view tree.now)) }
 {
+    let version = read_version(tree)?;
     let cycles = read_cycles(tree)?;
-    let NamedParts { parts, sheet_names } = parts_of(alloc, tree)?;
+    let NamedParts { parts, sheet_names } = parts_of(alloc, version, tree)?;
     let nets = nets_of(alloc, tree)?;
     let wires = wires_of(alloc, tree)?;
     Ok(Netlist {
+        version,
         cycles,
         parts,
         sheet_names,
@@ -53,8 +56,8 @@ struct NamedParts {
 }
 
 // The parts of a tree, or the first fault of them.
-fn parts_of(alloc: Global, tree: &Value) -> Result<NamedParts, NetlistFault>
-    ensures parts { Gives is_memory (λ read. read.parts) result (parts_of (view tree.now)) }
+fn parts_of(alloc: Global, version: u32, tree: &Value) -> Result<NamedParts, NetlistFault>
+    ensures parts { Gives is_memory (λ read. read.parts) result (parts_of version (view tree.now)) }
     ensures names { IfOk result (λ read. read.sheet_names ≡ sheet_names read.parts) }
 {
     let Some(list) = list_at(tree, "parts") else {
@@ -64,7 +67,7 @@ fn parts_of(alloc: Global, tree: &Value) -> Result<NamedParts, NetlistFault>
     if count > MAX_PARTS {
         return Err(NetlistFault::TooManyParts(count));
     }
-    let parts = read_parts(alloc, list)?;
+    let parts = read_parts(alloc, version, list)?;
     let sheet_names = names_of_sheets(alloc, parts.as_slice())?;
     if sheet_names.len() > MAX_SHEET_NAMES {
         return Err(NetlistFault::TooManySheets(sheet_names.len()));

@@ -1,6 +1,6 @@
 //! Reading the wires of a netlist.
 
-ghost use Rattle.std.specs.Prelude.{◌≡◌, [], map, option_map, IfOk};
+ghost use Rattle.std.specs.Prelude.{◌≡◌, [], map};
 ghost use Rattle.label_grammar.specs.Wire.{wire_of};
 ghost use Rattle.serde_json.specs.View.{view};
 ghost use Rattle.netlist.specs.Fault.{is_memory};
@@ -8,8 +8,9 @@ ghost use Rattle.netlist.specs.Netlist.{seen_wire, wire_at, with_wire};
 ghost use Rattle.itv_base.specs.Reading.{Gives, walk};
 
 use crate::fault::NetlistFault;
+use crate::tree::owned;
 use crate::wire::{Wire, Wires};
-use itv_base::{NoMemory, Text};
+use itv_base::Text;
 use label_grammar::{WireText, read_label, read_wire};
 use serde_json::Value;
 use std::alloc::Global;
@@ -66,14 +67,4 @@ fn wire_of(alloc: Global, n: u64, text: &str) -> Result<Option<Wire>, NetlistFau
         tag: owned(alloc, label.tag)?,
         range: label.range,
     }))
-}
-
-// A copy of a text, if there is one.
-fn owned(alloc: Global, text: Option<&str>) -> Result<Option<Text>, NoMemory>
-    ensures { IfOk result (λ copy. copy ≡ option_map (λ t. t.now) text.entry) }
-{
-    match text {
-        Some(text) => Ok(Some(Text::from_text(alloc, text)?)),
-        None => Ok(None),
-    }
 }

@@ -14,13 +14,13 @@ use Rattle.compose.specs.Compose.{composed}
 use Rattle.compose.specs.Sheets.{SheetMap}
 use Rattle.unroll.specs.declared.fault.UnrollFault.{UnrollFault}
 use Rattle.unroll.specs.Fault.{is_memory as is_limit_memory}
-use Rattle.unroll.specs.Drawn.{Drawn}
+use Rattle.drawn.specs.Drawn.{Drawn}
 use Rattle.unroll.specs.Limits.{unrolled}
 use Rattle.reading.specs.declared.place.Place.TheVariants.{File, Design}
 use Rattle.reading.specs.declared.refusal.Refusal.TheVariants.{Netlist, Joins, Limits}
 use Rattle.reading.specs.declared.stop.Stop.{Stop}
 use Rattle.reading.specs.Opening.{◌>>=◌, at, Comes, ready}
-use Rattle.reading.specs.Design.{NamedSheets, drawn_at, lone_at, netlist_at, sheets_from, tree_drawn}
+use Rattle.reading.specs.Design.{NamedSheets, drawn_at, lone_at, netlist_at, sheets_of_files, tree_drawn}
 use Rattle.reading.specs.Step.{Opens, stop_of}
 use Rattle.reading.proofs.Opens.{at_ok, at_err, comes_then, opens_stop, opens_then, opens_up}
 
@@ -55,26 +55,21 @@ drawn_same told n m es fs r e f h = subst (λ x. Opens (λ (d : Drawn). d) told 
 
 module _ (old new : ShelfTold) (tree : Data) (netlist : Contents) (is : netlist_of tree ≡ Ok netlist) (r : Result Drawn Stop) where
   -- the netlist was read, and its sheets are
-  netlist_read : Opens (λ (d : Drawn). d) old new (sheets_from 1 [] (sheet_names netlist.parts) >>= (λ sheets. drawn_at netlist sheets)) r → Opens (λ (d : Drawn). d) old new (netlist_at tree) r
+  netlist_read : Opens (λ (d : Drawn). d) old new (sheets_of_files netlist (sheet_names netlist.parts) >>= (λ sheets. drawn_at netlist sheets)) r → Opens (λ (d : Drawn). d) old new (netlist_at tree) r
   netlist_read h =
-      opens_then (λ (n : Contents). n) (λ (d : Drawn). d) (at (File 0) Netlist (netlist_of tree)) (λ n. sheets_from 1 [] (sheet_names n.parts) >>= (λ sheets. drawn_at n sheets)) old old new netlist r
+      opens_then (λ (n : Contents). n) (λ (d : Drawn). d) (at (File 0) Netlist (netlist_of tree)) (λ n. sheets_of_files n (sheet_names n.parts) >>= (λ sheets. drawn_at n sheets)) old old new netlist r
       (at_ok old (File 0) Netlist (netlist_of tree) netlist is, refl) h
 
-  module _ (names : List (List ℕ)) (named : names ≡ sheet_names netlist.parts) where
-    -- they can't be read
-    pub netlist_up : (s : Stop) → IsErrAnd r (λ e. e ≡ s) → Opens (λ (m : SheetMap). m.entries) old new (sheets_from 1 [] names) (Err s) → Opens (λ (d : Drawn). d) old new (netlist_at tree) r
-    netlist_up s err h =
-        netlist_read
-        (opens_up (λ (m : SheetMap). m.entries) (λ (d : Drawn). d) (sheets_from 1 [] (sheet_names netlist.parts)) (λ sheets. drawn_at netlist sheets) old new s r err
-        (subst (λ listed. Opens (λ (m : SheetMap). m.entries) old new (sheets_from 1 [] listed) (Err s)) named h))
+  -- they can't be read
+  pub netlist_up : (s : Stop) → IsErrAnd r (λ e. e ≡ s) → Opens (λ (m : SheetMap). m.entries) old new (sheets_of_files netlist (sheet_names netlist.parts)) (Err s) → Opens (λ (d : Drawn). d) old new (netlist_at tree) r
+  netlist_up s err h =
+      netlist_read (opens_up (λ (m : SheetMap). m.entries) (λ (d : Drawn). d) (sheets_of_files netlist (sheet_names netlist.parts)) (λ sheets. drawn_at netlist sheets) old new s r err h)
 
-    -- they are read, and the design is drawn
-    pub netlist_on : (sheets : SheetMap) → Opens (λ (m : SheetMap). m.entries) old new (sheets_from 1 [] names) (Ok sheets)
-        → Opens (λ (d : Drawn). d) new new (drawn_at netlist sheets.entries) r → Opens (λ (d : Drawn). d) old new (netlist_at tree) r
-    netlist_on sheets h drawn =
-        netlist_read
-        (opens_then (λ (m : SheetMap). m.entries) (λ (d : Drawn). d) (sheets_from 1 [] (sheet_names netlist.parts)) (λ sheets. drawn_at netlist sheets) old new new sheets r
-        (subst (λ listed. Opens (λ (m : SheetMap). m.entries) old new (sheets_from 1 [] listed) (Ok sheets)) named h) drawn)
+  -- they are read, and the design is drawn
+  pub netlist_on : (sheets : SheetMap) → Opens (λ (m : SheetMap). m.entries) old new (sheets_of_files netlist (sheet_names netlist.parts)) (Ok sheets)
+      → Opens (λ (d : Drawn). d) new new (drawn_at netlist sheets.entries) r → Opens (λ (d : Drawn). d) old new (netlist_at tree) r
+  netlist_on sheets h drawn =
+      netlist_read (opens_then (λ (m : SheetMap). m.entries) (λ (d : Drawn). d) (sheets_of_files netlist (sheet_names netlist.parts)) (λ sheets. drawn_at netlist sheets) old new new sheets r h drawn)
 
 -- ---- trees
 

@@ -1,6 +1,7 @@
 pub mod Opens
 pub mod Trees
-pub mod Named
+pub mod PartSheets
+pub mod FileSteps
 pub mod Drawing
 pub mod WideNumbers
 pub mod Lines

@@ -1,6 +1,8 @@
 -- Readings step by step, and what they come to over told files.
-use Rattle.std.proofs.Common.{◌≡◌, ℕ, Bool, true, false, cond, List, take, Option, Some, None, IsNone, option_map, Result, Ok, Err, IsErrAnd, refl, sym, ap, ◌∙◌, subst, inl, inr}
+use Rattle.std.proofs.Common.{◌≡◌, ℕ, ◌+◌, ◌<◌, ◌≤◌, Bool, true, false, cond, List, [], ◌∷◌, length, take, drop, get_or, All, Option, Some, None, IsNone, option_map, Result, Ok, Err, IsErrAnd, refl, sym, ap, ◌∙◌, subst, inl, inr}
 use Rattle.std.specs.Option.{option_map_or}
+use Rattle.std.proofs.lemmas.List.{drop_all, drop_more}
+use Rattle.std.proofs.lemmas.List.Elements.{All-cons, All-nil}
 use Rattle.std.proofs.lemmas.Option.{none-some, same_Some}
 use Rattle.itv_base.specs.Outside.{Files, ShelfTold, HasFront, file_of}
 use Rattle.itv_base.specs.Reading.{Unless, HasFault}
@@ -8,7 +10,7 @@ use Rattle.reading.specs.declared.place.Place.{Place}
 use Rattle.reading.specs.declared.refusal.Refusal.{Refusal}
 use Rattle.reading.specs.declared.stop.Stop.{Stop}
 use Rattle.reading.specs.declared.stop.Stop.TheVariants.{Refused, ReadFault, NoMemory}
-use Rattle.reading.specs.Opening.{Opening, gives, refuses, fetches, ◌>>=◌, at, End, ready, refused, unread, Comes, told_end}
+use Rattle.reading.specs.Opening.{Opening, gives, refuses, fetches, ◌>>=◌, at, each, End, ready, refused, unread, Comes, told_end}
 use Rattle.reading.specs.Step.{Opens, Reads, stop_of}
 
 -- ---- one reading, and then another
@@ -54,11 +56,6 @@ module _ {A B X Y : Type 0} (va : X → A) (vb : Y → B) (o : Opening A) (f : A
   opens_up old new s (Ok y) is h = absurd is
   opens_up old new s (Err e) is h = rw is (opens_stop old new s h)
 
--- memory was wanted, after steps that left the shelf as it was
-pub opens_memory : {A X : Type 0} (v : X → A) (old new : ShelfTold) (o : Opening A) (r : Result X Stop) → new ≡ old → IsErrAnd r (λ e. e ≡ NoMemory) → Opens v old new o r
-opens_memory v old new o (Ok x) kept is = absurd is
-opens_memory v old new o (Err e) kept is = rw is kept
-
 -- a file was fetched, and its front is read on
 module _ {A X : Type 0} (v : X → A) (place : Place) (name : List ℕ) (most : ℕ) (next : List ℕ → Opening A) (bytes : List ℕ) where
   fetched_on : (old new : ShelfTold) (r : Result X Stop) → HasFront old.files name most bytes → Opens v old new (next bytes) r → Opens v old new (fetches place name most next) r
@@ -98,6 +95,33 @@ module _ {A X : Type 0} (v : X → A) (whole rest : Opening A) where
   pub resumes_end : (old now new : ShelfTold) (r : Result X Stop) → Resumes old now whole rest → Opens v now new rest r → Opens v old new whole r
   resumes_end old now new r done h = end_on old new r done.goes_on (subst (λ told. Opens v told new rest r) done.same h)
 
+-- the next element of a list
+pub next_item : {X : Type 0} (xs : List X) (k : ℕ) (x : X) → k < length xs → x ≡ get_or xs k x → drop k xs ≡ x ∷ drop (k + 1) xs
+next_item xs k x within is = drop_more xs k x within ∙ ap (λ y. y ∷ drop (k + 1) xs) (sym is)
+
+-- the elements of a list, one by one
+module _ {A X : Type 0} (step : ℕ → A → X → Opening A) (old now new : ShelfTold) (whole : Opening A) (xs : List X) (number k : ℕ) (x : X) (done : A)
+    (next : drop k xs ≡ x ∷ drop (k + 1) xs) (so_far : Resumes old now whole (each step number done (drop k xs))) where
+  stepped : Resumes old now whole (step number done x >>= (λ more. each step (number + 1) more (drop (k + 1) xs)))
+  stepped = subst (λ o. Resumes old now whole o) (ap (each step number done) next) so_far
+
+  -- the step of one element more is done
+  pub each_next : {Y : Type 0} (v : Y → A) (y : Y) → Opens v now new (step number done x) (Ok y) → Resumes old new whole (each step (number + 1) (v y) (drop (k + 1) xs))
+  each_next v y h = resumes_after v old now new whole (step number done x) (λ more. each step (number + 1) more (drop (k + 1) xs)) y stepped h
+
+  -- the next one gives nothing
+  pub each_stop : {Y Z : Type 0} (v : Y → A) (w : Z → A) (s : Stop) (r : Result Z Stop) → IsErrAnd r (λ e. e ≡ s) → Opens v now new (step number done x) (Err s) → Opens w old new whole r
+  each_stop v w s r is h =
+      resumes_end w whole (step number done x >>= (λ more. each step (number + 1) more (drop (k + 1) xs))) old now new r stepped
+      (opens_up v w (step number done x) (λ more. each step (number + 1) more (drop (k + 1) xs)) now new s r is h)
+
+-- all elements are done
+pub each_end : {A X Y : Type 0} (step : ℕ → A → X → Opening A) (old now : ShelfTold) (whole : Opening A) (xs : List X) (number k : ℕ) (v : Y → A) (y : Y) → length xs ≤ k
+    → Resumes old now whole (each step number (v y) (drop k xs)) → Opens v old now whole (Ok y)
+each_end step old now whole xs number k v y past so_far =
+    let last : Resumes old now whole (gives (v y)) = subst (λ left. Resumes old now whole (each step number (v y) left)) (drop_all k xs past) so_far in
+    resumes_end v whole (gives (v y)) old now now (Ok y) last (refl, refl)
+
 -- ---- readers
 
 pub at_ok : {A F : Type 0} (told : ShelfTold) (place : Place) (why : F → Refusal) (reading : Result A F) (x : A) → reading ≡ Ok x → Comes told (at place why reading) (ready x)
@@ -112,6 +136,43 @@ at_by v told place why reading fault false h = rw h (refl, refl)
 pub at_err : {A B F : Type 0} (is_memory : F → Bool) (v : B → A) (told : ShelfTold) (place : Place) (why : F → Refusal) (reading : Result A F) (fault : F) → HasFault is_memory reading fault
     → Opens v told told (at place why reading) (Err (stop_of is_memory why place fault))
 at_err is_memory v told place why reading fault h = at_by v told place why reading fault (is_memory fault) h
+
+-- ---- what came of steps
+
+-- two readings, one after another, came to something
+pub opening_then : {A B : Type 0} (shelf : ShelfTold) (o : Opening A) (f : A → Opening B) (y : B) → Comes shelf (o >>= f) (ready y)
+    → (x : A) × Comes shelf o (ready x) × Comes shelf (f x) (ready y)
+opening_then shelf (gives x) f y comes = (x, refl, comes)
+opening_then shelf (refuses place why) f y comes = absurd (cc comes)
+opening_then shelf (fetches place name most next) f y (inl is) = absurd (cc is)
+opening_then shelf (fetches place name most next) f y (inr (bytes, front, comes)) =
+    let (x, first, then') = opening_then shelf (next bytes) f y comes in (x, inr (bytes, front, first), then')
+
+-- what was read already came to itself
+pub at_gave : {A F : Type 0} (shelf : ShelfTold) (place : Place) (why : F → Refusal) (r : Result A F) (x : A) → Comes shelf (at place why r) (ready x) → r ≡ Ok x
+at_gave shelf place why (Ok y) x comes = let same : x ≡ y = cc comes in ap (λ z. Ok z) (sym same)
+at_gave shelf place why (Err fault) x comes = absurd (cc comes)
+
+-- a reading that gives something came to it
+pub gave : {A : Type 0} (shelf : ShelfTold) (x y : A) → Comes shelf (gives x) (ready y) → x ≡ y
+gave shelf x y comes = cc comes
+
+-- what each step keeps, all of them keep
+pub each_keeps : {A X : Type 0} (P : A → Type 0) (shelf : ShelfTold) (step : ℕ → A → X → Opening A) → ((n : ℕ) (a b : A) (x : X) → P a → Comes shelf (step n a x) (ready b) → P b)
+    → (n : ℕ) (done last : A) (xs : List X) → P done → Comes shelf (each step n done xs) (ready last) → P last
+each_keeps P shelf step keeps n done last [] holds comes = subst P (gave shelf done last comes) holds
+each_keeps P shelf step keeps n done last (x ∷ xs) holds comes =
+    let (more, first, rest) = opening_then shelf (step n done x) (λ next. each step (n + 1) next xs) last comes in
+    each_keeps P shelf step keeps (n + 1) more last xs (keeps n done more x holds first) rest
+
+-- what the step of each element brings, and each step keeps, holds of all elements
+pub each_brings : {A X : Type 0} (R : X → A → Type 0) (shelf : ShelfTold) (step : ℕ → A → X → Opening A) → ((n : ℕ) (a b : A) (x : X) → Comes shelf (step n a x) (ready b) → R x b)
+    → ((y : X) (n : ℕ) (a b : A) (x : X) → R y a → Comes shelf (step n a x) (ready b) → R y b)
+    → (n : ℕ) (done last : A) (xs : List X) → Comes shelf (each step n done xs) (ready last) → All (λ x. R x last) xs
+each_brings R shelf step brings keeps n done last [] comes = All-nil (λ x. R x last)
+each_brings R shelf step brings keeps n done last (x ∷ xs) comes =
+    let (more, first, rest) = opening_then shelf (step n done x) (λ next. each step (n + 1) next xs) last comes in
+    All-cons (λ x. R x last) x xs (each_keeps (R x) shelf step (keeps x) (n + 1) more last xs (brings n done more x first) rest) (each_brings R shelf step brings keeps (n + 1) more last xs rest)
 
 -- ---- over told files
 

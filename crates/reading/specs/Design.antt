@@ -1,27 +1,31 @@
 -- The reading of a design: its file, and the files of its sheets.
-use Rattle.std.specs.Prelude.{ℕ, ◌+◌, ◌&&◌, nat_eq, if◌then◌else◌, List, [], ◌∷◌, Option, None, is_some, is_none, ok_or, codes}
+use Rattle.std.specs.Prelude.{ℕ, ◌==◌, ◌&&◌, Bool, if◌then◌else◌, List, [], Option, Some, None, is_some, is_none, ok_or, codes}
 use Rattle.std.specs.List.{filter_map}
-use Rattle.std.specs.Str.{is_utf8}
+use Rattle.std.specs.Str.{bytes_eq, is_utf8}
 use Rattle.std.specs.Map.{lookup}
-use Rattle.std.specs.Cmp.Lexicographic.{pointwise}
 use Rattle.indexmap.specs.IndexMap.{insert_entry}
 use Rattle.serde_json.specs.Data.{Data}
 use Rattle.serde_json.specs.Read.{read}
 use Rattle.serde_json.specs.Find.{get, as_object}
 use Rattle.itv_base.specs.declared.limits.TheConstants.{FILE_LIMIT}
-use Rattle.wavejson.specs.Drawing.{diagram_of}
+use Rattle.wavejson.specs.Drawing.{Drawing, diagram_of}
+use Rattle.grades.specs.declared.grade.Grade.{Grade}
+use Rattle.grades.specs.Grades.{grades_of}
 use Rattle.sheet.specs.Contents as sheet
-use Rattle.sheet.specs.Sheet.{sheet_of}
+use Rattle.sheet.specs.Links.{plain}
+use Rattle.sheet.specs.Sheet.{sheet_by, sheet_of}
 use Rattle.netlist.specs.declared.part.Part.{Part}
 use Rattle.netlist.specs.Contents.{Contents}
 use Rattle.netlist.specs.Netlist.{netlist_of, lone_netlist, sheet_names}
 use Rattle.compose.specs.Compose.{composed_on}
-use Rattle.unroll.specs.Drawn.{Drawn}
+use Rattle.compose.specs.Sheets.{key_of, same_key}
+use Rattle.compose.specs.declared.sheet_key.SheetKey.{SheetKey}
+use Rattle.drawn.specs.Drawn.{Drawn}
 use Rattle.unroll.specs.Limits.{unrolled}
 use Rattle.reading.specs.declared.place.Place.{Place}
 use Rattle.reading.specs.declared.place.Place.TheVariants.{File, Design}
-use Rattle.reading.specs.declared.refusal.Refusal.TheVariants.{NotJson, Diagram, Sheet, Netlist, Joins, Limits}
-use Rattle.reading.specs.Opening.{Opening, gives, ◌>>=◌, at, file_at}
+use Rattle.reading.specs.declared.refusal.Refusal.TheVariants.{NotJson, Diagram, Grades, Sheet, Netlist, Joins, Limits}
+use Rattle.reading.specs.Opening.{Opening, gives, ◌>>=◌, at, each, file_at}
 
 -- ---- files
 
@@ -38,41 +42,58 @@ tree_in place name = do
   bytes ← file_at place name FILE_LIMIT
   tree_at place bytes
 
--- the sheet that a tree draws
-abbrev pub sheet_at : Place → Data → Opening sheet.Contents
-sheet_at place tree = do
-  drawing ← at place Diagram (diagram_of tree)
-  at place Sheet (sheet_of drawing)
-
--- the sheet of a file
-abbrev pub sheet_in : ℕ → List ℕ → Opening sheet.Contents
-sheet_in number name = do
-  tree ← tree_in (File number) name
-  sheet_at (File number) tree
-
--- ---- sheets by their names
+-- ---- sheets by their names and speed grades
 
 abbrev pub NamedSheets : Type 0
-NamedSheets = List (List ℕ × sheet.Contents)
+NamedSheets = List (SheetKey × sheet.Contents)
 
 -- with one more sheet
-abbrev pub with_sheet : NamedSheets → List ℕ → sheet.Contents → NamedSheets
-with_sheet sheets name sheet = insert_entry (pointwise nat_eq) sheets name sheet
+abbrev pub with_sheet : NamedSheets → SheetKey → sheet.Contents → NamedSheets
+with_sheet sheets key sheet = insert_entry same_key sheets key sheet
 
--- the sheet of a name
-abbrev pub sheet_among : NamedSheets → List ℕ → Option sheet.Contents
-sheet_among sheets name = lookup (pointwise nat_eq name) sheets
+-- the sheet of a key
+abbrev pub sheet_among : NamedSheets → SheetKey → Option sheet.Contents
+sheet_among sheets key = lookup (same_key key) sheets
 
 -- the sheets that parts are drawn on
 abbrev pub sheets_on : NamedSheets → List Part → List sheet.Contents
-sheets_on sheets parts = filter_map (λ part. sheet_among sheets part.sheet) parts
+sheets_on sheets parts = filter_map (λ part. sheet_among sheets (key_of part)) parts
 
--- The sheets of files behind those that are read, where the next file has this number.
-abbrev pub sheets_from : ℕ → NamedSheets → List (List ℕ) → Opening NamedSheets
-sheets_from number sheets [] = gives sheets
-sheets_from number sheets (name ∷ names) = do
-  sheet ← sheet_in number name
-  sheets_from (number + 1) (with_sheet sheets name sheet) names
+-- ---- the sheets of files
+
+-- the speed grades of a file; in version 1 there are none, and what stands there is passed over
+abbrev pub grades_in : ℕ → Place → Data → Opening (Option (List Grade))
+grades_in version place tree =
+    if version == 2 then (at place Grades (grades_of tree) >>= λ grades. gives (Some grades)) else gives None
+
+-- the part is drawn on the sheet of this name, and this is not read yet at the grade of the part
+abbrev pub is_unread : NamedSheets → List ℕ → Part → Bool
+is_unread sheets name part = bytes_eq name part.sheet && is_none (sheet_among sheets (key_of part))
+
+-- The sheets with that of one part more, if it is drawn on this file at a grade, or at none, that no part before it named.
+abbrev pub with_part : Place → List ℕ → Option (List Grade) → Drawing → ℕ → NamedSheets → Part → Opening NamedSheets
+with_part place name grades drawing n sheets part =
+    if is_unread sheets name part
+    then (at place Sheet (sheet_by grades part.grade drawing) >>= λ sheet. gives (with_sheet sheets (key_of part) sheet))
+    else gives sheets
+
+-- The sheets that the tree of a file draws, behind those that are read: one for each grade or none, in the order in which the parts
+-- first mention them. The grades are read before the sheets, also where no part has one.
+abbrev pub sheets_at : Contents → ℕ → NamedSheets → List ℕ → Data → Opening NamedSheets
+sheets_at netlist number sheets name tree = do
+  drawing ← at (File number) Diagram (diagram_of tree)
+  grades ← grades_in netlist.version (File number) tree
+  each (with_part (File number) name grades drawing) 0 sheets netlist.parts
+
+-- the sheets of a file
+abbrev pub sheets_in : Contents → ℕ → NamedSheets → List ℕ → Opening NamedSheets
+sheets_in netlist number sheets name = do
+  tree ← tree_in (File number) name
+  sheets_at netlist number sheets name tree
+
+-- the sheets of files, which are files 1, 2 and so on
+abbrev pub sheets_of_files : Contents → List (List ℕ) → Opening NamedSheets
+sheets_of_files netlist names = each (sheets_in netlist) 1 [] names
 
 -- ---- designs
 
@@ -82,17 +103,27 @@ drawn_at netlist sheets = do
   design ← at Design Joins (composed_on netlist (sheets_on sheets netlist.parts))
   at Design Limits (unrolled design)
 
+-- the key of a sheet without a grade
+abbrev pub plain_key : List ℕ → SheetKey
+plain_key name = record { sheet = name; grade = None }
+
+-- the sheet that a tree draws in version 1
+abbrev pub plain_sheet_at : Place → Data → Opening sheet.Contents
+plain_sheet_at place tree = do
+  drawing ← at place Diagram (diagram_of tree)
+  at place Sheet (sheet_of plain drawing)
+
 -- what a lone sheet draws, as the one part of a netlist
 abbrev pub lone_at : List ℕ → Data → Opening Drawn
 lone_at name tree = do
-  sheet ← sheet_at (File 0) tree
-  drawn_at (lone_netlist name) (with_sheet [] name sheet)
+  sheet ← plain_sheet_at (File 0) tree
+  drawn_at (lone_netlist name) (with_sheet [] (plain_key name) sheet)
 
 -- What a netlist draws: the sheets that it names are fetched in the order in which they are first mentioned, as files 1, 2 and so on.
 abbrev pub netlist_at : Data → Opening Drawn
 netlist_at tree = do
   netlist ← at (File 0) Netlist (netlist_of tree)
-  sheets ← sheets_from 1 [] (sheet_names netlist.parts)
+  sheets ← sheets_of_files netlist (sheet_names netlist.parts)
   drawn_at netlist sheets
 
 -- An object without the key `itv` is a lone sheet. Any other tree is a netlist, or refused as one.

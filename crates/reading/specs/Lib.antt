@@ -5,4 +5,3 @@ pub mod Refusal
 pub mod Opening
 pub mod Design
 pub mod Step
-pub mod Word

@@ -1,5 +1,5 @@
 -- Readings that ask for files, and what they come to.
-use Rattle.std.specs.Prelude.{◌≡◌, ◌⊎◌, ◌+◌, ℕ, nat_lt, if◌then◌else◌, List, length, take, Result, Ok, Err}
+use Rattle.std.specs.Prelude.{◌≡◌, ◌⊎◌, ◌+◌, ℕ, nat_lt, if◌then◌else◌, List, [], ◌∷◌, length, take, Result, Ok, Err}
 use Rattle.std.specs.Option.{option_map_or}
 use Rattle.itv_base.specs.Outside.{Files, ShelfTold, HasFront, FailedFor, file_of}
 use Rattle.reading.specs.declared.place.Place.{Place}
@@ -18,6 +18,11 @@ abbrev pub ◌>>=◌ : {A B : Type 0} → Opening A → (A → Opening B) → Op
 (gives x) >>= f = f x
 (refuses place why) >>= f = refuses place why
 (fetches place name most next) >>= f = fetches place name most (λ bytes. next bytes >>= f)
+
+-- the elements of a list in order, numbered from n on, each with what came of those before it
+abbrev pub each : {A X : Type 0} → (ℕ → A → X → Opening A) → ℕ → A → List X → Opening A
+each step n done [] = gives done
+each step n done (x ∷ xs) = step n done x >>= λ more. each step (n + 1) more xs
 
 -- what was read already, or its fault as a refusal at a place
 abbrev pub at : {A F : Type 0} → Place → (F → Refusal) → Result A F → Opening A

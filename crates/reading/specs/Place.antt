@@ -3,9 +3,10 @@ use Rattle.std.specs.Prelude.{List, [], ◌∷◌, codes}
 use Rattle.itv_base.specs.Numerals.{number_text}
 use Rattle.line_words.specs.Words.{Word}
 use Rattle.reading.specs.declared.place.Place.{Place}
-use Rattle.reading.specs.declared.place.Place.TheVariants.{File, Design, Report}
+use Rattle.reading.specs.declared.place.Place.TheVariants.{File, Design, Report, Edits}
 
 abbrev pub place_words : Place → List Word
 place_words (File number) = codes "file" ∷ number_text number ∷ []
 place_words Design = codes "design" ∷ []
 place_words Report = codes "report" ∷ []
+place_words Edits = codes "edits" ∷ []

@@ -16,4 +16,4 @@ pub use file::fetch_file;
 pub use place::Place;
 pub use put::{put_refusal, put_unread};
 pub use refusal::Refusal;
-pub use stop::Stop;
+pub use stop::{Stop, edits_stop};

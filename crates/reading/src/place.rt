@@ -9,4 +9,6 @@ pub enum Place {
     Design,
     /// The report that is given to be checked.
     Report,
+    /// The file of edits.
+    Edits,
 }

@@ -6,19 +6,20 @@ ghost use Rattle.itv_base.specs.Numerals.{number_text};
 ghost use Rattle.itv_base.specs.Outside.{Puts};
 ghost use Rattle.line_words.specs.Lines.{spaced};
 ghost use Rattle.reading.specs.Place.{place_words};
-ghost use Rattle.reading.specs.Refusal.{diagram_fault_words, fault_words, join_fault_words, label_fault_name, limit_fault_words, limit_name, netlist_fault_words, range_fault_name, refusal_text, sheet_fault_words, unread_text};
-ghost use Rattle.reading.specs.Word.{spelled};
+ghost use Rattle.reading.specs.Refusal.{diagram_fault_words, edits_fault_words, fault_words, grades_fault_words, join_fault_words, label_fault_name, limit_fault_words, limit_name, netlist_fault_words, range_fault_name, refusal_text, sheet_fault_words, unread_text};
+ghost use Rattle.reading.specs.Step.Word.{spelled};
 
 use self::Word::{Count, Number, Text};
 use crate::place::Place;
 use crate::refusal::Refusal;
 use compose::JoinFault;
+use edits::EditsFault;
 use itoa::Buffer;
 use itv_base::{PutFailed, RangeFault, Sink, number_text};
 use label_grammar::LabelFault;
 use line_words::put_spaced;
 use netlist::NetlistFault;
-use sheet::SheetFault;
+use sheet::{GradesFault, SheetFault};
 use unroll::{Limit, UnrollFault};
 use wavejson::DiagramFault;
 
@@ -88,6 +89,7 @@ fn put_place<K: Sink>(place: Place, sink: &mut K) -> Result<(), PutFailed>
         Place::File(number) => put_words(&[Text(b"file"), Number(number)], sink),
         Place::Design => put_words(&[Text(b"design")], sink),
         Place::Report => put_words(&[Text(b"report")], sink),
+        Place::Edits => put_words(&[Text(b"edits")], sink),
     }
 }
 
@@ -98,6 +100,7 @@ fn put_fault<K: Sink>(why: Refusal, sink: &mut K) -> Result<(), PutFailed>
         Refusal::TooLong => put_words(&[Text(b"TooLong")], sink),
         Refusal::NotJson => put_words(&[Text(b"NotJson")], sink),
         Refusal::Diagram(fault) => put_diagram_fault(fault, sink),
+        Refusal::Grades(fault) => put_grades_fault(fault, sink),
         Refusal::Sheet(fault) => put_sheet_fault(fault, sink),
         Refusal::Netlist(fault) => put_netlist_fault(fault, sink),
         Refusal::Joins(fault) => put_join_fault(fault, sink),
@@ -110,6 +113,8 @@ fn put_fault<K: Sink>(why: Refusal, sink: &mut K) -> Result<(), PutFailed>
             ],
             sink,
         ),
+        Refusal::Wide(row) => put_words(&[Text(b"Wide"), Number(u64::from(row))], sink),
+        Refusal::Edits(fault) => put_edits_fault(fault, sink),
     }
 }
 
@@ -142,7 +147,27 @@ fn put_sheet_fault<K: Sink>(fault: SheetFault, sink: &mut K) -> Result<(), PutFa
             sink,
         ),
         SheetFault::TooManyCauses(n) => put_words(&[Text(b"TooManyCauses"), Number(n)], sink),
+        SheetFault::NoGrade => put_words(&[Text(b"NoGrade")], sink),
+        SheetFault::NoParam(n) => put_words(&[Text(b"NoParam"), Number(n)], sink),
         SheetFault::NoMemory => put_words(&[], sink),
+    }
+}
+
+fn put_grades_fault<K: Sink>(fault: GradesFault, sink: &mut K) -> Result<(), PutFailed>
+    ensures { Puts (K.told sink.old) (K.told sink.new) (flat_map spaced (grades_fault_words fault)) result }
+{
+    match fault {
+        GradesFault::Grades => put_words(&[Text(b"Grades")], sink),
+        GradesFault::Limits(grade, parameter, fault) => put_words(
+            &[
+                Text(b"Limits"),
+                Number(grade),
+                Number(parameter),
+                Text(range_fault_name(fault)),
+            ],
+            sink,
+        ),
+        GradesFault::NoMemory => put_words(&[], sink),
     }
 }
 
@@ -227,6 +252,22 @@ fn put_limit_fault<K: Sink>(fault: UnrollFault, sink: &mut K) -> Result<(), PutF
     }
 }
 
+fn put_edits_fault<K: Sink>(fault: EditsFault, sink: &mut K) -> Result<(), PutFailed>
+    ensures { Puts (K.told sink.old) (K.told sink.new) (flat_map spaced (edits_fault_words fault)) result }
+{
+    match fault {
+        EditsFault::TooLong => put_words(&[Text(b"TooLong")], sink),
+        EditsFault::TooMany(count) => put_words(&[Text(b"TooMany"), Number(count)], sink),
+        EditsFault::Line(n) => put_words(&[Text(b"Line"), Number(n)], sink),
+        EditsFault::Range(n, fault) => put_words(
+            &[Text(b"Range"), Number(n), Text(range_fault_name(fault))],
+            sink,
+        ),
+        EditsFault::NoSuch(n) => put_words(&[Text(b"NoSuch"), Number(n)], sink),
+        EditsFault::NoMemory => put_words(&[], sink),
+    }
+}
+
 // ---- names of faults within
 
 fn range_fault_name(fault: RangeFault) -> &'static [u8]
@@ -258,5 +299,6 @@ fn limit_name(limit: Limit) -> &'static [u8]
         Limit::Cells => b"Cells",
         Limit::SearchCells => b"SearchCells",
         Limit::MatrixEvents => b"MatrixEvents",
+        Limit::SessionRows => b"SessionRows",
     }
 }

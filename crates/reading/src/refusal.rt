@@ -1,8 +1,9 @@
 //! Why files are refused.
 
 use compose::JoinFault;
+use edits::EditsFault;
 use netlist::NetlistFault;
-use sheet::SheetFault;
+use sheet::{GradesFault, SheetFault};
 use unroll::UnrollFault;
 use wavejson::DiagramFault;
 
@@ -15,6 +16,8 @@ pub enum Refusal {
     NotJson,
     /// The tree of the file is no diagram.
     Diagram(DiagramFault),
+    /// The speed grades of the file are none.
+    Grades(GradesFault),
     /// The diagram is no sheet.
     Sheet(SheetFault),
     /// The tree of the file is no netlist.
@@ -26,4 +29,9 @@ pub enum Refusal {
     /// What the design draws has choices of both kinds: these are the least numbers of a latest and of an earliest constraint with
     /// two or more causes.
     Mixed(u32, u32),
+    /// The row of this number fails at an end that is the limit of a finite end, or minus that on the low side: no drawing of it is past
+    /// the end.
+    Wide(u32),
+    /// The file of edits has a fault.
+    Edits(EditsFault),
 }

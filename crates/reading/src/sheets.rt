@@ -1,69 +1,213 @@
-//! Reading sheets.
+//! Reading the sheets of a netlist.
 
-ghost use Rattle.std.specs.Prelude.{◌≡◌, ◌+◌, [], List, ℕ, All, IfOk, OnOk, IsSome};
+ghost use Rattle.std.specs.Prelude.{◌≡◌, ℕ, OnOk};
+ghost use Rattle.std.specs.Option.{option_copied};
+ghost use Rattle.std.specs.Str.{bytes_eq};
 ghost use Rattle.serde_json.specs.View.{view};
-ghost use Rattle.compose.specs.Sheets.{sheet_named};
-ghost use Rattle.reading.specs.Design.{sheet_at, sheet_in, sheets_from, with_sheet};
+ghost use Rattle.itv_base.specs.Reading.{Gives};
+ghost use Rattle.sheet.specs.Fault.{is_memory};
+ghost use Rattle.sheet.specs.Sheet.{sheet_by};
+ghost use Rattle.netlist.specs.Netlist.{sheet_names};
+ghost use Rattle.reading.specs.Design.{grades_in, plain_sheet_at, sheets_at, sheets_in, sheets_of_files, with_part, with_sheet};
+ghost use Rattle.reading.specs.Opening.{at, each};
 ghost use Rattle.reading.specs.Step.{Opens, Reads};
+ghost use Rattle.reading.specs.declared.refusal.Refusal.TheVariants as refusals;
 
 use crate::file::open_tree;
 use crate::place::Place;
-use crate::stop::{Stop, diagram_stop, sheet_stop};
-use compose::Sheets;
-use itv_base::{NoMemory, Shelf, Text, Texts};
+use crate::stop::{Stop, diagram_stop, grades_stop, sheet_stop};
+use compose::{SheetKey, Sheets};
+use itv_base::{NoMemory, Shelf, Text};
+use netlist::{Netlist, Part};
 use serde_json::Value;
-use sheet::{Sheet, read_sheet};
+use sheet::{Grades, Sheet, SheetFault, read_grades, read_sheet, read_sheet_at};
 use std::alloc::Global;
 use wavejson::{Diagram, read_diagram};
 
-/// The sheets of the files with some names, which are files 1, 2 and so on.
-pub fn open_sheets<H: Shelf>(alloc: Global, names: &Texts, shelf: &mut H) -> Result<Sheets, Stop>
-    ensures opens { Opens (λ sheets. sheets.entries) (H.told shelf.old) (H.told shelf.new)
-        (sheets_from 1 [] names.now) result }
-    ensures there { IfOk result (λ sheets. All (λ name. IsSome (sheet_named sheets name)) names.now) }
+/// The sheets of the files that the parts of a netlist are drawn on, which are files 1, 2 and so on: of each file one for each speed
+/// grade, or none, that its parts name.
+pub fn open_sheets<H: Shelf>(
+    alloc: Global,
+    netlist: &Netlist,
+    shelf: &mut H,
+) -> Result<Sheets, Stop>
+    ensures { Opens (λ sheets. sheets.entries) (H.told shelf.old) (H.told shelf.new)
+        (sheets_of_files netlist.now (sheet_names netlist.now.parts)) result }
 {
     let mut sheets = Sheets::new(alloc);
+    let names = netlist.sheet_names();
     for k in 0..names.len() {
-        let name = names.get(k).as_text();
-        let sheet = open_sheet(alloc, k + 1, name, shelf)?;
-        push_sheet(alloc, &mut sheets, name, sheet)?;
+        open_file(
+            alloc,
+            netlist,
+            k + 1,
+            names.get(k).as_text(),
+            &mut sheets,
+            shelf,
+        )?;
     }
     Ok(sheets)
 }
 
-/// Puts a sheet in by a name.
-pub fn push_sheet(
+// Puts the sheets of the file with a number in.
+fn open_file<H: Shelf>(
     alloc: Global,
-    sheets: &mut Sheets,
+    netlist: &Netlist,
+    number: u64,
     name: &str,
-    sheet: Sheet,
-) -> Result<(), NoMemory>
-    ensures entries { OnOk result (sheets.new.entries ≡ with_sheet sheets.old.entries name.now sheet) }
-    ensures there { OnOk result (IsSome (sheet_named sheets.new name.now)) }
-    ensures kept { (other : List ℕ) → OnOk result
-        (IsSome (sheet_named sheets.old other) → IsSome (sheet_named sheets.new other)) }
+    sheets: &mut Sheets,
+    shelf: &mut H,
+) -> Result<(), Stop>
+    ensures { Opens (λ _. sheets.new.entries) (H.told shelf.old) (H.told shelf.new)
+        (sheets_in netlist.now number sheets.old.entries name.now) result }
 {
-    sheets.insert(Text::from_text(alloc, name)?, sheet)?;
+    let tree = open_tree(alloc, Place::File(number), name, shelf)?;
+    read_sheets(alloc, netlist, number, name, &tree, sheets)
+}
+
+// Puts the sheets in that the tree of the file with a number draws.
+fn read_sheets(
+    alloc: Global,
+    netlist: &Netlist,
+    number: u64,
+    name: &str,
+    tree: &Value,
+    sheets: &mut Sheets,
+) -> Result<(), Stop>
+    ensures { Reads (λ _. sheets.new.entries)
+        (sheets_at netlist.now number sheets.old.entries name.now (view tree.now)) result }
+{
+    let place = Place::File(number);
+    let diagram = match read_diagram(alloc, tree) {
+        Ok(diagram) => diagram,
+        Err(fault) => return Err(diagram_stop(place, fault)),
+    };
+    let grades = grades_in(alloc, netlist.version(), place, tree)?;
+    let parts = netlist.parts().as_slice();
+    push_parts(alloc, place, name, &grades, &diagram, parts, sheets)
+}
+
+// The speed grades of a file. In version 1 there are none, and what stands there is passed over.
+fn grades_in(
+    alloc: Global,
+    version: u32,
+    place: Place,
+    tree: &Value,
+) -> Result<Option<Grades>, Stop>
+    ensures { Reads (λ grades. grades) (grades_in version place (view tree.now)) result }
+{
+    if version != 2 {
+        return Ok(None);
+    }
+    match read_grades(alloc, tree) {
+        Ok(grades) => Ok(Some(grades)),
+        Err(fault) => Err(grades_stop(place, fault)),
+    }
+}
+
+// Puts the sheets of all parts of a file in.
+fn push_parts(
+    alloc: Global,
+    place: Place,
+    name: &str,
+    grades: &Option<Grades>,
+    diagram: &Diagram,
+    parts: &[Part],
+    sheets: &mut Sheets,
+) -> Result<(), Stop>
+    ensures { Reads (λ _. sheets.new.entries)
+        (each (with_part place name.now grades.now diagram.now) 0 sheets.old.entries parts.now) result }
+{
+    for part in parts {
+        push_part(alloc, place, name, grades, diagram, part, sheets)?;
+    }
     Ok(())
 }
 
-// The sheet of the file with a number.
-fn open_sheet<H: Shelf>(
+// Puts the sheet of a part in, if the part is drawn on this file, and no part before it has its speed grade.
+fn push_part(
     alloc: Global,
-    number: u64,
+    place: Place,
     name: &str,
-    shelf: &mut H,
-) -> Result<Sheet, Stop>
-    ensures { Opens (λ sheet. sheet) (H.told shelf.old) (H.told shelf.new)
-        (sheet_in number name.now) result }
+    grades: &Option<Grades>,
+    diagram: &Diagram,
+    part: &Part,
+    sheets: &mut Sheets,
+) -> Result<(), Stop>
+    ensures { (n : ℕ) → Reads (λ _. sheets.new.entries)
+        (with_part place name.now grades.now diagram.now n sheets.old.entries part.now) result }
 {
-    let tree = open_tree(alloc, Place::File(number), name, shelf)?;
-    read_sheet_at(alloc, Place::File(number), &tree)
+    if !is_on(name, part) {
+        return Ok(());
+    }
+    let key = SheetKey::of(alloc, part)?;
+    if sheets.contains_key(&key) {
+        return Ok(());
+    }
+    let sheet = read_sheet_by(alloc, place, grades, &part.grade, diagram)?;
+    push_sheet(sheets, key, sheet)?;
+    Ok(())
 }
 
-/// The sheet that a tree draws.
-pub fn read_sheet_at(alloc: Global, place: Place, tree: &Value) -> Result<Sheet, Stop>
-    ensures { Reads (λ sheet. sheet) (sheet_at place (view tree.now)) result }
+// Whether a part is drawn on the sheet of a name.
+fn is_on(name: &str, part: &Part) -> bool
+    ensures { result ≡ bytes_eq name.now part.now.sheet }
+{
+    name == part.sheet.as_text()
+}
+
+/// Puts a sheet in by a key.
+pub fn push_sheet(sheets: &mut Sheets, key: SheetKey, sheet: Sheet) -> Result<(), NoMemory>
+    ensures entries { OnOk result (sheets.new.entries ≡ with_sheet sheets.old.entries key sheet) }
+{
+    sheets.insert(key, sheet)?;
+    Ok(())
+}
+
+// The sheet of a drawing for a place.
+fn read_sheet_by(
+    alloc: Global,
+    place: Place,
+    grades: &Option<Grades>,
+    grade: &Option<Text>,
+    diagram: &Diagram,
+) -> Result<Sheet, Stop>
+    ensures { Reads (λ sheet. sheet) (at place refusals.Sheet (sheet_by grades.now grade.now diagram.now)) result }
+{
+    match sheet_by(alloc, grades, grade, diagram) {
+        Ok(sheet) => Ok(sheet),
+        Err(fault) => Err(sheet_stop(place, fault)),
+    }
+}
+
+// The sheet of a drawing in version 1, where there are no grades, or in version 2 at a grade of these or at none.
+fn sheet_by(
+    alloc: Global,
+    grades: &Option<Grades>,
+    grade: &Option<Text>,
+    diagram: &Diagram,
+) -> Result<Sheet, SheetFault>
+    ensures { Gives is_memory (λ sheet. sheet) result (sheet_by grades.now grade.now diagram.now) }
+{
+    match grades {
+        None => read_sheet(alloc, diagram),
+        Some(grades) => read_sheet_at(alloc, diagram, grades, text_of(grade)),
+    }
+}
+
+// The text itself, if there is one.
+fn text_of(text: &Option<Text>) -> Option<&str>
+    ensures { option_copied result ≡ text.now }
+{
+    match text {
+        Some(text) => Some(text.as_text()),
+        None => None,
+    }
+}
+
+/// The sheet that a tree draws in version 1.
+pub fn read_plain_sheet(alloc: Global, place: Place, tree: &Value) -> Result<Sheet, Stop>
+    ensures { Reads (λ sheet. sheet) (plain_sheet_at place (view tree.now)) result }
 {
     let diagram = match read_diagram(alloc, tree) {
         Ok(diagram) => diagram,

@@ -2,19 +2,22 @@
 
 ghost use Rattle.std.specs.Prelude.{◌≡◌};
 ghost use Rattle.wavejson.specs.Fault.{is_memory as is_diagram_memory};
+ghost use Rattle.grades.specs.Fault.{is_memory as is_grades_memory};
 ghost use Rattle.sheet.specs.Fault.{is_memory as is_sheet_memory};
 ghost use Rattle.netlist.specs.Fault.{is_memory as is_netlist_memory};
 ghost use Rattle.compose.specs.Fault.{is_memory as is_join_memory};
 ghost use Rattle.unroll.specs.Fault.{is_memory as is_limit_memory};
+ghost use Rattle.edits.specs.EditsFile.{is_memory as is_edits_memory};
 ghost use Rattle.reading.specs.Step.{stop_of};
 ghost use Rattle.reading.specs.declared.stop.Stop.TheVariants.{NoMemory};
 
 use crate::place::Place;
 use crate::refusal::Refusal;
 use compose::JoinFault;
+use edits::EditsFault;
 use itv_base::NoMemory as OutOfMemory;
 use netlist::NetlistFault;
-use sheet::SheetFault;
+use sheet::{GradesFault, SheetFault};
 use std::alloc::AllocFailed;
 use unroll::UnrollFault;
 use wavejson::DiagramFault;
@@ -55,6 +58,16 @@ pub fn diagram_stop(place: Place, fault: DiagramFault) -> Stop
     }
 }
 
+/// By a fault of the speed grades of a file.
+pub fn grades_stop(place: Place, fault: GradesFault) -> Stop
+    ensures { result ≡ stop_of is_grades_memory Refusal.Grades place fault }
+{
+    match fault {
+        GradesFault::NoMemory => Stop::NoMemory,
+        _ => Stop::Refused(place, Refusal::Grades(fault)),
+    }
+}
+
 /// By a fault of a sheet.
 pub fn sheet_stop(place: Place, fault: SheetFault) -> Stop
     ensures { result ≡ stop_of is_sheet_memory Refusal.Sheet place fault }
@@ -92,5 +105,15 @@ pub fn limit_stop(place: Place, fault: UnrollFault) -> Stop
     match fault {
         UnrollFault::NoMemory => Stop::NoMemory,
         _ => Stop::Refused(place, Refusal::Limits(fault)),
+    }
+}
+
+/// By a fault of a file of edits.
+pub fn edits_stop(place: Place, fault: EditsFault) -> Stop
+    ensures stop { result ≡ stop_of is_edits_memory Refusal.Edits place fault }
+{
+    match fault {
+        EditsFault::NoMemory => Stop::NoMemory,
+        _ => Stop::Refused(place, Refusal::Edits(fault)),
     }
 }

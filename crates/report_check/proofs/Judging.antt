@@ -8,10 +8,10 @@ use Rattle.slack_report.specs.declared.words.FindingWord.{FindingWord}
 use Rattle.slack_report.specs.declared.words.FindingWord.TheVariants as findings
 use Rattle.slack_report.specs.declared.words.Which.{Which}
 use Rattle.slack_report.specs.Entry.{Entry, bound, finding, proof}
-use Rattle.slack_report.specs.Right.At as places
-use Rattle.slack_report.specs.Right.At.{At, at_bound, at_event, behind_bound, behind_finding, which_of}
-use Rattle.slack_report.specs.Right.Drawn.{Drawn}
-use Rattle.slack_report.specs.Right.Following.{MayFind, MayFollow}
+use Rattle.right_report.specs.Right.At as places
+use Rattle.right_report.specs.Right.At.{At, at_bound, at_event, behind_bound, behind_finding, which_of}
+use Rattle.drawn.specs.Drawn.{Drawn}
+use Rattle.right_report.specs.Right.Following.{MayFind, MayFollow}
 use Rattle.right_report.specs.Checked.{IsWithinTimes, ProvesBound, ProvesFinding, checked}
 use Rattle.right_report.specs.Wrong.{goal_by}
 use Rattle.report_check.specs.declared.stage.Stage.{Stage}

@@ -3,17 +3,15 @@ use Rattle.std.proofs.Common.{◌≡◌, ◌+◌, ◌≤◌, ◌<◌, ℕ, false
 use Rattle.std.proofs.Math.ListN.{drop_of_length-le}
 use Rattle.std.proofs.lemmas.Option.{slice_get_within}
 use Rattle.event_graph.specs.Network.{Net}
-use Rattle.sheet.proofs.Lists.{drop-read}
+use Rattle.itv_base.proofs.Lists.{drop-read}
 use Rattle.slack_report.specs.Entry.{Entry, proof}
-use Rattle.slack_report.specs.Right.At.{At, at_heading, at_last}
-use Rattle.slack_report.specs.Right.Drawn.{Drawn}
-use Rattle.slack_report.specs.Right.Following.{Reads}
+use Rattle.right_report.specs.Right.At.{At, at_heading, at_last}
+use Rattle.drawn.specs.Drawn.{Drawn}
+use Rattle.right_report.specs.Right.Following.{Reads}
 use Rattle.right_report.specs.Checked.{checked}
 use Rattle.right_report.specs.Wrong.{IsFirstWrong, IsRefused}
 use Rattle.branch.specs.Work.{IsMadeFor, View}
 use Rattle.cert_checker.specs.Checking.{Checking}
-use Rattle.unroll.specs.Drawn.{Drawn as Unrolled}
-use Rattle.unroll.specs.Reported.{reported}
 use Rattle.report_check.specs.declared.stage.Stage.{Stage}
 use Rattle.report_check.specs.Step.Stages.{Decides, Fits, at_of, is_proof}
 use Rattle.report_check.specs.Step.Walks.{IsWrongFrom, Leads, StepsOn}
@@ -87,18 +85,18 @@ wrong_within drawn here (line ∷ lines) number (inr w) =
 -- ---- a whole walk
 
 -- the lines so far lead from the heading to a stage
-pub record IsWalking (drawn : Unrolled) (lines : List Entry) (stage : Stage) (start : ℕ) (checker : Checking) (work : View) : Type 0 where
-  pub leads : Leads (reported drawn) lines at_heading 0 (at_of (reported drawn) stage) start
-  pub fits : Fits (reported drawn) stage
+pub record IsWalking (drawn : Drawn) (lines : List Entry) (stage : Stage) (start : ℕ) (checker : Checking) (work : View) : Type 0 where
+  pub leads : Leads drawn lines at_heading 0 (at_of drawn stage) start
+  pub fits : Fits drawn stage
   pub within : start ≤ length lines
   pub room : checker.room ≡ length drawn.net.constraints
   pub made : IsMadeFor drawn.net work
 
-pub walking_more : (drawn : Unrolled) (lines : List Entry) (stage next : Stage) (start behind : ℕ) (checker now : Checking) (work later : View)
-    → IsWalking drawn lines stage start checker work → StepsOn (reported drawn) lines (at_of (reported drawn) stage) start next behind → now.room ≡ checker.room → IsMadeFor drawn.net later
+pub walking_more : (drawn : Drawn) (lines : List Entry) (stage next : Stage) (start behind : ℕ) (checker now : Checking) (work later : View)
+    → IsWalking drawn lines stage start checker work → StepsOn drawn lines (at_of drawn stage) start next behind → now.room ≡ checker.room → IsMadeFor drawn.net later
     → IsWalking drawn lines next behind now later
 walking_more drawn lines stage next start behind checker now work later w step room made = record {
-  leads = leads_then (reported drawn) lines at_heading (at_of (reported drawn) stage) (at_of (reported drawn) next) 0 start behind w.leads step.leads;
+  leads = leads_then drawn lines at_heading (at_of drawn stage) (at_of drawn next) 0 start behind w.leads step.leads;
   fits = step.fits;
   within = step.within;
   room = room ∙ w.room;

@@ -2,15 +2,13 @@
 use Rattle.std.proofs.Common.{◌≡◌, ◌+◌, ◌<◌, ℕ, zero, suc, List, [], ◌∷◌, length, ◌^◌, drop, map, Bool, true, false, IsTrue, ◌↔◌, Option, Some, None, option_map, unwrap_or, slice_get, refl, sym, ap, subst, ◌∙◌, arith}
 use Rattle.std.proofs.lemmas.Option.{slice_get-map, slice_get_within}
 use Rattle.std.proofs.lemmas.List.{length-map}
-use Rattle.sheet.proofs.Lists.{drop-read}
+use Rattle.itv_base.proofs.Lists.{drop-read}
 use Rattle.itv_base.specs.Names.{Name}
-use Rattle.slack_report.specs.Right.Drawn as told
-use Rattle.unroll.specs.declared.row.Row.{Row}
-use Rattle.unroll.specs.Drawn.{Drawn, IsRowOf, name_of, nameless}
-use Rattle.unroll.specs.Reported.{reported, row_told}
+use Rattle.drawn.specs.Drawn.{Drawn, IsRowOf, name_of, nameless}
+use Rattle.drawn.specs.declared.row.Row.{Row}
 use Rattle.slack_report.specs.Entry as lines
 use Rattle.slack_report.specs.Entry.{Entry}
-use Rattle.slack_report.specs.Right.At.{at_end, at_row, end_word}
+use Rattle.right_report.specs.Right.At.{at_end, at_row, end_word}
 use Rattle.report_check.specs.declared.stage.Course.{Course}
 use Rattle.report_check.specs.declared.stage.Side.TheVariants.{Greatest}
 use Rattle.report_check.specs.declared.stage.Stage.{Stage}
@@ -33,8 +31,8 @@ names_from names number name within is = drop-read names number name (unwrapped 
 
 -- the row of a number as it is told
 pub rows_from : (rows : List Row) (number : ℕ) (row : Row) → slice_get rows number ≡ Some row
-    → drop number (map row_told rows) ≡ row_told row ∷ drop (number + 1) (map row_told rows)
-rows_from rows number row is = drop-read (map row_told rows) number (row_told row) (slice_get-map row_told rows number ∙ ap (option_map row_told) is)
+    → drop number rows ≡ row ∷ drop (number + 1) rows
+rows_from rows number row is = drop-read rows number row is
 
 -- ---- what lines decide
 
@@ -43,16 +41,16 @@ proof_not line other same is = ap is_proof same ∙ is
 
 module _ (drawn : Drawn) (number : ℕ) (name : Name) (line : Entry) (test : Bool) (there : number < length drawn.names)
     (is : name ≡ unwrap_or (slice_get drawn.names number) nameless) (tells : IsTrue test ↔ (line ≡ lines.event number name)) where
-  pub event_some : test ≡ true → Decides (reported drawn) (at_of (reported drawn) (stages.Event number)) line (Some (stages.Event (number + 1)))
+  pub event_some : test ≡ true → Decides drawn (at_of drawn (stages.Event number)) line (Some (stages.Event (number + 1)))
   event_some holds =
       let same : line ≡ lines.event number name = tells.0 holds in
       rw (names_from drawn.names number name there is) ((same, refl), proof_not line (lines.event number name) same refl, omega arith)
 
-  pub event_none : test ≡ false → Decides (reported drawn) (at_of (reported drawn) (stages.Event number)) line None
+  pub event_none : test ≡ false → Decides drawn (at_of drawn (stages.Event number)) line None
   event_none fails = rw (names_from drawn.names number name there is) (λ next h. let clash : true ≡ false = sym (tells.1 h.0) ∙ fails in absurd (cc clash))
 
 -- behind all rows the end comes
-pub end_decides : (drawn : told.Drawn) (course : Course) (number : ℕ) (left : List told.Row) (line : Entry) (o : Option Stage) → left ≡ []
+pub end_decides : (drawn : Drawn) (course : Course) (number : ℕ) (left : List Row) (line : Entry) (o : Option Stage) → left ≡ []
     → Decides drawn (at_end (end_word (course_told course))) line o → Decides drawn (at_row (course_told course) number left) line o
 end_decides drawn course number left line None none d = subst (λ xs. Decides drawn (at_row (course_told course) number xs) line None) (sym none) d
 end_decides drawn course number left line (Some stage) none d = subst (λ xs. Decides drawn (at_row (course_told course) number xs) line (Some stage)) (sym none) d
@@ -62,15 +60,15 @@ end_decides drawn course number left line (Some stage) none d = subst (λ xs. De
 module _ (drawn : Drawn) (course : Course) (number : ℕ) (row : Row) (line : Entry) (test : Bool) (there : slice_get drawn.rows number ≡ Some row)
     (tells : IsTrue test ↔ (line ≡ lines.row number row.kind (name_of drawn row.from) (name_of drawn row.to))) where
   pub row_some : test ≡ true → IsRowOf drawn.net row → number < 2 ^ 32
-      → Decides (reported drawn) (at_of (reported drawn) (stages.Row course number)) line (Some (stages.Bound (record { course = course; number = number; row = row }) Greatest))
+      → Decides drawn (at_of drawn (stages.Row course number)) line (Some (stages.Bound (record { course = course; number = number; row = row }) Greatest))
   row_some holds between small =
       let same : line ≡ lines.row number row.kind (name_of drawn row.from) (name_of drawn row.to) = tells.0 holds in
       let within : number < length drawn.rows = slice_get_within drawn.rows number row there in
       rw (rows_from drawn.rows number row there) (
         (same, refl),
         proof_not line (lines.row number row.kind (name_of drawn row.from) (name_of drawn row.to)) same refl,
-        (record { from = between.0; to = between.1; number = (rw (length-map drawn.rows row_told) within); small = small }, tt),
+        (record { from = between.0; to = between.1; number = within; small = small }, tt),
       )
 
-  pub row_none : test ≡ false → Decides (reported drawn) (at_of (reported drawn) (stages.Row course number)) line None
+  pub row_none : test ≡ false → Decides drawn (at_of drawn (stages.Row course number)) line None
   row_none fails = rw (rows_from drawn.rows number row there) (λ next h. let clash : true ≡ false = sym (tells.1 h.0) ∙ fails in absurd (cc clash))

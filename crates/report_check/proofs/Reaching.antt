@@ -10,12 +10,12 @@ use Rattle.itv_base.specs.declared.names.Side.{Side as EdgeSide}
 use Rattle.itv_base.specs.declared.names.Side.TheVariants.{Lower, Upper}
 use Rattle.event_graph.specs.declared.cause.Cause.{Cause}
 use Rattle.event_graph.specs.Edges.{edge, side_edge}
+use Rattle.event_graph.specs.Limits.{reach_limit, weight_limit}
 use Rattle.event_graph.specs.Network.{AreEnds, Constraint, HasEnds, IsNet, Net}
 use Rattle.event_graph.specs.Proof.{Bound, Case, ClosesByPath, Loop, Path, ProofGoal, ProofLine, Split, cases_of, path_sum, weight_of}
 use Rattle.event_graph.specs.Proof as proofs
 use Rattle.right_report.specs.Shown.{goal_of}
-use Rattle.unroll.specs.declared.row.Row.{Row}
-use Rattle.unroll.specs.Reported.{row_told}
+use Rattle.drawn.specs.declared.row.Row.{Row}
 use Rattle.report_check.specs.declared.stage.Side.{Side}
 use Rattle.report_check.specs.declared.stage.Side.TheVariants as sides
 use Rattle.requirements.specs.declared.bound.Bound as given
@@ -50,23 +50,23 @@ module _ (net : Net) (ends : HasEnds net) where
   weight_within name = by_constraint name (slice_get net.constraints name.constraint) refl
 
   -- a sum is no more than that of as many greatest ends
-  sum_within : (names : List EdgeName) → path_sum net names ≤ℤ pos (1000000000000 * length names)
+  sum_within : (names : List EdgeName) → path_sum net names ≤ℤ pos (weight_limit * length names)
   sum_within [] = omega (arith, ints)
   sum_within (name ∷ names) =
       let first : weight_of (edge net name) ≤ℤ END_LIMIT = weight_within name in
-      let rest : path_sum net names ≤ℤ pos (1000000000000 * length names) = sum_within names in
+      let rest : path_sum net names ≤ℤ pos (weight_limit * length names) = sum_within names in
       omega (arith, ints)
 
 -- the values are alike for sums of paths
 abbrev pub AreAlike : ℤ → ℤ → Type 0
-AreAlike value other = (sum : ℤ) → sum ≤ℤ pos (1000000000000 * 4096) → sum ≤ℤ value → sum ≤ℤ other
+AreAlike value other = (sum : ℤ) → sum ≤ℤ pos reach_limit → sum ≤ℤ value → sum ≤ℤ other
 
 module _ (net : Net) (is : IsNet net) (from to : EventId) (value other : ℤ) (alike : AreAlike value other) where
   closes_alike : (chosen : Case) (names : List EdgeName) → ClosesByPath net (Bound from to value) chosen names → ClosesByPath net (Bound from to other) chosen names
   closes_alike chosen names h =
       let few : length names ≤ net.events = h.3 in
       let most : net.events ≤ MAX_EVENTS = is.events in
-      let sum : path_sum net names ≤ℤ pos (1000000000000 * length names) = sum_within net is.ends names in
+      let sum : path_sum net names ≤ℤ pos (weight_limit * length names) = sum_within net is.ends names in
       (h.0, h.1, alike (path_sum net names) (omega (arith, ints)) h.2, h.3)
 
   reads_on : (lines : List ProofLine) (cases left : List Case) → proofs.Reads net (Bound from to value) cases lines left → proofs.Reads net (Bound from to other) cases lines left
@@ -98,7 +98,7 @@ same_alike net goal cases left lines = (λ h. h, λ h. h)
 
 -- what lines before a least bound are to show
 pub least_goal : (net : Net) → IsNet net → (row : Row) (side : Side) (most : given.Bound) (value minus : ℤ) → side ≡ sides.LeastBy most
-    → minus ≡ int_min (neg_ℤ value) (pos (2 ^ 63 - 1)) → ReadsAlike net (goal_of (row_told row) (side_told side) value) (Bound row.to row.from minus)
+    → minus ≡ int_min (neg_ℤ value) (pos (2 ^ 63 - 1)) → ReadsAlike net (goal_of row (side_told side) value) (Bound row.to row.from minus)
 least_goal net is row sides.Greatest most value minus on same = absurd (cc on)
 least_goal net is row (sides.LeastBy other) most value minus on same =
     subst (λ (x : ℤ). ReadsAlike net (Bound row.to row.from (neg_ℤ value)) (Bound row.to row.from x)) (sym same) (least_alike net is row.to row.from (neg_ℤ value))

@@ -14,7 +14,7 @@ use Rattle.cert_checker.specs.Checking.{Checking, StandsFor, Tells, open_cases}
 use Rattle.cert_checker.specs.declared.check_fault.CheckFault.{CheckFault}
 use Rattle.cert_checker.specs.Faults.{behind_line, fault_of_line}
 use Rattle.cert_checker.proofs.Reading.{no_fault_is_read}
-use Rattle.sheet.proofs.Lists.{drop-read}
+use Rattle.itv_base.proofs.Lists.{drop-read}
 use Rattle.slack_report.specs.Entry.{Entry, proof}
 use Rattle.report_check.specs.Step.Groups.{AreTaken, IsOneRefused, proof_front}
 use Rattle.report_check.specs.Step.Stages.{is_proof}

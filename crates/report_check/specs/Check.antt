@@ -1,9 +1,9 @@
 -- What the check of a report answers and writes.
 use Rattle.std.specs.Prelude.{◌≡◌, ℕ, List, ◌++◌, codes}
 use Rattle.std.specs.Prelude.{decimal}
-use Rattle.job_answer.specs.declared.answer.Answer.{Answer}
-use Rattle.job_answer.specs.declared.answer.Answer.TheVariants.{AllPass, SomeFail, Inconsistent, Undecided, CheckRefused}
-use Rattle.slack_report.specs.Right.Drawn.{Drawn}
+use Rattle.jobs.specs.declared.answer.Answer.{Answer}
+use Rattle.jobs.specs.declared.answer.Answer.TheVariants.{AllPass, SomeFail, Inconsistent, Undecided, CheckRefused, DesignRefused}
+use Rattle.drawn.specs.Drawn.{Drawn}
 use Rattle.right_report.specs.Texts.{IsAcceptedText, IsRefusedText}
 use Rattle.report_check.specs.declared.check.Checked.{Checked}
 use Rattle.report_check.specs.declared.check.Checked.TheVariants.{Accepted, Refused}
@@ -27,6 +27,7 @@ AnswersCheck drawn bytes SomeFail text = ⊥
 AnswersCheck drawn bytes Inconsistent text = ⊥
 AnswersCheck drawn bytes Undecided text = ⊥
 AnswersCheck drawn bytes CheckRefused text = (line : ℕ) × IsRefusedText drawn bytes line × (text ≡ refused_text line)
+AnswersCheck drawn bytes DesignRefused text = ⊥
 
 -- what it may have begun to write
 abbrev pub BeginsCheck : Drawn → List ℕ → List ℕ → Type 0

@@ -2,27 +2,26 @@
 
 ghost use Rattle.std.specs.Prelude.{ℕ, List};
 ghost use Rattle.itv_base.specs.Outside.{Puts};
-ghost use Rattle.job_answer.specs.Works.{Works};
-ghost use Rattle.slack_report.specs.Right.Drawn.{Drawn};
-ghost use Rattle.unroll.specs.Reported.{reported};
+ghost use Rattle.jobs.specs.Works.{Works};
+ghost use Rattle.drawn.specs.Drawn.{Drawn};
 ghost use Rattle.report_check.specs.Check.{AnswersCheck, BeginsCheck, IsCheckOf, checked_text, refused_text};
 
 use crate::check::{Checked, check_report};
+use drawn::DrawnNetwork;
 use itoa::Buffer;
 use itv_base::{NoMemory, PutFailed, Sink, number_text, put_all};
-use job_answer::{Answer, Unanswered};
+use jobs::{Answer, Unanswered};
 use std::alloc::Global;
-use unroll::Unrolled;
 
 /// Checks a text as a report of a drawn network, and writes a line that tells what becomes of it. All memory is taken before the
 /// first put.
 pub fn answer_check<K: Sink>(
     alloc: Global,
-    drawn: &Unrolled,
+    drawn: &DrawnNetwork,
     bytes: &[u8],
     sink: &mut K,
 ) -> Result<Answer, Unanswered>
-    ensures works { Works (AnswersCheck (reported drawn.now) bytes.now) (BeginsCheck (reported drawn.now) bytes.now)
+    ensures works { Works (AnswersCheck drawn.now bytes.now) (BeginsCheck drawn.now bytes.now)
         (K.told sink.old) (K.told sink.new) result }
 {
     match check_report(alloc, drawn, bytes) {

@@ -1,15 +1,14 @@
 //! Whether findings and bounds are such as a report may tell, behind lines of which it is known whether they prove them.
 
 ghost use Rattle.std.specs.Prelude.{◌≡◌, ◌↔◌, ◌<◌, neg_ℤ, List, Some, IfSome, IsTrue};
-ghost use Rattle.branch.specs.Answers.{IsRoot, IsRootTime};
+ghost use Rattle.branch.specs.Answers.{IsRoot, IsRootReach};
 ghost use Rattle.branch.specs.Work.{IsMadeFor};
+ghost use Rattle.event_graph.specs.Limits.{IsReach};
 ghost use Rattle.event_graph.specs.Proof.{Nothing, ProofLine};
 ghost use Rattle.event_graph.specs.RootBound.{IsRootBound};
-ghost use Rattle.event_graph.specs.Times.{IsTime};
 ghost use Rattle.requirements.specs.Bounds.{HasTimes};
-ghost use Rattle.slack_report.specs.Right.Facts.{HasAttained, IsLimit};
+ghost use Rattle.right_report.specs.Right.Facts.{HasAttained, IsLimit};
 ghost use Rattle.right_report.specs.Checked.{IsWithinTimes, ProvesBound, ProvesFinding};
-ghost use Rattle.unroll.specs.Reported.{row_told};
 ghost use Rattle.report_check.specs.Step.Bounds.{IsBetween, SomeMeet, goal_for, reversed_root};
 ghost use Rattle.report_check.specs.Step.Groups.{IsToldOf};
 ghost use Rattle.report_check.specs.Step.Stages.{side_told};
@@ -17,11 +16,11 @@ ghost use Rattle.report_check.specs.Step.Stages.{side_told};
 use crate::stage::Side;
 use crate::times::is_time;
 use branch::{Root, Work, root_bound};
+use drawn::Row;
 use event_graph::Network;
 use itv_base::EventId;
 use requirements::Bound;
 use slack_report::FindingWord;
-use unroll::Row;
 
 /// Whether a finding may stand behind lines, of which it is told whether they prove that no times satisfy.
 pub fn proves_finding(net: &Network, work: &mut Work, word: FindingWord, whole: bool) -> bool
@@ -72,8 +71,8 @@ pub fn proves_bound(
 ) -> bool
     requires made { IsMadeFor net.now work.old }
     requires between { IsBetween net.now row.now }
-    ensures proves { (lines : List ProofLine) → IsToldOf net.now (goal_for (row_told row.now) (side_told side) value) lines whole
-        → (IsTrue result ↔ (IsWithinTimes value × ProvesBound net.now found (row_told row.now) (side_told side) lines value)) }
+    ensures proves { (lines : List ProofLine) → IsToldOf net.now (goal_for row.now (side_told side) value) lines whole
+        → (IsTrue result ↔ (IsWithinTimes value × ProvesBound net.now found row.now (side_told side) lines value)) }
     ensures times { IsTrue result → HasTimes value }
     ensures made { IsMadeFor net.now work.new }
 {
@@ -103,8 +102,8 @@ fn has_attained(found: FindingWord, attained: Option<i64>) -> bool
 fn is_limit(net: &Network, work: &mut Work, row: &Row, side: Side, limit: Option<i64>) -> bool
     requires made { IsMadeFor net.now work.old }
     requires between { IsBetween net.now row.now }
-    ensures limit { IsTrue result ↔ IsLimit net.now (row_told row.now) (side_told side) limit }
-    ensures within { IsTrue result → IfSome limit IsTime }
+    ensures limit { IsTrue result ↔ IsLimit net.now row.now (side_told side) limit }
+    ensures within { IsTrue result → IfSome limit IsReach }
     ensures made { IsMadeFor net.now work.new }
 {
     let root = match side {
@@ -116,9 +115,9 @@ fn is_limit(net: &Network, work: &mut Work, row: &Row, side: Side, limit: Option
 
 // A root bound with its number negated.
 fn reversed_root(root: Root) -> Root
-    requires within { IsRootTime root }
+    requires within { IsRootReach root }
     ensures root { result ≡ reversed_root root }
-    ensures within { IsRootTime result }
+    ensures within { IsRootReach result }
 {
     match root {
         Root::NoTimes => Root::NoTimes,
@@ -128,18 +127,18 @@ fn reversed_root(root: Root) -> Root
 
 // Minus a number of picoseconds.
 fn negated(value: i64) -> i64
-    requires { IsTime value }
+    requires { IsReach value }
     ensures value { result ≡ neg_ℤ value }
-    ensures within { IsTime result }
+    ensures within { IsReach result }
 {
     -value
 }
 
 // Whether a limit is a root bound.
 fn is_root(root: Root, limit: Option<i64>) -> bool
-    requires within { IsRootTime root }
+    requires within { IsRootReach root }
     ensures root { IsTrue result ↔ (root ≡ Root.Bound limit) }
-    ensures within { IsTrue result → IfSome limit IsTime }
+    ensures within { IsTrue result → IfSome limit IsReach }
 {
     match root {
         Root::NoTimes => false,

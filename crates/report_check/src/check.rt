@@ -1,17 +1,16 @@
 //! Checking a report.
 
 ghost use Rattle.std.specs.Prelude.{◌<◌, ◌^◌, IfOk, length};
-ghost use Rattle.unroll.specs.Reported.{reported};
 ghost use Rattle.report_check.specs.Check.{IsCheckOf};
 ghost use Rattle.report_check.specs.Step.Walks.{ChecksItems};
 
 use crate::walk::walk;
 use branch::Work;
 use cert_checker::Checker;
+use drawn::DrawnNetwork;
 use itv_base::NoMemory;
 use slack_report::{Items, ReportFault, read_report};
 use std::alloc::Global;
-use unroll::Unrolled;
 
 /// What becomes of a report that is checked.
 #[derive(Clone, Copy, Debug, PartialEq, Eq)]
@@ -23,8 +22,8 @@ pub enum Checked {
 }
 
 /// Checks a text as a report of a drawn network.
-pub fn check_report(alloc: Global, drawn: &Unrolled, bytes: &[u8]) -> Result<Checked, NoMemory>
-    ensures check { IfOk result (IsCheckOf (reported drawn.now) bytes.now) }
+pub fn check_report(alloc: Global, drawn: &DrawnNetwork, bytes: &[u8]) -> Result<Checked, NoMemory>
+    ensures check { IfOk result (IsCheckOf drawn.now bytes.now) }
 {
     match read_report(alloc, bytes) {
         Ok(report) => check_items(alloc, drawn, report.items()),
@@ -34,9 +33,9 @@ pub fn check_report(alloc: Global, drawn: &Unrolled, bytes: &[u8]) -> Result<Che
 }
 
 // Checks the lines of a report.
-fn check_items(alloc: Global, drawn: &Unrolled, items: &Items) -> Result<Checked, NoMemory>
+fn check_items(alloc: Global, drawn: &DrawnNetwork, items: &Items) -> Result<Checked, NoMemory>
     requires few { length items.now < 2 ^ 63 }
-    ensures check { IfOk result (ChecksItems (reported drawn.now) items.now) }
+    ensures check { IfOk result (ChecksItems drawn.now items.now) }
 {
     let net = drawn.network();
     let mut checker = Checker::new(alloc, net)?;

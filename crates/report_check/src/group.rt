@@ -6,11 +6,10 @@ ghost use Rattle.branch.specs.Work.{IsMadeFor};
 ghost use Rattle.cert_checker.specs.Checking.{goal_view};
 ghost use Rattle.event_graph.specs.Proof.{ProofGoal, ProofLine};
 ghost use Rattle.slack_report.specs.Items.{item_view};
-ghost use Rattle.slack_report.specs.Right.At.{at_bound, at_event, which_of};
-ghost use Rattle.slack_report.specs.Right.Drawn.{Drawn};
+ghost use Rattle.right_report.specs.Right.At.{at_bound, at_event, which_of};
+ghost use Rattle.drawn.specs.Drawn.{Drawn};
 ghost use Rattle.right_report.specs.Shown.{goal_of};
 ghost use Rattle.right_report.specs.Wrong.{goal_by};
-ghost use Rattle.unroll.specs.Reported.{reported, row_told};
 ghost use Rattle.report_check.specs.Step.Groups.{ChecksFor, ChecksLines, IsGroup, IsToldOf, ReadsAlike, StandsForGoal, behind_lines, found_behind, proof_front};
 ghost use Rattle.report_check.specs.Step.Stages.{Decides, IsSide, IsTelling, is_proof, side_told, telling_of};
 ghost use Rattle.report_check.specs.Step.Walks.{Steps};
@@ -19,10 +18,10 @@ use crate::bounds::{proves_bound, proves_finding};
 use crate::stage::{Side, Stage, Telling, behind_bound, behind_finding};
 use branch::Work;
 use cert_checker::{Checker, Goal};
+use drawn::{DrawnNetwork, Row};
 use event_graph::Network;
 use requirements::Bound;
 use slack_report::{FindingWord, Item, Items, Which};
-use unroll::{Row, Unrolled};
 
 /// What lines of a proof stand before.
 #[derive(Clone, Copy, Debug)]
@@ -36,7 +35,7 @@ pub enum Group {
 /// A step over lines of a proof from a line on, and over the finding or the bound behind them: the stage behind it with the number of
 /// its line, or the number of the first wrong line.
 pub fn step_group(
-    drawn: &Unrolled,
+    drawn: &DrawnNetwork,
     checker: &mut Checker,
     work: &mut Work,
     items: &Items,
@@ -44,10 +43,10 @@ pub fn step_group(
     group: &Group,
 ) -> Result<(Stage<'static>, u64), u64>
     requires start { start ≤ length items.now }
-    requires group { IsGroup (reported drawn.now) group.now }
+    requires group { IsGroup drawn.now group.now }
     requires room { checker.old.room ≡ length drawn.now.net.constraints }
     requires made { IsMadeFor drawn.now.net work.old }
-    ensures steps { Steps (reported drawn.now) items.now (behind_lines (reported drawn.now) group.now []) start result }
+    ensures steps { Steps drawn.now items.now (behind_lines drawn.now group.now []) start result }
     ensures room { checker.new.room ≡ checker.old.room }
     ensures made { IsMadeFor drawn.now.net work.new }
 {
@@ -110,7 +109,7 @@ fn goal_by(net: &Network, group: &Group, item: &Item<'_>) -> Option<Goal>
 
 // What lines before a closed bound are to show.
 fn goal_of(net: &Network, row: &Row, side: Side, value: i64) -> Goal
-    ensures goal { ReadsAlike net.now (goal_of (row_told row.now) (side_told side) value) (goal_view result) }
+    ensures goal { ReadsAlike net.now (goal_of row.now (side_told side) value) (goal_view result) }
 {
     // The network is within its limits, and so are the sums of its paths.
     let _events = net.events();
@@ -188,18 +187,18 @@ fn check_lines(
 
 // Where the line behind lines of a proof leads, of which it is told whether they prove what it wants shown.
 fn judge_behind(
-    drawn: &Unrolled,
+    drawn: &DrawnNetwork,
     work: &mut Work,
     group: &Group,
     whole: bool,
     item: &Item<'_>,
 ) -> Option<Stage<'static>>
     requires made { IsMadeFor drawn.now.net work.old }
-    requires group { IsGroup (reported drawn.now) group.now }
+    requires group { IsGroup drawn.now group.now }
     requires other { is_proof (item_view item.now) ≡ false }
     ensures decides { (lines : List ProofLine)
-        → IsToldOf drawn.now.net (goal_by (behind_lines (reported drawn.now) group.now []) (item_view item.now)) lines whole
-        → Decides (reported drawn.now) (behind_lines (reported drawn.now) group.now lines) (item_view item.now) result }
+        → IsToldOf drawn.now.net (goal_by (behind_lines drawn.now group.now []) (item_view item.now)) lines whole
+        → Decides drawn.now (behind_lines drawn.now group.now lines) (item_view item.now) result }
     ensures made { IsMadeFor drawn.now.net work.new }
 {
     match group {
@@ -209,7 +208,7 @@ fn judge_behind(
 }
 
 fn judge_finding(
-    drawn: &Unrolled,
+    drawn: &DrawnNetwork,
     work: &mut Work,
     number: u32,
     whole: bool,
@@ -218,7 +217,7 @@ fn judge_finding(
     requires made { IsMadeFor drawn.now.net work.old }
     requires other { is_proof (item_view item.now) ≡ false }
     ensures decides { (lines : List ProofLine) → IsToldOf drawn.now.net (goal_by (at_event number []) (item_view item.now)) lines whole
-        → Decides (reported drawn.now) (found_behind number lines) (item_view item.now) result }
+        → Decides drawn.now (found_behind number lines) (item_view item.now) result }
     ensures made { IsMadeFor drawn.now.net work.new }
 {
     match item {
@@ -233,7 +232,7 @@ fn judge_finding(
 }
 
 fn judge_bound(
-    drawn: &Unrolled,
+    drawn: &DrawnNetwork,
     work: &mut Work,
     told: &Telling,
     side: Side,
@@ -241,12 +240,12 @@ fn judge_bound(
     item: &Item<'_>,
 ) -> Option<Stage<'static>>
     requires made { IsMadeFor drawn.now.net work.old }
-    requires telling { IsTelling (reported drawn.now) told.now }
+    requires telling { IsTelling drawn.now told.now }
     requires side { IsSide side }
     requires other { is_proof (item_view item.now) ≡ false }
     ensures decides { (lines : List ProofLine)
-        → IsToldOf drawn.now.net (goal_by (at_bound (telling_of (reported drawn.now) told.now) (side_told side) []) (item_view item.now)) lines whole
-        → Decides (reported drawn.now) (at_bound (telling_of (reported drawn.now) told.now) (side_told side) lines) (item_view item.now) result }
+        → IsToldOf drawn.now.net (goal_by (at_bound (telling_of drawn.now told.now) (side_told side) []) (item_view item.now)) lines whole
+        → Decides drawn.now (at_bound (telling_of drawn.now told.now) (side_told side) lines) (item_view item.now) result }
     ensures made { IsMadeFor drawn.now.net work.new }
 {
     let found = told.course.found;

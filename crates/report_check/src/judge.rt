@@ -6,25 +6,23 @@ ghost use Rattle.requirements.specs.Bounds.{HasTimes};
 ghost use Rattle.itv_base.specs.Names.{name_view};
 ghost use Rattle.slack_report.specs.Entry.{event, row as row_line};
 ghost use Rattle.slack_report.specs.Items.{item_view};
-ghost use Rattle.slack_report.specs.Right.At.{at_end, at_raise, behind_times};
-ghost use Rattle.slack_report.specs.Right.Drawn.{Drawn};
-ghost use Rattle.unroll.specs.Drawn.{IsRowOf, name_of};
-ghost use Rattle.unroll.specs.Reported.{reported};
+ghost use Rattle.right_report.specs.Right.At.{at_end, at_raise, behind_times};
+ghost use Rattle.drawn.specs.Drawn.{Drawn, IsRowOf, name_of};
 ghost use Rattle.report_check.specs.Step.Stages.{AreBounded, Decides, Fits, IsLineStage, IsSide, IsTelling, at_of, side_told, telling_of};
 
 use crate::names::{same_kind, same_name};
 use crate::stage::{Course, Side, Stage, Telling, behind_past, behind_verdict, bounded};
 use crate::times::{are_known, are_times, attains, breaks, can_rise};
+use drawn::{DrawnNetwork, Row};
 use itv_base::{EventId, EventName, Range};
 use requirements::{BothBounds, Bound, judge as verdict_of, slack as slack_of};
 use slack_report::{EndWord, FindingWord, Item};
-use unroll::{Row, Unrolled};
 
 /// Where a line leads at a stage that is before no line of a proof, or none where the line may not follow.
-pub fn judge<'a>(drawn: &Unrolled, stage: &Stage<'a>, item: &Item<'a>) -> Option<Stage<'a>>
-    requires line { IsLineStage (reported drawn.now) stage.now }
-    requires fits { Fits (reported drawn.now) stage.now }
-    ensures decides { Decides (reported drawn.now) (at_of (reported drawn.now) stage.now) (item_view item.now) result }
+pub fn judge<'a>(drawn: &DrawnNetwork, stage: &Stage<'a>, item: &Item<'a>) -> Option<Stage<'a>>
+    requires line { IsLineStage drawn.now stage.now }
+    requires fits { Fits drawn.now stage.now }
+    ensures decides { Decides drawn.now (at_of drawn.now stage.now) (item_view item.now) result }
 {
     match stage {
         Stage::Heading => judge_heading(drawn, item),
@@ -51,8 +49,8 @@ pub fn judge<'a>(drawn: &Unrolled, stage: &Stage<'a>, item: &Item<'a>) -> Option
     }
 }
 
-fn judge_heading(drawn: &Unrolled, item: &Item<'_>) -> Option<Stage<'static>>
-    ensures decides { Decides (reported drawn.now) (at_of (reported drawn.now) Stage.Heading) (item_view item.now) result }
+fn judge_heading(drawn: &DrawnNetwork, item: &Item<'_>) -> Option<Stage<'static>>
+    ensures decides { Decides drawn.now (at_of drawn.now Stage.Heading) (item_view item.now) result }
 {
     match item {
         Item::Heading => Some(Stage::Budget),
@@ -60,8 +58,8 @@ fn judge_heading(drawn: &Unrolled, item: &Item<'_>) -> Option<Stage<'static>>
     }
 }
 
-fn judge_budget(drawn: &Unrolled, item: &Item<'_>) -> Option<Stage<'static>>
-    ensures decides { Decides (reported drawn.now) (at_of (reported drawn.now) Stage.Budget) (item_view item.now) result }
+fn judge_budget(drawn: &DrawnNetwork, item: &Item<'_>) -> Option<Stage<'static>>
+    ensures decides { Decides drawn.now (at_of drawn.now Stage.Budget) (item_view item.now) result }
 {
     match item {
         Item::Budget { .. } => Some(Stage::Events),
@@ -69,8 +67,8 @@ fn judge_budget(drawn: &Unrolled, item: &Item<'_>) -> Option<Stage<'static>>
     }
 }
 
-fn judge_events(drawn: &Unrolled, item: &Item<'_>) -> Option<Stage<'static>>
-    ensures decides { Decides (reported drawn.now) (at_of (reported drawn.now) Stage.Events) (item_view item.now) result }
+fn judge_events(drawn: &DrawnNetwork, item: &Item<'_>) -> Option<Stage<'static>>
+    ensures decides { Decides drawn.now (at_of drawn.now Stage.Events) (item_view item.now) result }
 {
     match item {
         Item::Events { count } if *count == drawn.network().events() => Some(Stage::Event(0)),
@@ -78,9 +76,9 @@ fn judge_events(drawn: &Unrolled, item: &Item<'_>) -> Option<Stage<'static>>
     }
 }
 
-fn judge_event(drawn: &Unrolled, number: u32, item: &Item<'_>) -> Option<Stage<'static>>
+fn judge_event(drawn: &DrawnNetwork, number: u32, item: &Item<'_>) -> Option<Stage<'static>>
     requires there { number < drawn.now.net.events }
-    ensures decides { Decides (reported drawn.now) (at_of (reported drawn.now) (Stage.Event number)) (item_view item.now) result }
+    ensures decides { Decides drawn.now (at_of drawn.now (Stage.Event number)) (item_view item.now) result }
 {
     // The number of events is one of 32 bits, and so is the next number.
     let _events = drawn.network().events();
@@ -103,8 +101,8 @@ fn is_event(item: &Item<'_>, number: u32, name: EventName<'_>) -> bool
     }
 }
 
-fn judge_known(drawn: &Unrolled, item: &Item<'_>) -> Option<Stage<'static>>
-    ensures decides { Decides (reported drawn.now) (at_of (reported drawn.now) Stage.Known) (item_view item.now) result }
+fn judge_known(drawn: &DrawnNetwork, item: &Item<'_>) -> Option<Stage<'static>>
+    ensures decides { Decides drawn.now (at_of drawn.now Stage.Known) (item_view item.now) result }
 {
     match item {
         Item::Times(list) if are_known(drawn.network(), list) => {
@@ -114,8 +112,8 @@ fn judge_known(drawn: &Unrolled, item: &Item<'_>) -> Option<Stage<'static>>
     }
 }
 
-fn judge_rows(drawn: &Unrolled, word: FindingWord, item: &Item<'_>) -> Option<Stage<'static>>
-    ensures decides { Decides (reported drawn.now) (at_of (reported drawn.now) (Stage.Rows word)) (item_view item.now) result }
+fn judge_rows(drawn: &DrawnNetwork, word: FindingWord, item: &Item<'_>) -> Option<Stage<'static>>
+    ensures decides { Decides drawn.now (at_of drawn.now (Stage.Rows word)) (item_view item.now) result }
 {
     match item {
         Item::Rows { count } if u64::from(*count) == drawn.rows().len() => Some(Stage::Row {
@@ -127,13 +125,13 @@ fn judge_rows(drawn: &Unrolled, word: FindingWord, item: &Item<'_>) -> Option<St
 }
 
 fn judge_row(
-    drawn: &Unrolled,
+    drawn: &DrawnNetwork,
     course: Course,
     number: u64,
     item: &Item<'_>,
 ) -> Option<Stage<'static>>
     requires within { number ≤ length drawn.now.rows }
-    ensures decides { Decides (reported drawn.now) (at_of (reported drawn.now) (Stage.Row course number)) (item_view item.now) result }
+    ensures decides { Decides drawn.now (at_of drawn.now (Stage.Row course number)) (item_view item.now) result }
 {
     let rows = drawn.rows();
     if number == rows.len() {
@@ -143,7 +141,7 @@ fn judge_row(
 }
 
 fn judge_row_line(
-    drawn: &Unrolled,
+    drawn: &DrawnNetwork,
     course: Course,
     number: u64,
     row: &Row,
@@ -151,7 +149,7 @@ fn judge_row_line(
 ) -> Option<Stage<'static>>
     requires row { slice_get drawn.now.rows number ≡ Some row.now }
     requires between { IsRowOf drawn.now.net row.now }
-    ensures decides { Decides (reported drawn.now) (at_of (reported drawn.now) (Stage.Row course number)) (item_view item.now) result }
+    ensures decides { Decides drawn.now (at_of drawn.now (Stage.Row course number)) (item_view item.now) result }
 {
     if is_row(item, number, drawn, row) {
         return Some(Stage::Bound {
@@ -167,7 +165,7 @@ fn judge_row_line(
 }
 
 // Whether a line tells what is asked of a row.
-fn is_row(item: &Item<'_>, number: u64, drawn: &Unrolled, row: &Row) -> bool
+fn is_row(item: &Item<'_>, number: u64, drawn: &DrawnNetwork, row: &Row) -> bool
     requires between { IsRowOf drawn.now.net row.now }
     ensures row { IsTrue result ↔ (item_view item.now
         ≡ row_line number row.now.kind (name_of drawn.now row.now.from) (name_of drawn.now row.now.to)) }
@@ -189,8 +187,8 @@ fn is_row(item: &Item<'_>, number: u64, drawn: &Unrolled, row: &Row) -> bool
     }
 }
 
-fn judge_end(drawn: &Unrolled, word: EndWord, item: &Item<'_>) -> Option<Stage<'static>>
-    ensures decides { Decides (reported drawn.now) (at_end word) (item_view item.now) result }
+fn judge_end(drawn: &DrawnNetwork, word: EndWord, item: &Item<'_>) -> Option<Stage<'static>>
+    ensures decides { Decides drawn.now (at_end word) (item_view item.now) result }
 {
     match item {
         Item::End(told) if *told == word => Some(Stage::Done),
@@ -199,16 +197,16 @@ fn judge_end(drawn: &Unrolled, word: EndWord, item: &Item<'_>) -> Option<Stage<'
 }
 
 fn judge_times<'a>(
-    drawn: &Unrolled,
+    drawn: &DrawnNetwork,
     told: &Telling,
     side: Side,
     value: Bound,
     item: &Item<'a>,
 ) -> Option<Stage<'a>>
-    requires telling { IsTelling (reported drawn.now) told.now }
+    requires telling { IsTelling drawn.now told.now }
     requires side { IsSide side }
     requires times { HasTimes value }
-    ensures decides { Decides (reported drawn.now) (at_of (reported drawn.now) (Stage.Times told.now side value)) (item_view item.now) result }
+    ensures decides { Decides drawn.now (at_of drawn.now (Stage.Times told.now side value)) (item_view item.now) result }
 {
     match item {
         Item::Times(list)
@@ -237,17 +235,17 @@ fn behind_times<'a>(told: &Telling, side: Side, value: Bound, times: &'a [i64]) 
 }
 
 fn judge_raise(
-    drawn: &Unrolled,
+    drawn: &DrawnNetwork,
     told: &Telling,
     side: Side,
     times: &[i64],
     item: &Item<'_>,
 ) -> Option<Stage<'static>>
-    requires telling { IsTelling (reported drawn.now) told.now }
+    requires telling { IsTelling drawn.now told.now }
     requires side { IsSide side }
     requires times { All IsTime times.now }
     requires count { length times.now ≡ drawn.now.net.events }
-    ensures decides { Decides (reported drawn.now) (at_raise (telling_of (reported drawn.now) told.now) (side_told side) times.now) (item_view item.now) result }
+    ensures decides { Decides drawn.now (at_raise (telling_of drawn.now told.now) (side_told side) times.now) (item_view item.now) result }
 {
     match item {
         Item::Raise(set) if can_rise(drawn.network(), &told.row, side, times, set) => {
@@ -258,15 +256,15 @@ fn judge_raise(
 }
 
 fn judge_verdict(
-    drawn: &Unrolled,
+    drawn: &DrawnNetwork,
     told: &Telling,
     range: Range,
     both: &BothBounds,
     item: &Item<'_>,
 ) -> Option<Stage<'static>>
-    requires telling { IsTelling (reported drawn.now) told.now }
+    requires telling { IsTelling drawn.now told.now }
     requires bounds { AreBounded both.now }
-    ensures decides { Decides (reported drawn.now) (at_of (reported drawn.now) (Stage.Verdict told.now range both.now)) (item_view item.now) result }
+    ensures decides { Decides drawn.now (at_of drawn.now (Stage.Verdict told.now range both.now)) (item_view item.now) result }
 {
     match item {
         Item::Verdict(word) if *word == verdict_of(range, both) => {
@@ -277,15 +275,15 @@ fn judge_verdict(
 }
 
 fn judge_past(
-    drawn: &Unrolled,
+    drawn: &DrawnNetwork,
     told: &Telling,
     range: Range,
     both: &BothBounds,
     item: &Item<'_>,
 ) -> Option<Stage<'static>>
-    requires telling { IsTelling (reported drawn.now) told.now }
+    requires telling { IsTelling drawn.now told.now }
     requires bounds { AreBounded both.now }
-    ensures decides { Decides (reported drawn.now) (at_of (reported drawn.now) (Stage.Past told.now range both.now)) (item_view item.now) result }
+    ensures decides { Decides drawn.now (at_of drawn.now (Stage.Past told.now range both.now)) (item_view item.now) result }
 {
     let word = verdict_of(range, both);
     match item {
@@ -299,7 +297,7 @@ fn judge_past(
 }
 
 fn judge_slack(
-    drawn: &Unrolled,
+    drawn: &DrawnNetwork,
     course: Course,
     number: u64,
     range: Range,
@@ -308,7 +306,7 @@ fn judge_slack(
 ) -> Option<Stage<'static>>
     requires number { number ≤ length drawn.now.rows }
     requires bounds { AreBounded both.now }
-    ensures decides { Decides (reported drawn.now) (at_of (reported drawn.now) (Stage.Slack course number range both.now)) (item_view item.now) result }
+    ensures decides { Decides drawn.now (at_of drawn.now (Stage.Slack course number range both.now)) (item_view item.now) result }
 {
     match item {
         Item::Slack(value) if *value == slack_of(range, both) => {

@@ -3,8 +3,7 @@
 ghost use Rattle.std.specs.Prelude.{◌≡◌, ◌↔◌, IsTrue};
 ghost use Rattle.itv_base.specs.Names.{name_view};
 
-use itv_base::{EventName, Range};
-use sheet::RowKind;
+use itv_base::{EventName, Range, RowKind};
 
 /// Whether two names are the same.
 pub fn same_name(name: EventName<'_>, other: EventName<'_>) -> bool

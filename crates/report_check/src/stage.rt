@@ -2,15 +2,14 @@
 
 ghost use Rattle.std.specs.Prelude.{◌≡◌, ◌<◌, ◌^◌, length};
 ghost use Rattle.requirements.specs.Bounds.{HasTimes};
-ghost use Rattle.slack_report.specs.Right.At.{behind_bound, behind_finding, behind_past, behind_verdict, bounded, course_of, end_word, is_fail, is_within, which_of, with_bounds, with_verdict};
-ghost use Rattle.slack_report.specs.Right.Drawn.{Drawn};
+ghost use Rattle.right_report.specs.Right.At.{behind_bound, behind_finding, behind_past, behind_verdict, bounded, course_of, end_word, is_fail, is_within, which_of, with_bounds, with_verdict};
+ghost use Rattle.drawn.specs.Drawn.{Drawn};
 ghost use Rattle.report_check.specs.Step.Stages.{AreBounded, Fits, IsSide, IsTelling, at_of, course_told, side_told, telling_of};
 
-use itv_base::Range;
+use drawn::Row;
+use itv_base::{Range, RowKind};
 use requirements::{BothBounds, Bound, Verdict};
-use sheet::RowKind;
 use slack_report::{EndWord, FindingWord, Which};
-use unroll::Row;
 
 /// What the word at the end goes by: the finding, whether some verdict was a fail, and whether some bound was left open.
 #[derive(Clone, Copy, Debug, PartialEq, Eq)]

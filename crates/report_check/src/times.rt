@@ -3,17 +3,17 @@
 ghost use Rattle.std.specs.Prelude.{◌≡◌, ◌<◌, ◌↔◌, ◌-ℤ◌, IsTrue, All, length};
 ghost use Rattle.event_graph.specs.Satisfying.{Satisfies};
 ghost use Rattle.event_graph.specs.Times.{IsTime, separation, time_of};
-ghost use Rattle.slack_report.specs.Right.Facts.{AreTimes, Attains, Breaks, CanRise};
+ghost use Rattle.drawn.specs.Drawn.{AreTimes};
+ghost use Rattle.right_report.specs.Right.Facts.{Attains, Breaks, CanRise};
 ghost use Rattle.right_report.specs.Checked.{checked};
-ghost use Rattle.unroll.specs.Reported.{row_told};
 ghost use Rattle.report_check.specs.Step.Stages.{side_told};
 
 use crate::stage::Side;
 use cert_checker::check_ray;
+use drawn::Row;
 use event_graph::Network;
 use itv_base::{EventId, Range};
 use requirements::{Bound, Verdict};
-use unroll::Row;
 
 /// Whether a number of picoseconds is below 2^61 in absolute value.
 pub fn is_time(time: i64) -> bool
@@ -54,7 +54,7 @@ pub fn are_known(net: &Network, times: &[i64]) -> bool
 
 /// Whether times satisfy the network with the from-event of a row at 0.
 pub fn are_times(net: &Network, row: &Row, times: &[i64]) -> bool
-    ensures times { IsTrue result ↔ (All IsTime times.now × AreTimes net.now (row_told row.now) times.now) }
+    ensures times { IsTrue result ↔ (All IsTime times.now × AreTimes net.now row.now times.now) }
 {
     satisfy(net, times) && time_of(times, row.from) == 0
 }
@@ -78,7 +78,7 @@ fn separation(times: &[i64], from: EventId, to: EventId) -> i64
 /// Whether times have the separation that a bound of a row tells.
 pub fn attains(row: &Row, value: Bound, times: &[i64]) -> bool
     requires times { All IsTime times.now }
-    ensures attains { IsTrue result ↔ Attains (row_told row.now) value times.now }
+    ensures attains { IsTrue result ↔ Attains row.now value times.now }
 {
     let told = separation(times, row.from, row.to);
     match value {
@@ -91,7 +91,7 @@ pub fn attains(row: &Row, value: Bound, times: &[i64]) -> bool
 /// Whether times break the end of a range that a verdict names.
 pub fn breaks(row: &Row, range: Range, word: Verdict, times: &[i64]) -> bool
     requires times { All IsTime times.now }
-    ensures breaks { IsTrue result ↔ Breaks (row_told row.now) range word times.now }
+    ensures breaks { IsTrue result ↔ Breaks row.now range word times.now }
 {
     let told = separation(times, row.from, row.to);
     match word {
@@ -108,7 +108,7 @@ pub fn can_rise(net: &Network, row: &Row, side: Side, times: &[i64], set: &[bool
     requires count { length times.now ≡ net.now.events }
     requires from { row.now.from.0 < net.now.events }
     requires to { row.now.to.0 < net.now.events }
-    ensures rise { IsTrue result ↔ CanRise net.now (row_told row.now) (side_told side) times.now set.now }
+    ensures rise { IsTrue result ↔ CanRise net.now row.now (side_told side) times.now set.now }
 {
     if set.len() != net.events() as usize {
         return false;

@@ -2,9 +2,8 @@
 
 ghost use Rattle.std.specs.Prelude.{◌≡◌, ◌↔◌, ◌<◌, ◌≤◌, [], IfErr, IfSome, IsNone, IsTrue, length};
 ghost use Rattle.branch.specs.Work.{IsMadeFor};
-ghost use Rattle.slack_report.specs.Right.At.{at_heading, at_last};
-ghost use Rattle.slack_report.specs.Right.Drawn.{Drawn};
-ghost use Rattle.unroll.specs.Reported.{reported};
+ghost use Rattle.right_report.specs.Right.At.{at_heading, at_last};
+ghost use Rattle.drawn.specs.Drawn.{Drawn};
 ghost use Rattle.report_check.specs.Step.Stages.{Fits, IsLineStage, at_of};
 ghost use Rattle.report_check.specs.Step.Groups.{IsGroup, behind_lines};
 ghost use Rattle.report_check.specs.Step.Walks.{Steps, Walks};
@@ -14,19 +13,19 @@ use crate::judge::judge;
 use crate::stage::Stage;
 use branch::Work;
 use cert_checker::Checker;
+use drawn::DrawnNetwork;
 use slack_report::Items;
-use unroll::Unrolled;
 
 /// Walks over all lines of a report of a drawn network, and tells the number from 0 of the first wrong one, if there is one.
 pub fn walk(
-    drawn: &Unrolled,
+    drawn: &DrawnNetwork,
     checker: &mut Checker,
     work: &mut Work,
     items: &Items,
 ) -> Result<(), u64>
     requires room { checker.old.room ≡ length drawn.now.net.constraints }
     requires made { IsMadeFor drawn.now.net work.old }
-    ensures walks { Walks (reported drawn.now) items.now at_heading result }
+    ensures walks { Walks drawn.now items.now at_heading result }
     ensures within { IfErr result (λ number. number ≤ length items.now) }
 {
     let mut stage = Stage::Heading;
@@ -42,7 +41,7 @@ pub fn walk(
 
 // A step from a stage at a line: the stage behind it with the number of its line, or the number of the first wrong line.
 fn step<'a>(
-    drawn: &Unrolled,
+    drawn: &DrawnNetwork,
     checker: &mut Checker,
     work: &mut Work,
     items: &'a Items,
@@ -50,10 +49,10 @@ fn step<'a>(
     stage: &Stage<'a>,
 ) -> Result<(Stage<'a>, u64), u64>
     requires start { start < length items.now }
-    requires fits { Fits (reported drawn.now) stage.now }
+    requires fits { Fits drawn.now stage.now }
     requires room { checker.old.room ≡ length drawn.now.net.constraints }
     requires made { IsMadeFor drawn.now.net work.old }
-    ensures steps { Steps (reported drawn.now) items.now (at_of (reported drawn.now) stage.now) start result }
+    ensures steps { Steps drawn.now items.now (at_of drawn.now stage.now) start result }
     ensures room { checker.new.room ≡ checker.old.room }
     ensures made { IsMadeFor drawn.now.net work.new }
 {
@@ -64,11 +63,11 @@ fn step<'a>(
 }
 
 // What lines of a proof stand before at a stage, if some may.
-fn group_of(drawn: &Unrolled, stage: &Stage<'_>) -> Option<Group>
-    requires fits { Fits (reported drawn.now) stage.now }
-    ensures group { IfSome result (λ group. IsGroup (reported drawn.now) group
-        × (behind_lines (reported drawn.now) group [] ≡ at_of (reported drawn.now) stage.now)) }
-    ensures line { IsNone result → IsLineStage (reported drawn.now) stage.now }
+fn group_of(drawn: &DrawnNetwork, stage: &Stage<'_>) -> Option<Group>
+    requires fits { Fits drawn.now stage.now }
+    ensures group { IfSome result (λ group. IsGroup drawn.now group
+        × (behind_lines drawn.now group [] ≡ at_of drawn.now stage.now)) }
+    ensures line { IsNone result → IsLineStage drawn.now stage.now }
 {
     match stage {
         Stage::Event(number) if *number == drawn.network().events() => Some(Group::Finding(
@@ -84,15 +83,15 @@ fn group_of(drawn: &Unrolled, stage: &Stage<'_>) -> Option<Group>
 
 // A step over one line.
 fn step_line<'a>(
-    drawn: &Unrolled,
+    drawn: &DrawnNetwork,
     items: &'a Items,
     start: u64,
     stage: &Stage<'a>,
 ) -> Result<(Stage<'a>, u64), u64>
     requires start { start < length items.now }
-    requires fits { Fits (reported drawn.now) stage.now }
-    requires line { IsLineStage (reported drawn.now) stage.now }
-    ensures steps { Steps (reported drawn.now) items.now (at_of (reported drawn.now) stage.now) start result }
+    requires fits { Fits drawn.now stage.now }
+    requires line { IsLineStage drawn.now stage.now }
+    ensures steps { Steps drawn.now items.now (at_of drawn.now stage.now) start result }
 {
     let (item, _) = items.get(start);
     match judge(drawn, stage, &item) {

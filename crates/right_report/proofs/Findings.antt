@@ -6,10 +6,10 @@ use Rattle.event_graph.specs.Proof.{ProofLine}
 use Rattle.slack_report.specs.declared.words.FindingWord.{FindingWord}
 use Rattle.slack_report.specs.declared.words.FindingWord.TheVariants.{Consistent, Inconsistent}
 use Rattle.slack_report.specs.Entry.{Entry, finding}
-use Rattle.slack_report.specs.Right.Drawn.{Drawn}
-use Rattle.slack_report.specs.Right.At.{At, at_heading, at_budget, at_events, at_event, at_finding, at_known, at_rows, at_row, at_bound, at_times, at_raise, at_verdict, at_past, at_slack, at_end, at_last, behind_finding}
-use Rattle.slack_report.specs.Right.Facts.{IsFinding, right}
-use Rattle.slack_report.specs.Right.Following.{Facts, MayFind, MayFollow, Reads}
+use Rattle.drawn.specs.Drawn.{Drawn}
+use Rattle.right_report.specs.Right.At.{At, at_heading, at_budget, at_events, at_event, at_finding, at_known, at_rows, at_row, at_bound, at_times, at_raise, at_verdict, at_past, at_slack, at_end, at_last, behind_finding}
+use Rattle.right_report.specs.Right.Facts.{IsFinding, right}
+use Rattle.right_report.specs.Right.Following.{Facts, MayFind, MayFollow, Reads}
 use Rattle.right_report.specs.Laws.{ConsistentIsSo, InconsistentIsSo}
 use Rattle.right_report.specs.Told.{finding_in}
 

@@ -9,9 +9,9 @@ use Rattle.slack_report.specs.declared.words.FindingWord.{FindingWord}
 use Rattle.slack_report.specs.declared.words.FindingWord.TheVariants.{Consistent, Inconsistent, Unsettled}
 use Rattle.slack_report.specs.declared.words.Which.{Which}
 use Rattle.slack_report.specs.Entry.{Entry, bound, budget, finding, heading, proof, times}
-use Rattle.slack_report.specs.Right.Drawn.{Drawn}
-use Rattle.slack_report.specs.Right.At.{At, Side, Telling, at_heading, at_budget, at_events, at_event, at_finding, at_known, at_rows, at_row, at_bound, at_times, at_raise, at_verdict, at_past, at_slack, at_end, at_last, behind_bound, behind_finding, behind_times, which_of}
-use Rattle.slack_report.specs.Right.Following.{Facts, MayBound, MayFind, MayFollow, Reads}
+use Rattle.drawn.specs.Drawn.{Drawn}
+use Rattle.right_report.specs.Right.At.{At, Side, Telling, at_heading, at_budget, at_events, at_event, at_finding, at_known, at_rows, at_row, at_bound, at_times, at_raise, at_verdict, at_past, at_slack, at_end, at_last, behind_bound, behind_finding, behind_times, which_of}
+use Rattle.right_report.specs.Right.Following.{Facts, MayBound, MayFind, MayFollow, Reads}
 use Rattle.right_report.specs.Checked.{checked}
 use Rattle.right_report.specs.Laws.{CheckedHasNoWrong, OneFirstWrong}
 use Rattle.right_report.specs.Shown.{goal_of}

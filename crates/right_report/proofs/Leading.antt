@@ -7,11 +7,11 @@ use Rattle.certificate.specs.Scribing.{SinkGrew, SinkWasCut}
 use Rattle.certificate.specs.Text.{proof_line_text, proof_text}
 use Rattle.slack_report.specs.Entry.{Entry, proof}
 use Rattle.slack_report.specs.Text.{entry_text, report_text, words_of}
-use Rattle.slack_report.specs.Right.Drawn.{Drawn}
-use Rattle.slack_report.specs.Right.At.{At, Side, Telling, at_bound, at_event, at_finding}
-use Rattle.slack_report.specs.Right.Following.{Facts, MayFollow, Reads}
+use Rattle.drawn.specs.Drawn.{Drawn}
+use Rattle.right_report.specs.Right.At.{At, Side, Telling, at_bound, at_event, at_finding}
+use Rattle.right_report.specs.Right.Following.{Facts, MayFollow, Reads}
 use Rattle.slack_report.proofs.Judging.{report_text-append}
-use Rattle.slack_report.proofs.RightOrder.{reads-append}
+use Rattle.right_report.proofs.RightOrder.{reads-append}
 use Rattle.right_report.specs.Writing.{Leads, Stopped, Wrote}
 use Rattle.std.specs.Bool.{⊤}
 

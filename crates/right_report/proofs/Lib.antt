@@ -1,3 +1,4 @@
+pub mod RightOrder
 pub mod Leading
 pub mod Showing
 pub mod Checking

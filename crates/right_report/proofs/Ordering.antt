@@ -3,13 +3,13 @@ use Rattle.std.proofs.Common.{◌≡◌, ℕ, List, [], ◌∷◌, All, length, 
 use Rattle.std.proofs.lemmas.List.Elements.{All-head, All-tail}
 use Rattle.slack_report.specs.Entry.{Entry, IsEntry}
 use Rattle.slack_report.specs.Order.{IsReport, Leads, events_at}
-use Rattle.slack_report.specs.Right.Drawn.{Drawn}
-use Rattle.slack_report.specs.Right.At.{At, at_heading, at_budget, at_events, at_event, at_finding, at_known, at_rows, at_row, at_bound, at_times, at_raise, at_verdict, at_past, at_slack, at_end, at_last, end_word}
-use Rattle.slack_report.specs.Right.Facts.{right}
-use Rattle.slack_report.specs.Right.Following.{Facts, MayFollow, Reads}
-use Rattle.slack_report.specs.Right.Order.{place_of}
+use Rattle.drawn.specs.Drawn.{Drawn}
+use Rattle.right_report.specs.Right.At.{At, at_heading, at_budget, at_events, at_event, at_finding, at_known, at_rows, at_row, at_bound, at_times, at_raise, at_verdict, at_past, at_slack, at_end, at_last, end_word}
+use Rattle.right_report.specs.Right.Facts.{right}
+use Rattle.right_report.specs.Right.Following.{Facts, MayFollow, Reads}
+use Rattle.right_report.specs.Right.Order.{place_of}
 use Rattle.slack_report.specs.Entry.{budget, ending, events, heading}
-use Rattle.slack_report.proofs.RightOrder.{right_lines_keep_order}
+use Rattle.right_report.proofs.RightOrder.{right_lines_keep_order}
 use Rattle.right_report.specs.Laws.{RightIsReport}
 
 module _ (facts : Facts) (drawn : Drawn) (line : Entry) (next : At) where

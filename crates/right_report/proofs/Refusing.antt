@@ -1,14 +1,18 @@
 -- Texts that a check accepts or refuses.
-use Rattle.std.proofs.Common.{◌≡◌, ◌+◌, ℕ, List, inl, inr, sym, ap, subst, ◌∙◌}
+use Rattle.std.proofs.Common.{◌≡◌, ◌+◌, ℕ, List, [], ◌∷◌, Ok, Err, inl, inr, refl, sym, ap, subst, ◌∙◌}
 use Rattle.slack_report.specs.Entry.{Entry}
 use Rattle.slack_report.specs.Order.{IsReport}
+use Rattle.slack_report.specs.Reading.{Read, report_in}
 use Rattle.slack_report.specs.Report.{IsFirstWrongLine}
 use Rattle.slack_report.specs.Text.{report_text}
-use Rattle.slack_report.specs.Right.Drawn.{Drawn}
-use Rattle.slack_report.proofs.Judging.{first_same, texts_differ}
-use Rattle.right_report.specs.Laws.{AcceptedTextIsNotRefused, AcceptedTextIsRight, OneRefusedLine}
-use Rattle.right_report.specs.Texts.{HasFirstWrong}
-use Rattle.right_report.specs.Wrong.{IsFirstWrongIn}
+use Rattle.drawn.specs.Drawn.{Drawn}
+use Rattle.slack_report.proofs.Judging.{first_same, report_err, report_ok, texts_differ}
+use Rattle.right_report.specs.Checked.{checked}
+use Rattle.right_report.specs.Laws.{AcceptedTextIsNotRefused, AcceptedTextIsRight, OneRefusedLine, UnrefusedTextIsRight}
+use Rattle.right_report.specs.Right.At.{At, at_heading, at_last}
+use Rattle.right_report.specs.Right.Following.{Reads}
+use Rattle.right_report.specs.Texts.{HasFirstWrong, IsRefusedText, IsRightText}
+use Rattle.right_report.specs.Wrong.{IsFirstWrong, IsFirstWrongIn, IsWrong}
 use Rattle.right_report.proofs.Checking.{checked_is_right}
 use Rattle.right_report.proofs.FirstWrong.{checked_has_no_wrong, one_first_wrong}
 
@@ -41,3 +45,26 @@ accepted_text_is_not_refused drawn bytes line a (inl wrong) = no_text_fault byte
 accepted_text_is_not_refused drawn bytes line a (inr wrong) =
     let same : wrong.lines ≡ a.lines = texts_differ wrong.lines a.lines wrong.report a.report (sym wrong.text ∙ a.text) in
     checked_has_no_wrong drawn a.lines wrong.number a.is_checked (subst (λ lines. IsFirstWrongIn drawn lines wrong.number) same wrong.is_wrong)
+
+-- ---- a text without a wrong line
+
+-- lines of which none is the first wrong one can't fail to lead to the end of a report
+unrefused_from : (drawn : Drawn) (lines : List Entry) (here : At) → ((number : ℕ) → IsFirstWrong drawn here lines number → ⊥) → (Reads (checked drawn.net) drawn here lines at_last → ⊥) → ⊥
+unrefused_from drawn [] here none bars = none 0 (bars, refl)
+unrefused_from drawn (line ∷ lines) here none bars =
+    let fine : IsWrong drawn here line lines → ⊥ = λ wrong. none 0 (inl (wrong, refl)) in
+    fine (inl (λ next follows. unrefused_from drawn lines next
+    (λ later wrong. none (later + 1) (inr (next, later, (follows, λ refused. fine (inr refused)), wrong, refl))) (λ reads. bars (next, follows, reads))))
+
+unrefused_report : (drawn : Drawn) (bytes : List ℕ) (lines : List Entry) → IsReport lines → bytes ≡ report_text lines → ((line : ℕ) → IsRefusedText drawn bytes line → ⊥) → (IsRightText drawn bytes → ⊥) → ⊥
+unrefused_report drawn bytes lines report text none bars =
+    unrefused_from drawn lines at_heading
+    (λ number wrong. none (number + 1) (inr (record { lines = lines; report = report; text = text; number = number; is_line = refl; is_wrong = wrong })))
+    (λ reads. bars (accepted_text_is_right drawn bytes (record { lines = lines; report = report; text = text; is_checked = reads })))
+
+pub unrefused_text_is_right : UnrefusedTextIsRight
+unrefused_text_is_right drawn bytes none bars = by_reading (report_in bytes) refl
+  where
+    by_reading : (read : Read) → report_in bytes ≡ read → ⊥
+    by_reading (Ok lines) e = let t = report_ok bytes lines e in unrefused_report drawn bytes lines t.0 t.1 none bars
+    by_reading (Err before) e = none (before + 1) (inl (report_err bytes before e))

@@ -6,10 +6,11 @@ use Rattle.requirements.specs.declared.bound.Bound.{Bound}
 use Rattle.requirements.specs.declared.bound.Bound.TheVariants.{Closed, Unbounded, Within}
 use Rattle.slack_report.specs.declared.words.Which.TheVariants.{Max, Min}
 use Rattle.slack_report.specs.Entry.{Entry, bound, proof, raise, times}
-use Rattle.slack_report.specs.Right.Drawn.{Drawn, Row}
-use Rattle.slack_report.specs.Right.At.{At, Side, Telling, at_heading, at_bound, at_times, at_raise, at_last, behind_bound, behind_times, bounded, greatest, least_by}
-use Rattle.slack_report.specs.Right.Facts.{IsBoundOf, right}
-use Rattle.slack_report.specs.Right.Following.{MayFollow, Reads}
+use Rattle.drawn.specs.Drawn.{Drawn}
+use Rattle.drawn.specs.declared.row.Row.{Row}
+use Rattle.right_report.specs.Right.At.{At, Side, Telling, at_heading, at_bound, at_times, at_raise, at_last, behind_bound, behind_times, bounded, greatest, least_by}
+use Rattle.right_report.specs.Right.Facts.{IsBoundOf, right}
+use Rattle.right_report.specs.Right.Following.{MayFollow, Reads}
 use Rattle.right_report.specs.Laws.{GreatestIsRight, LeastIsRight, UnboundedAbove, UnboundedBelow}
 use Rattle.right_report.specs.Told.{first_bound}
 use Rattle.right_report.proofs.Standing.{IsRightBound, attained_is_right, closed_is_right, none_is_right, on_row, rise_is_right}

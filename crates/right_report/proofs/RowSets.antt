@@ -8,14 +8,15 @@ use Rattle.requirements.specs.declared.verdict.Verdict.TheVariants as verdicts
 use Rattle.requirements.specs.Verdicts.{verdict_of}
 use Rattle.requirements.specs.Slacks.{slack_of}
 use Rattle.itv_base.specs.Range.{Ends}
-use Rattle.sheet.specs.declared.row.RowKind.{RowKind}
-use Rattle.sheet.specs.declared.row.RowKind.TheVariants.{Ask, Req}
+use Rattle.itv_base.specs.declared.row_kind.RowKind.{RowKind}
+use Rattle.itv_base.specs.declared.row_kind.RowKind.TheVariants.{Ask, Req}
 use Rattle.slack_report.specs.declared.words.Which.TheVariants.{Max, Min}
 use Rattle.slack_report.specs.Entry.{Entry, bound, ending, proof, raise, slack, times, verdict}
-use Rattle.slack_report.specs.Right.Drawn.{Drawn, Row}
-use Rattle.slack_report.specs.Right.At.{At, Side, Telling, at_heading, at_row, at_bound, at_times, at_raise, at_verdict, at_past, at_slack, at_last, behind_bound, behind_past, behind_times, behind_verdict, bounded, end_word, greatest, judged, least_by, which_of}
-use Rattle.slack_report.specs.Right.Facts.{right}
-use Rattle.slack_report.specs.Right.Following.{MayFollow, Reads}
+use Rattle.drawn.specs.Drawn.{Drawn}
+use Rattle.drawn.specs.declared.row.Row.{Row}
+use Rattle.right_report.specs.Right.At.{At, Side, Telling, at_heading, at_row, at_bound, at_times, at_raise, at_verdict, at_past, at_slack, at_last, behind_bound, behind_past, behind_times, behind_verdict, bounded, end_word, greatest, judged, least_by, which_of}
+use Rattle.right_report.specs.Right.Facts.{right}
+use Rattle.right_report.specs.Right.Following.{MayFollow, Reads}
 use Rattle.right_report.specs.Laws.{SetShowsAbove, SetShowsBelow}
 use Rattle.right_report.specs.Told.{first_set, set_behind}
 use Rattle.right_report.proofs.RowBounds.{IsBeforeMax, IsBeforeMin, before_min_bound, before_min_times}

@@ -9,13 +9,14 @@ use Rattle.requirements.specs.declared.bound.Bound.TheVariants.{Closed, Unbounde
 use Rattle.requirements.specs.declared.verdict.Verdict.{Verdict}
 use Rattle.requirements.specs.declared.verdict.Verdict.TheVariants.{FailHigh, FailLow, Pass}
 use Rattle.requirements.proofs.Judging as requirement
-use Rattle.sheet.specs.declared.row.RowKind.{RowKind}
-use Rattle.sheet.specs.declared.row.RowKind.TheVariants.{Ask, Req}
+use Rattle.itv_base.specs.declared.row_kind.RowKind.{RowKind}
+use Rattle.itv_base.specs.declared.row_kind.RowKind.TheVariants.{Ask, Req}
 use Rattle.slack_report.specs.Entry.{Entry, bound, ending, proof, raise, times, verdict}
-use Rattle.slack_report.specs.Right.Drawn.{Drawn, Row}
-use Rattle.slack_report.specs.Right.At.{At, Side, Telling, at_heading, at_row, at_bound, at_times, at_raise, at_verdict, at_last, behind_bound, behind_times, bounded, end_word, greatest, judged, least_by, which_of}
-use Rattle.slack_report.specs.Right.Facts.{BeginsRightReport, right}
-use Rattle.slack_report.specs.Right.Following.{MayFollow, Reads}
+use Rattle.drawn.specs.Drawn.{Drawn}
+use Rattle.drawn.specs.declared.row.Row.{Row}
+use Rattle.right_report.specs.Right.At.{At, Side, Telling, at_heading, at_row, at_bound, at_times, at_raise, at_verdict, at_last, behind_bound, behind_times, bounded, end_word, greatest, judged, least_by, which_of}
+use Rattle.right_report.specs.Right.Facts.{BeginsRightReport, right}
+use Rattle.right_report.specs.Right.Following.{MayFollow, Reads}
 use Rattle.right_report.specs.Laws.{FailHighIsBroken, FailLowIsBroken, PassIsMet}
 use Rattle.right_report.specs.Told.{first_verdict, verdict_on}
 use Rattle.right_report.proofs.Standing.{Stands, on_row, stands}

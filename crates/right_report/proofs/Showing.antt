@@ -1,10 +1,10 @@
 -- Reports that show their numbers are right.
 use Rattle.std.proofs.Common.{ℕ}
 use Rattle.event_graph.specs.Network.{Net}
-use Rattle.slack_report.specs.Right.At.{at_heading, at_last}
-use Rattle.slack_report.specs.Right.Facts.{right}
-use Rattle.slack_report.specs.Right.Following.{Implies}
-use Rattle.slack_report.proofs.RightOrder.{reads_weaker}
+use Rattle.right_report.specs.Right.At.{at_heading, at_last}
+use Rattle.right_report.specs.Right.Facts.{right}
+use Rattle.right_report.specs.Right.Following.{Implies}
+use Rattle.right_report.proofs.RightOrder.{reads_weaker}
 use Rattle.right_report.specs.Laws.{BareIsRight, ShownIsRight}
 use Rattle.right_report.specs.Shown.{bare, shown}
 

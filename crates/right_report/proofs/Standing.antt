@@ -14,15 +14,16 @@ use Rattle.requirements.specs.declared.bound.Bound.{Bound}
 use Rattle.requirements.specs.declared.bound.Bound.TheVariants.{Closed, Unbounded, Within}
 use Rattle.requirements.specs.declared.verdict.Verdict.{Verdict}
 use Rattle.requirements.specs.declared.verdict.Verdict.TheVariants as verdicts
-use Rattle.sheet.specs.declared.row.RowKind.{RowKind}
-use Rattle.sheet.specs.declared.row.RowKind.TheVariants.{Ask, Req}
+use Rattle.itv_base.specs.declared.row_kind.RowKind.{RowKind}
+use Rattle.itv_base.specs.declared.row_kind.RowKind.TheVariants.{Ask, Req}
 use Rattle.slack_report.specs.declared.words.FindingWord.{FindingWord}
 use Rattle.slack_report.specs.declared.words.FindingWord.TheVariants as findings
 use Rattle.slack_report.specs.Entry.{Entry, row}
-use Rattle.slack_report.specs.Right.Drawn.{Drawn, Row, name_of}
-use Rattle.slack_report.specs.Right.At.{At, Side, Telling, at_heading, at_budget, at_events, at_event, at_finding, at_known, at_rows, at_row, at_bound, at_times, at_raise, at_verdict, at_past, at_slack, at_end, at_last, behind_bound, behind_finding, behind_times, behind_verdict, bounded, greatest, judged, least_by}
-use Rattle.slack_report.specs.Right.Facts.{AreTimes, Attains, CanRise, IsBoundOf, right}
-use Rattle.slack_report.specs.Right.Following.{Facts, MayBound, MayFind, MayFollow, Reads}
+use Rattle.drawn.specs.Drawn.{Drawn, name_of, AreTimes}
+use Rattle.drawn.specs.declared.row.Row.{Row}
+use Rattle.right_report.specs.Right.At.{At, Side, Telling, at_heading, at_budget, at_events, at_event, at_finding, at_known, at_rows, at_row, at_bound, at_times, at_raise, at_verdict, at_past, at_slack, at_end, at_last, behind_bound, behind_finding, behind_times, behind_verdict, bounded, greatest, judged, least_by}
+use Rattle.right_report.specs.Right.Facts.{Attains, CanRise, IsBoundOf, right}
+use Rattle.right_report.specs.Right.Following.{Facts, MayBound, MayFind, MayFollow, Reads}
 use Rattle.right_report.specs.Told.{behind_row}
 
 -- ---- rows that are left

@@ -11,17 +11,18 @@ use Rattle.requirements.specs.declared.bound.Bound.{Bound}
 use Rattle.requirements.specs.declared.bound.Bound.TheVariants.{Closed, Unbounded, Within}
 use Rattle.requirements.specs.declared.verdict.Verdict.{Verdict}
 use Rattle.requirements.specs.declared.verdict.Verdict.TheVariants as verdicts
-use Rattle.sheet.specs.declared.row.RowKind.{RowKind}
-use Rattle.sheet.specs.declared.row.RowKind.TheVariants.{Ask, Req}
+use Rattle.itv_base.specs.declared.row_kind.RowKind.{RowKind}
+use Rattle.itv_base.specs.declared.row_kind.RowKind.TheVariants.{Ask, Req}
 use Rattle.slack_report.specs.declared.words.EndWord.{EndWord}
 use Rattle.slack_report.specs.declared.words.EndWord.TheVariants as endings
 use Rattle.slack_report.specs.declared.words.FindingWord.{FindingWord}
 use Rattle.slack_report.specs.declared.words.FindingWord.TheVariants.{Consistent, Inconsistent, Unsettled}
 use Rattle.slack_report.specs.Entry.{Entry, ending}
-use Rattle.slack_report.specs.Right.Drawn.{Drawn, Row}
-use Rattle.slack_report.specs.Right.At.{At, Course, Side, Telling, at_heading, at_budget, at_events, at_event, at_finding, at_known, at_rows, at_row, at_bound, at_times, at_raise, at_verdict, at_past, at_slack, at_end, at_last, behind_bound, behind_finding, behind_past, behind_times, behind_verdict, bounded, end_word, greatest, is_within, judged, least_by, undecided_or_pass}
-use Rattle.slack_report.specs.Right.Facts.{HasAttained, IsBoundOf}
-use Rattle.slack_report.specs.Right.Following.{Facts, MayBound, MayFind, MayFollow, Reads}
+use Rattle.drawn.specs.Drawn.{Drawn}
+use Rattle.drawn.specs.declared.row.Row.{Row}
+use Rattle.right_report.specs.Right.At.{At, Course, Side, Telling, at_heading, at_budget, at_events, at_event, at_finding, at_known, at_rows, at_row, at_bound, at_times, at_raise, at_verdict, at_past, at_slack, at_end, at_last, behind_bound, behind_finding, behind_past, behind_times, behind_verdict, bounded, end_word, greatest, is_within, judged, least_by, undecided_or_pass}
+use Rattle.right_report.specs.Right.Facts.{HasAttained, IsBoundOf}
+use Rattle.right_report.specs.Right.Following.{Facts, MayBound, MayFind, MayFollow, Reads}
 use Rattle.right_report.specs.Laws.{BareUndecidedIsBelow, ShownUndecidedIsBelow}
 use Rattle.right_report.specs.Shown.{ShowsBound, bare, goal_of, shown}
 use Rattle.right_report.specs.Told.{end_in}

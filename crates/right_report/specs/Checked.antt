@@ -9,10 +9,11 @@ use Rattle.requirements.specs.declared.bound.Bound.TheVariants as bounds
 use Rattle.slack_report.specs.declared.words.FindingWord.{FindingWord}
 use Rattle.slack_report.specs.declared.words.FindingWord.TheVariants as findings
 use Rattle.slack_report.specs.Entry.{Entry}
-use Rattle.slack_report.specs.Right.Drawn.{Drawn, Row}
-use Rattle.slack_report.specs.Right.At.{Side, at_heading, at_last}
-use Rattle.slack_report.specs.Right.Facts.{HasAttained, IsLimit, right}
-use Rattle.slack_report.specs.Right.Following.{Facts, Reads}
+use Rattle.drawn.specs.Drawn.{Drawn}
+use Rattle.drawn.specs.declared.row.Row.{Row}
+use Rattle.right_report.specs.Right.At.{Side, at_heading, at_last}
+use Rattle.right_report.specs.Right.Facts.{HasAttained, IsLimit, right}
+use Rattle.right_report.specs.Right.Following.{Facts, Reads}
 use Rattle.right_report.specs.Shown.{goal_of}
 
 -- an inconsistent finding is proved by the lines before it

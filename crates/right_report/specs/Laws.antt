@@ -10,7 +10,7 @@ use Rattle.requirements.specs.Laws.{IsBrokenHigh, IsBrokenLow, IsMet}
 use Rattle.requirements.specs.declared.bound.Bound.{Bound}
 use Rattle.requirements.specs.declared.bound.Bound.TheVariants as bounds
 use Rattle.requirements.specs.declared.verdict.Verdict.TheVariants as verdicts
-use Rattle.sheet.specs.declared.row.RowKind.TheVariants as kinds
+use Rattle.itv_base.specs.declared.row_kind.RowKind.TheVariants as kinds
 use Rattle.slack_report.specs.declared.words.EndWord.TheVariants as endings
 use Rattle.slack_report.specs.declared.words.FindingWord.TheVariants as findings
 use Rattle.slack_report.specs.declared.words.Which.TheVariants as sorts
@@ -18,8 +18,9 @@ use Rattle.slack_report.specs.Entry.{Entry, IsEntry}
 use Rattle.slack_report.specs.Order.{IsReport}
 use Rattle.slack_report.specs.Report.{IsReportText}
 use Rattle.slack_report.specs.Text.{report_text}
-use Rattle.slack_report.specs.Right.Drawn.{Drawn, Row}
-use Rattle.slack_report.specs.Right.Facts.{BeginsRightReport, IsRightReport}
+use Rattle.drawn.specs.Drawn.{Drawn}
+use Rattle.drawn.specs.declared.row.Row.{Row}
+use Rattle.right_report.specs.Right.Facts.{BeginsRightReport, IsRightReport}
 use Rattle.right_report.specs.Checked.{IsChecked}
 use Rattle.right_report.specs.Shown.{IsBareReport, IsShownReport}
 use Rattle.right_report.specs.Texts.{IsAcceptedText, IsRefusedText, IsRightText}
@@ -163,3 +164,8 @@ OneRefusedLine = (drawn : Drawn) (bytes : List ℕ) (line other : ℕ) → IsRef
 -- the check never accepts a text and refuses it too
 abbrev pub AcceptedTextIsNotRefused : Type 0
 AcceptedTextIsNotRefused = (drawn : Drawn) (bytes : List ℕ) (line : ℕ) → IsAcceptedText drawn bytes → IsRefusedText drawn bytes line → ⊥
+
+-- A text that the check refuses at no line can't fail to be the text of a right report. (To have the report at hand, root bounds would have to
+-- be decided here.)
+abbrev pub UnrefusedTextIsRight : Type 0
+UnrefusedTextIsRight = (drawn : Drawn) (bytes : List ℕ) → ((line : ℕ) → ¬ (IsRefusedText drawn bytes line)) → ¬ (¬ (IsRightText drawn bytes))

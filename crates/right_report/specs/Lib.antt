@@ -1,3 +1,4 @@
+pub mod Right
 pub mod Shown
 pub mod Checked
 pub mod Wrong

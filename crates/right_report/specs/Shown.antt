@@ -8,10 +8,11 @@ use Rattle.requirements.specs.declared.bound.Bound.TheVariants as bounds
 use Rattle.slack_report.specs.declared.words.FindingWord.{FindingWord}
 use Rattle.slack_report.specs.declared.words.FindingWord.TheVariants as findings
 use Rattle.slack_report.specs.Entry.{Entry, budget}
-use Rattle.slack_report.specs.Right.Drawn.{Drawn, Row}
-use Rattle.slack_report.specs.Right.At.{Side, at_heading, at_last, greatest, least_by}
-use Rattle.slack_report.specs.Right.Facts.{right}
-use Rattle.slack_report.specs.Right.Following.{Facts, Reads}
+use Rattle.drawn.specs.Drawn.{Drawn}
+use Rattle.drawn.specs.declared.row.Row.{Row}
+use Rattle.right_report.specs.Right.At.{Side, at_heading, at_last, greatest, least_by}
+use Rattle.right_report.specs.Right.Facts.{right}
+use Rattle.right_report.specs.Right.Following.{Facts, Reads}
 
 -- What is to be shown for a number as a bound of a row: that no separation of the pair exceeds it, and for a least separation that none
 -- of the reversed pair exceeds its negative.

@@ -3,9 +3,9 @@ use Rattle.std.specs.Prelude.{◌≡◌, List, Result, Ok, Err}
 use Rattle.itv_base.specs.Outside.{CutShort, SinkTold, grown}
 use Rattle.slack_report.specs.Entry.{Entry}
 use Rattle.slack_report.specs.Text.{report_text}
-use Rattle.slack_report.specs.Right.Drawn.{Drawn}
-use Rattle.slack_report.specs.Right.At.{At}
-use Rattle.slack_report.specs.Right.Following.{Facts, Reads}
+use Rattle.drawn.specs.Drawn.{Drawn}
+use Rattle.right_report.specs.Right.At.{At}
+use Rattle.right_report.specs.Right.Following.{Facts, Reads}
 
 -- lines were put whole, and lead from a place to another
 pub record Wrote (facts : Facts) (drawn : Drawn) (here last : At) (old new : SinkTold) : Type 0 where

@@ -1,6 +1,7 @@
 //! Laws of right reports. The functions do nothing; what they ensure holds of all networks and all reports.
 
-ghost use Rattle.right_report.specs.Laws.{AcceptedTextIsNotRefused, AcceptedTextIsRight, BareIsRight, BareUndecidedIsBelow, CheckedHasNoWrong, CheckedIsRight, ConsistentIsSo, FailEndIsSo, FailHighIsBroken, FailLowIsBroken, GreatestIsRight, InconsistentEndIsSo, InconsistentIsSo, LeastIsRight, OneFirstWrong, OneRefusedLine, PassEndIsSo, PassIsMet, RightIsReport, SetShowsAbove, SetShowsBelow, ShownIsRight, ShownUndecidedIsBelow, UnboundedAbove, UnboundedBelow};
+ghost use Rattle.right_report.specs.Right.Order.{RightLinesKeepOrder};
+ghost use Rattle.right_report.specs.Laws.{AcceptedTextIsNotRefused, AcceptedTextIsRight, BareIsRight, BareUndecidedIsBelow, CheckedHasNoWrong, CheckedIsRight, ConsistentIsSo, FailEndIsSo, FailHighIsBroken, FailLowIsBroken, GreatestIsRight, InconsistentEndIsSo, InconsistentIsSo, LeastIsRight, OneFirstWrong, OneRefusedLine, PassEndIsSo, PassIsMet, RightIsReport, SetShowsAbove, SetShowsBelow, ShownIsRight, ShownUndecidedIsBelow, UnboundedAbove, UnboundedBelow, UnrefusedTextIsRight};
 
 /// A report that shows its numbers by the lines before them is right.
 pub fn shown_is_right()
@@ -115,4 +116,14 @@ pub fn one_refused_line()
 /// The check never accepts a text and refuses it too.
 pub fn accepted_text_is_not_refused()
     ensures { AcceptedTextIsNotRefused }
+{}
+
+/// A text without a wrong line is the text of a right report: it can't fail to be one.
+pub fn unrefused_text_is_right()
+    ensures { UnrefusedTextIsRight }
+{}
+
+/// A line that may follow at a place of a right report may stand there in the order of texts, and leads on to the same place.
+pub fn right_lines_keep_order()
+    ensures { RightLinesKeepOrder }
 {}

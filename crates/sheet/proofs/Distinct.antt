@@ -4,7 +4,7 @@ use Rattle.std.specs.List.{list_any}
 use Rattle.std.proofs.lemmas.List.{append-nil, append_assoc, map_push}
 use Rattle.sheet.specs.declared.fault.SheetFault.{SheetFault}
 use Rattle.itv_base.specs.Reading.{◌>>=◌, unless}
-use Rattle.sheet.specs.Steps.{with_distinct}
+use Rattle.sheet.specs.Step.{with_distinct}
 
 module _ {X K : Type 0} (same : K → K → Bool) (key : X → K) (fault : X → SheetFault) where
   pub with_distinct-nil : (done : List X) → with_distinct same key fault done [] ≡ Ok done

@@ -1,38 +1,29 @@
 -- The walk over the edges.
-use Rattle.std.proofs.Common.{◌≡◌, ℕ, suc, ◌+◌, ◌<◌, Bool, true, false, cond, List, [], ◌∷◌, ◌++◌, length, drop, Option, Some, None, Ok, refl, ap, sym, ◌∙◌, arith}
+use Rattle.std.proofs.Common.{◌≡◌, ℕ, suc, ◌+◌, ◌<◌, Bool, true, false, cond, List, [], ◌∷◌, ◌++◌, length, drop, Option, Some, None, Ok, refl, ap, ◌∙◌, arith}
 use Rattle.std.specs.Prelude.{slice_get, option_to_list, IfSome}
 use Rattle.std.specs.List.{cons_option, position_from}
-use Rattle.std.proofs.lemmas.List.{append-nil, length-append, length-map}
+use Rattle.std.proofs.lemmas.List.{length-append, length-map}
 use Rattle.std.proofs.lemmas.List.Elements.{filter_map-append}
 use Rattle.sheet.specs.declared.fault.SheetFault.{SheetFault}
-use Rattle.sheet.specs.declared.groups.Group.{Group}
 use Rattle.sheet.specs.declared.mark.Mark.{Mark}
 use Rattle.sheet.specs.declared.row.SheetRow.{SheetRow}
 use Rattle.itv_base.specs.Reading.{◌>>=◌, walk, HasFault}
 use Rattle.sheet.specs.Fault.{is_memory, sheet_fault}
 use Rattle.sheet.specs.declared.groups.GroupFault.{GroupFault}
 use Rattle.sheet.specs.declared.groups.GroupFault.TheVariants.{TooManyCauses, NoMemory}
-use Rattle.sheet.specs.Groups.{openers, place_of, group_link, Places, ArePlaces, StandsFor, TellsFull}
-use Rattle.sheet.specs.Links.{Link, is_full, joins, link_of, with_link, with_edge, links_of, link_rules, link_rows, row_by}
+use Rattle.sheet.specs.Groups.{openers, group_link, Places, ArePlaces, StandsFor, TellsFull}
+use Rattle.sheet.specs.Links.{Labels, Link, is_full, joins, link_of, with_link, with_edge, links_of, link_rules, link_rows, row_by}
 use Rattle.sheet.specs.Rule.{SheetRule}
 use Rattle.itv_base.proofs.Faults.{HasFault-on}
 use Rattle.sheet.proofs.Openers.{rule_for, link_rules-map}
-use Rattle.sheet.proofs.Lists.{drop-read}
+use Rattle.itv_base.proofs.Lists.{drop-read}
 
 -- What was read of the edges before number n: links, their rules behind others, the table of their groups, and their rows.
-pub record EdgesRead (marks : List Mark) (edges : List (List ℕ)) (front : List SheetRule) (n : ℕ) (all : List SheetRule) (places : Places) (rows : List SheetRow) : Type 0 where
+pub record EdgesRead (labels : Labels) (marks : List Mark) (edges : List (List ℕ)) (front : List SheetRule) (n : ℕ) (all : List SheetRule) (places : Places) (rows : List SheetRow) : Type 0 where
   pub links : List Link
   pub stands : StandsFor front links all places
   pub asked : rows ≡ link_rows links
-  pub left : walk (with_edge marks) n links (drop n edges) ≡ links_of marks edges
-
-pub EdgesRead-none : (marks : List Mark) (edges : List (List ℕ)) (front : List SheetRule) (places : Places) → ((g : Group) → place_of places g ≡ None) → EdgesRead marks edges front 0 front places []
-EdgesRead-none marks edges front places empty = record {
-  links = [];
-  stands = record { stand = sym (append-nil front); found = empty };
-  asked = refl;
-  left = refl;
-}
+  pub left : walk (with_edge labels marks) n links (drop n edges) ≡ links_of labels marks edges
 
 -- ---- places
 
@@ -52,32 +43,29 @@ ArePlaces-from_StandsFor front links all places stands =
 
 -- ---- one edge
 
--- one link more is room for it, or the fault of a full group
-joined_room : (links : List Link) (n : ℕ) (link : Link) → is_full links link ≡ false → with_link n links (Some link) ≡ Ok (links ++ link ∷ [])
-joined_room links n link room = rw room
-
+-- the fault of a full group
 joined_full : (links : List Link) (n : ℕ) (link : Link) (fault : GroupFault) → TellsFull n (is_full links link) fault → HasFault is_memory (with_link n links (Some link)) (sheet_fault fault)
 joined_full links n link (TooManyCauses m) full = rw (full.1, full.0) refl
 joined_full links n link NoMemory full = tt
 
-module _ (marks : List Mark) (edges : List (List ℕ)) (links : List Link) (n : ℕ) (text : List ℕ) (read : slice_get edges n ≡ Some text) where
-  edge_step : walk (with_edge marks) n links (drop n edges) ≡ (with_edge marks n links text >>= (λ more. walk (with_edge marks) (n + 1) more (drop (n + 1) edges)))
+module _ (labels : Labels) (marks : List Mark) (edges : List (List ℕ)) (links : List Link) (n : ℕ) (text : List ℕ) (read : slice_get edges n ≡ Some text) where
+  edge_step : walk (with_edge labels marks) n links (drop n edges) ≡ (with_edge labels marks n links text >>= (λ more. walk (with_edge labels marks) (n + 1) more (drop (n + 1) edges)))
   edge_step = rw (drop-read edges n text read)
 
-  pub edge-fault : (fault : SheetFault) → HasFault is_memory (link_of marks n text) fault → HasFault is_memory (walk (with_edge marks) n links (drop n edges)) fault
-  edge-fault fault h = HasFault-on is_memory (link_of marks n text) (walk (with_edge marks) n links (drop n edges)) fault (λ d is. edge_step ∙ rw is) h
+  pub edge-fault : (fault : SheetFault) → HasFault is_memory (link_of labels marks n text) fault → HasFault is_memory (walk (with_edge labels marks) n links (drop n edges)) fault
+  edge-fault fault h = HasFault-on is_memory (link_of labels marks n text) (walk (with_edge labels marks) n links (drop n edges)) fault (λ d is. edge_step ∙ rw is) h
 
-  pub edge-comment : link_of marks n text ≡ Ok None → walk (with_edge marks) n links (drop n edges) ≡ walk (with_edge marks) (n + 1) links (drop (n + 1) edges)
+  pub edge-comment : link_of labels marks n text ≡ Ok None → walk (with_edge labels marks) n links (drop n edges) ≡ walk (with_edge labels marks) (n + 1) links (drop (n + 1) edges)
   edge-comment is = edge_step ∙ rw is
 
-  pub edge-link : (link : Link) → link_of marks n text ≡ Ok (Some link) → is_full links link ≡ false
-      → walk (with_edge marks) n links (drop n edges) ≡ walk (with_edge marks) (n + 1) (links ++ link ∷ []) (drop (n + 1) edges)
+  pub edge-link : (link : Link) → link_of labels marks n text ≡ Ok (Some link) → is_full links link ≡ false
+      → walk (with_edge labels marks) n links (drop n edges) ≡ walk (with_edge labels marks) (n + 1) (links ++ link ∷ []) (drop (n + 1) edges)
   edge-link link is room = edge_step ∙ rw (is, room)
 
-  pub edge-full : (link : Link) (fault : GroupFault) → link_of marks n text ≡ Ok (Some link) → TellsFull n (is_full links link) fault
-      → HasFault is_memory (walk (with_edge marks) n links (drop n edges)) (sheet_fault fault)
+  pub edge-full : (link : Link) (fault : GroupFault) → link_of labels marks n text ≡ Ok (Some link) → TellsFull n (is_full links link) fault
+      → HasFault is_memory (walk (with_edge labels marks) n links (drop n edges)) (sheet_fault fault)
   edge-full link fault is full =
-      HasFault-on is_memory (with_link n links (Some link)) (walk (with_edge marks) n links (drop n edges)) (sheet_fault fault) (λ d refused. edge_step ∙ rw (is, refused)) (joined_full links n link fault full)
+      HasFault-on is_memory (with_link n links (Some link)) (walk (with_edge labels marks) n links (drop n edges)) (sheet_fault fault) (λ d refused. edge_step ∙ rw (is, refused)) (joined_full links n link fault full)
 
 -- ---- rows
 

@@ -16,21 +16,18 @@ use Rattle.sheet.specs.declared.lanes.Span.{Span}
 use Rattle.itv_base.specs.Reading.{◌>>=◌, unless}
 use Rattle.sheet.specs.Lanes.{mark_at, drawn_kind, lane_marks, marks_of, numbered_from, has_bad_node}
 use Rattle.sheet.specs.Sheet.{read_marks}
-use Rattle.sheet.specs.Steps.{AreMarks, with_marks, span_of}
+use Rattle.sheet.specs.Step.{AreMarks, with_marks, span_of}
 use Rattle.sheet.specs.declared.fault.SheetFault.{SheetFault}
 use Rattle.sheet.specs.declared.fault.SheetFault.TheVariants.{BadNode, DoubleMark}
 use Rattle.sheet.proofs.Distinct.{with_distinct-stood, with_distinct-nil, with_distinct-new, with_distinct-append, with_distinct-ok}
-use Rattle.sheet.proofs.Lists.{drop-read, list_any-map}
+use Rattle.itv_base.proofs.Lists.{drop-read}
+use Rattle.sheet.proofs.Lists.{list_any-map}
 
 -- ---- the marks of a lane
 
 -- the marks of what is left of a node
 abbrev pub marks_left : ℕ → LaneText → ℕ → List ℕ → List Mark
 marks_left number lane place node = filter_map (mark_at number lane) (enumerate_from place node)
-
-pub marks_left-skipped : (number : ℕ) (lane : LaneText) (place b : ℕ) (bs : List ℕ) → is_mark b ≡ false
-    → marks_left number lane place (b ∷ bs) ≡ marks_left number lane (place + 1) bs
-marks_left-skipped number lane place b bs skipped = rw skipped
 
 pub marks_left-taken : (number : ℕ) (lane : LaneText) (place b : ℕ) (bs : List ℕ) → is_mark b ≡ true
     → marks_left number lane place (b ∷ bs) ≡ record { lane = number; place = place; name = b; kind = drawn_kind lane.wave place } ∷ marks_left number lane (place + 1) bs

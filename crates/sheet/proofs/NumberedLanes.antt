@@ -5,7 +5,7 @@ use Rattle.std.proofs.lemmas.List.{length-map}
 use Rattle.wavejson.specs.declared.lane_text.LaneText.{LaneText}
 use Rattle.sheet.specs.declared.lanes.Span.{Span}
 use Rattle.sheet.specs.Lanes.{numbered, numbered_from, lane_marks}
-use Rattle.sheet.specs.Steps.{span_of, spans_of, numbered_by}
+use Rattle.sheet.specs.Step.{span_of, spans_of, numbered_by}
 
 length-numbered_from : (number first : ℕ) (lanes : List LaneText) → length (numbered_from number first lanes) ≡ length lanes
 length-numbered_from number first [] = refl

@@ -1,19 +1,17 @@
 -- The pins of lanes, one after another.
-use Rattle.std.proofs.Common.{◌≡◌, ℕ, ◌+◌, ◌≤◌, true, false, List, [], ◌∷◌, ◌++◌, length, drop, Option, Some, None, Ok, Err, refl, ap, ◌∙◌}
+use Rattle.std.proofs.Common.{◌≡◌, ℕ, ◌+◌, true, false, List, [], ◌∷◌, ◌++◌, drop, Option, Some, None, Ok, Err, refl, ap, ◌∙◌}
 use Rattle.std.specs.Prelude.{filter_map, option_to_list}
 use Rattle.std.specs.List.{list_any, cons_option}
 use Rattle.std.specs.Str.{bytes_eq}
 use Rattle.std.proofs.lemmas.Bool.{ne_eqb}
-use Rattle.std.proofs.lemmas.List.{drop_all}
 use Rattle.wavejson.specs.declared.lane_text.LaneText.{LaneText}
 use Rattle.sheet.specs.declared.fault.SheetFault.{SheetFault}
 use Rattle.sheet.specs.declared.fault.SheetFault.TheVariants.{DoublePin}
 use Rattle.sheet.specs.declared.lanes.Span.{Span}
 use Rattle.sheet.specs.declared.pin.Pin.{Pin}
 use Rattle.sheet.specs.Lanes.{Numbered, numbered, pin_of}
-use Rattle.sheet.specs.Steps.{with_pins, numbered_by}
+use Rattle.sheet.specs.Step.{with_pins, numbered_by}
 use Rattle.itv_base.specs.Reading.{◌>>=◌}
-use Rattle.sheet.proofs.NumberedLanes.{length-numbered}
 use Rattle.sheet.proofs.Distinct.{with_distinct-stood, with_distinct-nil, with_distinct-new, with_distinct-append}
 use Rattle.sheet.proofs.Lists.{list_any-map}
 
@@ -51,7 +49,3 @@ module _ (done : List Pin) (lanes : List LaneText) (k : ℕ) (l : Numbered) (rea
   pub pins-more : (more : List Pin) → with_pins done (option_to_list (pin_of l)) ≡ Ok more
       → with_pins done (filter_map pin_of (drop k (numbered lanes))) ≡ with_pins more (filter_map pin_of (drop (k + 1) (numbered lanes)))
   pins-more all is = pins-step ∙ ap (λ r. r >>= (λ more. with_pins more (filter_map pin_of (drop (k + 1) (numbered lanes))))) is
-
-pub pins-end : (done : List Pin) (lanes : List LaneText) (k : ℕ) → length lanes ≤ k → with_pins done (filter_map pin_of (drop k (numbered lanes))) ≡ Ok done
-pins-end done lanes k past =
-    rw (drop_all k (numbered lanes) (rw length-numbered past)) (with_distinct-nil bytes_eq (λ (p : Pin). p.name) (λ p. DoublePin p.lane) done)

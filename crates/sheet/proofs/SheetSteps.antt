@@ -1,6 +1,7 @@
 -- The sheet of a drawing, step by step.
-use Rattle.std.proofs.Common.{◌≡◌, List, ◌++◌, Result, Ok, Err, ap}
+use Rattle.std.proofs.Common.{◌≡◌, ℕ, List, ◌++◌, Option, Result, Ok, Err, ap, refl}
 use Rattle.wavejson.specs.Drawing.{Drawing}
+use Rattle.grades.specs.declared.grade.Grade.{Grade}
 use Rattle.sheet.specs.declared.edges.EdgeRules.{EdgeRules}
 use Rattle.sheet.specs.declared.fault.SheetFault.{SheetFault}
 use Rattle.sheet.specs.declared.mark.Mark.{Mark}
@@ -9,10 +10,10 @@ use Rattle.sheet.specs.Contents.{Contents}
 use Rattle.sheet.specs.Fault.{is_memory}
 use Rattle.itv_base.specs.Reading.{◌>>=◌, HasFault}
 use Rattle.sheet.specs.Lanes.{order_rules}
-use Rattle.sheet.specs.Links.{Link, links_of, link_rules, link_rows}
+use Rattle.sheet.specs.Links.{Labels, graded, Link, links_of, link_rules, link_rows}
 use Rattle.sheet.specs.Rule.{SheetRule}
-use Rattle.sheet.specs.Sheet.{read_marks, read_pins, sheet_of}
-use Rattle.sheet.specs.Steps.{rules_and_rows}
+use Rattle.sheet.specs.Sheet.{grade_named, read_marks, read_pins, sheet_at, sheet_of}
+use Rattle.sheet.specs.Step.{rules_and_rows}
 use Rattle.itv_base.proofs.Faults.{HasFault-on, HasFault-first}
 
 abbrev contents : List Mark → List Pin → List SheetRule → List Link → Contents
@@ -30,23 +31,34 @@ same_contents marks pins front (Ok links) edges e =
     let same : record { rules = front ++ link_rules links; rows = link_rows links } ≡ edges = cc in
     ap (λ (r : EdgeRules). Ok (record { marks = marks; pins = pins; rules = r.rules; rows = r.rows })) same
 
-module _ (drawing : Drawing) where
-  pub marks-fault : (fault : SheetFault) → HasFault is_memory (read_marks drawing.lanes) fault → HasFault is_memory (sheet_of drawing) fault
+module _ (labels : Labels) (drawing : Drawing) where
+  pub marks-fault : (fault : SheetFault) → HasFault is_memory (read_marks drawing.lanes) fault → HasFault is_memory (sheet_of labels drawing) fault
   unfolding sheet_of
   marks-fault fault h = HasFault-first is_memory (read_marks drawing.lanes) _ fault h
 
   module _ (marks : List Mark) (read : read_marks drawing.lanes ≡ Ok marks) where
-    pub pins-fault : (fault : SheetFault) → HasFault is_memory (read_pins drawing.lanes) fault → HasFault is_memory (sheet_of drawing) fault
+    pub pins-fault : (fault : SheetFault) → HasFault is_memory (read_pins drawing.lanes) fault → HasFault is_memory (sheet_of labels drawing) fault
     unfolding sheet_of
     pins-fault fault h = rw read (HasFault-first is_memory (read_pins drawing.lanes) _ fault h)
 
     module _ (pins : List Pin) (named : read_pins drawing.lanes ≡ Ok pins) where
-      pub edges-fault : (fault : SheetFault) → HasFault is_memory (rules_and_rows (order_rules drawing.lanes) (links_of marks drawing.edges)) fault → HasFault is_memory (sheet_of drawing) fault
+      pub edges-fault : (fault : SheetFault) → HasFault is_memory (rules_and_rows (order_rules drawing.lanes) (links_of labels marks drawing.edges)) fault → HasFault is_memory (sheet_of labels drawing) fault
       unfolding sheet_of
       edges-fault fault h =
-          rw (read, named) (HasFault-on is_memory _ _ fault (same_fault marks pins (order_rules drawing.lanes) (links_of marks drawing.edges)) h)
+          rw (read, named) (HasFault-on is_memory _ _ fault (same_fault marks pins (order_rules drawing.lanes) (links_of labels marks drawing.edges)) h)
 
-      pub sheet-ok : (edges : EdgeRules) → rules_and_rows (order_rules drawing.lanes) (links_of marks drawing.edges) ≡ Ok edges
-          → sheet_of drawing ≡ Ok (record { marks = marks; pins = pins; rules = edges.rules; rows = edges.rows })
+      pub sheet-ok : (edges : EdgeRules) → rules_and_rows (order_rules drawing.lanes) (links_of labels marks drawing.edges) ≡ Ok edges
+          → sheet_of labels drawing ≡ Ok (record { marks = marks; pins = pins; rules = edges.rules; rows = edges.rows })
       unfolding sheet_of
-      sheet-ok edges e = rw (read, named) (same_contents marks pins (order_rules drawing.lanes) (links_of marks drawing.edges) edges e)
+      sheet-ok edges e = rw (read, named) (same_contents marks pins (order_rules drawing.lanes) (links_of labels marks drawing.edges) edges e)
+
+-- ---- at a grade
+
+module _ (grades : List Grade) (name : Option (List ℕ)) (drawing : Drawing) where
+  pub grade-fault : (fault : SheetFault) → HasFault is_memory (grade_named grades name) fault → HasFault is_memory (sheet_at grades name drawing) fault
+  unfolding sheet_at
+  grade-fault fault h = HasFault-first is_memory (grade_named grades name) _ fault h
+
+  pub grade-on : (grade : Option Grade) → grade_named grades name ≡ Ok grade → sheet_at grades name drawing ≡ sheet_of (graded grade) drawing
+  unfolding sheet_at
+  grade-on grade is = rw is refl

@@ -1,5 +1,6 @@
 -- Every sheet that is read is whole.
 use Rattle.std.proofs.Common.{◌≡◌, ℕ, ◌+◌, ◌-◌, ◌<◌, ◌≤◌, ◌≢◌, Bool, true, false, cond, nat_eq, ◌==◌, List, [], ◌∷◌, ◌++◌, length, map, ltb, take, All, Option, Some, None, IfSome, position, Result, Ok, Err, IfOk, refl, sym, ◌∙◌, ap, append_assoc, append-nil, length-append, unwrap_or, arith}
+use Rattle.std.specs.Prelude.{ok_or, option_map}
 use Rattle.std.specs.Str.{bytes_eq}
 use Rattle.std.proofs.lemmas.Int.{ints}
 use Rattle.std.specs.Cmp.{IsEquivalence}
@@ -20,9 +21,15 @@ use Rattle.label_grammar.specs.declared.label.LabelFault.{LabelFault}
 use Rattle.label_grammar.specs.Answer.{judged}
 use Rattle.itv_base.specs.Characters.{is_mark}
 use Rattle.label_grammar.specs.Edge.{EdgeSeen, comment, timing, malformed, edge_of}
-use Rattle.label_grammar.specs.Label.{LooseLabel}
-use Rattle.label_grammar.specs.Reading.{label_of}
-use Rattle.sheet.specs.declared.fault.SheetFault.TheVariants.{BadNode, DoubleMark, DoublePin, TooManyCauses}
+use Rattle.label_grammar.specs.Label.{LooseLabel, Span, fixed, named, fixed_ends, version_1, version_2}
+use Rattle.label_grammar.specs.Reading.{ends_of, span_of, label_of}
+use Rattle.origin.specs.declared.origin.Origin.{Origin}
+use Rattle.origin.specs.declared.origin.Origin.TheVariants.{Lane}
+use Rattle.grades.specs.declared.grade.Grade.{Grade}
+use Rattle.grades.specs.Grades.{AreRanges, HasRanges, grade_called, range_in}
+use Rattle.grades.proofs.WholeGrades.{grade_called_whole, range_in_whole}
+use Rattle.sheet.specs.declared.fault.SheetFault.{SheetFault}
+use Rattle.sheet.specs.declared.fault.SheetFault.TheVariants.{BadNode, DoubleMark, DoublePin, NoGrade, NoParam, TooManyCauses}
 use Rattle.sheet.specs.declared.mark.Mark.{Mark}
 use Rattle.sheet.specs.declared.pin.Pin.{Pin}
 use Rattle.sheet.specs.Contents.{Contents}
@@ -31,11 +38,12 @@ use Rattle.itv_base.specs.declared.limits.TheConstants.{MAX_SHIFT}
 use Rattle.itv_base.specs.declared.limits.TheConstants.{MAX_CAUSES}
 use Rattle.itv_base.specs.Range.{Ends, IsRange}
 use Rattle.label_grammar.specs.Label.{IsProper}
-use Rattle.label_grammar.proofs.Proper.{judged_is_proper, proper_range}
+use Rattle.label_grammar.proofs.Pieces.{ends_invert, spans_invert}
+use Rattle.label_grammar.proofs.Proper.{judged_is_proper, proper_range, proper_span}
 use Rattle.sheet.specs.Lanes.{Numbered, first_repeated, follows_rule, has_bad_node, lane_marks, lane_order, order_named, mark_at, marks_of, node_of, numbered, numbered_from, order_of, order_rules, pin_named, pin_of, pins_of}
-use Rattle.sheet.specs.Links.{Link, group_rule, is_full, joins, labelled, link_of, link_rows, link_rules, link_to, links_of, number_of, open_ends, row_by, rule_opened, seen_link, source_of, is_cause, with_edge, with_link}
-use Rattle.sheet.specs.Sheet.{read_marks, read_pins, sheet_of}
-use Rattle.sheet.specs.Whole.{IsWhole, IsWholeRow, IsWholeRule, IsWholeSource}
+use Rattle.sheet.specs.Links.{Labels, plain, graded, told, param_range, span_ends, resolved, label_in, Link, group_rule, is_full, joins, labelled, link_of, link_rows, link_rules, link_to, links_of, number_of, open_ends, row_by, rule_opened, seen_link, source_of, is_cause, with_edge, with_link}
+use Rattle.sheet.specs.Sheet.{grade_named, read_marks, read_pins, sheet_at, sheet_by, sheet_of}
+use Rattle.sheet.specs.Whole.{AreWholeLabels, IsWhole, IsWholeRow, IsWholeRule, IsWholeSource}
 use Rattle.itv_base.proofs.Faults.{IfOk-bind, IfOk-unless, IfOk-walk}
 use Rattle.sheet.proofs.FewMarks.{few_marks}
 use Rattle.sheet.proofs.Joins.{joins-same, joins-itself}
@@ -55,12 +63,6 @@ All-filter_map {X} {Y} P Q h gives (x ∷ xs) all =
 All-flat_map : {X Y : Type 0} (P : X → Type 0) (Q : Y → Type 0) (f : X → List Y) → ((x : X) → P x → All Q (f x)) → (xs : List X) → All P xs → All Q (flat_map f xs)
 All-flat_map P Q f gives [] all = All-nil Q
 All-flat_map P Q f gives (x ∷ xs) all = All-append Q (f x) (flat_map f xs) (gives x (All-head P x xs all)) (All-flat_map P Q f gives xs (All-tail P x xs all))
-
--- elements with their numbers keep what they have
-All-enumerate_from : {X : Type 0} (P : X → Type 0) (n : ℕ) (xs : List X) → All P xs → All (λ (at : ℕ × X). P at.1) (enumerate_from n xs)
-All-enumerate_from P n [] all = All-nil (λ (at : ℕ × _). P at.1)
-All-enumerate_from {X} P n (x ∷ xs) all =
-    All-cons (λ (at : ℕ × X). P at.1) (n, x) (enumerate_from (n + 1) xs) (All-head P x xs all) (All-enumerate_from P (n + 1) xs (All-tail P x xs all))
 
 -- a place that is found is one of the list
 position_within : {X : Type 0} (p : X → Bool) (xs : List X) → IfSome (position p xs) (λ k. k < length xs)
@@ -124,49 +126,95 @@ read_marks_whole lanes =
 -- ---- links
 
 -- the ends of a label, open where it has none
-abbrev ends_of : LooseLabel → Ends
-ends_of label = unwrap_or label.ends open_ends
+abbrev range_of : LooseLabel Ends → Ends
+range_of label = unwrap_or label.ends open_ends
 
--- a link between marks below a number, whose label is a proper one
+-- a link between marks below a number, whose label is whole
 pub record IsWholeLink (marks : ℕ) (link : Link) : Type 0 where
   pub from : link.from < marks
   pub to : link.to < marks
   pub shift : link.label.shift ≤ MAX_SHIFT
-  pub range : IsRange (ends_of link.label)
+  pub range : IsRange (range_of link.label)
+
+-- a label that looks back no more cycles than it may, with ends that are a range
+record IsWholeLabel (label : LooseLabel Ends) : Type 0 where
+  shift : label.shift ≤ MAX_SHIFT
+  range : IsRange (range_of label)
 
 range_whole : (ends : Option Ends) → IfSome ends IsRange → IsRange (unwrap_or ends open_ends)
 range_whole None h = (tt, tt, tt)
 range_whole (Some ends) h = h
 
+-- ---- labels
+
+told_whole : {E : Type 0} (P : LooseLabel E → Type 0) (n : ℕ) (label : Result (LooseLabel E) LabelFault) → IfOk label P → IfOk (told n label) P
+told_whole P n (Ok label) whole = whole
+told_whole P n (Err fault) whole = tt
+
+-- what a grade gives for the name of a parameter is a range
+param_whole : (n : ℕ) (grade : Option Grade) (name : List ℕ) → IfSome grade HasRanges → IfOk (param_range n grade name) IsRange
+param_whole n None name whole = tt
+param_whole n (Some grade) name whole = found (range_in grade name) (range_in_whole grade name whole)
+  where
+    found : (range : Option Ends) → IfSome range IsRange → IfOk (ok_or range (NoParam n)) IsRange
+    found None is = tt
+    found (Some range) is = is
+
+-- so are the ends of a span
+span_whole : (n : ℕ) (grade : Option Grade) (span : Option Span) → IfSome grade HasRanges → IfSome span (λ s. IfSome (fixed_ends s) IsRange) → IfOk (span_ends n grade span) (λ ends. IfSome ends IsRange)
+span_whole n grade None whole proper = tt
+span_whole n grade (Some (fixed ends)) whole proper = proper
+span_whole n grade (Some (named name)) whole proper =
+    IfOk-bind IsRange (λ ends. IfSome ends IsRange) (param_range n grade name) _ (param_whole n grade name whole) (λ range is. is)
+
+resolved_whole : (n : ℕ) (grade : Option Grade) (label : LooseLabel Span) → IfSome grade HasRanges → IsProper version_2 label → IfOk (resolved n grade label) IsWholeLabel
+resolved_whole n grade label whole proper =
+    IfOk-bind (λ ends. IfSome ends IsRange) IsWholeLabel (span_ends n grade label.ends) _ (span_whole n grade label.ends whole (proper_span label proper))
+    (λ ends are. record { shift = proper.loose.shift; range = range_whole ends are })
+
+-- what is read of a label is whole
+label_whole : (labels : Labels) → AreWholeLabels labels → (n : ℕ) (text : List ℕ) → IfOk (label_in labels n text) IsWholeLabel
+label_whole plain whole n text =
+    told_whole IsWholeLabel n (judged version_1 (label_of ends_of text)) (plain_whole (judged version_1 (label_of ends_of text)) (judged_is_proper version_1 ends_of ends_invert text))
+  where
+    plain_whole : (label : Result (LooseLabel Ends) LabelFault) → IfOk label (IsProper version_1) → IfOk label IsWholeLabel
+    plain_whole (Err fault) proper = tt
+    plain_whole (Ok label) proper = record { shift = proper.loose.shift; range = range_whole label.ends (proper_range label proper) }
+label_whole (graded grade) whole n text =
+    IfOk-bind (IsProper version_2) IsWholeLabel (told n (judged version_2 (label_of span_of text))) _
+    (told_whole (IsProper version_2) n (judged version_2 (label_of span_of text)) (judged_is_proper version_2 span_of spans_invert text)) (λ label proper. resolved_whole n grade label whole proper)
+
+-- ---- edges
+
 -- a link is between the marks that were found
-link_to_whole : (n marks : ℕ) (label : LooseLabel) (a b : Option ℕ) (from to : ℕ) → IsProper label → IfSome a (λ k. k < marks) → IfSome b (λ k. k < marks)
+link_to_whole : (n marks : ℕ) (label : LooseLabel Ends) (a b : Option ℕ) (from to : ℕ) → IsWholeLabel label → IfSome a (λ k. k < marks) → IfSome b (λ k. k < marks)
     → IfOk (link_to n label a b from to) (λ link. IfSome link (IsWholeLink marks))
-link_to_whole n marks label None b from to proper in_a in_b = tt
-link_to_whole n marks label (Some a) None from to proper in_a in_b = tt
-link_to_whole n marks label (Some a) (Some b) from to proper in_a in_b =
-    record { from = in_a; to = in_b; shift = proper.loose.shift; range = range_whole label.ends (proper_range label proper) }
+link_to_whole n marks label None b from to whole in_a in_b = tt
+link_to_whole n marks label (Some a) None from to whole in_a in_b = tt
+link_to_whole n marks label (Some a) (Some b) from to whole in_a in_b =
+    record { from = in_a; to = in_b; shift = whole.shift; range = whole.range }
 
 -- the number of a mark is below that of all marks
 number_within : (marks : List Mark) (name : ℕ) → IfSome (number_of marks name) (λ k. k < length marks)
 number_within marks name = position_within (λ mark. mark.name == name) marks
 
 -- an edge with a label is between marks that are there
-labelled_whole : (marks : List Mark) (n from to : ℕ) (label : Result LooseLabel LabelFault) → IfOk label IsProper
+labelled_whole : (marks : List Mark) (n from to : ℕ) (label : Result (LooseLabel Ends) SheetFault) → IfOk label IsWholeLabel
     → IfOk (labelled marks n from to label) (λ link. IfSome link (IsWholeLink (length marks)))
-labelled_whole marks n from to (Err fault) proper = tt
-labelled_whole marks n from to (Ok label) proper =
-    link_to_whole n (length marks) label (number_of marks from) (number_of marks to) from to proper (number_within marks from) (number_within marks to)
+labelled_whole marks n from to (Err fault) whole = tt
+labelled_whole marks n from to (Ok label) whole =
+    link_to_whole n (length marks) label (number_of marks from) (number_of marks to) from to whole (number_within marks from) (number_within marks to)
 
 -- what an edge says is between marks that are there
-seen_link_whole : (marks : List Mark) (n : ℕ) (seen : EdgeSeen) → IfOk (seen_link marks n seen) (λ link. IfSome link (IsWholeLink (length marks)))
-seen_link_whole marks n comment = tt
-seen_link_whole marks n malformed = tt
-seen_link_whole marks n (timing from to label) = labelled_whole marks n from to (judged (label_of label)) (judged_is_proper label)
+seen_link_whole : (labels : Labels) → AreWholeLabels labels → (marks : List Mark) (n : ℕ) (seen : EdgeSeen) → IfOk (seen_link labels marks n seen) (λ link. IfSome link (IsWholeLink (length marks)))
+seen_link_whole labels whole marks n comment = tt
+seen_link_whole labels whole marks n malformed = tt
+seen_link_whole labels whole marks n (timing from to label) = labelled_whole marks n from to (label_in labels n label) (label_whole labels whole n label)
 
 -- what the text of an edge says is between marks that are there
-link_of_whole : (marks : List Mark) (n : ℕ) (text : List ℕ) → IfOk (link_of marks n text) (λ link. IfSome link (IsWholeLink (length marks)))
+link_of_whole : (labels : Labels) → AreWholeLabels labels → (marks : List Mark) (n : ℕ) (text : List ℕ) → IfOk (link_of labels marks n text) (λ link. IfSome link (IsWholeLink (length marks)))
 unfolding link_of
-link_of_whole marks n text = seen_link_whole marks n (edge_of text)
+link_of_whole labels whole marks n text = seen_link_whole labels whole marks n (edge_of text)
 
 -- ---- how many causes
 
@@ -201,14 +249,14 @@ with_link_whole marks n done (Some link) whole h =
     cond_both (is_full done link) (Err (TooManyCauses n)) (Ok (done ++ link ∷ [])) (λ r. IfOk r (AreWhole marks)) (λ _. tt)
     (λ room. record { all = All-push (IsWholeLink marks) done link whole.all h; few = few_push done link whole.few room })
 
-with_edge_whole : (marks : List Mark) (n : ℕ) (done : List Link) (text : List ℕ) → AreWhole (length marks) done → IfOk (with_edge marks n done text) (AreWhole (length marks))
-with_edge_whole marks n done text whole =
-    IfOk-bind (λ link. IfSome link (IsWholeLink (length marks))) (AreWhole (length marks)) (link_of marks n text) _ (link_of_whole marks n text)
+with_edge_whole : (labels : Labels) → AreWholeLabels labels → (marks : List Mark) (n : ℕ) (done : List Link) (text : List ℕ) → AreWhole (length marks) done → IfOk (with_edge labels marks n done text) (AreWhole (length marks))
+with_edge_whole labels are marks n done text whole =
+    IfOk-bind (λ link. IfSome link (IsWholeLink (length marks))) (AreWhole (length marks)) (link_of labels marks n text) _ (link_of_whole labels are marks n text)
     (λ link h. with_link_whole (length marks) n done link whole h)
 
 -- the links of all edges are between marks that are there
-links_of_whole : (marks : List Mark) (edges : List (List ℕ)) → IfOk (links_of marks edges) (AreWhole (length marks))
-links_of_whole marks edges = IfOk-walk (AreWhole (length marks)) (with_edge marks) (with_edge_whole marks) 0 [] edges (AreWhole-none (length marks))
+links_of_whole : (labels : Labels) → AreWholeLabels labels → (marks : List Mark) (edges : List (List ℕ)) → IfOk (links_of labels marks edges) (AreWhole (length marks))
+links_of_whole labels are marks edges = IfOk-walk (AreWhole (length marks)) (with_edge labels marks) (with_edge_whole labels are marks) 0 [] edges (AreWhole-none (length marks))
 
 -- a cause among links joins one at least: itself
 some_joined : (before rest : List Link) (link : Link) → is_cause link.label.kind ≡ true → 1 ≤ length (filter (joins link) (before ++ link ∷ rest))
@@ -296,25 +344,25 @@ range_below a n k d within =
     rw get_or-range_with_len (omega arith)
 
 -- the order of two marks that are there is whole
-follows_rule_whole : (marks from to shift : ℕ) → from < marks → to < marks → shift ≤ 1 → IsWholeRule marks (follows_rule from to shift)
-follows_rule_whole marks from to shift in_from in_to near = record {
+follows_rule_whole : (marks : ℕ) (origin : Origin) (from to shift : ℕ) → from < marks → to < marks → shift ≤ 1 → IsWholeRule marks (follows_rule origin from to shift)
+follows_rule_whole marks origin from to shift in_from in_to near = record {
   target = in_to;
   causes = All-cons (IsWholeSource marks) _ [] (record { mark = in_from; shift = omega arith; range = ((omega (arith, ints), omega (arith, ints)), tt, tt) }) (All-nil (IsWholeSource marks));
   count = refl;
 }
 
 -- the order of each mark of a row and the next is whole
-next_rules_whole : (marks first n : ℕ) → first + n < marks → All (IsWholeRule marks) (map (λ k. follows_rule k (k + 1) 0) (range_with_len first n))
-next_rules_whole marks first n h =
-    All-map (IsWholeRule marks) (λ k. follows_rule k (k + 1) 0) (range_with_len first n)
-    (λ k d within. let below = range_below first n k d within in follows_rule_whole marks _ _ 0 (omega arith) (omega arith) (omega arith))
+next_rules_whole : (marks : ℕ) (origin : Origin) (first n : ℕ) → first + n < marks → All (IsWholeRule marks) (map (λ k. follows_rule origin k (k + 1) 0) (range_with_len first n))
+next_rules_whole marks origin first n h =
+    All-map (IsWholeRule marks) (λ k. follows_rule origin k (k + 1) 0) (range_with_len first n)
+    (λ k d within. let below = range_below first n k d within in follows_rule_whole marks origin _ _ 0 (omega arith) (omega arith) (omega arith))
 
 -- the order of the marks of a row is whole
-order_of_whole : (marks first count : ℕ) → first + count ≤ marks → All (IsWholeRule marks) (order_of first count)
-order_of_whole marks first count h =
+order_of_whole : (marks : ℕ) (origin : Origin) (first count : ℕ) → first + count ≤ marks → All (IsWholeRule marks) (order_of origin first count)
+order_of_whole marks origin first count h =
     cond_both (count == 0) [] _ (All (IsWholeRule marks)) (λ _. All-nil (IsWholeRule marks))
     (λ some. let not_none : count ≢ 0 = eqb-false count 0 some in
-    All-push (IsWholeRule marks) _ _ (next_rules_whole marks first (count - 1) (omega arith)) (follows_rule_whole marks _ _ 1 (omega arith) (omega arith) (omega arith)))
+    All-push (IsWholeRule marks) _ _ (next_rules_whole marks origin first (count - 1) (omega arith)) (follows_rule_whole marks origin _ _ 1 (omega arith) (omega arith) (omega arith)))
 
 -- the marks of the lane are there
 abbrev IsNumberedWithin : ℕ → Numbered → Type 0
@@ -333,7 +381,7 @@ numbered_within marks number first (lane ∷ lanes) h =
 lane_order_whole : (marks : ℕ) (l : Numbered) (name wave : Option (List ℕ)) → IsNumberedWithin marks l → All (IsWholeRule marks) (order_named l name wave)
 lane_order_whole marks l None wave h = All-nil (IsWholeRule marks)
 lane_order_whole marks l (Some name) None h = All-nil (IsWholeRule marks)
-lane_order_whole marks l (Some name) (Some wave) h = order_of_whole marks l.first l.count h
+lane_order_whole marks l (Some name) (Some wave) h = order_of_whole marks (Lane l.number) l.first l.count h
 
 -- the order on all lanes is whole
 order_rules_whole : (lanes : List LaneText) → All (IsWholeRule (length (marks_of lanes))) (order_rules lanes)
@@ -373,14 +421,33 @@ contents_whole lanes marks pins links read are whole = record {
 }
 
 -- the sheet of a drawing is whole
-sheet_of_whole : (drawing : Drawing) → IfOk (sheet_of drawing) IsWhole
+sheet_of_whole : (labels : Labels) → AreWholeLabels labels → (drawing : Drawing) → IfOk (sheet_of labels drawing) IsWhole
 unfolding sheet_of
-sheet_of_whole drawing =
+sheet_of_whole labels are drawing =
     IfOk-bind (IsMarksOf drawing.lanes) IsWhole (read_marks drawing.lanes) _ (read_marks_whole drawing.lanes)
     (λ marks read. IfOk-bind (λ pins. pins ≡ pins_of drawing.lanes) IsWhole (read_pins drawing.lanes) _ (read_pins_whole drawing.lanes)
-    (λ pins are. IfOk-bind (AreWhole (length marks)) IsWhole (links_of marks drawing.edges) _ (links_of_whole marks drawing.edges)
-    (λ links whole. contents_whole drawing.lanes marks pins links read are whole)))
+    (λ pins named. IfOk-bind (AreWhole (length marks)) IsWhole (links_of labels marks drawing.edges) _ (links_of_whole labels are marks drawing.edges)
+    (λ links whole. contents_whole drawing.lanes marks pins links read named whole)))
 
 -- every sheet that is read is whole
-pub sheet_whole : (drawing : Drawing) (sheet : Contents) → sheet_of drawing ≡ Ok sheet → IsWhole sheet
-sheet_whole drawing sheet is = IfOk-at_ok IsWhole is (sheet_of_whole drawing)
+pub sheet_whole : (labels : Labels) → AreWholeLabels labels → (drawing : Drawing) (sheet : Contents) → sheet_of labels drawing ≡ Ok sheet → IsWhole sheet
+sheet_whole labels are drawing sheet is = IfOk-at_ok IsWhole is (sheet_of_whole labels are drawing)
+
+-- the grade of a name among those that give ranges gives ranges
+pub grade_named_whole : (grades : List Grade) (name : Option (List ℕ)) → AreRanges grades → IfOk (grade_named grades name) (λ grade. IfSome grade HasRanges)
+grade_named_whole grades None whole = tt
+grade_named_whole grades (Some name) whole = found (grade_called grades name) (grade_called_whole grades name whole)
+  where
+    found : (grade : Option Grade) → IfSome grade HasRanges → IfOk (ok_or (option_map (λ g. Some g) grade) NoGrade) (λ g. IfSome g HasRanges)
+    found None is = tt
+    found (Some grade) is = is
+
+-- every sheet that is read at a grade, or at none, is whole
+sheet_at_whole : (grades : List Grade) (name : Option (List ℕ)) (drawing : Drawing) → AreRanges grades → IfOk (sheet_at grades name drawing) IsWhole
+unfolding sheet_at
+sheet_at_whole grades name drawing whole =
+    IfOk-bind (λ grade. IfSome grade HasRanges) IsWhole (grade_named grades name) _ (grade_named_whole grades name whole) (λ grade is. sheet_of_whole (graded grade) is drawing)
+
+pub sheet_by_whole : (grades : Option (List Grade)) (name : Option (List ℕ)) (drawing : Drawing) → IfSome grades AreRanges → IfOk (sheet_by grades name drawing) IsWhole
+sheet_by_whole None name drawing whole = sheet_of_whole plain tt drawing
+sheet_by_whole (Some grades) name drawing whole = sheet_at_whole grades name drawing whole

@@ -1,7 +1,7 @@
 -- The faults of a drawing.
 use Rattle.std.specs.Prelude.{Bool, true, false}
 use Rattle.sheet.specs.declared.fault.SheetFault.{SheetFault}
-use Rattle.sheet.specs.declared.fault.SheetFault.TheVariants.{BadNode, DoubleMark, DoublePin, BadEdge, Label, NoMark, TooManyCauses, NoMemory}
+use Rattle.sheet.specs.declared.fault.SheetFault.TheVariants.{BadNode, DoubleMark, DoublePin, BadEdge, Label, NoMark, TooManyCauses, NoGrade, NoParam, NoMemory}
 use Rattle.sheet.specs.declared.groups.GroupFault.{GroupFault}
 use Rattle.sheet.specs.declared.groups.GroupFault.TheVariants as group
 
@@ -14,6 +14,8 @@ is_memory (BadEdge n) = false
 is_memory (Label n fault) = false
 is_memory (NoMark n mark) = false
 is_memory (TooManyCauses n) = false
+is_memory NoGrade = false
+is_memory (NoParam n) = false
 is_memory NoMemory = true
 
 -- the fault of an edge that is one cause too many of its group

@@ -10,6 +10,7 @@ use Rattle.itv_base.specs.declared.names.RuleKind.{RuleKind}
 use Rattle.itv_base.specs.declared.names.RuleKind.TheVariants as rules
 use Rattle.label_grammar.specs.declared.label.Kind.{Kind}
 use Rattle.label_grammar.specs.declared.label.Kind.TheVariants.{Lin, Late, Early, Req, Ask}
+use Rattle.origin.specs.declared.origin.Origin.TheVariants.{Edge}
 use Rattle.sheet.specs.declared.groups.Group.{Group}
 use Rattle.sheet.specs.declared.groups.GroupFault.{GroupFault}
 use Rattle.sheet.specs.declared.groups.GroupFault.TheVariants.{TooManyCauses, NoMemory}
@@ -61,6 +62,7 @@ abbrev pub group_link : Group → Link
 group_link group = record {
   from = 0;
   to = group.target;
+  origin = Edge 0;
   label = record { kind = kind_of group.kind; shift = 0; tag = option_copied group.tag; ends = None; note = None };
 }
 

@@ -4,6 +4,8 @@ use Rattle.std.specs.Char.{is_ascii_graphic}
 use Rattle.std.specs.Str.{chars}
 use Rattle.std.specs.List.{enumerate_from, filter_map, flat_map, list_all, list_any, range_with_len}
 use Rattle.itv_base.specs.declared.names.RuleKind.TheVariants.{Lin}
+use Rattle.origin.specs.declared.origin.Origin.{Origin}
+use Rattle.origin.specs.declared.origin.Origin.TheVariants.{Lane}
 use Rattle.wave_string.specs.declared.mark_kind.MarkKind.{MarkKind}
 use Rattle.wave_string.specs.declared.mark_kind.MarkKind.TheVariants.{Bare}
 use Rattle.wave_string.specs.Kinds.{kind_of}
@@ -74,20 +76,21 @@ pins_of lanes = filter_map pin_of (numbered lanes)
 -- ---- the order on a lane
 
 -- the target comes no earlier than the mark, which stands this many cycles before it
-abbrev pub follows_rule : ℕ → ℕ → ℕ → SheetRule
-follows_rule from to shift = record { kind = Lin; target = to; causes = record { mark = from; shift = shift; range = record { low = Some (pos 0); high = None } } ∷ [] }
+abbrev pub follows_rule : Origin → ℕ → ℕ → ℕ → SheetRule
+follows_rule origin from to shift =
+    record { kind = Lin; target = to; causes = record { mark = from; shift = shift; range = record { low = Some (pos 0); high = None }; origin = origin } ∷ [] }
 
 -- each mark and the next, and then the last mark and the first one of the next cycle, also where they are one mark
-abbrev pub order_of : ℕ → ℕ → List SheetRule
-order_of first count =
+abbrev pub order_of : Origin → ℕ → ℕ → List SheetRule
+order_of origin first count =
     if count == 0 then []
-    else map (λ k. follows_rule k (k + 1) 0) (range_with_len first (count - 1)) ++ follows_rule (first + count - 1) first 1 ∷ []
+    else map (λ k. follows_rule origin k (k + 1) 0) (range_with_len first (count - 1)) ++ follows_rule origin (first + count - 1) first 1 ∷ []
 
--- a lane with a name and a wave is in order
+-- a lane with a name and a wave is in order, and draws the rules of that
 abbrev pub order_named : Numbered → Option (List ℕ) → Option (List ℕ) → List SheetRule
 order_named l None wave = []
 order_named l (Some name) None = []
-order_named l (Some name) (Some wave) = order_of l.first l.count
+order_named l (Some name) (Some wave) = order_of (Lane l.number) l.first l.count
 
 abbrev pub lane_order : Numbered → List SheetRule
 lane_order l = order_named l l.lane.name l.lane.wave

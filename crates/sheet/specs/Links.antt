@@ -1,5 +1,5 @@
 -- The rules and rows that the edges of a drawing give.
-use Rattle.std.specs.Prelude.{ℕ, ◌&&◌, ◌==◌, Bool, true, false, nat_le, if◌then◌else◌, List, [], ◌∷◌, ◌++◌, length, map, filter, take, Option, Some, None, position, unwrap_or, Result, Ok, Err}
+use Rattle.std.specs.Prelude.{ℕ, ◌&&◌, ◌==◌, Bool, true, false, nat_le, if◌then◌else◌, List, [], ◌∷◌, ◌++◌, length, map, filter, take, Option, Some, None, position, unwrap_or, ok_or, option_and_then, Result, Ok, Err}
 use Rattle.std.specs.List.{enumerate_from, filter_map, list_any}
 use Rattle.std.specs.Str.{bytes_eq}
 use Rattle.itv_base.specs.Range.{Ends}
@@ -9,48 +9,88 @@ use Rattle.itv_base.specs.declared.names.RuleKind.TheVariants as rules
 use Rattle.label_grammar.specs.declared.label.Kind.{Kind}
 use Rattle.label_grammar.specs.declared.label.Kind.TheVariants.{Lin, Late, Early, Req, Ask}
 use Rattle.label_grammar.specs.declared.label.LabelFault.{LabelFault}
-use Rattle.label_grammar.specs.Label.{LooseLabel}
-use Rattle.label_grammar.specs.Reading.{label_of}
+use Rattle.label_grammar.specs.Label.{LooseLabel, Span, fixed, named, version_1, version_2}
+use Rattle.label_grammar.specs.Reading.{ends_of, span_of, label_of}
 use Rattle.label_grammar.specs.Answer.{judged}
 use Rattle.label_grammar.specs.Edge.{EdgeSeen, comment, timing, malformed, edge_of}
+use Rattle.grades.specs.declared.grade.Grade.{Grade}
+use Rattle.origin.specs.declared.origin.Origin.{Origin}
+use Rattle.origin.specs.declared.origin.Origin.TheVariants.{Edge}
+use Rattle.grades.specs.Grades.{range_in}
 use Rattle.sheet.specs.declared.mark.Mark.{Mark}
 use Rattle.sheet.specs.declared.rule.Source.{Source}
-use Rattle.sheet.specs.declared.row.RowKind.TheVariants as asked
+use Rattle.itv_base.specs.declared.row_kind.RowKind.TheVariants as asked
 use Rattle.sheet.specs.declared.row.SheetRow.{SheetRow}
 use Rattle.sheet.specs.declared.fault.SheetFault.{SheetFault}
-use Rattle.sheet.specs.declared.fault.SheetFault.TheVariants.{BadEdge, Label, NoMark, TooManyCauses}
+use Rattle.sheet.specs.declared.fault.SheetFault.TheVariants.{BadEdge, Label, NoMark, NoParam, TooManyCauses}
 use Rattle.itv_base.specs.Reading.{◌>>=◌, walk}
 use Rattle.sheet.specs.Rule.{SheetRule}
 
+-- ---- labels
+
+-- How the labels of a sheet are read: those of version 1, or those of version 2, whose parameters a grade gives, if there is one.
+pub data Labels : Type 0 where
+  plain : Labels
+  graded : Option Grade → Labels
+
+-- a label that was read, or its fault as that of edge n
+abbrev pub told : {E : Type 0} → ℕ → Result (LooseLabel E) LabelFault → Result (LooseLabel E) SheetFault
+told n (Ok label) = Ok label
+told n (Err fault) = Err (Label n fault)
+
+-- the range that the grade gives for the parameter that edge n names
+abbrev pub param_range : ℕ → Option Grade → List ℕ → Result Ends SheetFault
+param_range n grade name = ok_or (option_and_then (λ g. range_in g name) grade) (NoParam n)
+
+-- the ends of a span of edge n
+abbrev pub span_ends : ℕ → Option Grade → Option Span → Result (Option Ends) SheetFault
+span_ends n grade None = Ok None
+span_ends n grade (Some (fixed ends)) = Ok (Some ends)
+span_ends n grade (Some (named name)) = do
+  range ← param_range n grade name
+  Ok (Some range)
+
+-- the label of edge n with its ends
+abbrev pub resolved : ℕ → Option Grade → LooseLabel Span → Result (LooseLabel Ends) SheetFault
+resolved n grade label = do
+  ends ← span_ends n grade label.ends
+  Ok (record { kind = label.kind; shift = label.shift; tag = label.tag; ends = ends; note = label.note })
+
+-- what the label of edge n says
+abbrev pub label_in : Labels → ℕ → List ℕ → Result (LooseLabel Ends) SheetFault
+label_in plain n text = told n (judged version_1 (label_of ends_of text))
+label_in (graded grade) n text = told n (judged version_2 (label_of span_of text)) >>= resolved n grade
+
 -- ---- one edge
 
--- a timing edge from a mark to a mark, both by number, with what its label says
+-- a timing edge from a mark to a mark, both by number, with what draws it and what its label says
 pub record Link : Type 0 where
   pub from : ℕ
   pub to : ℕ
-  pub label : LooseLabel
+  pub origin : Origin
+  pub label : LooseLabel Ends
 
 -- the number of the mark with a name
 abbrev pub number_of : List Mark → ℕ → Option ℕ
 number_of marks name = position (λ mark. mark.name == name) marks
 
-abbrev pub link_to : ℕ → LooseLabel → Option ℕ → Option ℕ → ℕ → ℕ → Result (Option Link) SheetFault
+abbrev pub link_to : ℕ → LooseLabel Ends → Option ℕ → Option ℕ → ℕ → ℕ → Result (Option Link) SheetFault
 link_to n label None to from_name to_name = Err (NoMark n from_name)
 link_to n label (Some a) None from_name to_name = Err (NoMark n to_name)
-link_to n label (Some a) (Some b) from_name to_name = Ok (Some (record { from = a; to = b; label = label }))
+link_to n label (Some a) (Some b) from_name to_name = Ok (Some (record { from = a; to = b; origin = Edge n; label = label }))
 
-abbrev pub labelled : List Mark → ℕ → ℕ → ℕ → Result LooseLabel LabelFault → Result (Option Link) SheetFault
-labelled marks n from to (Err fault) = Err (Label n fault)
+abbrev pub labelled : List Mark → ℕ → ℕ → ℕ → Result (LooseLabel Ends) SheetFault → Result (Option Link) SheetFault
+labelled marks n from to (Err fault) = Err fault
 labelled marks n from to (Ok label) = link_to n label (number_of marks from) (number_of marks to) from to
 
-abbrev pub seen_link : List Mark → ℕ → EdgeSeen → Result (Option Link) SheetFault
-seen_link marks n comment = Ok None
-seen_link marks n malformed = Err (BadEdge n)
-seen_link marks n (timing from to label) = labelled marks n from to (judged (label_of label))
+abbrev pub seen_link : Labels → List Mark → ℕ → EdgeSeen → Result (Option Link) SheetFault
+seen_link labels marks n comment = Ok None
+seen_link labels marks n malformed = Err (BadEdge n)
+seen_link labels marks n (timing from to label) = labelled marks n from to (label_in labels n label)
 
 -- what the text of edge n says: nothing where it is a comment
-unfoldable pub link_of : List Mark → ℕ → List ℕ → Result (Option Link) SheetFault
-link_of marks n text = seen_link marks n (edge_of text)
+unfoldable pub link_of : Labels → List Mark → ℕ → List ℕ → Result (Option Link) SheetFault
+link_of labels marks n text = seen_link labels marks n (edge_of text)
 
 -- ---- groups of causes
 
@@ -88,14 +128,14 @@ with_link n done None = Ok done
 with_link n done (Some link) = if is_full done link then Err (TooManyCauses n) else Ok (done ++ link ∷ [])
 
 -- the links with the text of edge n read behind them
-abbrev pub with_edge : List Mark → ℕ → List Link → List ℕ → Result (List Link) SheetFault
-with_edge marks n done text = do
-  link ← link_of marks n text
+abbrev pub with_edge : Labels → List Mark → ℕ → List Link → List ℕ → Result (List Link) SheetFault
+with_edge labels marks n done text = do
+  link ← link_of labels marks n text
   with_link n done link
 
 -- the links of all edges
-abbrev pub links_of : List Mark → List (List ℕ) → Result (List Link) SheetFault
-links_of marks edges = walk (with_edge marks) 0 [] edges
+abbrev pub links_of : Labels → List Mark → List (List ℕ) → Result (List Link) SheetFault
+links_of labels marks edges = walk (with_edge labels marks) 0 [] edges
 
 -- ---- rules and rows
 
@@ -103,7 +143,7 @@ abbrev pub open_ends : Ends
 open_ends = record { low = None; high = None }
 
 abbrev pub source_of : Link → Source
-source_of link = record { mark = link.from; shift = link.label.shift; range = unwrap_or link.label.ends open_ends }
+source_of link = record { mark = link.from; shift = link.label.shift; range = unwrap_or link.label.ends open_ends; origin = link.origin }
 
 abbrev pub group_rule : RuleKind → List Link → Link → SheetRule
 group_rule kind links link = record { kind = kind; target = link.to; causes = map source_of (filter (joins link) links) }
@@ -124,8 +164,8 @@ abbrev pub row_by : Link → Kind → Option SheetRow
 row_by link Lin = None
 row_by link Late = None
 row_by link Early = None
-row_by link Req = Some (record { kind = asked.Req (unwrap_or link.label.ends open_ends); from = link.from; to = link.to; shift = link.label.shift })
-row_by link Ask = Some (record { kind = asked.Ask; from = link.from; to = link.to; shift = link.label.shift })
+row_by link Req = Some (record { kind = asked.Req (unwrap_or link.label.ends open_ends); from = link.from; to = link.to; shift = link.label.shift; origin = link.origin })
+row_by link Ask = Some (record { kind = asked.Ask; from = link.from; to = link.to; shift = link.label.shift; origin = link.origin })
 
 -- a row for each link that asks for a separation or demands a range of it
 abbrev pub link_rows : List Link → List SheetRow

@@ -1,16 +1,18 @@
 -- What holds of every sheet.
-use Rattle.std.specs.Prelude.{◌≡◌, ◌+◌, ◌<◌, ◌≤◌, ℕ, length, All}
+use Rattle.std.specs.Prelude.{◌≡◌, ◌+◌, ◌<◌, ◌≤◌, ℕ, length, All, IfSome}
 use Rattle.itv_base.specs.declared.limits.TheConstants.{MAX_CAUSES}
 use Rattle.itv_base.specs.declared.names.RuleKind.{RuleKind}
 use Rattle.itv_base.specs.declared.names.RuleKind.TheVariants as rules
 use Rattle.itv_base.specs.Range.{IsRange}
 use Rattle.sheet.specs.declared.mark.TheConstants.{MAX_MARKS}
 use Rattle.sheet.specs.declared.pin.Pin.{Pin}
-use Rattle.sheet.specs.declared.row.RowKind.{RowKind}
-use Rattle.sheet.specs.declared.row.RowKind.TheVariants.{Ask, Req}
+use Rattle.itv_base.specs.declared.row_kind.RowKind.{RowKind}
+use Rattle.itv_base.specs.declared.row_kind.RowKind.TheVariants.{Ask, Req}
 use Rattle.sheet.specs.declared.row.SheetRow.{SheetRow}
 use Rattle.itv_base.specs.declared.limits.TheConstants.{MAX_SHIFT}
 use Rattle.sheet.specs.declared.rule.Source.{Source}
+use Rattle.grades.specs.Grades.{HasRanges}
+use Rattle.sheet.specs.Links.{Labels, plain, graded}
 use Rattle.sheet.specs.Rule.{SheetRule}
 use Rattle.sheet.specs.Contents.{Contents}
 
@@ -50,3 +52,8 @@ pub record IsWhole (sheet : Contents) : Type 0 where
   pub pins : All (λ (pin : Pin). (1 ≤ pin.count) × (pin.first + pin.count ≤ length sheet.marks)) sheet.pins
   pub rules : All (IsWholeRule (length sheet.marks)) sheet.rules
   pub rows : All (IsWholeRow (length sheet.marks)) sheet.rows
+
+-- a grade whose parameters are ranges gives the labels theirs, if there is one
+abbrev pub AreWholeLabels : Labels → Type 0
+AreWholeLabels plain = Unit {0}
+AreWholeLabels (graded grade) = IfSome grade HasRanges

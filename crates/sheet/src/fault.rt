@@ -10,8 +10,9 @@ use label_grammar::LabelFault;
 use std::alloc::AllocFailed;
 use thiserror::Error;
 
-/// The first fault of a drawing: those of its lanes before those of its edges, and in each the order below. Lanes and edges
-/// are counted from 0, comments among the edges too. A mark is told by its character.
+/// The first fault of a drawing: a grade that is not there, then those of its lanes, then those of its edges, and in each the order
+/// below, where the parameter of an edge is looked for behind its label and before its marks. Lanes and edges are counted from 0,
+/// comments among the edges too. A mark is told by its character.
 #[derive(Clone, Copy, Debug, PartialEq, Eq, Error)]
 pub enum SheetFault {
     /// The first lane whose `node` has a character that is no full stop, no space and no mark.
@@ -35,6 +36,12 @@ pub enum SheetFault {
     /// The edge would be the 65th cause of its constraint.
     #[error("edge {0} is one cause too many")]
     TooManyCauses(u64),
+    /// A grade is named that is not there. `read_sheet` never tells this.
+    #[error("the sheet has no such grade")]
+    NoGrade,
+    /// The label of the edge names a parameter, and no grade is named, or it has no such parameter. `read_sheet` never tells this.
+    #[error("edge {0} names a parameter that is not there")]
+    NoParam(u64),
     #[error("out of memory")]
     NoMemory,
 }

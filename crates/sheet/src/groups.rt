@@ -4,7 +4,7 @@ ghost use Rattle.std.specs.Prelude.{◌≡◌, ◌++◌, ◌∷◌, [], List, le
 ghost use Rattle.sheet.specs.Groups.{AddsCause, AddsLink, ArePlaces, StandsFor, kind_of, place_of, same_group};
 ghost use Rattle.sheet.specs.Links.{Link as LinkSeen, is_cause, source_of};
 ghost use Rattle.sheet.specs.Rule.{SheetRule};
-ghost use Rattle.sheet.specs.Steps.{link_view};
+ghost use Rattle.sheet.specs.Step.{link_view};
 ghost use Rattle.sheet.specs.declared.groups.GroupFault.TheVariants.{NoMemory};
 
 use crate::link::Link;

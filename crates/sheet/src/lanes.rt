@@ -1,13 +1,13 @@
 //! The marks on the lanes of a drawing.
 
-ghost use Rattle.std.specs.Prelude.{◌≡◌, ◌+◌, ◌<◌, ◌≤◌, ℕ, List, All, length, option_map, position, nat_eq, IsTrue, IfOk, OnOk};
+ghost use Rattle.std.specs.Prelude.{◌≡◌, ◌+◌, ◌<◌, ◌≤◌, All, length, position, nat_eq, IfOk, OnOk};
 ghost use Rattle.std.specs.List.{list_all, list_any};
 ghost use Rattle.itv_base.specs.Characters.{is_mark};
 ghost use Rattle.sheet.specs.Fault.{is_memory};
 ghost use Rattle.itv_base.specs.Reading.{Gives};
 ghost use Rattle.sheet.specs.Lanes.{is_node_byte, node_of, has_bad_node, drawn_kind, lane_marks};
 ghost use Rattle.sheet.specs.Sheet.{read_marks};
-ghost use Rattle.sheet.specs.Steps.{AreMarks, with_marks, spans_of};
+ghost use Rattle.sheet.specs.Step.{AreMarks, with_marks, spans_of};
 
 use crate::fault::SheetFault;
 use crate::mark::{MAX_MARKS, Mark, Marks};

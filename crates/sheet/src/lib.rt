@@ -6,6 +6,7 @@
 mod edges;
 mod fault;
 mod groups;
+mod labels;
 mod lanes;
 mod link;
 mod mark;
@@ -19,12 +20,13 @@ mod rule;
 mod sheet;
 
 pub use fault::SheetFault;
+pub use grades::{Grade, Grades, GradesFault, Parameter, Parameters, read_grades};
 pub use groups::{Group, GroupFault, Places, push_link};
 pub use link::Link;
 pub use mark::{MAX_MARKS, Mark, Marks};
 pub use pin::{Pin, Pins};
-pub use read::read_sheet;
-pub use row::{RowKind, SheetRow, SheetRows};
+pub use read::{read_sheet, read_sheet_at};
+pub use row::{SheetRow, SheetRows};
 pub use rows::push_row;
 pub use rule::{Rule, Rules, Source, Sources};
 pub use sheet::Sheet;

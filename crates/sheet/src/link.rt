@@ -4,27 +4,35 @@ ghost use Rattle.std.specs.Prelude.{◌≡◌, ◌≤◌, length, option_map, un
 ghost use Rattle.sheet.specs.Fault.{is_memory};
 ghost use Rattle.itv_base.specs.Reading.{Gives};
 ghost use Rattle.sheet.specs.Links.{number_of, link_of, source_of, open_ends};
-ghost use Rattle.sheet.specs.Steps.{link_view};
+ghost use Rattle.sheet.specs.Step.{labels_view, link_view};
 
 use crate::fault::SheetFault;
+use crate::labels::{Labels, read_label_in};
 use crate::mark::{MAX_MARKS, Mark};
 use crate::rule::Source;
 use itv_base::Range;
-use label_grammar::{EdgeText, Label, read_edge, read_label};
+use label_grammar::{EdgeText, Label, read_edge};
+use origin::Origin;
 
-/// A timing edge: it goes from a mark to a mark, both by number, and has a label.
+/// A timing edge: it goes from a mark to a mark, both by number, and has a label. Its origin says which edge it is.
 #[derive(Clone, Copy, Debug)]
 pub struct Link<'a> {
     pub from: u32,
     pub to: u32,
+    pub origin: Origin,
     pub label: Label<'a>,
 }
 
 /// What the text of an edge says, by the number of the edge: nothing where it is a comment.
 #[tactic(auto, unfolding(crate::specs::Links::link_of))]
-pub fn read_link<'a>(marks: &[Mark], n: u64, text: &'a str) -> Result<Option<Link<'a>>, SheetFault>
+pub fn read_link<'a>(
+    labels: Labels<'_>,
+    marks: &[Mark],
+    n: u64,
+    text: &'a str,
+) -> Result<Option<Link<'a>>, SheetFault>
     requires { length marks.now ≤ MAX_MARKS }
-    ensures { Gives is_memory (λ link. option_map link_view link) result (link_of marks.now n text.now) }
+    ensures { Gives is_memory (λ link. option_map link_view link) result (link_of (labels_view labels.entry) marks.now n text.now) }
 {
     let (from, to, label) = match read_edge(text) {
         EdgeText::Comment => return Ok(None),
@@ -32,13 +40,19 @@ pub fn read_link<'a>(marks: &[Mark], n: u64, text: &'a str) -> Result<Option<Lin
         EdgeText::Timing { from, to, label } => (from, to, label),
     };
     // A `?` on a value that holds a text beside a range gets no proof.
-    let label = match read_label(label) {
+    let label = match read_label_in(labels, n, label) {
         Ok(label) => label,
-        Err(fault) => return Err(SheetFault::Label(n, fault)),
+        Err(fault) => return Err(fault),
     };
     let from = number_of(marks, from).ok_or(SheetFault::NoMark(n, from))?;
     let to = number_of(marks, to).ok_or(SheetFault::NoMark(n, to))?;
-    Ok(Some(Link { from, to, label }))
+    let origin = Origin::Edge(n);
+    Ok(Some(Link {
+        from,
+        to,
+        origin,
+        label,
+    }))
 }
 
 // The number of the mark with a name.
@@ -64,6 +78,7 @@ impl Link<'_> {
             mark: self.from,
             shift: self.label.shift,
             range: self.range(),
+            origin: self.origin,
         }
     }
 

@@ -7,7 +7,7 @@ ghost use Rattle.sheet.specs.Fault.{is_memory};
 ghost use Rattle.itv_base.specs.Reading.{Gives};
 ghost use Rattle.sheet.specs.Lanes.{pin_of};
 ghost use Rattle.sheet.specs.Sheet.{read_pins};
-ghost use Rattle.sheet.specs.Steps.{with_pins, spans_of, numbered_by};
+ghost use Rattle.sheet.specs.Step.{with_pins, spans_of, numbered_by};
 
 use crate::fault::SheetFault;
 use crate::lanes::Span;

@@ -2,11 +2,11 @@
 
 ghost use Rattle.std.specs.Prelude.{◌≡◌, ◌++◌, OnOk, option_to_list};
 ghost use Rattle.sheet.specs.Links.{row_by};
-ghost use Rattle.sheet.specs.Steps.{link_view};
+ghost use Rattle.sheet.specs.Step.{link_view};
 
 use crate::link::Link;
-use crate::row::{RowKind, SheetRow, SheetRows};
-use itv_base::NoMemory;
+use crate::row::{SheetRow, SheetRows};
+use itv_base::{NoMemory, RowKind};
 use label_grammar::Kind;
 
 /// Puts the row at the end of a link that asks for a separation or demands a range of it.
@@ -23,5 +23,6 @@ pub fn push_row(rows: &mut SheetRows, link: &Link<'_>) -> Result<(), NoMemory>
         from: link.from,
         to: link.to,
         shift: link.label.shift,
+        origin: link.origin,
     })
 }

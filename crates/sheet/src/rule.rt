@@ -3,14 +3,16 @@
 ghost use Rattle.std.specs.Prelude.{◌≡◌, ◌++◌, ◌∷◌, [], OnOk, OnErr};
 
 use itv_base::{Listing, NoMemory, Range, RuleKind};
+use origin::Origin;
 use std::marker::Model;
 
-/// A cause of a rule: a mark by number, how many cycles before the target it stands, and the range of its delay.
+/// A cause of a rule: a mark by number, how many cycles before the target it stands, the range of its delay, and what draws it.
 #[derive(Clone, Copy, Debug, PartialEq, Eq)]
 pub struct Source {
     pub mark: u32,
     pub shift: u32,
     pub range: Range,
+    pub origin: Origin,
 }
 
 /// Causes in the order of their edges.

@@ -6,7 +6,6 @@ pub mod PlainLines
 pub mod Finishing
 pub mod Walking
 pub mod Judging
-pub mod RightOrder
 mod Printing
 mod Gathering
 mod SetLoop

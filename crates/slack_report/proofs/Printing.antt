@@ -5,7 +5,7 @@ use Rattle.itv_base.specs.Names.{Name}
 use Rattle.itv_base.specs.Numerals.{number_text}
 use Rattle.itv_base.specs.Range.{Ends}
 use Rattle.line_words.specs.Lines.{ended, line_of, spaced}
-use Rattle.sheet.specs.declared.row.RowKind.TheVariants.{Req}
+use Rattle.itv_base.specs.declared.row_kind.RowKind.TheVariants.{Req}
 use Rattle.slack_report.specs.Entry.{row}
 use Rattle.slack_report.specs.Step.Printed.{member_text}
 use Rattle.slack_report.specs.Text.{entry_text, members_from, name_word, range_word, words_of}

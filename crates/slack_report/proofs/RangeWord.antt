@@ -1,5 +1,5 @@
 -- The word of a range is read as that range, and no other word is.
-use Rattle.std.proofs.Common.{◌≡◌, ◌<◌, ◌≤◌, ℕ, suc, ℤ, pos, negsuc, ◌≤ℤ◌, Bool, true, false, not, ◌&&◌, ◌||◌, List, [], ◌∷◌, ◌++◌, codes, Option, Some, None, refl, sym, ap, subst, ◌∙◌, arith}
+use Rattle.std.proofs.Common.{◌≡◌, ◌<◌, ◌≤◌, ℕ, suc, ℤ, pos, negsuc, neg_ℤ, ◌≤ℤ◌, Bool, true, false, not, ◌&&◌, ◌||◌, List, [], ◌∷◌, ◌++◌, codes, Option, Some, None, refl, sym, ap, subst, ◌∙◌, arith}
 use Rattle.std.specs.Prelude.{IfSome, int_lt}
 use Rattle.std.specs.Char.{is_ascii_digit}
 use Rattle.std.specs.List.{list_all, take_while}
@@ -9,6 +9,7 @@ use Rattle.std.proofs.lemmas.Int.{ints}
 use Rattle.std.proofs.lemmas.Option.{cond_some, same_Some}
 use Rattle.itv_base.specs.Cuts.{after_while, stripped}
 use Rattle.itv_base.specs.Numerals.{end_text, number_text}
+use Rattle.itv_base.specs.declared.limits.TheConstants.{END_LIMIT}
 use Rattle.itv_base.specs.Range.{Ends, IsEnd, IsRange, has_wide, is_above, is_reversed, is_wide}
 use Rattle.itv_base.proofs.Cuts.{stripped_some}
 use Rattle.itv_base.proofs.Numerals.{digits-text}
@@ -35,13 +36,13 @@ below_not (negsuc a) (negsuc b) h = le-ltb b a (omega (arith, ints))
 end_from_test : (end : Option ℤ) → is_wide end ≡ false → IsEnd end
 end_from_test None h = tt
 end_from_test (Some value) h =
-    let p = or_parts (int_lt value (negsuc 999999999999)) (int_lt (pos 1000000000000) value) h in
-    (not_below value (negsuc 999999999999) p.0, not_below (pos 1000000000000) value p.1)
+    let p = or_parts (int_lt value (neg_ℤ END_LIMIT)) (int_lt END_LIMIT value) h in
+    (not_below value (neg_ℤ END_LIMIT) p.0, not_below END_LIMIT value p.1)
 
 test_from_end : (end : Option ℤ) → IsEnd end → is_wide end ≡ false
 test_from_end None h = refl
 test_from_end (Some value) h =
-    or_from (int_lt value (negsuc 999999999999)) (int_lt (pos 1000000000000) value) (below_not value (negsuc 999999999999) h.0) (below_not (pos 1000000000000) value h.1)
+    or_from (int_lt value (neg_ℤ END_LIMIT)) (int_lt END_LIMIT value) (below_not value (neg_ℤ END_LIMIT) h.0) (below_not END_LIMIT value h.1)
 
 order_from_test : (low high : Option ℤ) → is_above low high ≡ false → IfSome low (λ least. IfSome high (λ most. least ≤ℤ most))
 order_from_test None high h = tt

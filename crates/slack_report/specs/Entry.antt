@@ -11,8 +11,8 @@ use Rattle.requirements.specs.declared.bound.Bound.{Bound}
 use Rattle.requirements.specs.declared.bound.Bound.TheVariants as bounds
 use Rattle.requirements.specs.declared.bound.Slack.{Slack}
 use Rattle.requirements.specs.declared.verdict.Verdict.{Verdict}
-use Rattle.sheet.specs.declared.row.RowKind.{RowKind}
-use Rattle.sheet.specs.declared.row.RowKind.TheVariants as kinds
+use Rattle.itv_base.specs.declared.row_kind.RowKind.{RowKind}
+use Rattle.itv_base.specs.declared.row_kind.RowKind.TheVariants as kinds
 use Rattle.slack_report.specs.declared.words.EndWord.{EndWord}
 use Rattle.slack_report.specs.declared.words.FindingWord.{FindingWord}
 use Rattle.slack_report.specs.declared.words.Which.{Which}

@@ -5,5 +5,4 @@ pub mod Report
 pub mod Reading
 pub mod Items
 pub mod Answer
-pub mod Right
 pub mod Step

@@ -2,9 +2,8 @@
 
 use crate::words::{EndWord, FindingWord, Which};
 use event_graph::Line;
-use itv_base::EventName;
+use itv_base::{EventName, RowKind};
 use requirements::{Bound, Slack, Verdict};
-use sheet::RowKind;
 
 /// A line of a report. Times, bounds and slacks are in picoseconds, and events and rows have their numbers from 0.
 #[derive(Clone, Copy, Debug)]

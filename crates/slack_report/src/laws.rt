@@ -5,7 +5,6 @@ ghost use Rattle.slack_report.specs.Entry.{Entry};
 ghost use Rattle.slack_report.specs.Order.{BeginsReport, IsReport};
 ghost use Rattle.slack_report.specs.Report.{BeginsReportText, IsFirstWrongLine};
 ghost use Rattle.slack_report.specs.Text.{report_text};
-ghost use Rattle.slack_report.specs.Right.Order.{RightLinesKeepOrder};
 
 /// Two reports have two texts.
 pub fn report_texts_differ()
@@ -20,9 +19,4 @@ pub fn begun_reports_can_end()
 /// The first line at which bytes begin no report is one.
 pub fn first_wrong_line_is_one()
     ensures { (bytes : List ℕ) (line other : ℕ) → IsFirstWrongLine bytes line → IsFirstWrongLine bytes other → line ≡ other }
-{}
-
-/// A line that may follow at a place of a right report may stand there in the order of texts, and leads on to the same place.
-pub fn right_lines_keep_order()
-    ensures { RightLinesKeepOrder }
 {}

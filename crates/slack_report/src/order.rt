@@ -6,8 +6,8 @@ ghost use Rattle.slack_report.specs.Step.Within.{IsSpot, IsWithin};
 
 use crate::place::{Place, Spot};
 use crate::words::{FindingWord, Which};
+use itv_base::RowKind;
 use requirements::{Bound, Verdict};
-use sheet::RowKind;
 
 /// Before the event of a number, of which and of those behind it so many are left.
 pub fn before_event(events: u32, number: u32, left: u32) -> Place

@@ -2,9 +2,8 @@
 
 use crate::words::{EndWord, FindingWord, Which};
 use certificate::OwnedLine;
-use itv_base::Text;
+use itv_base::{RowKind, Text};
 use requirements::{Bound, Slack, Verdict};
-use sheet::RowKind;
 
 /// The name of an event.
 #[derive(Debug, Drop)]

@@ -13,10 +13,9 @@ ghost use Rattle.slack_report.specs.Step.Cuts.{stands_first};
 use crate::owned::OwnedName;
 use crate::read_word::{name_in, range_in};
 use itoa::Buffer;
-use itv_base::{EventName, NoMemory, Text, number_text};
+use itv_base::{EventName, NoMemory, RowKind, Text, number_text};
 use line_words::{behind_word, long_in, open_in, two_words};
 use requirements::{Bound, Verdict};
-use sheet::RowKind;
 use std::alloc::Global;
 
 // A number at each word.

@@ -24,10 +24,9 @@ use crate::read_list::{
 use crate::read_word::{budget_in, ending_in, finding_in, name_in};
 use crate::words::Which;
 use certificate::proof_in;
-use itv_base::{EventName, MAX_EVENTS, MAX_ROWS, NoMemory};
+use itv_base::{EventName, MAX_EVENTS, MAX_ROWS, NoMemory, RowKind};
 use line_words::{behind_word, number_in, only_word, open_in, two_words};
 use requirements::Slack;
-use sheet::RowKind;
 use std::alloc::Global;
 
 #[tactic(auto, unfolding(crate::specs::Reading::entry_at))]

@@ -7,7 +7,7 @@ ghost use Rattle.itv_base.specs.Names.{name_view};
 ghost use Rattle.itv_base.specs.Numerals.{number_text, signed_text};
 ghost use Rattle.itv_base.specs.Outside.{Puts};
 ghost use Rattle.line_words.specs.Lines.{ended, line_of, spaced};
-ghost use Rattle.sheet.specs.declared.row.RowKind.TheVariants.{Ask, Req};
+ghost use Rattle.itv_base.specs.declared.row_kind.RowKind.TheVariants.{Ask, Req};
 ghost use Rattle.slack_report.specs.Entry.{bound, ending, event, finding, raise, row, slack, times, verdict};
 ghost use Rattle.slack_report.specs.Items.{item_view};
 ghost use Rattle.slack_report.specs.Step.Printed.{member_text};
@@ -17,14 +17,15 @@ use crate::item::Item;
 use crate::words::{EndWord, FindingWord, Which};
 use certificate::write_line;
 use itoa::Buffer;
-use itv_base::{EventName, PutFailed, Range, Sink, end_text, number_text, put_all, signed_text};
+use itv_base::{
+    EventName, PutFailed, Range, RowKind, Sink, end_text, number_text, put_all, signed_text,
+};
 use line_words::{LineBuffer, put_spaced, put_words};
 use requirements::{Bound, Slack, Verdict};
-use sheet::RowKind;
 
 /// Room for the bytes of a line. Each line of a report on a design within the limits has fewer, since a time takes at most 21
 /// and an edge of a proof at most 23.
-pub const LINE_ROOM: u32 = 131_072;
+pub const LINE_ROOM: u32 = 524_288;
 
 // ---- lines of a few words
 

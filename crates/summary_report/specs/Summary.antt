@@ -1,15 +1,14 @@
 -- What job self answers and writes.
-use Rattle.std.specs.Prelude.{◌≡◌, ℕ, false, List, [], ◌∷◌, ◌++◌, length, codes, Some}
+use Rattle.std.specs.Prelude.{◌≡◌, ℕ, false, List, [], ◌∷◌, ◌++◌, length, codes}
 use Rattle.std.specs.List.{flat_map}
 use Rattle.itv_base.specs.Numerals.{number_text}
-use Rattle.job_answer.specs.declared.answer.Answer.{Answer}
+use Rattle.jobs.specs.declared.answer.Answer.{Answer}
 use Rattle.line_words.specs.Lines.{ended, line_of}
 use Rattle.line_words.specs.Words.{Word}
-use Rattle.slack_report.specs.declared.words.EndWord.{EndWord}
 use Rattle.slack_report.specs.Entry.{Entry}
-use Rattle.slack_report.specs.Right.Drawn.{Drawn}
+use Rattle.drawn.specs.Drawn.{Drawn}
 use Rattle.slack_report.specs.Text.{ending_word}
-use Rattle.right_report.specs.Told.{end_in}
+use Rattle.jobs.specs.Ending.{answer_of}
 use Rattle.bounds_report.specs.Reports.{IsWrittenReport, Sums}
 use Rattle.bounds_report.specs.declared.summary.Summary.{Summary}
 
@@ -31,23 +30,21 @@ number_lines drawn size summary =
     ∷ []
 
 -- the lines of numbers, and the line of the word at the end of the report
-abbrev pub summary_text : Drawn → ℕ → Summary → EndWord → List ℕ
-summary_text drawn size summary word = flat_map words_text (number_lines drawn size summary) ++ words_text (codes "end" ∷ ending_word word ∷ [])
+abbrev pub summary_text : Drawn → ℕ → Summary → List ℕ
+summary_text drawn size summary = flat_map words_text (number_lines drawn size summary) ++ words_text (codes "end" ∷ ending_word summary.end ∷ [])
 
--- a report of the budget, without lines of proofs, comes to a summary and ends with a word
-pub record ComesTo (drawn : Drawn) (most : ℕ) (summary : Summary) (word : EndWord) : Type 0 where
+-- a report of the budget, without lines of proofs, comes to a summary
+pub record ComesTo (drawn : Drawn) (most : ℕ) (summary : Summary) : Type 0 where
   pub lines : List Entry
   pub is_written : IsWrittenReport drawn most false lines
   pub sums : Sums summary lines
-  pub ends : end_in lines ≡ Some word
 
--- what the job answers and writes: the end of such a report, and what it comes to
+-- what the job answers and writes: what such a report comes to; the answer is that of its end
 pub record AnswersSummary (drawn : Drawn) (size most : ℕ) (answer : Answer) (text : List ℕ) : Type 0 where
   pub summary : Summary
-  pub word : EndWord
-  pub comes : ComesTo drawn most summary word
-  pub is_answer : answer ≡ summary.answer
-  pub is_text : text ≡ summary_text drawn size summary word
+  pub comes : ComesTo drawn most summary
+  pub is_answer : answer ≡ answer_of summary.end
+  pub is_text : text ≡ summary_text drawn size summary
 
 -- what it may have begun to write
 abbrev pub BeginsSummary : Drawn → ℕ → ℕ → List ℕ → Type 0

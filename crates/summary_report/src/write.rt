@@ -1,25 +1,23 @@
 //! Writing a summary.
 
-ghost use Rattle.std.specs.Prelude.{◌≡◌, ◌≢◌, ◌≤◌, ◌∷◌, [], IfOk, length};
+ghost use Rattle.std.specs.Prelude.{◌≡◌, ◌≤◌, ◌∷◌, [], IfOk};
 ghost use Rattle.std.specs.List.{flat_map};
 ghost use Rattle.itv_base.specs.Outside.{Puts};
-ghost use Rattle.itv_base.specs.declared.limits.TheConstants.{MAX_BUDGET, MAX_ROWS};
-ghost use Rattle.job_answer.specs.Works.{Works};
-ghost use Rattle.job_answer.specs.declared.answer.Answer.TheVariants.{CheckRefused};
-ghost use Rattle.slack_report.specs.declared.words.EndWord.{EndWord};
-ghost use Rattle.unroll.specs.Reported.{reported};
-ghost use Rattle.bounds_report.specs.Reports.{answer_of};
-ghost use Rattle.summary_report.specs.Summary.{AnswersSummary, BeginsSummary, number_lines, summary_text, words_text};
-ghost use Rattle.summary_report.specs.Step.{IsSummary, count_text, end_word};
+ghost use Rattle.itv_base.specs.declared.limits.TheConstants.{MAX_BUDGET};
+ghost use Rattle.jobs.specs.Works.{Works};
+ghost use Rattle.slack_report.specs.Text.{ending_word};
+ghost use Rattle.summary_report.specs.Summary.{AnswersSummary, BeginsSummary, ComesTo, number_lines, summary_text, words_text};
+ghost use Rattle.summary_report.specs.Step.{count_text};
 
 use crate::nowhere::Nowhere;
 use bounds_report::{Summary, write_bounds};
+use drawn::DrawnNetwork;
 use itoa::Buffer;
 use itv_base::{NoMemory, PutFailed, Sink, number_text};
-use job_answer::{Answer, Unanswered};
+use jobs::{Answer, Unanswered, answer_of};
 use line_words::{LineBuffer, put_words};
+use slack_report::EndWord;
 use std::alloc::Global;
-use unroll::Unrolled;
 
 /// Room for the bytes of a line: the longest has a word of eleven letters and a number of ten digits.
 const ROOM: u32 = 32;
@@ -28,29 +26,27 @@ const ROOM: u32 = 32;
 /// closes at most `budget` cases. All memory is taken before the first put, and each line is written by one put.
 pub fn write_summary<K: Sink>(
     alloc: Global,
-    drawn: &Unrolled,
+    drawn: &DrawnNetwork,
     size: u32,
     budget: u64,
     sink: &mut K,
 ) -> Result<Answer, Unanswered>
     requires least { 1 ≤ budget }
     requires most { budget ≤ MAX_BUDGET }
-    requires rows { length drawn.now.rows ≤ MAX_ROWS }
-    ensures works { Works (AnswersSummary (reported drawn.now) size budget) (BeginsSummary (reported drawn.now) size budget)
+    ensures works { Works (AnswersSummary drawn.now size budget) (BeginsSummary drawn.now size budget)
         (K.told sink.old) (K.told sink.new) result }
 {
     let mut buffer = LineBuffer::new(alloc, ROOM)?;
     let summary = summed(alloc, drawn, budget)?;
     put_summary(drawn, size, &summary, &mut buffer, sink)?;
-    Ok(summary.answer)
+    Ok(answer_of(summary.end))
 }
 
 // What the report of a drawn network comes to. The report itself is written nowhere.
-fn summed(alloc: Global, drawn: &Unrolled, budget: u64) -> Result<Summary, NoMemory>
+fn summed(alloc: Global, drawn: &DrawnNetwork, budget: u64) -> Result<Summary, NoMemory>
     requires least { 1 ≤ budget }
     requires most { budget ≤ MAX_BUDGET }
-    requires rows { length drawn.now.rows ≤ MAX_ROWS }
-    ensures { IfOk result (IsSummary (reported drawn.now) budget) }
+    ensures { IfOk result (ComesTo drawn.now budget) }
 {
     match write_bounds(alloc, drawn, budget, false, &mut Nowhere) {
         Ok(summary) => Ok(summary),
@@ -59,31 +55,29 @@ fn summed(alloc: Global, drawn: &Unrolled, budget: u64) -> Result<Summary, NoMem
     }
 }
 
-// The lines of a summary that is an end of a report.
+// The lines of a summary.
 fn put_summary<K: Sink>(
-    drawn: &Unrolled,
+    drawn: &DrawnNetwork,
     size: u32,
     summary: &Summary,
     buffer: &mut LineBuffer,
     sink: &mut K,
 ) -> Result<(), PutFailed>
-    requires ends { (word : EndWord) × (summary.now.answer ≡ answer_of word) }
-    ensures { (word : EndWord) → summary.now.answer ≡ answer_of word
-        → Puts (K.told sink.old) (K.told sink.new) (summary_text (reported drawn.now) size summary.now word) result }
+    ensures { Puts (K.told sink.old) (K.told sink.new) (summary_text drawn.now size summary.now) result }
 {
     put_numbers(drawn, size, summary, buffer, sink)?;
-    put_line(b"end", end_word(summary.answer), buffer, sink)
+    put_line(b"end", end_word(summary.end), buffer, sink)
 }
 
 // The lines of numbers of a summary.
 fn put_numbers<K: Sink>(
-    drawn: &Unrolled,
+    drawn: &DrawnNetwork,
     size: u32,
     summary: &Summary,
     buffer: &mut LineBuffer,
     sink: &mut K,
 ) -> Result<(), PutFailed>
-    ensures { Puts (K.told sink.old) (K.told sink.new) (flat_map words_text (number_lines (reported drawn.now) size summary.now)) result }
+    ensures { Puts (K.told sink.old) (K.told sink.new) (flat_map words_text (number_lines drawn.now size summary.now)) result }
 {
     put_counts(
         &[
@@ -121,17 +115,15 @@ fn put_numbers<K: Sink>(
     )
 }
 
-// The word at the end of a report, by what it comes to.
-fn end_word(answer: Answer) -> &'static [u8]
-    requires { answer ≢ CheckRefused }
-    ensures { result.now ≡ end_word answer }
+// The word at the end of a report, as bytes.
+fn end_word(word: EndWord) -> &'static [u8]
+    ensures { result.now ≡ ending_word word }
 {
-    match answer {
-        Answer::AllPass => b"pass",
-        Answer::SomeFail => b"fail",
-        Answer::Inconsistent => b"inconsistent",
-        Answer::Undecided => b"undecided",
-        Answer::CheckRefused => unreachable!(),
+    match word {
+        EndWord::Pass => b"pass",
+        EndWord::Fail => b"fail",
+        EndWord::Inconsistent => b"inconsistent",
+        EndWord::Undecided => b"undecided",
     }
 }
 

@@ -4,7 +4,7 @@ use Rattle.std.proofs.lemmas.List.{set-set, set_comm, set-get_or}
 use Rattle.std.proofs.lemmas.Bool.{cases_eq}
 use Rattle.trail.specs.declared.undo.Slot.{Slot}
 use Rattle.trail.specs.declared.undo.Saved.{Saved}
-use Rattle.trail.specs.Undo.{slots_before}
+use Rattle.trail.specs.Step.Undo.{slots_before}
 
 pub length-slots_before : (saved : List Saved) (slots : List Slot) → length (slots_before saved slots) ≡ length slots
 length-slots_before [] slots = refl

@@ -9,7 +9,7 @@ use Rattle.itv_base.specs.declared.names.EdgeName.{EdgeName}
 use Rattle.trail.specs.declared.undo.Slot.{Slot}
 use Rattle.trail.specs.declared.undo.Saved.{Saved}
 use Rattle.trail.specs.declared.undo.LevelStart.{LevelStart}
-use Rattle.trail.specs.Undo.{State, state_at, graphs_at, graph_of, IsLogged, IsUndoable}
+use Rattle.trail.specs.Step.Undo.{State, state_at, graphs_at, graph_of, IsLogged, IsUndoable}
 use Rattle.trail.proofs.SlotsBefore.{length-slots_before, slots_before-set_saved, slots_before-save}
 
 -- with one edge more

@@ -8,8 +8,8 @@ use Rattle.trail.specs.declared.undo.Saved.{Saved}
 use Rattle.trail.specs.declared.undo.LevelStart.{LevelStart}
 use Rattle.trail.specs.declared.trail.Trail.TheInside.{Inside}
 use Rattle.trail.specs.Stack.{Stack, new_stack, empty_stamp, after_push, with_edge, with_stamp}
-use Rattle.trail.specs.Undo.{State, state_at, graphs_at}
-use Rattle.trail.specs.Inside.{state_in, stack_in, IsSound}
+use Rattle.trail.specs.Step.Undo.{State, state_at, graphs_at}
+use Rattle.trail.specs.Step.Inside.{state_in, stack_in, IsSound}
 use Rattle.trail.proofs.StateAt.{IsUndoable-edge, graphs_at-edge, IsUndoable-slot, graphs_at-slot, IsUndoable-saved, graphs_at-saved, IsUndoable-start, graphs_at-start, room-saved}
 
 reverse_push : (starts : List LevelStart) (m : LevelStart) → reverse (starts ++ m ∷ []) ≡ m ∷ reverse starts

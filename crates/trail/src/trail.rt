@@ -30,7 +30,7 @@ impl Model for Trail {
 
     ghost Value = { Stack };
 
-    ghost use Rattle.trail.specs.Inside.{stack_in, IsSound};
+    ghost use Rattle.trail.specs.Step.Inside.{stack_in, IsSound};
 
     ghost view = { stack_in };
 

@@ -1,7 +1,7 @@
 //! What a level overwrites, and how it is put back.
 
 ghost use Rattle.std.specs.Prelude.{◌≡◌, ◌<◌, ℕ, All, length};
-ghost use Rattle.trail.specs.Undo.{slots_before};
+ghost use Rattle.trail.specs.Step.Undo.{slots_before};
 
 use crate::stamp::Stamp;
 

@@ -14,14 +14,13 @@ use Rattle.sheet.specs.declared.rule.Source.{Source}
 use Rattle.sheet.specs.Rule.{SheetRule}
 use Rattle.sheet.specs.Contents.{Contents}
 use Rattle.sheet.specs.Whole.{IsWhole, IsWholeRow, IsWholeRule, IsWholeSource}
+use Rattle.itv_base.specs.declared.limits.TheConstants.{MAX_EVENTS}
 use Rattle.sheet.specs.declared.mark.TheConstants.{MAX_MARKS}
 use Rattle.compose.specs.declared.joins.Join.{Join}
 use Rattle.compose.specs.declared.joins.PinJoins.{PinJoins}
 use Rattle.compose.specs.Joins.{first_joins, join_at, pin_joins}
-use Rattle.compose.specs.declared.wire_rule.WireSource.{WireSource}
-use Rattle.compose.specs.Rule.{DesignRule}
-use Rattle.compose.specs.Design.{Composed, IsDesign, IsJoinOf, IsMarkOf, IsRuleOf, IsWireRowOf}
-use Rattle.compose.specs.Numbers.{join_rule, mark_count, number_of, wire_row, wire_rule, wire_source}
+use Rattle.compose.specs.Design.{Composed, IsDesign, IsJoinOf}
+use Rattle.compose.specs.Numbers.{join_rule, mark_count, number_of}
 use Rattle.unroll.specs.Cycle.{part_rows, part_rules, row_behind, rows_of, rule_behind, rules_of, source_behind}
 use Rattle.unroll.specs.Cycles.{row_exists, rule_exists}
 use Rattle.unroll.specs.Step.Between.{IsRowBetween, IsRuleBetween}
@@ -32,41 +31,44 @@ use Rattle.unroll.proofs.PartLists.{mark_count_cons, number_within}
 pub All-slice_get : {X : Type 0} (P : X → Type 0) (xs : List X) (i : ℕ) (x : X) → All P xs → slice_get xs i ≡ Some x → P x
 All-slice_get P xs i x all read = rw (get_or_from_slice_get xs i x x read) at (all i x (slice_get_within xs i x read))
 
--- ---- of sheets
+-- ---- of sheets and wires
 
-rule_between : (marks : ℕ) (rule : SheetRule) → IsWholeRule marks rule → IsRuleBetween marks rule
-rule_between marks rule h = record {
-  target = h.target;
-  causes = All-weaker (IsWholeSource marks) (λ source. source.mark < marks) (λ source whole. whole.mark) rule.causes h.causes;
-  count = h.count;
-}
+rules_between : (marks : ℕ) (rules : List SheetRule) → All (IsWholeRule marks) rules → All (IsRuleBetween marks) rules
+rules_between marks rules whole = All-weaker (IsWholeRule marks) (IsRuleBetween marks) (λ rule h. rule_between rule h) rules whole where
+  rule_between : (rule : SheetRule) → IsWholeRule marks rule → IsRuleBetween marks rule
+  rule_between rule h = record {
+    target = h.target;
+    causes = All-weaker (IsWholeSource marks) (λ source. source.mark < marks) (λ source is. is.mark) rule.causes h.causes;
+    count = h.count;
+  }
 
-row_between : (marks : ℕ) (row : SheetRow) → IsWholeRow marks row → IsRowBetween marks row
-row_between marks row h = record { from = h.from; to = h.to }
+rows_between : (marks : ℕ) (rows : List SheetRow) → All (IsWholeRow marks) rows → All (IsRowBetween marks) rows
+rows_between marks rows whole = All-weaker (IsWholeRow marks) (IsRowBetween marks) (λ row h. record { from = h.from; to = h.to }) rows whole
 
-pub rules_between : (sheet : Contents) → IsWhole sheet → All (IsRuleBetween (length sheet.marks)) sheet.rules
-rules_between sheet h = All-weaker (IsWholeRule (length sheet.marks)) (IsRuleBetween (length sheet.marks)) (rule_between (length sheet.marks)) sheet.rules h.rules
+-- rules and rows between marks are between more marks
+more_rules : (few many : ℕ) (rules : List SheetRule) → few ≤ many → All (IsWholeRule few) rules → All (IsRuleBetween many) rules
+more_rules few many rules le whole = All-weaker (IsRuleBetween few) (IsRuleBetween many) more rules (rules_between few rules whole) where
+  more : (rule : SheetRule) → IsRuleBetween few rule → IsRuleBetween many rule
+  more rule h = record {
+    target = omega (arith, le, h.target);
+    causes = All-weaker (λ source. source.mark < few) (λ source. source.mark < many) (λ source less. omega (arith, le, less)) rule.causes h.causes;
+    count = h.count;
+  }
 
-pub rows_between : (sheet : Contents) → IsWhole sheet → All (IsRowBetween (length sheet.marks)) sheet.rows
-rows_between sheet h = All-weaker (IsWholeRow (length sheet.marks)) (IsRowBetween (length sheet.marks)) (row_between (length sheet.marks)) sheet.rows h.rows
+more_rows : (few many : ℕ) (rows : List SheetRow) → few ≤ many → All (IsWholeRow few) rows → All (IsRowBetween many) rows
+more_rows few many rows le whole =
+    All-weaker (IsRowBetween few) (IsRowBetween many) (λ row h. record { from = omega (arith, le, h.from); to = omega (arith, le, h.to) }) rows (rows_between few rows whole)
 
-more_marks : (few many : ℕ) → few ≤ many → (rule : SheetRule) → IsRuleBetween few rule → IsRuleBetween many rule
-more_marks few many le rule h = record {
-  target = omega (arith, le, h.target);
-  causes = All-weaker (λ source. source.mark < few) (λ source. source.mark < many) (λ source less. omega (arith, le, less)) rule.causes h.causes;
-  count = h.count;
-}
+-- those of a sheet are between as many marks as there may be events
+pub sheet_rules : (sheet : Contents) → IsWhole sheet → All (IsRuleBetween MAX_EVENTS) sheet.rules
+sheet_rules sheet h = let few : length sheet.marks ≤ MAX_MARKS = h.marks in more_rules (length sheet.marks) MAX_EVENTS sheet.rules (omega (arith, few)) h.rules
 
--- the rules and rows of a sheet are between few marks
-pub sheet_rules : (sheet : Contents) → IsWhole sheet → All (IsRuleBetween MAX_MARKS) sheet.rules
-sheet_rules sheet h =
-    let few : length sheet.marks ≤ MAX_MARKS = h.marks in
-    All-weaker (IsRuleBetween (length sheet.marks)) (IsRuleBetween MAX_MARKS) (more_marks (length sheet.marks) MAX_MARKS few) sheet.rules (rules_between sheet h)
+-- so are those of the wires of a design with few marks
+pub wire_rules : (d : Composed) → IsDesign d → mark_count d.sheets ≤ MAX_EVENTS → All (IsRuleBetween MAX_EVENTS) d.rules
+wire_rules d h few = more_rules (mark_count d.sheets) MAX_EVENTS d.rules few h.rules
 
-pub sheet_rows : (sheet : Contents) → IsWhole sheet → All (IsRowBetween MAX_MARKS) sheet.rows
-sheet_rows sheet h =
-    let few : length sheet.marks ≤ MAX_MARKS = h.marks in
-    All-weaker (IsRowBetween (length sheet.marks)) (IsRowBetween MAX_MARKS) (λ row between. record { from = omega (arith, few, between.from); to = omega (arith, few, between.to) }) sheet.rows (rows_between sheet h)
+pub wire_rows : (d : Composed) → IsDesign d → mark_count d.sheets ≤ MAX_EVENTS → All (IsRowBetween MAX_EVENTS) d.rows
+wire_rows d h few = more_rows (mark_count d.sheets) MAX_EVENTS d.rows few h.rows
 
 -- ---- of parts
 
@@ -85,7 +87,7 @@ part_rules_between first many (sheet ∷ sheets) all le =
     let count = mark_count_cons sheet sheets in
     All-append (IsRuleBetween many) (map (rule_behind first) sheet.rules) (part_rules (first + length sheet.marks) sheets)
     (All-map (IsRuleBetween many) (rule_behind first) sheet.rules
-    (All-weaker (IsRuleBetween (length sheet.marks)) (λ rule. IsRuleBetween many (rule_behind first rule)) (rule_behind_between first (length sheet.marks) many (omega (arith, le, count))) sheet.rules (rules_between sheet whole)))
+    (All-weaker (IsRuleBetween (length sheet.marks)) (λ rule. IsRuleBetween many (rule_behind first rule)) (rule_behind_between first (length sheet.marks) many (omega (arith, le, count))) sheet.rules (rules_between (length sheet.marks) sheet.rules whole.rules)))
     (part_rules_between (first + length sheet.marks) many sheets (All-tail IsWhole sheet sheets all) (omega (arith, le, count)))
 
 part_rows_between : (first many : ℕ) (sheets : List Contents) → All IsWhole sheets → first + mark_count sheets ≤ many → All (IsRowBetween many) (part_rows first sheets)
@@ -96,25 +98,17 @@ part_rows_between first many (sheet ∷ sheets) all le =
     let few : first + length sheet.marks ≤ many = omega (arith, le, count) in
     All-append (IsRowBetween many) (map (row_behind first) sheet.rows) (part_rows (first + length sheet.marks) sheets)
     (All-map (IsRowBetween many) (row_behind first) sheet.rows
-    (All-weaker (IsRowBetween (length sheet.marks)) (λ row. IsRowBetween many (row_behind first row)) (λ row h. record { from = omega (arith, few, h.from); to = omega (arith, few, h.to) }) sheet.rows (rows_between sheet whole)))
+    (All-weaker (IsRowBetween (length sheet.marks)) (λ row. IsRowBetween many (row_behind first row)) (λ row h. record { from = omega (arith, few, h.from); to = omega (arith, few, h.to) }) sheet.rows (rows_between (length sheet.marks) sheet.rows whole.rows)))
     (part_rows_between (first + length sheet.marks) many sheets (All-tail IsWhole sheet sheets all) (omega (arith, le, count)))
 
--- ---- of nets and wires
+-- ---- of nets
 
 join_between : (sheets : List Contents) (join : Join) → IsJoinOf sheets join → IsRuleBetween (mark_count sheets) (join_rule sheets join)
 join_between sheets join h = record {
   target = number_within sheets join.to h.1;
-  causes = All-cons (λ (source : Source). source.mark < mark_count sheets) (record { mark = number_of sheets join.from; shift = 0; range = join.delay }) [] (number_within sheets join.from h.0)
+  causes = All-cons (λ (source : Source). source.mark < mark_count sheets) (record { mark = number_of sheets join.from; shift = 0; range = join.delay; origin = join.origin }) [] (number_within sheets join.from h.0)
       (All-nil (λ (source : Source). source.mark < mark_count sheets));
   count = refl;
-}
-
-wire_between : (sheets : List Contents) (rule : DesignRule) → IsRuleOf sheets rule → IsRuleBetween (mark_count sheets) (wire_rule sheets rule)
-wire_between sheets rule h = record {
-  target = number_within sheets rule.target h.target;
-  causes = All-map (λ (source : Source). source.mark < mark_count sheets) (wire_source sheets) rule.causes
-      (All-weaker (λ (source : WireSource). IsMarkOf sheets source.mark) (λ source. number_of sheets source.mark < mark_count sheets) (λ source there. number_within sheets source.mark there) rule.causes h.causes);
-  count = rw (length-map rule.causes (wire_source sheets)) h.count;
 }
 
 -- ---- of a design
@@ -122,10 +116,10 @@ wire_between sheets rule h = record {
 all_rules_between : (d : Composed) → IsDesign d → All (IsRuleBetween (mark_count d.sheets)) (rules_of d)
 all_rules_between d h =
     let all : ℕ = mark_count d.sheets in
-    All-append (IsRuleBetween all) (part_rules 0 d.sheets) (map (join_rule d.sheets) d.joins ++ map (wire_rule d.sheets) d.rules) (part_rules_between 0 all d.sheets h.sheets (omega arith))
-    (All-append (IsRuleBetween all) (map (join_rule d.sheets) d.joins) (map (wire_rule d.sheets) d.rules)
+    All-append (IsRuleBetween all) (part_rules 0 d.sheets) (map (join_rule d.sheets) d.joins ++ d.rules) (part_rules_between 0 all d.sheets h.sheets (omega arith))
+    (All-append (IsRuleBetween all) (map (join_rule d.sheets) d.joins) d.rules
     (All-map (IsRuleBetween all) (join_rule d.sheets) d.joins (All-weaker (IsJoinOf d.sheets) (λ join. IsRuleBetween all (join_rule d.sheets join)) (join_between d.sheets) d.joins h.joins))
-    (All-map (IsRuleBetween all) (wire_rule d.sheets) d.rules (All-weaker (IsRuleOf d.sheets) (λ rule. IsRuleBetween all (wire_rule d.sheets rule)) (wire_between d.sheets) d.rules h.rules)))
+    (rules_between all d.rules h.rules))
 
 -- the rules that are kept are between the marks
 pub kept_rules_between : (d : Composed) → IsDesign d → All (IsRuleBetween (mark_count d.sheets)) (kept_rules d.cycles (rules_of d))
@@ -134,9 +128,7 @@ kept_rules_between d h = All-filter (λ rule. rule_exists (d.cycles - 1) rule) (
 all_rows_between : (d : Composed) → IsDesign d → All (IsRowBetween (mark_count d.sheets)) (rows_of d)
 all_rows_between d h =
     let all : ℕ = mark_count d.sheets in
-    All-append (IsRowBetween all) (part_rows 0 d.sheets) (map (wire_row d.sheets) d.rows) (part_rows_between 0 all d.sheets h.sheets (omega arith))
-    (All-map (IsRowBetween all) (wire_row d.sheets) d.rows
-    (All-weaker (IsWireRowOf d.sheets) (λ row. IsRowBetween all (wire_row d.sheets row)) (λ row there. record { from = number_within d.sheets row.from there.0; to = number_within d.sheets row.to there.1 }) d.rows h.rows))
+    All-append (IsRowBetween all) (part_rows 0 d.sheets) d.rows (part_rows_between 0 all d.sheets h.sheets (omega arith)) (rows_between all d.rows h.rows)
 
 -- so are the rows that are kept
 pub kept_rows_between : (d : Composed) → IsDesign d → All (IsRowBetween (mark_count d.sheets)) (kept_rows d.cycles (rows_of d))

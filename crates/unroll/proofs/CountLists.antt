@@ -1,24 +1,22 @@
 -- How often rules and rows exist.
-use Rattle.std.proofs.Common.{◌≡◌, ℕ, zero, suc, ◌+◌, ◌-◌, ◌*◌, ◌<◌, Bool, true, nat_le, nat_lt, List, [], ◌∷◌, ◌++◌, length, map, get_or, take, refl, ap, sym, ◌∙◌, arith}
+use Rattle.std.proofs.Common.{◌≡◌, ℕ, zero, suc, ◌+◌, ◌-◌, ◌*◌, Bool, true, nat_le, nat_lt, List, [], ◌∷◌, ◌++◌, length, map, refl, sym, ◌∙◌, arith}
 use Rattle.std.specs.Prelude.{sum_by}
 use Rattle.std.specs.List.{list_all}
 use Rattle.std.proofs.Math.Nat.{mul-suc}
 use Rattle.std.proofs.lemmas.Bool.{cond_both, le-leb, leb-false, leb-true}
-use Rattle.std.proofs.lemmas.List.{map-append, take_more}
-use Rattle.std.proofs.lemmas.List.Folds.{list_all-map}
-use Rattle.std.proofs.lemmas.List.Sums.{sum_by-append, sum_by-cons, sum_by_push}
+use Rattle.std.proofs.lemmas.List.{length-map}
+use Rattle.std.proofs.lemmas.List.Sums.{sum_by-append, sum_by-cons}
 use Rattle.itv_base.specs.declared.names.RuleKind.{RuleKind}
 use Rattle.event_graph.specs.Network.{named_causes}
 use Rattle.sheet.specs.declared.row.SheetRow.{SheetRow}
-use Rattle.sheet.specs.declared.rule.Source.{Source}
 use Rattle.sheet.specs.Rule.{SheetRule}
 use Rattle.sheet.specs.Contents.{Contents}
 use Rattle.compose.specs.declared.joins.Join.{Join}
 use Rattle.compose.specs.Numbers.{join_rule, mark_count}
 use Rattle.unroll.specs.declared.counts.Counts.{Counts}
-use Rattle.unroll.specs.Cycle.{part_rows, part_rules, row_behind, rule_behind}
+use Rattle.unroll.specs.Cycle.{part_rows, part_rules, row_behind, rule_behind, source_behind}
 use Rattle.unroll.specs.Step.Counting.{AreCounts, how_often, is_splittable, row_cycles, rule_cycles, splittable_cycles, sums}
-use Rattle.unroll.proofs.PartLists.{mark_count_push, part_rows_push, part_rules_push}
+use Rattle.unroll.proofs.PartLists.{exists_behind, mark_count_push, part_rows_push, part_rules_push}
 
 -- tests that agree hold equally often
 pub how_often_same : (a b : ℕ → Bool) (n : ℕ) → ((cycle : ℕ) → a cycle ≡ b cycle) → how_often a n ≡ how_often b n
@@ -31,23 +29,6 @@ how_often_from shift zero = omega arith
 how_often_from shift (suc n) =
     let before = how_often_from shift n in
     cond_both (nat_le shift n) 1 0 (λ k. how_often (λ cycle. nat_le shift cycle) n + k ≡ suc n - shift) (λ yes. omega (arith, before, leb-true shift n yes)) (λ no. omega (arith, before, leb-false shift n no))
-
--- other causes that stand as many cycles before
-pub sources_same : {X : Type 0} (f : X → Source) (shift : X → ℕ) (causes : List X) (last n : ℕ) → ((x : X) → (f x).shift ≡ shift x)
-    → ((cycle : ℕ) → list_all (λ x. nat_le (shift x) cycle) causes ≡ nat_le last cycle)
-    → how_often (λ cycle. nat_le last cycle) n ≡ how_often (λ cycle. list_all (λ source. nat_le source.shift cycle) (map f causes)) n
-sources_same f shift causes last n same all =
-    how_often_same _ _ n (λ cycle. sym (all cycle) ∙ sym (shifts_same f shift causes cycle same) ∙ sym (list_all-map (λ (source : Source). nat_le source.shift cycle) f causes)) where
-      shifts_same : {X : Type 0} (f : X → Source) (shift : X → ℕ) (causes : List X) (cycle : ℕ) → ((x : X) → (f x).shift ≡ shift x)
-          → list_all (λ x. nat_le (f x).shift cycle) causes ≡ list_all (λ x. nat_le (shift x) cycle) causes
-      shifts_same f shift [] cycle same = refl
-      shifts_same f shift (x ∷ xs) cycle same = rw (same x, shifts_same f shift xs cycle same) refl
-
--- one element more
-pub sum_map_more : {X Y : Type 0} (g : Y → ℕ) (f : X → Y) (xs : List X) (i : ℕ) (x : X) → i < length xs → x ≡ get_or xs i x
-    → sum_by g (map f (take (i + 1) xs)) ≡ sum_by g (map f (take i xs)) + g (f x)
-sum_map_more g f xs i x within is =
-    ap (λ ys. sum_by g (map f ys)) (take_more xs i x within ∙ ap (λ y. take i xs ++ y ∷ []) (sym is)) ∙ ap (sum_by g) (map-append f (take i xs) (x ∷ [])) ∙ sum_by_push g (map f (take i xs)) (f x)
 
 -- ---- rules
 
@@ -81,6 +62,26 @@ joins_unsplittable n sheets (join ∷ joins) = sum_by-cons (splittable_cycles n)
 
 -- ---- counts
 
+sum_map_same : {X : Type 0} (g : X → ℕ) (f : X → X) (xs : List X) → ((x : X) → g (f x) ≡ g x) → sum_by g (map f xs) ≡ sum_by g xs
+sum_map_same g f [] same = refl
+sum_map_same g f (x ∷ xs) same = omega (arith, sum_by-cons g (f x) (map f xs), sum_by-cons g x xs, same x, sum_map_same g f xs same)
+
+-- a rule exists as often wherever its marks stand
+rule_cycles_behind : (n first : ℕ) (rule : SheetRule) → rule_cycles n (rule_behind first rule) ≡ rule_cycles n rule
+rule_cycles_behind n first rule = how_often_same _ _ n (λ cycle. exists_behind cycle first rule)
+
+splittable_cycles_behind : (n first : ℕ) (rule : SheetRule) → splittable_cycles n (rule_behind first rule) ≡ splittable_cycles n rule
+splittable_cycles_behind n first rule = rw (length-map rule.causes (source_behind first), rule_cycles_behind n first rule) refl
+
+-- so its counts are the same
+counts_behind : (most n first : ℕ) (rules : List SheetRule) (rows : List SheetRow) (counts : Counts) → AreCounts most n rules rows counts → AreCounts most n (map (rule_behind first) rules) (map (row_behind first) rows) counts
+counts_behind most n first rules rows counts h = record {
+  marks = h.marks;
+  constraints = h.constraints ∙ sym (sum_map_same (rule_cycles n) (rule_behind first) rules (rule_cycles_behind n first));
+  splittable = h.splittable ∙ sym (sum_map_same (splittable_cycles n) (rule_behind first) rules (splittable_cycles_behind n first));
+  rows = h.rows ∙ sym (sum_map_same (row_cycles n) (row_behind first) rows (λ row. refl));
+}
+
 -- two counts together
 pub counts_together : (most other n : ℕ) (rules rules' : List SheetRule) (rows rows' : List SheetRow) (a b : Counts) → AreCounts most n rules rows a → AreCounts other n rules' rows' b
     → AreCounts (most + other) n (rules ++ rules') (rows ++ rows') (sums a b)
@@ -94,8 +95,9 @@ counts_together most other n rules rules' rows rows' a b h k = record {
 -- one part more
 pub part_counted : (n : ℕ) (sheets : List Contents) (sheet : Contents) (a b : Counts)
     → AreCounts (mark_count sheets) n (part_rules 0 sheets) (part_rows 0 sheets) a
-    → ((first : ℕ) → AreCounts (length sheet.marks) n (map (rule_behind first) sheet.rules) (map (row_behind first) sheet.rows) b)
+    → AreCounts (length sheet.marks) n sheet.rules sheet.rows b
     → AreCounts (mark_count (sheets ++ sheet ∷ [])) n (part_rules 0 (sheets ++ sheet ∷ [])) (part_rows 0 (sheets ++ sheet ∷ [])) (sums a b)
 part_counted n sheets sheet a b h k =
     rw (mark_count_push sheets sheet, part_rules_push 0 sheets sheet, part_rows_push 0 sheets sheet)
-    (counts_together (mark_count sheets) (length sheet.marks) n (part_rules 0 sheets) (map (rule_behind (0 + mark_count sheets)) sheet.rules) (part_rows 0 sheets) (map (row_behind (0 + mark_count sheets)) sheet.rows) a b h (k (0 + mark_count sheets)))
+    (counts_together (mark_count sheets) (length sheet.marks) n (part_rules 0 sheets) (map (rule_behind (0 + mark_count sheets)) sheet.rules) (part_rows 0 sheets) (map (row_behind (0 + mark_count sheets)) sheet.rows) a b h
+    (counts_behind (length sheet.marks) n (0 + mark_count sheets) sheet.rules sheet.rows b k))

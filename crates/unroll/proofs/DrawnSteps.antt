@@ -4,7 +4,8 @@ use Rattle.std.specs.List.{cons_option, filter_map}
 use Rattle.std.proofs.lemmas.Bool.{ltb-false}
 use Rattle.std.proofs.lemmas.Nat.{mul-add-lt}
 use Rattle.std.proofs.lemmas.List.Elements.{All-cons, All-head, All-nil, All-tail}
-use Rattle.itv_base.specs.declared.limits.TheConstants.{MAX_CONSTRAINTS, MAX_EVENTS}
+use Rattle.itv_base.specs.declared.limits.TheConstants.{MAX_CONSTRAINTS, MAX_EVENTS, MAX_ROWS}
+use Rattle.origin.specs.declared.origin.Origin.{Origin}
 use Rattle.event_graph.specs.Network.{Net}
 use Rattle.sheet.specs.declared.row.SheetRow.{SheetRow}
 use Rattle.sheet.specs.Rule.{SheetRule}
@@ -13,18 +14,21 @@ use Rattle.compose.specs.Numbers.{mark_count}
 use Rattle.unroll.specs.declared.counted.Counted.{Counted}
 use Rattle.unroll.specs.declared.counts.Counts.{Counts}
 use Rattle.unroll.specs.declared.fault.UnrollFault.TheVariants.{TooMany}
-use Rattle.unroll.specs.declared.names.EventLabel.{EventLabel}
-use Rattle.unroll.specs.declared.row.Row.{Row}
+use Rattle.drawn.specs.declared.event_label.EventLabel.{EventLabel}
+use Rattle.drawn.specs.declared.row.Row.{Row}
 use Rattle.unroll.specs.Cycle.{rows_of, rules_of}
-use Rattle.unroll.specs.Cycles.{constraints_of, event_in, in_cycles, row_exists, row_in, rows_in}
-use Rattle.unroll.specs.Drawn.{IsRowOf, drawn_of}
+use Rattle.unroll.specs.Cycles.{constraints_of, event_in, in_cycles, origins_of, row_exists, row_in, rows_in}
+use Rattle.drawn.specs.Drawn.{IsRowOf}
+use Rattle.unroll.specs.Drawn.{drawn_of}
 use Rattle.unroll.specs.Limits.{counts_by, counts_of, first_passed, unrolled, within}
 use Rattle.unroll.specs.Step.Between.{IsRowBetween}
 use Rattle.unroll.specs.Step.Counting.{AreCounts}
 use Rattle.unroll.specs.Step.Kept.{kept_rows, kept_rules}
-use Rattle.unroll.specs.Step.Labels.{IsKept, drawn_by, labels_from}
+use Rattle.drawn.specs.Kept.{IsKept, drawn_by}
+use Rattle.unroll.specs.Step.Labels.{labels_from}
 use Rattle.unroll.proofs.BetweenLists.{kept_rows_between}
-use Rattle.unroll.proofs.KeptLists.{constraints_counted, kept_constraints, kept_rows_in, rows_counted, splittable_counted}
+use Rattle.unroll.proofs.KeptLists.{constraints_counted, kept_constraints, kept_origins, kept_rows_in, rows_counted, splittable_counted}
+use Rattle.unroll.proofs.OriginLists.{origins_fit}
 use Rattle.unroll.proofs.NameLists.{All-in_cycles, labels_inside, labels_length, labels_tell}
 
 -- ---- counts
@@ -44,11 +48,12 @@ cond_none true x other h = absurd (cc)
 cond_none false x other h = (refl, h)
 
 -- what passes no limit
-pub none_passed : (events constraints rows splittable : ℕ) → first_passed (counts_by events constraints rows splittable) ≡ None → (events ≤ MAX_EVENTS) × (constraints ≤ MAX_CONSTRAINTS)
+pub none_passed : (events constraints rows splittable : ℕ) → first_passed (counts_by events constraints rows splittable) ≡ None → (events ≤ MAX_EVENTS) × (constraints ≤ MAX_CONSTRAINTS) × (rows ≤ MAX_ROWS)
 none_passed events constraints rows splittable none =
     let first = cond_none _ _ _ none in
     let second = cond_none _ _ _ first.1 in
-    (ltb-false MAX_EVENTS events first.0, ltb-false MAX_CONSTRAINTS constraints second.0)
+    let third = cond_none _ _ _ second.1 in
+    (ltb-false MAX_EVENTS events first.0, ltb-false MAX_CONSTRAINTS constraints second.0, ltb-false MAX_ROWS rows third.0)
 
 pub drawn_within : (d : Composed) → first_passed (counts_of (drawn_of d)) ≡ None → unrolled d ≡ Ok (drawn_of d)
 unfolding unrolled
@@ -74,7 +79,7 @@ rows_of_cycle net marks cycle n (row ∷ rows) less is all =
     let here = All-head (IsRowBetween marks) row rows all in
     let from = mul-add-lt (cycle - row.shift) marks row.from n (omega (arith, less)) here.from in
     let to = mul-add-lt cycle marks row.to n less here.to in
-    let drawn : Row = record { kind = row.kind; from = event_in marks (cycle - row.shift) row.from; to = event_in marks cycle row.to } in
+    let drawn : Row = record { kind = row.kind; from = event_in marks (cycle - row.shift) row.from; to = event_in marks cycle row.to; origin = row.origin } in
     more_hold (IsRowOf net) (row_in marks cycle row) (filter_map (row_in marks cycle) rows) (chosen (row_exists cycle row) drawn (IsRowOf net) (omega (arith, is, from), omega (arith, is, to)))
     (rows_of_cycle net marks cycle n rows less is (All-tail (IsRowBetween marks) row rows all))
 
@@ -84,33 +89,37 @@ rows_inside net marks n rows is all = All-in_cycles (IsRowOf net) (λ cycle. fil
 -- ---- the whole
 
 -- what was made step by step
-pub record IsMade (d : Composed) (net : Net) (texts : List (List ℕ)) (labels : List EventLabel) (asked : List Row) : Type 0 where
+pub record IsMade (d : Composed) (net : Net) (drew : List (List Origin)) (texts : List (List ℕ)) (labels : List EventLabel) (asked : List Row) : Type 0 where
   pub network : net ≡ record { events = d.cycles * mark_count d.sheets; constraints = constraints_of (mark_count d.sheets) (kept_rules d.cycles (rules_of d)) d.cycles }
+  pub origins : drew ≡ origins_of (kept_rules d.cycles (rules_of d)) d.cycles
   pub parts : texts ≡ d.parts
   pub names : labels ≡ in_cycles (λ cycle. labels_from cycle 0 d.sheets) d.cycles
   pub rows : asked ≡ rows_in (mark_count d.sheets) (kept_rows d.cycles (rows_of d)) d.cycles
 
-pub made_kept : (d : Composed) (net : Net) (texts : List (List ℕ)) (labels : List EventLabel) (asked : List Row) → IsDesign d → IsMade d net texts labels asked → IsKept net texts labels asked
-made_kept d net texts labels asked h made =
+pub made_kept : (d : Composed) (net : Net) (drew : List (List Origin)) (texts : List (List ℕ)) (labels : List EventLabel) (asked : List Row) → IsDesign d → length (drawn_of d).rows ≤ MAX_ROWS → IsMade d net drew texts labels asked → IsKept net drew texts labels asked
+made_kept d net drew texts labels asked h few made =
     let events : net.events ≡ d.cycles * mark_count d.sheets = ap (λ (n : Net). n.events) made.network in
     record {
+      origins = rw (made.network, made.origins) (origins_fit (d.cycles * mark_count d.sheets) (mark_count d.sheets) d.cycles (kept_rules d.cycles (rules_of d)));
       names = rw (made.names, labels_length d.sheets d.cycles) (sym events);
       parts = rw (made.names, made.parts) (labels_inside d.parts d.sheets d.cycles h.parts);
       rows = rw made.rows (rows_inside net (mark_count d.sheets) d.cycles (kept_rows d.cycles (rows_of d)) events (kept_rows_between d h));
+      few = rw (made.rows, kept_rows_in (mark_count d.sheets) d.cycles (rows_of d)) few;
     }
 
-pub made_is : (d : Composed) (net : Net) (texts : List (List ℕ)) (labels : List EventLabel) (asked : List Row) → IsDesign d → IsMade d net texts labels asked → drawn_by net texts labels asked ≡ drawn_of d
-made_is d net texts labels asked h made =
+pub made_is : (d : Composed) (net : Net) (drew : List (List Origin)) (texts : List (List ℕ)) (labels : List EventLabel) (asked : List Row) → IsDesign d → IsMade d net drew texts labels asked → drawn_by net drew texts labels asked ≡ drawn_of d
+made_is d net drew texts labels asked h made =
     let marks : ℕ = mark_count d.sheets in
-    rw (made.network, made.parts, made.names, made.rows, kept_constraints marks d.cycles (rules_of d), kept_rows_in marks d.cycles (rows_of d), labels_tell d.parts d.sheets d.cycles h.parts) refl
+    rw (made.network, made.origins, made.parts, made.names, made.rows, kept_constraints marks d.cycles (rules_of d), kept_origins d.cycles (rules_of d), kept_rows_in marks d.cycles (rows_of d), labels_tell d.parts d.sheets d.cycles h.parts) refl
 
 -- what the steps answer, put together
-pub made_by : (d : Composed) (marks cycles : ℕ) (rules : List SheetRule) (asked : List SheetRow) (net : Net) (texts : List (List ℕ)) (labels : List EventLabel) (rows : List Row)
+pub made_by : (d : Composed) (marks cycles : ℕ) (rules : List SheetRule) (asked : List SheetRow) (net : Net) (drew : List (List Origin)) (texts : List (List ℕ)) (labels : List EventLabel) (rows : List Row)
     → marks ≡ mark_count d.sheets → cycles ≡ d.cycles → rules ≡ kept_rules d.cycles (rules_of d) → asked ≡ kept_rows d.cycles (rows_of d)
-    → net ≡ record { events = cycles * marks; constraints = constraints_of marks rules cycles } → texts ≡ d.parts → labels ≡ in_cycles (λ cycle. labels_from cycle 0 d.sheets) d.cycles → rows ≡ rows_in marks asked cycles
-    → IsMade d net texts labels rows
-made_by d marks cycles rules asked net texts labels rows same_marks same_cycles same_rules same_asked network parts names given = record {
+    → net ≡ record { events = cycles * marks; constraints = constraints_of marks rules cycles } → drew ≡ origins_of rules cycles → texts ≡ d.parts → labels ≡ in_cycles (λ cycle. labels_from cycle 0 d.sheets) d.cycles → rows ≡ rows_in marks asked cycles
+    → IsMade d net drew texts labels rows
+made_by d marks cycles rules asked net drew texts labels rows same_marks same_cycles same_rules same_asked network origins parts names given = record {
   network = network ∙ rw (same_marks, same_cycles, same_rules) refl;
+  origins = origins ∙ rw (same_cycles, same_rules) refl;
   parts = parts;
   names = names;
   rows = given ∙ rw (same_marks, same_cycles, same_asked) refl;
@@ -129,3 +138,7 @@ passed_of d cycles counts found same h is = (rw same at is) ∙ ap first_passed 
 -- what passes no limit has few constraints
 pub few_constraints : (d : Composed) → None ≡ first_passed (counts_of (drawn_of d)) → length (constraints_of (mark_count d.sheets) (rules_of d) d.cycles) ≤ MAX_CONSTRAINTS
 few_constraints d none = (none_passed (drawn_of d).net.events (length (drawn_of d).net.constraints) (length (drawn_of d).rows) _ (sym none)).1
+
+-- and few rows
+pub few_rows : (d : Composed) → None ≡ first_passed (counts_of (drawn_of d)) → length (drawn_of d).rows ≤ MAX_ROWS
+few_rows d none = (none_passed (drawn_of d).net.events (length (drawn_of d).net.constraints) (length (drawn_of d).rows) _ (sym none)).2

@@ -10,7 +10,7 @@ use Rattle.event_graph.specs.Network.{Constraint, cause_count_of, named_causes, 
 use Rattle.sheet.specs.declared.row.SheetRow.{SheetRow}
 use Rattle.sheet.specs.declared.rule.Source.{Source}
 use Rattle.sheet.specs.Rule.{SheetRule}
-use Rattle.unroll.specs.Cycles.{cause_in, constraint_in, constraints_of, event_in, in_cycles, row_exists, row_in, rows_in, rule_exists}
+use Rattle.unroll.specs.Cycles.{cause_in, constraint_in, constraints_of, event_in, in_cycles, origins_in, origins_of, row_exists, row_in, rows_in, rule_exists}
 use Rattle.unroll.specs.Step.Counting.{how_often, is_splittable, row_cycles, rule_cycles, splittable_cycles}
 use Rattle.unroll.specs.Step.Kept.{kept_rows, kept_rules}
 
@@ -45,12 +45,21 @@ rule_gone marks cycle later rule less gone =
 
 row_gone : (marks cycle later : ℕ) (row : SheetRow) → cycle ≤ later → row_exists later row ≡ false → row_in marks cycle row ≡ None
 row_gone marks cycle later row less gone =
-    gone_before (row_exists cycle row) (record { kind = row.kind; from = event_in marks (cycle - row.shift) row.from; to = event_in marks cycle row.to })
+    gone_before (row_exists cycle row) (record { kind = row.kind; from = event_in marks (cycle - row.shift) row.from; to = event_in marks cycle row.to; origin = row.origin })
     (λ now. both_ways (row_exists later row) gone (le-leb row.shift later (omega (arith, leb-true row.shift cycle now))))
+
+origins_gone : (cycle later : ℕ) (rule : SheetRule) → cycle ≤ later → rule_exists later rule ≡ false → origins_in cycle rule ≡ None
+origins_gone cycle later rule less gone =
+    gone_before (rule_exists cycle rule) (map (λ (source : Source). source.origin) rule.causes)
+    (λ now. both_ways (rule_exists later rule) gone (sources_later rule.causes cycle later less now))
 
 pub kept_constraints : (marks n : ℕ) (rules : List SheetRule) → constraints_of marks (kept_rules n rules) n ≡ constraints_of marks rules n
 kept_constraints marks n rules =
     in_cycles_agree _ _ n (λ cycle less. filter_map_filter (constraint_in marks cycle) (λ rule. rule_exists (n - 1) rule) (λ rule gone. rule_gone marks cycle (n - 1) rule (omega (arith, less)) gone) rules)
+
+pub kept_origins : (n : ℕ) (rules : List SheetRule) → origins_of (kept_rules n rules) n ≡ origins_of rules n
+kept_origins n rules =
+    in_cycles_agree _ _ n (λ cycle less. filter_map_filter (origins_in cycle) (λ rule. rule_exists (n - 1) rule) (λ rule gone. origins_gone cycle (n - 1) rule (omega (arith, less)) gone) rules)
 
 pub kept_rows_in : (marks n : ℕ) (rows : List SheetRow) → rows_in marks (kept_rows n rows) n ≡ rows_in marks rows n
 kept_rows_in marks n rows =
@@ -106,7 +115,7 @@ constraints_counted marks n rules =
 pub rows_counted : (marks n : ℕ) (rows : List SheetRow) → length (rows_in marks rows n) ≡ sum_by (row_cycles n) rows
 rows_counted marks n rows =
     cycles_counted (λ cycle. filter_map (row_in marks cycle) rows) (λ cycle row. cond (row_exists cycle row) 1 0) rows n
-    (λ cycle. length_given (row_exists cycle) (λ (row : SheetRow). record { kind = row.kind; from = event_in marks (cycle - row.shift) row.from; to = event_in marks cycle row.to }) rows)
+    (λ cycle. length_given (row_exists cycle) (λ (row : SheetRow). record { kind = row.kind; from = event_in marks (cycle - row.shift) row.from; to = event_in marks cycle row.to; origin = row.origin }) rows)
     ∙ sum_by_same _ _ rows (λ row. often_is_total (λ cycle. row_exists cycle row) n)
 
 -- ---- those with two or more causes

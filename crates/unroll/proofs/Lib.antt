@@ -2,6 +2,7 @@ pub mod PartLists
 pub mod CycleLists
 pub mod CountLists
 pub mod KeptLists
+pub mod OriginLists
 pub mod NameLists
 pub mod BetweenLists
 pub mod DrawnSteps

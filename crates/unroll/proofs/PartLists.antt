@@ -50,15 +50,6 @@ number_fits sheets mark (Some sheet) read h = omega (arith, h, sheet_fits sheets
 pub number_within : (sheets : List Contents) (mark : DesignMark) → IsMarkOf sheets mark → number_of sheets mark < mark_count sheets
 number_within sheets mark h = number_fits sheets mark (slice_get sheets mark.part) refl h
 
-part_fits : (sheets : List Contents) (mark : DesignMark) (found : Option Contents) → slice_get sheets mark.part ≡ found
-    → IsSomeAnd found (λ sheet. mark.mark < length sheet.marks) → mark.part < length sheets
-part_fits sheets mark None read h = absurd h
-part_fits sheets mark (Some sheet) read h = slice_get_within sheets mark.part sheet read
-
--- so is its part
-pub part_within : (sheets : List Contents) (mark : DesignMark) → IsMarkOf sheets mark → mark.part < length sheets
-part_within sheets mark h = part_fits sheets mark (slice_get sheets mark.part) refl h
-
 -- ---- first marks
 
 pub length-firsts_of : (first : ℕ) (sheets : List Contents) → length (firsts_of first sheets) ≡ length sheets
@@ -136,3 +127,21 @@ exists_behind cycle first rule = list_all-map (λ (source : Source). nat_le sour
 -- the rule that is kept of one, by whether it exists before it is moved
 pub one_kept : (cycles first : ℕ) (rule : SheetRule) (exists : Bool) → exists ≡ rule_exists (cycles - 1) rule → kept_rules cycles (rule_behind first rule ∷ []) ≡ cond exists (rule_behind first rule ∷ []) []
 one_kept cycles first rule exists is = rw (exists_behind (cycles - 1) first rule, is) refl
+
+-- ---- behind no marks
+
+nothing_before : (n : ℕ) → 0 + n ≡ n
+nothing_before n = omega arith
+
+sources_unmoved : (causes : List Source) → map (source_behind 0) causes ≡ causes
+sources_unmoved [] = refl
+sources_unmoved (source ∷ causes) = rw (nothing_before source.mark, sources_unmoved causes) refl
+
+-- behind no marks nothing moves
+pub rules_unmoved : (rules : List SheetRule) → map (rule_behind 0) rules ≡ rules
+rules_unmoved [] = refl
+rules_unmoved (rule ∷ rules) = rw (nothing_before rule.target, sources_unmoved rule.causes, rules_unmoved rules) refl
+
+pub rows_unmoved : (rows : List SheetRow) → map (row_behind 0) rows ≡ rows
+rows_unmoved [] = refl
+rows_unmoved (row ∷ rows) = rw (nothing_before row.from, nothing_before row.to, rows_unmoved rows) refl

@@ -5,12 +5,12 @@ use Rattle.sheet.specs.declared.rule.Source.{Source}
 use Rattle.sheet.specs.Rule.{SheetRule}
 use Rattle.sheet.specs.Contents.{Contents}
 use Rattle.compose.specs.Design.{Composed}
-use Rattle.compose.specs.Numbers.{join_rule, wire_row, wire_rule}
+use Rattle.compose.specs.Numbers.{join_rule}
 
 -- ---- rules
 
 abbrev pub source_behind : ℕ → Source → Source
-source_behind first source = record { mark = first + source.mark; shift = source.shift; range = source.range }
+source_behind first source = record { mark = first + source.mark; shift = source.shift; range = source.range; origin = source.origin }
 
 -- the rule of a sheet whose marks stand behind so many others
 abbrev pub rule_behind : ℕ → SheetRule → SheetRule
@@ -23,12 +23,12 @@ part_rules first (sheet ∷ sheets) = map (rule_behind first) sheet.rules ++ par
 
 -- the rules of the parts, then of the nets, then of the wires
 abbrev pub rules_of : Composed → List SheetRule
-rules_of d = part_rules 0 d.sheets ++ (map (join_rule d.sheets) d.joins ++ map (wire_rule d.sheets) d.rules)
+rules_of d = part_rules 0 d.sheets ++ (map (join_rule d.sheets) d.joins ++ d.rules)
 
 -- ---- rows
 
 abbrev pub row_behind : ℕ → SheetRow → SheetRow
-row_behind first row = record { kind = row.kind; from = first + row.from; to = first + row.to; shift = row.shift }
+row_behind first row = record { kind = row.kind; from = first + row.from; to = first + row.to; shift = row.shift; origin = row.origin }
 
 abbrev pub part_rows : ℕ → List Contents → List SheetRow
 part_rows first [] = []
@@ -36,4 +36,4 @@ part_rows first (sheet ∷ sheets) = map (row_behind first) sheet.rows ++ part_r
 
 -- the rows of the parts, and then of the wires
 abbrev pub rows_of : Composed → List SheetRow
-rows_of d = part_rows 0 d.sheets ++ map (wire_row d.sheets) d.rows
+rows_of d = part_rows 0 d.sheets ++ d.rows

@@ -2,12 +2,13 @@
 use Rattle.std.specs.Prelude.{ℕ, zero, suc, ◌+◌, ◌-◌, ◌*◌, Bool, nat_le, if◌then◌else◌, List, [], ◌++◌, map, Option, Some, None}
 use Rattle.std.specs.List.{filter_map, list_all}
 use Rattle.itv_base.specs.declared.names.EventId.{EventId}
+use Rattle.origin.specs.declared.origin.Origin.{Origin}
 use Rattle.event_graph.specs.declared.cause.Cause.{Cause}
 use Rattle.event_graph.specs.Network.{Constraint}
 use Rattle.sheet.specs.declared.row.SheetRow.{SheetRow}
 use Rattle.sheet.specs.declared.rule.Source.{Source}
 use Rattle.sheet.specs.Rule.{SheetRule}
-use Rattle.unroll.specs.declared.row.Row.{Row}
+use Rattle.drawn.specs.declared.row.Row.{Row}
 
 -- the lists of the first cycles, one behind the other
 abbrev pub in_cycles : {X : Type 0} → (ℕ → List X) → ℕ → List X
@@ -31,17 +32,25 @@ abbrev pub constraint_in : ℕ → ℕ → SheetRule → Option Constraint
 constraint_in marks cycle rule =
     if rule_exists cycle rule then Some (record { kind = rule.kind; target = event_in marks cycle rule.target; causes = map (cause_in marks cycle) rule.causes }) else None
 
+-- what draws the causes of the constraint of a rule in a cycle, where it is there
+abbrev pub origins_in : ℕ → SheetRule → Option (List Origin)
+origins_in cycle rule = if rule_exists cycle rule then Some (map (λ source. source.origin) rule.causes) else None
+
 abbrev pub row_exists : ℕ → SheetRow → Bool
 row_exists cycle row = nat_le row.shift cycle
 
 -- a row in the cycle of its to-event, where its from-event stands in some cycle
 abbrev pub row_in : ℕ → ℕ → SheetRow → Option Row
 row_in marks cycle row =
-    if row_exists cycle row then Some (record { kind = row.kind; from = event_in marks (cycle - row.shift) row.from; to = event_in marks cycle row.to }) else None
+    if row_exists cycle row then Some (record { kind = row.kind; from = event_in marks (cycle - row.shift) row.from; to = event_in marks cycle row.to; origin = row.origin }) else None
 
 -- the constraints of rules in the first cycles
 abbrev pub constraints_of : ℕ → List SheetRule → ℕ → List Constraint
 constraints_of marks rules cycles = in_cycles (λ cycle. filter_map (constraint_in marks cycle) rules) cycles
+
+-- and what draws their causes
+abbrev pub origins_of : List SheetRule → ℕ → List (List Origin)
+origins_of rules cycles = in_cycles (λ cycle. filter_map (origins_in cycle) rules) cycles
 
 abbrev pub rows_in : ℕ → List SheetRow → ℕ → List Row
 rows_in marks rows cycles = in_cycles (λ cycle. filter_map (row_in marks cycle) rows) cycles

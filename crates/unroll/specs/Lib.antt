@@ -4,4 +4,3 @@ pub mod Drawn
 pub mod Limits
 pub mod Fault
 pub mod Step
-pub mod Reported

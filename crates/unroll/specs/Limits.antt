@@ -4,11 +4,13 @@ use Rattle.itv_base.specs.declared.limits.TheConstants.{MAX_CELLS, MAX_CONSTRAIN
 use Rattle.event_graph.specs.Network.{splittable_count}
 use Rattle.compose.specs.Design.{Composed}
 use Rattle.unroll.specs.declared.limit.Limit.{Limit}
-use Rattle.unroll.specs.declared.limit.Limit.TheVariants.{Events, Constraints, Rows, Cells, SearchCells, MatrixEvents}
+use Rattle.unroll.specs.declared.limit.Limit.TheVariants.{Events, Constraints, Rows, Cells, SearchCells, MatrixEvents, SessionRows}
+use Rattle.unroll.specs.declared.limit.TheConstants.{MAX_SESSION_ROWS}
 use Rattle.unroll.specs.declared.counted.Counted.{Counted}
 use Rattle.unroll.specs.declared.fault.UnrollFault.{UnrollFault}
 use Rattle.unroll.specs.declared.fault.UnrollFault.TheVariants.{TooMany}
-use Rattle.unroll.specs.Drawn.{Drawn, drawn_of}
+use Rattle.drawn.specs.Drawn.{Drawn}
+use Rattle.unroll.specs.Drawn.{drawn_of}
 
 -- how much a limit allows
 abbrev pub most_of : Limit → ℕ
@@ -18,6 +20,7 @@ most_of Rows = MAX_ROWS
 most_of Cells = MAX_CELLS
 most_of SearchCells = MAX_SEARCH_CELLS
 most_of MatrixEvents = MAX_MATRIX_EVENTS
+most_of SessionRows = MAX_SESSION_ROWS
 
 abbrev pub counted : Limit → ℕ → Counted
 counted limit count = record { limit = limit; count = count }

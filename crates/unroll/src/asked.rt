@@ -2,16 +2,14 @@
 
 ghost use Rattle.std.specs.Prelude.{◌≡◌, ◌≤◌, ◌++◌, ◌∷◌, [], All, IfOk, OnOk, map};
 ghost use Rattle.itv_base.specs.declared.limits.TheConstants.{MAX_EVENTS};
-ghost use Rattle.compose.specs.Design.{IsWireRowOf};
-ghost use Rattle.compose.specs.Numbers.{wire_row};
 ghost use Rattle.unroll.specs.Cycle.{part_rows, row_behind, rows_of};
 ghost use Rattle.unroll.specs.Step.Between.{IsRowBetween};
 ghost use Rattle.unroll.specs.Step.Kept.{kept_rows};
 
 use crate::numbered::Numbered;
-use compose::WireRow;
-use itv_base::NoMemory;
-use sheet::{MAX_MARKS, RowKind, SheetRow};
+use itv_base::{NoMemory, RowKind};
+use origin::Origin;
+use sheet::SheetRow;
 use std::alloc::Global;
 
 /// The rows of a design that exist in some cycle: those of the parts and of the wires.
@@ -20,7 +18,7 @@ pub fn rows_of(alloc: Global, design: &Numbered<'_>) -> Result<Vec<SheetRow>, No
 {
     let mut rows = Vec::new(alloc);
     keep_parts(&mut rows, design)?;
-    keep_wires(&mut rows, design, design.design().wire_rows().as_slice())?;
+    keep_wires(&mut rows, design)?;
     Ok(rows)
 }
 
@@ -31,7 +29,12 @@ fn keep(rows: &mut Vec<SheetRow>, cycles: u32, row: SheetRow) -> Result<(), NoMe
 {
     if row.shift < cycles {
         let kind: RowKind = row.kind;
-        rows.push(SheetRow { kind, ..row })?;
+        let origin: Origin = row.origin;
+        rows.push(SheetRow {
+            kind,
+            origin,
+            ..row
+        })?;
     }
     Ok(())
 }
@@ -53,7 +56,7 @@ fn keep_parts(rows: &mut Vec<SheetRow>, design: &Numbered<'_>) -> Result<(), NoM
     Ok(())
 }
 
-// The rows of a sheet behind so many marks.
+// Rows behind so many marks.
 fn keep_rows(
     rows: &mut Vec<SheetRow>,
     cycles: u32,
@@ -61,7 +64,7 @@ fn keep_rows(
     more: &[SheetRow],
 ) -> Result<(), NoMemory>
     requires cycles { 1 ≤ cycles }
-    requires between { All (IsRowBetween MAX_MARKS) more.now }
+    requires between { All (IsRowBetween MAX_EVENTS) more.now }
     requires first { first ≤ MAX_EVENTS }
     ensures { OnOk result (rows.new.items
         ≡ rows.old.items ++ kept_rows cycles (map (row_behind first) more.now)) }
@@ -73,7 +76,7 @@ fn keep_rows(
 }
 
 fn row_behind(first: u32, row: &SheetRow) -> SheetRow
-    requires between { IsRowBetween MAX_MARKS row.now }
+    requires between { IsRowBetween MAX_EVENTS row.now }
     requires first { first ≤ MAX_EVENTS }
     ensures { result ≡ row_behind first row.now }
 {
@@ -82,36 +85,17 @@ fn row_behind(first: u32, row: &SheetRow) -> SheetRow
         from: first + row.from,
         to: first + row.to,
         shift: row.shift,
+        origin: row.origin,
     }
 }
 
 // ---- wires
 
-// The rows of wires.
-fn keep_wires(
-    rows: &mut Vec<SheetRow>,
-    design: &Numbered<'_>,
-    wires: &[WireRow],
-) -> Result<(), NoMemory>
-    requires { All (IsWireRowOf design.now.sheets) wires.now }
-    ensures { OnOk result (rows.new.items ≡ rows.old.items
-        ++ kept_rows design.now.cycles (map (wire_row design.now.sheets) wires.now)) }
+// The rows of the wires, which stand between the marks of the design already.
+fn keep_wires(rows: &mut Vec<SheetRow>, design: &Numbered<'_>) -> Result<(), NoMemory>
+    ensures { OnOk result (rows.new.items ≡ rows.old.items ++ kept_rows design.now.cycles design.now.rows) }
 {
     let cycles = design.design().cycles();
-    for wire in wires {
-        keep(rows, cycles, wire_row(design, wire))?;
-    }
-    Ok(())
-}
-
-fn wire_row(design: &Numbered<'_>, row: &WireRow) -> SheetRow
-    requires { IsWireRowOf design.now.sheets row.now }
-    ensures { result ≡ wire_row design.now.sheets row.now }
-{
-    SheetRow {
-        kind: row.kind,
-        from: design.number_of(row.from),
-        to: design.number_of(row.to),
-        shift: row.shift,
-    }
+    let wires = design.design().wire_rows().as_slice();
+    keep_rows(rows, cycles, 0, wires)
 }

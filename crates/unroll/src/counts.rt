@@ -5,11 +5,11 @@ ghost use Rattle.std.specs.List.{list_all};
 ghost use Rattle.itv_base.specs.declared.limits.TheConstants.{MAX_CYCLES};
 ghost use Rattle.event_graph.specs.Network.{named_causes};
 ghost use Rattle.sheet.specs.Contents.{Contents};
-ghost use Rattle.compose.specs.Numbers.{join_rule, mark_count, wire_row, wire_rule};
-ghost use Rattle.unroll.specs.Cycle.{part_rows, part_rules, row_behind, rows_of, rule_behind, rules_of};
+ghost use Rattle.compose.specs.Numbers.{join_rule, mark_count};
+ghost use Rattle.unroll.specs.Cycle.{part_rows, part_rules, rows_of, rules_of};
 ghost use Rattle.unroll.specs.Step.Counting.{AreCounts, AreWithin, how_often, row_cycles, rule_cycles, splittable_cycles, sums};
 
-use compose::{Design, Joins, WireRow, WireRule, WireSource};
+use compose::{Design, Joins};
 use itv_base::RuleKind;
 use sheet::{Rule, Sheet, SheetRow, Source};
 
@@ -68,11 +68,10 @@ fn count_parts(design: &Design<'_>) -> Counts
     counts
 }
 
-// The counts of one part, wherever it stands in a cycle.
+// The counts of one part.
 fn count_sheet(cycles: u32, sheet: &Sheet) -> Counts
     requires { cycles ≤ MAX_CYCLES }
-    ensures counts { (first : ℕ) → AreCounts (length sheet.now.marks) cycles
-        (map (rule_behind first) sheet.now.rules) (map (row_behind first) sheet.now.rows) result }
+    ensures counts { AreCounts (length sheet.now.marks) cycles sheet.now.rules sheet.now.rows result }
     ensures within { AreWithin (2 ^ 72) (2 ^ 72) result }
 {
     let rules = count_rules(cycles, sheet.rules().as_slice());
@@ -87,18 +86,16 @@ fn count_sheet(cycles: u32, sheet: &Sheet) -> Counts
 // The counts of the nets and the wires.
 fn count_joined(design: &Design<'_>) -> Counts
     ensures counts { AreCounts 0 design.now.cycles
-        (map (join_rule design.now.sheets) design.now.joins
-        ++ map (wire_rule design.now.sheets) design.now.rules)
-        (map (wire_row design.now.sheets) design.now.rows) result }
+        (map (join_rule design.now.sheets) design.now.joins ++ design.now.rules) design.now.rows result }
     ensures within { AreWithin (2 ^ 80) (2 ^ 105) result }
 {
     let cycles = design.cycles();
-    let wires = count_wire_rules(cycles, design.wire_rules().as_slice());
+    let wires = count_rules(cycles, design.wire_rules().as_slice());
     Counts {
         marks: 0,
         constraints: count_joins(cycles, design.joins()) + wires.all,
         splittable: wires.splittable,
-        rows: count_wire_rows(cycles, design.wire_rows().as_slice()),
+        rows: count_rows(cycles, design.wire_rows().as_slice()),
     }
 }
 
@@ -111,10 +108,8 @@ struct RuleCounts {
 
 fn count_rules(cycles: u32, rules: &[Rule]) -> RuleCounts
     requires { cycles ≤ MAX_CYCLES }
-    ensures all { (first : ℕ) → result.all
-        ≡ sum_by (rule_cycles cycles) (map (rule_behind first) rules.now) }
-    ensures splittable { (first : ℕ) → result.splittable
-        ≡ sum_by (splittable_cycles cycles) (map (rule_behind first) rules.now) }
+    ensures all { result.all ≡ sum_by (rule_cycles cycles) rules.now }
+    ensures splittable { result.splittable ≡ sum_by (splittable_cycles cycles) rules.now }
     ensures all_within { result.all ≤ 2 ^ 72 }
     ensures splittable_within { result.splittable ≤ 2 ^ 72 }
 {
@@ -123,24 +118,6 @@ fn count_rules(cycles: u32, rules: &[Rule]) -> RuleCounts
     for rule in rules {
         all += u128::from(rule_cycles(cycles, rule));
         splittable += u128::from(splittable_cycles(cycles, rule));
-    }
-    RuleCounts { all, splittable }
-}
-
-fn count_wire_rules(cycles: u32, rules: &[WireRule]) -> RuleCounts
-    requires { cycles ≤ MAX_CYCLES }
-    ensures all { (sheets : List Contents) → result.all
-        ≡ sum_by (rule_cycles cycles) (map (wire_rule sheets) rules.now) }
-    ensures splittable { (sheets : List Contents) → result.splittable
-        ≡ sum_by (splittable_cycles cycles) (map (wire_rule sheets) rules.now) }
-    ensures all_within { result.all ≤ 2 ^ 72 }
-    ensures splittable_within { result.splittable ≤ 2 ^ 72 }
-{
-    let mut all = 0;
-    let mut splittable = 0;
-    for rule in rules {
-        all += u128::from(wire_rule_cycles(cycles, rule));
-        splittable += u128::from(wire_splittable_cycles(cycles, rule));
     }
     RuleCounts { all, splittable }
 }
@@ -159,8 +136,7 @@ fn count_joins(cycles: u32, joins: &Joins) -> u128
 
 fn count_rows(cycles: u32, rows: &[SheetRow]) -> u128
     requires { cycles ≤ MAX_CYCLES }
-    ensures count { (first : ℕ) → result
-        ≡ sum_by (row_cycles cycles) (map (row_behind first) rows.now) }
+    ensures count { result ≡ sum_by (row_cycles cycles) rows.now }
     ensures within { result ≤ 2 ^ 72 }
 {
     let mut count = 0;
@@ -170,22 +146,9 @@ fn count_rows(cycles: u32, rows: &[SheetRow]) -> u128
     count
 }
 
-fn count_wire_rows(cycles: u32, rows: &[WireRow]) -> u128
-    requires { cycles ≤ MAX_CYCLES }
-    ensures count { (sheets : List Contents) → result
-        ≡ sum_by (row_cycles cycles) (map (wire_row sheets) rows.now) }
-    ensures within { result ≤ 2 ^ 72 }
-{
-    let mut count = 0;
-    for row in rows {
-        count += u128::from(cycles_from(cycles, row.shift));
-    }
-    count
-}
-
-// In how many of the cycles a rule exists, wherever it stands in a cycle.
+// In how many of the cycles a rule exists.
 fn rule_cycles(cycles: u32, rule: &Rule) -> u32
-    ensures count { (first : ℕ) → result ≡ rule_cycles cycles (rule_behind first rule.now) }
+    ensures count { result ≡ rule_cycles cycles rule.now }
     ensures within { result ≤ cycles }
 {
     cycles_from(cycles, last_shift(rule.causes().as_slice()))
@@ -193,30 +156,11 @@ fn rule_cycles(cycles: u32, rule: &Rule) -> u32
 
 // The same for a rule with two or more causes to choose from, and else 0.
 fn splittable_cycles(cycles: u32, rule: &Rule) -> u32
-    ensures count { (first : ℕ) → result ≡ splittable_cycles cycles (rule_behind first rule.now) }
+    ensures count { result ≡ splittable_cycles cycles rule.now }
     ensures within { result ≤ cycles }
 {
     if is_splittable(rule.kind(), rule.causes().len()) {
         rule_cycles(cycles, rule)
-    } else {
-        0
-    }
-}
-
-fn wire_rule_cycles(cycles: u32, rule: &WireRule) -> u32
-    ensures count { (sheets : List Contents) → result ≡ rule_cycles cycles (wire_rule sheets rule.now) }
-    ensures within { result ≤ cycles }
-{
-    cycles_from(cycles, last_wire_shift(rule.causes().as_slice()))
-}
-
-fn wire_splittable_cycles(cycles: u32, rule: &WireRule) -> u32
-    ensures count { (sheets : List Contents) → result
-        ≡ splittable_cycles cycles (wire_rule sheets rule.now) }
-    ensures within { result ≤ cycles }
-{
-    if is_splittable(rule.kind(), rule.causes().len()) {
-        wire_rule_cycles(cycles, rule)
     } else {
         0
     }
@@ -234,16 +178,6 @@ fn is_splittable(kind: RuleKind, causes: u64) -> bool
 
 // The most cycles that a source stands before the target.
 fn last_shift(sources: &[Source]) -> u32
-    ensures { (cycle : ℕ) → list_all (λ source. nat_le source.shift cycle) sources.now ≡ nat_le result cycle }
-{
-    let mut last = 0;
-    for source in sources {
-        last = later(last, source.shift);
-    }
-    last
-}
-
-fn last_wire_shift(sources: &[WireSource]) -> u32
     ensures { (cycle : ℕ) → list_all (λ source. nat_le source.shift cycle) sources.now ≡ nat_le result cycle }
 {
     let mut last = 0;

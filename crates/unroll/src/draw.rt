@@ -1,7 +1,7 @@
 //! Drawing a design.
 
 ghost use Rattle.std.specs.Prelude.{◌≡◌, ◌≤◌, ◌*◌, IfOk, length};
-ghost use Rattle.itv_base.specs.declared.limits.TheConstants.{MAX_CONSTRAINTS, MAX_EVENTS};
+ghost use Rattle.itv_base.specs.declared.limits.TheConstants.{MAX_CONSTRAINTS, MAX_EVENTS, MAX_ROWS};
 ghost use Rattle.itv_base.specs.Reading.{Gives};
 ghost use Rattle.compose.specs.Numbers.{mark_count};
 ghost use Rattle.unroll.specs.Drawn.{drawn_of};
@@ -15,10 +15,11 @@ use crate::fault::UnrollFault;
 use crate::names::{copied, labels_of};
 use crate::network::network_of;
 use crate::numbered::Numbered;
+use crate::origins::origins_of;
 use crate::row::rows_in;
 use crate::rules::rules_of;
-use crate::unrolled::Unrolled;
 use compose::Design;
+use drawn::DrawnNetwork;
 use itv_base::NoMemory;
 use std::alloc::Global;
 
@@ -27,7 +28,7 @@ use std::alloc::Global;
 /// that grows as the design itself.
 ///
 /// `NoMemory` may come in place of either. After a refusal nothing was made.
-pub fn unroll(alloc: Global, design: &Design<'_>) -> Result<Unrolled, UnrollFault>
+pub fn unroll(alloc: Global, design: &Design<'_>) -> Result<DrawnNetwork, UnrollFault>
     ensures answer { Gives is_memory (λ drawn. drawn) result (unrolled design.now) }
 {
     let counts = Counts::of(design);
@@ -48,20 +49,21 @@ fn too_many(passed: Counted) -> UnrollFault
 }
 
 // What a design draws that passes no limit.
-fn draw(alloc: Global, design: &Design<'_>, marks: u32) -> Result<Unrolled, NoMemory>
+fn draw(alloc: Global, design: &Design<'_>, marks: u32) -> Result<DrawnNetwork, NoMemory>
     requires marks { marks ≡ mark_count design.now.sheets }
     requires events { design.now.cycles * marks ≤ MAX_EVENTS }
     requires constraints { length (drawn_of design.now).net.constraints ≤ MAX_CONSTRAINTS }
+    requires rows { length (drawn_of design.now).rows ≤ MAX_ROWS }
     ensures { IfOk result (λ drawn. drawn ≡ drawn_of design.now) }
 {
     let cycles = design.cycles();
     let numbered = Numbered::new(alloc, design)?;
     let rules = rules_of(alloc, &numbered)?;
     let asked = rows_of(alloc, &numbered)?;
-    Ok(Unrolled {
-        network: network_of(alloc, marks, cycles, &rules)?,
-        parts: copied(alloc, design.parts())?,
-        labels: labels_of(alloc, design)?,
-        rows: rows_in(alloc, marks, cycles, &asked)?,
-    })
+    let network = network_of(alloc, marks, cycles, &rules)?;
+    let origins = origins_of(alloc, cycles, &rules)?;
+    let parts = copied(alloc, design.parts())?;
+    let labels = labels_of(alloc, design)?;
+    let rows = rows_in(alloc, marks, cycles, &asked)?;
+    Ok(DrawnNetwork::of(network, origins, parts, labels, rows))
 }

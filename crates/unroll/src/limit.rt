@@ -7,7 +7,11 @@ use itv_base::{
     MAX_CELLS, MAX_CONSTRAINTS, MAX_EVENTS, MAX_MATRIX_EVENTS, MAX_ROWS, MAX_SEARCH_CELLS,
 };
 
-/// What a drawn network may have only so much of. `unroll` never tells `MatrixEvents`, which stands for the report on all pairs.
+/// Rows of a drawn network whose ranges are edited.
+pub const MAX_SESSION_ROWS: u32 = 64;
+
+/// What a drawn network may have only so much of. `unroll` never tells `MatrixEvents`, which stands for the report on all pairs, nor
+/// `SessionRows`.
 #[derive(Clone, Copy, Debug, PartialEq, Eq)]
 pub enum Limit {
     Events,
@@ -19,6 +23,8 @@ pub enum Limit {
     SearchCells,
     /// Events where a report tells of all pairs.
     MatrixEvents,
+    /// Rows where ranges are edited.
+    SessionRows,
 }
 
 impl Limit {
@@ -33,6 +39,7 @@ impl Limit {
             Limit::Cells => MAX_CELLS,
             Limit::SearchCells => MAX_SEARCH_CELLS,
             Limit::MatrixEvents => u64::from(MAX_MATRIX_EVENTS),
+            Limit::SessionRows => u64::from(MAX_SESSION_ROWS),
         }
     }
 }

@@ -5,17 +5,10 @@ ghost use Rattle.unroll.specs.Cycles.{in_cycles};
 ghost use Rattle.unroll.specs.Step.Labels.{label_of, labels_from};
 
 use compose::Design;
+use drawn::EventLabel;
 use itv_base::{NoMemory, Texts};
 use sheet::Mark;
 use std::alloc::Global;
-
-/// The name of an event, with the number of its part in place of the part's name.
-#[derive(Clone, Copy, Debug, PartialEq, Eq)]
-pub struct EventLabel {
-    pub part: u32,
-    pub mark: u8,
-    pub cycle: u32,
-}
 
 /// The names of the events of a design.
 pub fn labels_of(alloc: Global, design: &Design<'_>) -> Result<Vec<EventLabel>, NoMemory>

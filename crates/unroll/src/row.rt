@@ -1,4 +1,4 @@
-//! The separations of which a report tells.
+//! The rows of a drawn network.
 
 ghost use Rattle.std.specs.Prelude.{◌≡◌, ◌≤◌, ◌+◌, ◌*◌, ◌++◌, All, IfOk, OnOk};
 ghost use Rattle.std.specs.List.{filter_map};
@@ -8,20 +8,11 @@ ghost use Rattle.unroll.specs.Cycles.{row_in, rows_in};
 ghost use Rattle.unroll.specs.Step.Between.{IsRowBetween};
 
 use crate::network::event_in;
-use itv_base::{EventId, Listing, NoMemory};
-use sheet::{RowKind, SheetRow};
+use drawn::{Row, Rows};
+use itv_base::{NoMemory, RowKind};
+use origin::Origin;
+use sheet::SheetRow;
 use std::alloc::Global;
-
-/// A separation that is asked for, from an event to an event.
-#[derive(Clone, Copy, Debug, PartialEq, Eq)]
-pub struct Row {
-    pub kind: RowKind,
-    pub from: EventId,
-    pub to: EventId,
-}
-
-/// Rows cycle by cycle.
-pub type Rows = Listing<Row>;
 
 /// The rows in so many cycles, of so many marks each.
 pub fn rows_in(alloc: Global, marks: u32, cycles: u32, asked: &[SheetRow]) -> Result<Rows, NoMemory>
@@ -58,9 +49,11 @@ fn push_row(rows: &mut Rows, marks: u32, cycle: u32, row: &SheetRow) -> Result<(
         return Ok(());
     }
     let kind: RowKind = row.kind;
+    let origin: Origin = row.origin;
     rows.push(Row {
         kind,
         from: event_in(marks, cycle - row.shift, row.from),
         to: event_in(marks, cycle, row.to),
+        origin,
     })
 }

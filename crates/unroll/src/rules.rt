@@ -1,19 +1,20 @@
 //! The rules of one cycle of a design, by the numbers of its marks.
 
-ghost use Rattle.std.specs.Prelude.{◌≡◌, ◌≤◌, ◌<◌, ◌++◌, ◌∷◌, [], ℕ, All, IfOk, OnOk, length, map};
+ghost use Rattle.std.specs.Prelude.{◌≡◌, ◌≤◌, ◌<◌, ◌++◌, ◌∷◌, [], All, IfOk, OnOk, map};
 ghost use Rattle.itv_base.specs.declared.limits.TheConstants.{MAX_EVENTS};
-ghost use Rattle.compose.specs.Design.{IsJoinOf, IsMarkOf, IsRuleOf};
+ghost use Rattle.compose.specs.Design.{IsJoinOf};
 ghost use Rattle.compose.specs.Joins.{joins_of_pins, pin_joins};
-ghost use Rattle.compose.specs.Numbers.{join_rule, wire_rule, wire_source};
+ghost use Rattle.compose.specs.Numbers.{join_rule};
 ghost use Rattle.unroll.specs.Cycle.{part_rules, rule_behind, rules_of, source_behind};
 ghost use Rattle.unroll.specs.Step.Between.{IsRuleBetween};
 ghost use Rattle.unroll.specs.Step.Kept.{kept_rules};
 
 use crate::network::rule_exists;
 use crate::numbered::Numbered;
-use compose::{Join, PinJoins, WireRule, WireSource};
+use compose::{Join, PinJoins};
 use itv_base::{NoMemory, RuleKind};
-use sheet::{MAX_MARKS, Rule, Source, Sources};
+use origin::Origin;
+use sheet::{Rule, Source, Sources};
 use std::alloc::Global;
 
 /// The rules of a design that exist in some cycle: those of the parts, of the nets and of the wires.
@@ -23,12 +24,7 @@ pub fn rules_of(alloc: Global, design: &Numbered<'_>) -> Result<Vec<Rule>, NoMem
     let mut rules = Vec::new(alloc);
     keep_parts(alloc, &mut rules, design)?;
     keep_joins(alloc, &mut rules, design, design.design().joins().pins())?;
-    keep_wires(
-        alloc,
-        &mut rules,
-        design,
-        design.design().wire_rules().as_slice(),
-    )?;
+    keep_wires(alloc, &mut rules, design)?;
     Ok(rules)
 }
 
@@ -60,7 +56,7 @@ fn keep_parts(alloc: Global, rules: &mut Vec<Rule>, design: &Numbered<'_>) -> Re
     Ok(())
 }
 
-// The rules of a sheet behind so many marks.
+// Rules behind so many marks.
 fn keep_rules(
     alloc: Global,
     rules: &mut Vec<Rule>,
@@ -69,7 +65,7 @@ fn keep_rules(
     more: &[Rule],
 ) -> Result<(), NoMemory>
     requires cycles { 1 ≤ cycles }
-    requires between { All (IsRuleBetween MAX_MARKS) more.now }
+    requires between { All (IsRuleBetween MAX_EVENTS) more.now }
     requires first { first ≤ MAX_EVENTS }
     ensures { OnOk result (rules.new.items
         ≡ rules.old.items ++ kept_rules cycles (map (rule_behind first) more.now)) }
@@ -80,7 +76,7 @@ fn keep_rules(
     Ok(())
 }
 
-// The rule of a sheet behind so many marks, if it exists in some cycle. Else no memory is taken for it.
+// A rule behind so many marks, if it exists in some cycle. Else no memory is taken for it.
 fn keep_rule(
     alloc: Global,
     rules: &mut Vec<Rule>,
@@ -89,7 +85,7 @@ fn keep_rule(
     rule: &Rule,
 ) -> Result<(), NoMemory>
     requires cycles { 1 ≤ cycles }
-    requires between { IsRuleBetween MAX_MARKS rule.now }
+    requires between { IsRuleBetween MAX_EVENTS rule.now }
     requires first { first ≤ MAX_EVENTS }
     ensures { OnOk result (rules.new.items
         ≡ rules.old.items ++ kept_rules cycles (rule_behind first rule.now ∷ [])) }
@@ -101,7 +97,7 @@ fn keep_rule(
 }
 
 fn rule_behind(alloc: Global, first: u32, rule: &Rule) -> Result<Rule, NoMemory>
-    requires between { IsRuleBetween MAX_MARKS rule.now }
+    requires between { IsRuleBetween MAX_EVENTS rule.now }
     requires first { first ≤ MAX_EVENTS }
     ensures { IfOk result (λ moved. moved ≡ rule_behind first rule.now) }
 {
@@ -110,14 +106,16 @@ fn rule_behind(alloc: Global, first: u32, rule: &Rule) -> Result<Rule, NoMemory>
 }
 
 fn sources_behind(alloc: Global, first: u32, sources: &[Source]) -> Result<Sources, NoMemory>
-    requires marks { All (λ (source : Source). source.mark < MAX_MARKS) sources.now }
+    requires marks { All (λ (source : Source). source.mark < MAX_EVENTS) sources.now }
     requires first { first ≤ MAX_EVENTS }
     ensures { IfOk result (λ causes. causes ≡ map (source_behind first) sources.now) }
 {
     let mut causes = Sources::new(alloc);
     for source in sources {
+        let origin: Origin = source.origin;
         causes.push(Source {
             mark: first + source.mark,
+            origin,
             ..*source
         })?;
     }
@@ -170,53 +168,18 @@ fn join_rule(alloc: Global, design: &Numbered<'_>, join: &Join) -> Result<Rule, 
         mark: design.number_of(join.from),
         shift: 0,
         range: join.delay,
+        origin: join.origin,
     })?;
     Ok(Rule::new(RuleKind::Lin, design.number_of(join.to), causes))
 }
 
 // ---- wires
 
-// The rules of wires.
-fn keep_wires(
-    alloc: Global,
-    rules: &mut Vec<Rule>,
-    design: &Numbered<'_>,
-    wires: &[WireRule],
-) -> Result<(), NoMemory>
-    requires { All (IsRuleOf design.now.sheets) wires.now }
-    ensures { OnOk result (rules.new.items ≡ rules.old.items
-        ++ kept_rules design.now.cycles (map (wire_rule design.now.sheets) wires.now)) }
+// The rules of the wires, which stand between the marks of the design already.
+fn keep_wires(alloc: Global, rules: &mut Vec<Rule>, design: &Numbered<'_>) -> Result<(), NoMemory>
+    ensures { OnOk result (rules.new.items ≡ rules.old.items ++ kept_rules design.now.cycles design.now.rules) }
 {
     let cycles = design.design().cycles();
-    for wire in wires {
-        keep(rules, cycles, wire_rule(alloc, design, wire)?)?;
-    }
-    Ok(())
-}
-
-fn wire_rule(alloc: Global, design: &Numbered<'_>, rule: &WireRule) -> Result<Rule, NoMemory>
-    requires { IsRuleOf design.now.sheets rule.now }
-    ensures { IfOk result (λ numbered. numbered ≡ wire_rule design.now.sheets rule.now) }
-{
-    let causes = wire_sources(alloc, design, rule.causes().as_slice())?;
-    Ok(Rule::new(rule.kind(), design.number_of(rule.target()), causes))
-}
-
-fn wire_sources(
-    alloc: Global,
-    design: &Numbered<'_>,
-    sources: &[WireSource],
-) -> Result<Sources, NoMemory>
-    requires { All (λ (source : WireSource). IsMarkOf design.now.sheets source.mark) sources.now }
-    ensures { IfOk result (λ causes. causes ≡ map (wire_source design.now.sheets) sources.now) }
-{
-    let mut causes = Sources::new(alloc);
-    for source in sources {
-        causes.push(Source {
-            mark: design.number_of(source.mark),
-            shift: source.shift,
-            range: source.range,
-        })?;
-    }
-    Ok(causes)
+    let wires = design.design().wire_rules().as_slice();
+    keep_rules(alloc, rules, cycles, 0, wires)
 }

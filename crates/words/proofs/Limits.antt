@@ -10,7 +10,7 @@ use Rattle.clap.specs.declared.error.kind.ErrorKind.{ErrorKind}
 use Rattle.clap.specs.declared.error.kind.ErrorKind.TheVariants.{DisplayHelp}
 use Rattle.itv_base.specs.declared.limits.TheConstants.{DEFAULT_BUDGET, MAX_BUDGET, MAX_SELF_SIZE}
 use Rattle.words.specs.Command.{command}
-use Rattle.words.specs.Task.{IsBudget, IsSize, IsWithinLimits, KeepsLimits, Task, answer_by, answer_for, bounds, bounds_of, budget_of, check, check_of, fall, fall_of, generated, generated_of, matrix, matrix_of, number_in, refusal_for, size_of, taken, task_named, task_of, wants_proofs}
+use Rattle.words.specs.Task.{IsBudget, IsSize, IsWithinLimits, KeepsLimits, Task, answer_by, answer_for, bounds, bounds_of, budget_of, check, check_of, fall, fall_of, generated, generated_of, matrix, matrix_of, number_in, redraw, redraw_of, refusal_for, size_of, taken, task_named, task_of, wants_proofs, whatif, whatif_of}
 use Rattle.words.proofs.Numbers.{number_limits}
 
 budget_limits : (given : Option Text) → IfSome (option_map_or (number_in MAX_BUDGET) given (Some DEFAULT_BUDGET)) IsBudget
@@ -50,6 +50,13 @@ generated_limits None budget sized within = tt
 generated_limits (Some s) None sized within = tt
 generated_limits (Some s) (Some b) sized within = (sized, within)
 
+whatif_limits : (design edits : Option Text) (budget : Option ℕ) → IfSome budget IsBudget
+    → IfSome (option_and_then (λ (d : Text). option_and_then (λ (e : Text). option_map (whatif d e) budget) edits) design) IsWithinLimits
+whatif_limits None edits budget within = tt
+whatif_limits (Some d) None budget within = tt
+whatif_limits (Some d) (Some e) None within = tt
+whatif_limits (Some d) (Some e) (Some b) within = within
+
 by_name : (is_named : Bool) (task others : Option Task) → IfSome task IsWithinLimits → IfSome others IsWithinLimits → IfSome (cond is_named task others) IsWithinLimits
 by_name true task others one two = one
 by_name false task others one two = two
@@ -62,7 +69,9 @@ named_limits rows (Some name) =
     (by_name (bytes_eq name (codes "matrix")) (matrix_of rows) _ (matrix_limits (first_of (codes "design") rows))
     (by_name (bytes_eq name (codes "check")) (check_of rows) _ (check_limits (first_of (codes "design") rows) (first_of (codes "report") rows))
     (by_name (bytes_eq name (codes "self")) (generated_of rows) _ (generated_limits (size_of rows) (budget_of rows) (size_limits (first_of (codes "size") rows)) budgets)
-    (by_name (bytes_eq name (codes "fall")) (fall_of rows) None (searching_limits fall (wants_proofs rows) (first_of (codes "design") rows) (budget_of rows) (λ d b within. within) budgets) tt))))
+    (by_name (bytes_eq name (codes "fall")) (fall_of rows) _ (searching_limits fall (wants_proofs rows) (first_of (codes "design") rows) (budget_of rows) (λ d b within. within) budgets)
+    (by_name (bytes_eq name (codes "redraw")) (redraw_of rows) _ (searching_limits (λ d b proofs. redraw d b) (wants_proofs rows) (first_of (codes "design") rows) (budget_of rows) (λ d b within. within) budgets)
+    (by_name (bytes_eq name (codes "whatif")) (whatif_of rows) None (whatif_limits (first_of (codes "design") rows) (first_of (codes "edits") rows) (budget_of rows) budgets) tt))))))
 
 task_limits : (task : Option Task) → IfSome task IsWithinLimits → KeepsLimits (answer_for task)
 task_limits None within = tt

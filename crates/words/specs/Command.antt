@@ -1,4 +1,4 @@
--- The command line of the program: `itv [--job JOB] [--budget N] [--cert] [--report FILE] [--size N] [DESIGN]`, told to `clap`.
+-- The command line of the program: `itv [--job JOB] [--budget N] [--cert] [--report FILE] [--edits FILE] [--size N] [DESIGN]`, told to `clap`.
 use Rattle.std.specs.Prelude.{ℕ, List, [], ◌∷◌, Some, true, codes}
 use Rattle.itv_base.specs.declared.limits.TheConstants.{MAX_BUDGET, MAX_SELF_SIZE}
 use Rattle.clap.specs.Simple.{App, new_app, new_rule, on_top, with_rule}
@@ -26,6 +26,9 @@ cert_rule = record (new_rule (codes "cert")) { long = Some (codes "cert"); actio
 abbrev pub report_rule : Rule
 report_rule = text_rule (codes "report")
 
+abbrev pub edits_rule : Rule
+edits_rule = text_rule (codes "edits")
+
 abbrev pub size_rule : Rule
 size_rule = number_rule (codes "size") MAX_SELF_SIZE
 
@@ -37,4 +40,4 @@ abbrev pub bare_command : App
 bare_command = on_top (λ top. record top { no_binary_name = true }) (new_app (codes "itv"))
 
 abbrev pub command : App
-command = with_rule (with_rule (with_rule (with_rule (with_rule (with_rule bare_command job_rule) budget_rule) cert_rule) report_rule) size_rule) design_rule
+command = with_rule (with_rule (with_rule (with_rule (with_rule (with_rule (with_rule bare_command job_rule) budget_rule) cert_rule) report_rule) edits_rule) size_rule) design_rule

@@ -13,14 +13,17 @@ use Rattle.clap.specs.declared.error.kind.ErrorKind.{ErrorKind}
 use Rattle.clap.specs.declared.error.kind.ErrorKind.TheVariants.{DisplayHelp}
 use Rattle.words.specs.Command.{command}
 
--- a job with what it needs: the design's name, the budget of each search and whether proofs are wanted, for two jobs; the design's name;
--- the names of the design and of the report; the size of the generated design and the budget
+-- a job with what it needs: the design's name, the budget of each search and whether proofs are wanted, for two jobs; the design's name
+-- and the budget; the design's name; the names of the design and of the report; the size of the generated design and the budget; the names
+-- of the design and of the edits, and the budget of each search
 pub data Task : Type 0 where
   bounds : Text → ℕ → Bool → Task
   fall : Text → ℕ → Bool → Task
+  redraw : Text → ℕ → Task
   matrix : Text → Task
   check : Text → Text → Task
   generated : ℕ → ℕ → Task
+  whatif : Text → Text → ℕ → Task
 
 -- a task, a wish for help, or words that are neither
 pub data Answer : Type 0 where
@@ -53,6 +56,9 @@ bounds_of rows = searching bounds rows
 abbrev pub fall_of : List Row → Option Task
 fall_of rows = searching fall rows
 
+abbrev pub redraw_of : List Row → Option Task
+redraw_of rows = searching (λ design budget proofs. redraw design budget) rows
+
 abbrev pub matrix_of : List Row → Option Task
 matrix_of rows = option_map matrix (first_of (codes "design") rows)
 
@@ -62,6 +68,10 @@ check_of rows = option_and_then (λ design. option_map (check design) (first_of 
 abbrev pub generated_of : List Row → Option Task
 generated_of rows = option_and_then (λ size. option_map (generated size) (budget_of rows)) (size_of rows)
 
+abbrev pub whatif_of : List Row → Option Task
+whatif_of rows =
+    option_and_then (λ design. option_and_then (λ edits. option_map (whatif design edits) (budget_of rows)) (first_of (codes "edits") rows)) (first_of (codes "design") rows)
+
 -- the task of a job of this name, where all that it needs is there; what it does not need is passed over
 abbrev pub task_named : List Row → Text → Option Task
 task_named rows name =
@@ -70,7 +80,9 @@ task_named rows name =
     else (if bytes_eq name (codes "check") then check_of rows
     else (if bytes_eq name (codes "self") then generated_of rows
     else (if bytes_eq name (codes "fall") then fall_of rows
-    else None))))
+    else (if bytes_eq name (codes "redraw") then redraw_of rows
+    else (if bytes_eq name (codes "whatif") then whatif_of rows
+    else None))))))
 
 abbrev pub task_of : List Row → Option Task
 task_of rows = option_and_then (task_named rows) (first_of (codes "job") rows)
@@ -110,9 +122,11 @@ pub record IsSize (size : ℕ) : Type 0 where
 abbrev pub IsWithinLimits : Task → Type 0
 IsWithinLimits (bounds design budget proofs) = IsBudget budget
 IsWithinLimits (fall design budget proofs) = IsBudget budget
+IsWithinLimits (redraw design budget) = IsBudget budget
 IsWithinLimits (matrix design) = Unit {0}
 IsWithinLimits (check design report) = Unit {0}
 IsWithinLimits (generated size budget) = IsSize size × IsBudget budget
+IsWithinLimits (whatif design edits budget) = IsBudget budget
 
 abbrev pub KeepsLimits : Answer → Type 0
 KeepsLimits (task t) = IsWithinLimits t

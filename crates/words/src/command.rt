@@ -21,13 +21,15 @@ Jobs:
   check   Checks each claim of the report FILE against DESIGN
   self    Bounds the rows of a generated design of size N, and sums up
   fall    Bounds the separation of each row of DESIGN without cases, where all choices are latest or all are earliest
+  redraw  Draws the first requirement of DESIGN that fails, with times that break it, as a timing diagram
+  whatif  Bounds the separation of each row of DESIGN, and again behind each edit of FILE
 
 Exit statuses:
   0  All is well: every requirement passes, the matrix is printed, the report is accepted
   1  A requirement fails
   2  No times satisfy the design
   3  The budget was too small to decide
-  4  The design or the report is refused, for the reason that is printed
+  4  The design, the report or the edits are refused, for the reason that is printed
   5  A file cannot be read
   6  The output cannot be written
   7  Memory is wanted
@@ -67,7 +69,7 @@ fn job_option<'a>(alloc: Global) -> Arg<'a>
         alloc,
         "job",
         "JOB",
-        "What to do: bounds, matrix, check, self or fall",
+        "What to do: bounds, matrix, check, self, fall, redraw or whatif",
     )
     .default_value("bounds")
 }
@@ -115,6 +117,7 @@ pub fn command<'a>(alloc: Global) -> Result<Command<'a>, AllocError>
         ))?
         .arg(cert_flag(alloc))?
         .arg(text_option(alloc, "report", "FILE", "The report to check"))?
+        .arg(text_option(alloc, "edits", "FILE", "The edits to make"))?
         .arg(number_option(
             alloc,
             "size",

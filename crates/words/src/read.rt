@@ -5,7 +5,7 @@ ghost use Rattle.clap.specs.Matches.{found_of};
 ghost use Rattle.clap.specs.Values.{kind_of};
 ghost use Rattle.clap.specs.Walk.{first_of, rows_of};
 ghost use Rattle.clap.specs.declared.error.kind.ErrorKind.{ErrorKind};
-ghost use Rattle.words.specs.Task.{KeepsLimits, answer_for, bounds_of, budget_of, check_of, fall_of, generated_of, matrix_of, number_in, refusal_for, size_of, taken, task_named, task_of, wants_proofs};
+ghost use Rattle.words.specs.Task.{KeepsLimits, answer_for, bounds_of, budget_of, check_of, fall_of, generated_of, matrix_of, number_in, redraw_of, refusal_for, size_of, taken, task_named, task_of, wants_proofs, whatif_of};
 ghost use Rattle.words.specs.View.{answer_view, task_view};
 
 use crate::command::command;
@@ -69,6 +69,10 @@ fn task_named<'a>(matches: &ArgMatches<'a>, name: &str) -> Option<Task<'a>>
         generated_task(matches)
     } else if name == "fall" {
         fall_task(matches)
+    } else if name == "redraw" {
+        redraw_task(matches)
+    } else if name == "whatif" {
+        whatif_task(matches)
     } else {
         None
     }
@@ -98,6 +102,14 @@ fn fall_task<'a>(matches: &ArgMatches<'a>) -> Option<Task<'a>>
     })
 }
 
+fn redraw_task<'a>(matches: &ArgMatches<'a>) -> Option<Task<'a>>
+    ensures { option_map task_view result ≡ redraw_of (rows_of (found_of matches.now)) }
+{
+    let design = text_of(matches, "design")?;
+    let budget = budget_of(matches)?;
+    Some(Task::Redraw { design, budget })
+}
+
 fn matrix_task<'a>(matches: &ArgMatches<'a>) -> Option<Task<'a>>
     ensures { option_map task_view result ≡ matrix_of (rows_of (found_of matches.now)) }
 {
@@ -119,6 +131,19 @@ fn generated_task<'a>(matches: &ArgMatches<'a>) -> Option<Task<'a>>
     let size = size_of(matches)?;
     let budget = budget_of(matches)?;
     Some(Task::Generated { size, budget })
+}
+
+fn whatif_task<'a>(matches: &ArgMatches<'a>) -> Option<Task<'a>>
+    ensures { option_map task_view result ≡ whatif_of (rows_of (found_of matches.now)) }
+{
+    let design = text_of(matches, "design")?;
+    let edits = text_of(matches, "edits")?;
+    let budget = budget_of(matches)?;
+    Some(Task::Whatif {
+        design,
+        edits,
+        budget,
+    })
 }
 
 fn budget_of(matches: &ArgMatches<'_>) -> Option<u64>

@@ -17,6 +17,11 @@ pub enum Task<'a> {
         budget: u64,
         cert: bool,
     },
+    /// To draw a counterexample of a design: the name of its file, and the cases that each search may close.
+    Redraw {
+        design: &'a str,
+        budget: u64,
+    },
     /// To print the matrix of a design: the name of its file.
     Matrix {
         design: &'a str,
@@ -30,6 +35,13 @@ pub enum Task<'a> {
     /// search may close.
     Generated {
         size: u32,
+        budget: u64,
+    },
+    /// To bound the rows of a design and again behind each edit of a range: the name of its file, that of the file of edits, and
+    /// the cases that each search may close.
+    Whatif {
+        design: &'a str,
+        edits: &'a str,
         budget: u64,
     },
 }

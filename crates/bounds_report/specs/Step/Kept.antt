@@ -1,11 +1,13 @@
 -- What is kept of a search for a bound, and what it says of the bound.
-use Rattle.std.specs.Prelude.{◌≡◌, ◌<◌, ◌^◌, ℤ, pos, neg_ℤ, ◌<ℤ◌, Bool, List, All, Option, IsSomeAnd, Some, None, length, option_map}
+use Rattle.std.specs.Prelude.{◌≡◌, ◌<◌, ◌*◌, ℤ, pos, neg_ℤ, ◌≤ℤ◌, ◌<ℤ◌, Bool, List, All, Option, IfSome, IsSomeAnd, Some, None, length, option_map}
 use Rattle.event_graph.specs.Bounds.{IsRay}
 use Rattle.event_graph.specs.Network.{Net}
 use Rattle.event_graph.specs.RootBound.{IsRootBound}
 use Rattle.event_graph.specs.Satisfying.{Satisfies}
-use Rattle.event_graph.specs.Times.{IsTime, separation, shifted, time_of}
+use Rattle.event_graph.specs.Times.{separation, shifted, time_of}
 use Rattle.itv_base.specs.declared.names.EventId.{EventId}
+use Rattle.event_graph.specs.Limits.{IsPrintedTime, IsReach, reach_limit}
+use Rattle.branch.specs.Work.{IsReached}
 use Rattle.requirements.specs.declared.bound.Bound.{Bound}
 use Rattle.requirements.specs.declared.bound.Bound.TheVariants as bounds
 use Rattle.slack_report.specs.declared.words.Which.{Which}
@@ -18,9 +20,9 @@ abbrev pub searched_pair : Which → Pair → Pair
 searched_pair sorts.Max pair = pair
 searched_pair sorts.Min pair = record { from = pair.to; to = pair.from }
 
--- a separation is so far below 2^61 in absolute value that it may be moved by the end of a range
+-- a separation of times that a search left: within nine times the reach of a path, in absolute value
 abbrev pub IsNearby : ℤ → Type 0
-IsNearby value = (neg_ℤ (pos (2 ^ 59)) <ℤ value) × (value <ℤ pos (2 ^ 59))
+IsNearby value = (neg_ℤ (pos (9 * reach_limit)) ≤ℤ value) × (value ≤ℤ pos (9 * reach_limit))
 
 -- each separation of two of the times is so
 abbrev pub AreNearby : List ℤ → Type 0
@@ -41,12 +43,14 @@ Attain net pair which (bounds.Closed value) times set = separation times pair.fr
 Attain net pair which bounds.Unbounded times set = IsRay net (searched_pair which pair).from (searched_pair which pair).to times set
 Attain net pair which (bounds.Within limit attained) times set = IsSomeAnd attained (λ value. separation times pair.from pair.to ≡ value)
 
--- Times and a set of events behind a bound of a pair: the times satisfy with the from-event at 0.
+-- Times and a set of events behind a bound of a pair: the times satisfy with the from-event at 0, and their separation of the searched pair
+-- is no less than that of known times can be.
 pub record IsKept (net : Net) (pair : Pair) (which : Which) (value : Bound) (times : List ℤ) (set : List Bool) : Type 0 where
   pub from : pair.from.0 < net.events
   pub satisfied : Satisfies times net
   pub at_zero : time_of times pair.from ≡ pos 0
   pub nearby : AreNearby times
+  pub reached : IsReached (separation times (searched_pair which pair).from (searched_pair which pair).to)
   pub attain : Attain net pair which value times set
 
 -- something may be past an end: a bound that the budget ended before anything was found has nothing
@@ -61,11 +65,12 @@ abbrev pub IsLimitOf : Net → Pair → Which → Option ℤ → Type 0
 IsLimitOf net pair sorts.Max limit = IsRootBound net pair.from pair.to limit
 IsLimitOf net pair sorts.Min limit = IsRootBound net pair.to pair.from (option_map neg_ℤ limit)
 
--- a bound of which only the limit is known
+-- a bound of which only the limit is known, which is within the reach of a path
 pub record IsOpenBound (net : Net) (pair : Pair) (which : Which) (value : Bound) : Type 0 where
   pub limit : Option ℤ
   pub is_open : value ≡ bounds.Within limit None
   pub is_limit : IsLimitOf net pair which limit
+  pub within : IfSome limit IsReach
 
 -- ---- past the end of a range
 
@@ -80,9 +85,9 @@ IsBeyond which (bounds.Closed value) limit = limit <ℤ number_on which value
 IsBeyond which bounds.Unbounded limit = Unit {0}
 IsBeyond which (bounds.Within upper attained) limit = IsSomeAnd attained (λ value. limit <ℤ number_on which value)
 
--- times with the from-event at 0 that satisfy, below 2^61 in absolute value, whose separation of the searched pair is past a limit
+-- printed times with the from-event at 0 that satisfy, whose separation of the searched pair is past a limit
 pub record ArePast (net : Net) (pair : Pair) (which : Which) (limit : ℤ) (times : List ℤ) : Type 0 where
   pub satisfied : Satisfies times net
   pub at_zero : time_of times pair.from ≡ pos 0
-  pub within : All IsTime times
+  pub within : All IsPrintedTime times
   pub past : limit <ℤ separation times (searched_pair which pair).from (searched_pair which pair).to

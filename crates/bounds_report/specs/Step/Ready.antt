@@ -3,15 +3,16 @@ use Rattle.std.specs.Prelude.{◌≡◌, ◌||◌, ℕ, ℤ, pos, All, List, [],
 use Rattle.branch.specs.declared.answer.Found.{Found}
 use Rattle.branch.specs.declared.answer.Found.TheVariants as founds
 use Rattle.branch.specs.Work.{IsMadeFor}
+use Rattle.event_graph.specs.Limits.{IsPrintedTime}
 use Rattle.event_graph.specs.Network.{Net}
 use Rattle.event_graph.specs.RootBound.{MeetsAlways}
 use Rattle.event_graph.specs.Satisfying.{Satisfies}
-use Rattle.event_graph.specs.Times.{IsTime, time_of}
+use Rattle.event_graph.specs.Times.{time_of}
 use Rattle.requirements.specs.declared.verdict.Verdict.{Verdict}
 use Rattle.slack_report.specs.declared.words.EndWord.TheVariants as endings
 use Rattle.slack_report.specs.declared.words.FindingWord.{FindingWord}
 use Rattle.slack_report.specs.declared.words.FindingWord.TheVariants as findings
-use Rattle.slack_report.specs.Right.At.{At, Course, at_end, at_row, at_rows, end_word, is_fail, with_verdict}
+use Rattle.right_report.specs.Right.At.{At, Course, at_end, at_row, at_rows, end_word, is_fail, with_verdict}
 use Rattle.bounds_report.specs.Reports.{is_pass, is_undecided}
 use Rattle.bounds_report.specs.declared.desk.Desk.{Desk}
 use Rattle.bounds_report.specs.declared.tally.RowEnd.{RowEnd}
@@ -62,7 +63,7 @@ word_of founds.Unsettled = findings.Unsettled
 
 -- times that are printed behind a consistent finding
 abbrev pub AreKnown : Net → List ℤ → Type 0
-AreKnown net list = All IsTime list × Satisfies list net × (time_of list (record { 0 = 0 }) ≡ pos 0)
+AreKnown net list = All IsPrintedTime list × Satisfies list net × (time_of list (record { 0 = 0 }) ≡ pos 0)
 
 -- behind a finding and the times that come with it
 abbrev pub behind_known : FindingWord → At

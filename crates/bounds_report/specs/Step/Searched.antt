@@ -1,9 +1,14 @@
 -- What a search for a bound of a pair shows.
-use Rattle.std.specs.Prelude.{ℕ, List, Bool, Some}
+use Rattle.std.specs.Prelude.{ℕ, ℤ, neg_ℤ, List, [], Bool, Option, Some, unwrap_or}
+use Rattle.branch.specs.Answers.{Answers, Evidence, Finds, PairSearch}
+use Rattle.branch.specs.Needed.{IsNeededToBound, IsNeededToFind}
 use Rattle.branch.specs.declared.answer.Answer.{Answer}
 use Rattle.branch.specs.declared.answer.Answer.TheVariants as answers
+use Rattle.branch.specs.declared.answer.Found.{Found}
 use Rattle.event_graph.specs.Network.{Net}
 use Rattle.event_graph.specs.Proof.{ProofLine}
+use Rattle.event_graph.specs.Reading.{AtEachSplit}
+use Rattle.event_graph.specs.Times.{shifted, time_of}
 use Rattle.certificate.specs.Scribing.{SinkGrew, SinkWasCut}
 use Rattle.itv_base.specs.Outside.{SinkTold}
 use Rattle.requirements.specs.Bounds.{HasTimes, reversed}
@@ -11,14 +16,23 @@ use Rattle.requirements.specs.declared.bound.Bound.{Bound}
 use Rattle.requirements.specs.declared.bound.Bound.TheVariants as bounds
 use Rattle.slack_report.specs.declared.words.Which.{Which}
 use Rattle.slack_report.specs.declared.words.Which.TheVariants as sorts
-use Rattle.slack_report.specs.Right.Following.{Facts}
+use Rattle.right_report.specs.Right.Following.{Facts}
 use Rattle.bounds_report.specs.Written.{printed, written}
+use Rattle.bounds_report.specs.declared.pair.Pair.{Pair}
 
--- what is asked beside: each number of a bound, its limit too, is below 2^61 in absolute value
-abbrev pub sized : Net → ℕ → Bool → Facts
-sized net most cert = record (written net most cert) {
-  bound = λ found r side lines value. (written net most cert).bound found r side lines value × HasTimes value;
+-- what is asked beside, which follows: each number of a bound, its limit too, is below 2^61 in absolute value
+abbrev pub sized : Net → ℕ → Bool → List ℤ → Facts
+sized net most cert known = record (written net most cert known) {
+  bound = λ found r side lines value. (written net most cert known).bound found r side lines value × HasTimes value;
 }
+
+-- the known times as they are printed: with event 0 at 0
+abbrev pub printed_known : Option (List ℤ) → List ℤ
+printed_known known = shifted (unwrap_or known []) (neg_ℤ (time_of (unwrap_or known []) (record { 0 = 0 })))
+
+-- the search for the greatest separation of a pair
+abbrev pub search_of : Net → Pair → ℕ → PairSearch
+search_of net pair budget = record { net = net; from = pair.from; to = pair.to; budget = budget }
 
 -- the greatest bound that an answer tells
 abbrev pub greatest_of : Answer → Bound
@@ -30,6 +44,16 @@ greatest_of (answers.Enclosed upper attained) = bounds.Within upper (Some attain
 abbrev pub bound_of : Which → Answer → Bound
 bound_of sorts.Max answer = greatest_of answer
 bound_of sorts.Min answer = reversed (greatest_of answer)
+
+-- what a finding says of a network by the lines of its search, each split of which was needed
+pub record FindsBy (net : Net) (budget : ℕ) (lines : List ProofLine) (leaves : ℕ) (known : Option (List ℤ)) (found : Found) : Type 0 where
+  pub says : Finds net budget lines leaves known found
+  pub needed : AtEachSplit net (IsNeededToFind net) lines
+
+-- what an answer says of a pair by the lines of its search, each split of which was needed behind a known separation
+pub record AnswersBy (search : PairSearch) (known : ℤ) (left : Evidence) (answer : Answer) : Type 0 where
+  pub says : Answers search left answer
+  pub needed : AtEachSplit search.net (IsNeededToBound search.net search.from search.to known) left.lines
 
 -- a search told the lines of a proof to a sink, where they are wanted, and what the lines show
 abbrev pub Tells : Bool → SinkTold → SinkTold → (List ProofLine → Type 0) → Type 0

@@ -5,9 +5,9 @@ use Rattle.requirements.specs.declared.verdict.Verdict.{Verdict}
 use Rattle.slack_report.specs.declared.words.Which.{Which}
 use Rattle.slack_report.specs.Entry.{Entry, verdict}
 use Rattle.slack_report.specs.Text.{report_text}
-use Rattle.slack_report.specs.Right.At.{At, Side, Telling, which_of}
-use Rattle.slack_report.specs.Right.Drawn.{Drawn}
-use Rattle.slack_report.specs.Right.Following.{Facts, Reads}
+use Rattle.right_report.specs.Right.At.{At, Side, Telling, which_of}
+use Rattle.drawn.specs.Drawn.{Drawn}
+use Rattle.right_report.specs.Right.Following.{Facts, Reads}
 use Rattle.right_report.specs.Told.{end_in}
 use Rattle.right_report.specs.Writing.{Stopped}
 use Rattle.bounds_report.specs.declared.pair.Pair.{Pair}

@@ -1,6 +1,6 @@
 -- What the fields of working memory mean, and what holds of them.
 use Rattle.std.specs.Prelude.{◌≡◌, true, cond, length, All, None, Some}
-use Rattle.diff_bounds.specs.Limits.{IsNear}
+use Rattle.diff_bounds.specs.Limits.{IsTimely}
 use Rattle.branch.specs.Work.{View}
 use Rattle.branch.specs.declared.work.Work.TheInside.{Inside}
 
@@ -15,9 +15,9 @@ view_in w = record {
   leaves = w.search.leaves;
 }
 
--- there is a place for each event in all lists, and known times are near
+-- there is a place for each event in all lists, and known times are timely
 pub record IsSound (w : Inside) : Type 0 where
   pub known : length w.known.items ≡ length w.best.times.items
   pub candidate : length w.trial.candidate.items ≡ length w.best.times.items
   pub ray : length w.trial.ray.items ≡ length w.best.times.items
-  pub near : w.has_known ≡ true → All IsNear w.known.items
+  pub near : w.has_known ≡ true → All IsTimely w.known.items

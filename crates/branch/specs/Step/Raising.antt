@@ -2,12 +2,12 @@
 use Rattle.std.specs.Prelude.{◌≡◌, ◌*◌, ℕ, ℤ, pos, neg_ℤ, ◌+ℤ◌, ◌≤ℤ◌, ◌<ℤ◌, Bool, true, false, List, All, Some, slice_get}
 use Rattle.itv_base.specs.declared.names.EventId.{EventId}
 use Rattle.event_graph.specs.Times.{IsTime, raised, separation, time_of}
-use Rattle.diff_bounds.specs.Limits.{near_limit, weight_limit}
+use Rattle.event_graph.specs.Limits.{reach_limit, weight_limit}
 use Rattle.branch.specs.Work.{IsClose}
 
--- no separation of near times is beyond twice their limit
+-- no separation of timely times is beyond three times the reach of a path
 abbrev pub IsNearSeparation : ℤ → Type 0
-IsNearSeparation value = (neg_ℤ (pos (2 * near_limit)) ≤ℤ value) × (value ≤ℤ pos (2 * near_limit))
+IsNearSeparation value = (neg_ℤ (pos (3 * reach_limit)) ≤ℤ value) × (value ≤ℤ pos (3 * reach_limit))
 
 -- each event of the set is above each other event by more than the limit of ends
 abbrev pub IsApart : List Bool → List ℤ → Type 0
@@ -36,6 +36,6 @@ pub record AreRaised (set : List Bool) (from to : EventId) (reach : ℤ) (old ne
 -- a number that is enough to raise the set by
 pub record IsRise (set : List Bool) (from to : EventId) (reach : ℤ) (times : List ℤ) (by : ℤ) : Type 0 where
   pub low : pos 0 ≤ℤ by
-  pub high : by ≤ℤ pos (5 * near_limit)
+  pub high : by ≤ℤ pos (6 * reach_limit)
   pub gap : IsGap set times by
   pub reached : reach ≤ℤ (separation times from to +ℤ by)

@@ -9,12 +9,12 @@ use Rattle.event_graph.specs.Times.{separation}
 use Rattle.event_graph.specs.Usable.{MeetsUsable}
 use Rattle.event_graph.specs.Reading.{AtEachSplit}
 use Rattle.event_graph.specs.Network.{splittable_count}
-use Rattle.branch.specs.Lines.{IsAccepted}
+use Rattle.branch.specs.Answers.{PairSearch}
 use Rattle.branch.specs.Work.{IsClose}
 use Rattle.branch.specs.Needed.{IsNeededToBound, IsNeededToFind}
 use Rattle.branch.specs.Splits.{AreSplits}
 use Rattle.branch.specs.Step.Cases.{IsCase, IsFree, open_cases, siblings}
-use Rattle.diff_bounds.specs.Limits.{IsNear}
+use Rattle.diff_bounds.specs.Limits.{IsTimely}
 use Rattle.branch.specs.Step.Raising.{IsNearSeparation}
 use Rattle.branch.specs.Step.Standing.{AreOfSame, HasUpper, StandsBelow, StandsOn}
 use Rattle.branch.specs.declared.best.Aim.{Aim}
@@ -27,6 +27,10 @@ use Rattle.branch.specs.declared.search.Entry.{Entry}
 use Rattle.branch.specs.declared.search.Entry.TheVariants.{Entered, AllClosed, Stopped}
 use Rattle.branch.specs.declared.search.Search.{Search}
 use Rattle.branch.specs.declared.trial.Trial.{Trial}
+
+-- the search for the greatest separation of the pair of an aim
+abbrev pub aimed : Net → Aim → ℕ → PairSearch
+aimed net aim budget = record { net = net; from = aim.from; to = aim.to; budget = budget }
 
 -- a search is at a case: the bounds stand on it, there is room for every split, and the budget is not used up
 pub record IsAtCase (net : Net) (s : Search) : Type 0 where
@@ -90,6 +94,12 @@ pub record Steps (net : Net) (goal : ProofGoal) (cases : List Case) (before : �
   pub closes : Closes net goal cases (left_after net now.cases.chosen entry) lines
   pub count : now.leaves ≡ before + closing_lines lines
 
+-- what lines closed of some cases that a failure cut short, at the last line: each of them was right
+pub record StepsShort (net : Net) (goal : ProofGoal) (cases : List Case) (before : ℕ) (now : Search) (lines : List ProofLine) : Type 0 where
+  pub left : List Case
+  pub closes : Closes net goal cases left lines
+  pub count : now.leaves ≤ before + closing_lines lines
+
 -- the lines so far leave just these cases open and closed a number of others, and each split was needed
 pub record IsSearched (net : Net) (goal : ProofGoal) (IsNeeded : List ProofLine → Case → ℕ → Type 0) (lines : List ProofLine) (cases : List Case) (closed : ℕ) : Type 0 where
   pub reads : Reads net goal ([] ∷ []) lines cases
@@ -114,7 +124,7 @@ abbrev pub Looks : Net → Aim → ℤ → Search → Trial → Look → Type 0
 Looks net aim best s trial Beaten = (value : ℤ) × HasUpper s.bounds aim.to value × (value ≤ℤ best)
 Looks net aim best s trial (Attained value) =
     HasUpper s.bounds aim.to value × (best <ℤ value) × Satisfies trial.candidate.items net × (separation trial.candidate.items aim.from aim.to ≡ value)
-    × All IsNear trial.candidate.items
+    × All IsTimely trial.candidate.items
 Looks net aim best s trial (Splits number) = IsOpen net aim.from aim.to best s.cases.chosen number
 Looks net aim best s trial Unbounded =
     Satisfies trial.candidate.items net × IsRay net aim.from aim.to trial.candidate.items trial.ray.items
@@ -149,11 +159,18 @@ Advances net aim before now best_before best ray lines (Some entry) =
 Advances net aim before now best_before best ray lines None =
     AreRays net aim best.times.items ray × (lines ≡ []) × (now.leaves ≡ before.leaves + 1)
 
--- the lines after those of a search are accepted for some value
-abbrev pub IsCutAfter : Net → Aim → ℤ → Case → ℕ → List ProofLine → Type 0
-IsCutAfter net aim best before leaves lines =
-    (earlier : List ProofLine) → IsBoundSearched net aim best earlier (open_cases net before) leaves
-    → (value : ℤ) × IsAccepted net (Bound aim.from aim.to value) (earlier ++ lines)
+-- a search for a bound of a pair was cut short in these lines: they came to a value, and no more cases are counted than they closed
+pub record IsBoundCut (net : Net) (aim : Aim) (leaves : ℕ) (lines : List ProofLine) : Type 0 where
+  pub value : ℤ
+  pub left : List Case
+  pub closed : ℕ
+  pub searched : IsBoundSearched net aim value lines left closed
+  pub count : leaves ≤ closed
+
+-- so it was behind those of a search
+abbrev pub IsCutAfter : Net → Aim → ℤ → Case → ℕ → ℕ → List ProofLine → Type 0
+IsCutAfter net aim best before leaves now lines =
+    (earlier : List ProofLine) → IsBoundSearched net aim best earlier (open_cases net before) leaves → IsBoundCut net aim now (earlier ++ lines)
 
 -- how the search for a bound ends
 abbrev pub EndsWith : Net → Aim → Search → Best → List Bool → List ProofLine → Ending → Type 0
@@ -174,9 +191,16 @@ FindAdvances net before now times lines (Some entry) =
     (earlier : List ProofLine) → IsFindSearched net earlier (open_cases net before.cases.chosen) before.leaves
     → IsFindSearched net (earlier ++ lines) (left_after net now.cases.chosen entry) now.leaves
 FindAdvances net before now times lines None =
-    Satisfies times net × All IsNear times × (lines ≡ []) × (now.leaves ≡ before.leaves + 1)
+    Satisfies times net × All IsTimely times × (lines ≡ []) × (now.leaves ≡ before.leaves + 1)
 
--- the lines after those of a search for satisfying times are accepted
-abbrev pub IsFindCutAfter : Net → Case → ℕ → List ProofLine → Type 0
-IsFindCutAfter net before leaves lines =
-    (earlier : List ProofLine) → IsFindSearched net earlier (open_cases net before) leaves → IsAccepted net Nothing (earlier ++ lines)
+-- a search for satisfying times was cut short in these lines: no more cases are counted than they closed
+pub record IsFindCut (net : Net) (leaves : ℕ) (lines : List ProofLine) : Type 0 where
+  pub left : List Case
+  pub closed : ℕ
+  pub searched : IsFindSearched net lines left closed
+  pub count : leaves ≤ closed
+
+-- so it was behind those of a search
+abbrev pub IsFindCutAfter : Net → Case → ℕ → ℕ → List ProofLine → Type 0
+IsFindCutAfter net before leaves now lines =
+    (earlier : List ProofLine) → IsFindSearched net earlier (open_cases net before) leaves → IsFindCut net now (earlier ++ lines)

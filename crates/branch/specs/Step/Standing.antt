@@ -9,7 +9,7 @@ use Rattle.event_graph.specs.Times.{raised, separation}
 use Rattle.event_graph.specs.Usable.{MeetsUsable}
 use Rattle.trail.specs.Stack.{Graph}
 use Rattle.diff_bounds.specs.Current.{with_choice}
-use Rattle.diff_bounds.specs.Limits.{IsNear}
+use Rattle.diff_bounds.specs.Limits.{IsTimely}
 use Rattle.diff_bounds.specs.Standing.{IsMadeFor, Standing, Stands, chosen_of, upper_of}
 use Rattle.branch.specs.Step.Edges.{choice_name}
 
@@ -55,13 +55,13 @@ IsUpperIn net chosen from to None = IsUnboundedAmong (λ times. MeetsUsable net 
 -- times that meet the usable edges of a case, and attain the greatest separation of each event from the source, where it is a number
 pub record AreTimesIn (net : Net) (chosen : Case) (bounds : Standing) (times : List ℤ) : Type 0 where
   pub meets : MeetsUsable net chosen times
-  pub near : All IsNear times
+  pub near : All IsTimely times
   pub attained : (from to : EventId) (value : ℤ) → bounds.source ≡ Some from → to.0 < net.events → HasUpper bounds to value → separation times from to ≡ value
 
 -- a set of events that can be raised from the times by any number
 pub record IsRayIn (net : Net) (chosen : Case) (from to : EventId) (times : List ℤ) (ray : List Bool) : Type 0 where
   pub meets : (by : ℕ) → MeetsUsable net chosen (raised ray by times)
-  pub near : All IsNear times
+  pub near : All IsTimely times
   pub count : length ray ≡ net.events
   pub lacks : slice_get ray from.0 ≡ Some false
   pub holds : slice_get ray to.0 ≡ Some true

@@ -13,7 +13,8 @@ use Rattle.diff_bounds.specs.declared.falling.Step.{Step}
 use Rattle.diff_bounds.specs.declared.falling.Step.TheVariants.{Kept, Fell, Stops}
 use Rattle.diff_bounds.specs.Arcs.{IsArc}
 use Rattle.diff_bounds.specs.Labels.{Follows, HasFallen, IsAmong, IsForest, Labels, Parents, Scope, is_lower, labels_from, parents_from, stamp_at}
-use Rattle.diff_bounds.specs.Limits.{weight_limit}
+use Rattle.event_graph.specs.Limits.{weight_limit}
+use Rattle.diff_bounds.specs.Limits.{fall_limit}
 use Rattle.diff_bounds.specs.Settled.{AreNear}
 use Rattle.diff_bounds.specs.Step.Waiting.{Waiting, is_waiting}
 
@@ -87,8 +88,8 @@ natural_part (negsuc n) = 0
 
 -- how far a label can still fall: no label comes near the number that is added
 abbrev pub height : Option ℤ → ℕ
-height None = 40000000000000000
-height (Some label) = natural_part (label +ℤ pos 20000000000000000)
+height None = 2 * fall_limit
+height (Some label) = natural_part (label +ℤ pos fall_limit)
 
 abbrev pub total_height : List Stamp → ℕ
 total_height stamps = sum_by (λ s. height s.label) stamps

@@ -2,7 +2,7 @@
 use Rattle.std.specs.Prelude.{◌≡◌, ◌<◌, ℕ, ℤ, pos, ◌+ℤ◌, ◌≤ℤ◌, List, Some, IfSome}
 use Rattle.trail.specs.declared.stamp.Stamp.{Stamp}
 use Rattle.diff_bounds.specs.Labels.{labels_from, number}
-use Rattle.diff_bounds.specs.Limits.{IsReach}
+use Rattle.event_graph.specs.Limits.{IsReach}
 
 -- what is known of the labels of an event
 pub record IsInReach (events : ℕ) (stamps : List Stamp) (event : ℕ) : Type 0 where

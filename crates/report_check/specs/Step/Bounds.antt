@@ -7,10 +7,9 @@ use Rattle.branch.specs.declared.answer.Root.{Root}
 use Rattle.branch.specs.declared.answer.Root.TheVariants as roots
 use Rattle.requirements.specs.declared.bound.Bound.{Bound}
 use Rattle.requirements.specs.declared.bound.Bound.TheVariants as bounds
-use Rattle.slack_report.specs.Right.At.{Side}
-use Rattle.slack_report.specs.Right.Drawn as told
+use Rattle.right_report.specs.Right.At.{Side}
+use Rattle.drawn.specs.declared.row.Row.{Row}
 use Rattle.right_report.specs.Shown.{goal_of}
-use Rattle.unroll.specs.declared.row.Row.{Row}
 
 -- some times meet the always-edges
 abbrev pub SomeMeet : Net → Type 0
@@ -27,7 +26,7 @@ pub record IsBetween (net : Net) (row : Row) : Type 0 where
   pub to : row.to.0 < net.events
 
 -- what lines before a bound are to show: only a closed one is to be shown
-abbrev pub goal_for : told.Row → Side → Bound → Option ProofGoal
+abbrev pub goal_for : Row → Side → Bound → Option ProofGoal
 goal_for r side (bounds.Closed value) = Some (goal_of r side value)
 goal_for r side bounds.Unbounded = None
 goal_for r side (bounds.Within limit attained) = None

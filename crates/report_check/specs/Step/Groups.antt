@@ -6,8 +6,8 @@ use Rattle.event_graph.specs.Proof as proofs
 use Rattle.cert_checker.specs.declared.goal.Goal.{Goal}
 use Rattle.cert_checker.specs.Checking.{goal_view}
 use Rattle.slack_report.specs.Entry.{Entry, proof}
-use Rattle.slack_report.specs.Right.At.{At, at_bound, at_event, at_finding}
-use Rattle.slack_report.specs.Right.Drawn.{Drawn}
+use Rattle.right_report.specs.Right.At.{At, at_bound, at_event, at_finding}
+use Rattle.drawn.specs.Drawn.{Drawn}
 use Rattle.right_report.specs.Wrong.{Takes}
 use Rattle.report_check.specs.Step.Stages.{IsSide, IsTelling, side_told, telling_of}
 use Rattle.report_check.specs.declared.group.Group.{Group}

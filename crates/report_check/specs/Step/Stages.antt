@@ -4,12 +4,11 @@ use Rattle.event_graph.specs.Times.{IsTime}
 use Rattle.requirements.specs.Bounds.{HasTimes}
 use Rattle.requirements.specs.declared.bound.BothBounds.{BothBounds}
 use Rattle.slack_report.specs.Entry.{Entry, proof}
-use Rattle.slack_report.specs.Right.At as places
-use Rattle.slack_report.specs.Right.At.{At, at_heading, at_budget, at_events, at_event, at_known, at_rows, at_row, at_bound, at_times, at_raise, at_verdict, at_past, at_slack, at_end, at_last}
-use Rattle.slack_report.specs.Right.Drawn.{Drawn}
-use Rattle.slack_report.specs.Right.Following.{MayFollow}
+use Rattle.right_report.specs.Right.At as places
+use Rattle.right_report.specs.Right.At.{At, at_heading, at_budget, at_events, at_event, at_known, at_rows, at_row, at_bound, at_times, at_raise, at_verdict, at_past, at_slack, at_end, at_last}
+use Rattle.drawn.specs.Drawn.{Drawn}
+use Rattle.right_report.specs.Right.Following.{MayFollow}
 use Rattle.right_report.specs.Checked.{checked}
-use Rattle.unroll.specs.Reported.{row_told}
 use Rattle.report_check.specs.declared.stage.Course.{Course}
 use Rattle.report_check.specs.declared.stage.Side.{Side}
 use Rattle.report_check.specs.declared.stage.Side.TheVariants.{Greatest, LeastBy}
@@ -27,7 +26,7 @@ side_told Greatest = places.greatest
 side_told (LeastBy most) = places.least_by most
 
 abbrev pub telling_of : Drawn → Telling → places.Telling
-telling_of drawn told = record { course = course_told told.course; number = told.number; row = row_told told.row; later = drop (told.number + 1) drawn.rows }
+telling_of drawn told = record { course = course_told told.course; number = told.number; row = told.row; later = drop (told.number + 1) drawn.rows }
 
 abbrev pub at_of : Drawn → Stage → At
 at_of drawn stages.Heading = at_heading

@@ -1,9 +1,9 @@
 -- Steps of a walk over the lines of a report.
 use Rattle.std.specs.Prelude.{◌≡◌, ◌<◌, ◌≤◌, ◌+◌, ℕ, List, drop, length, ⊤, Result, Ok, Err}
 use Rattle.slack_report.specs.Entry.{Entry}
-use Rattle.slack_report.specs.Right.At.{At, at_last}
-use Rattle.slack_report.specs.Right.Drawn.{Drawn}
-use Rattle.slack_report.specs.Right.Following.{Reads}
+use Rattle.right_report.specs.Right.At.{At, at_last}
+use Rattle.drawn.specs.Drawn.{Drawn}
+use Rattle.right_report.specs.Right.Following.{Reads}
 use Rattle.right_report.specs.Checked.{IsChecked, checked}
 use Rattle.right_report.specs.Wrong.{IsFirstWrong, IsFirstWrongIn}
 use Rattle.report_check.specs.declared.check.Checked.{Checked}

@@ -2,12 +2,14 @@ use Rattle.std.proofs.Common.{neg_ℤ, ◌<◌, ◌∙◌, ap, subst, sym}
 use Rattle.event_graph.specs.Times.{IsTime, shifted}
 use Rattle.requirements.proofs.Rising.{read_time}
 use Rattle.bounds_report.proofs.Passing.{end_time, new_origin, new_times, raise_done, raises}
+use Rattle.bounds_report.proofs.Printed.{times_printed}
 use Rattle.bounds_report.proofs.Shifted.{times_nearby}
 use Rattle.bounds_report.proofs.past.raise.Goals as goal
 
 pub raise_past-requires-clause-times : goal.raise_past-requires-clause-times
 raise_past-requires-clause-times c =
-    times_nearby c.args.times.now c.args.pair.from c.requires.kept.nearby (subst (λ n. c.args.pair.from.0 < n) (sym c.requires.kept.satisfied.count) c.requires.kept.from) c.requires.kept.at_zero
+    times_printed c.args.times.now
+    (times_nearby c.args.times.now c.args.pair.from c.requires.kept.nearby (subst (λ n. c.args.pair.from.0 < n) (sym c.requires.kept.satisfied.count) c.requires.kept.from) c.requires.kept.at_zero)
 
 pub shift-requires-clause-origin : goal.shift-requires-clause-origin
 shift-requires-clause-origin c =

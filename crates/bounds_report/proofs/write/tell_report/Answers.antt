@@ -1,69 +1,67 @@
-use Rattle.std.proofs.Common.{◌≡◌, ◌≤◌, ℕ, List, length, ap, subst, sym, ◌∙◌}
-use Rattle.std.proofs.lemmas.List.{length-map}
-use Rattle.itv_base.specs.Outside.{grown}
-use Rattle.itv_base.specs.declared.limits.TheConstants.{MAX_ROWS}
+use Rattle.std.proofs.Common.{ℤ, List, [], length, ap, refl, ◌∙◌}
 use Rattle.event_graph.specs.Network.{Net}
 use Rattle.slack_report.specs.Entry.{ending}
-use Rattle.slack_report.specs.Right.At.{at_last}
+use Rattle.right_report.specs.Right.At.{at_last}
 use Rattle.right_report.proofs.Leading.{stopped_line}
-use Rattle.unroll.specs.Reported.{reported, row_told}
-use Rattle.bounds_report.specs.Reports.{Reports}
-use Rattle.bounds_report.specs.Step.Searched.{sized}
-use Rattle.bounds_report.specs.declared.summary.Summary.{Summary}
+use Rattle.bounds_report.specs.Step.Searched.{printed_known, sized}
 use Rattle.bounds_report.proofs.Telling.{on_err, stopped_net, stops_then, told_net, told_then}
 use Rattle.bounds_report.proofs.Texts.{entries, fine_rows}
 use Rattle.bounds_report.proofs.Whole.{begins_front, begins_rest, end_may, reports}
 use Rattle.bounds_report.proofs.write.tell_report.Goals as goal
 
 pub returns-in_err-put_front-clause-begins : goal.returns-in_err-put_front-clause-begins
-returns-in_err-put_front-clause-begins g c = on_err _ c.from_residual.result (begins_front (reported c.args.drawn.now) c.args.wanted.budget c.args.wanted.cert _ _ c.in_err-put_front.ensures.puts)
+returns-in_err-put_front-clause-begins g c = on_err _ c.from_residual.result (begins_front c.args.drawn.now c.args.wanted.budget c.args.wanted.cert _ _ c.in_err-put_front.ensures.puts)
 
 pub returns-in_err-put_events-clause-begins : goal.returns-in_err-put_events-clause-begins
 returns-in_err-put_events-clause-begins g c =
-    let drawn = reported c.args.drawn.now in
+    let drawn = c.args.drawn.now in
     let most = c.args.wanted.budget in
     let cert = c.args.wanted.cert in
-    on_err _ c.from_residual-in_err-put_events.result (begins_rest drawn most cert _ _ _ c.in_ok-put_front.ensures.puts (c.in_err-put_events.ensures.goes drawn.net most cert))
+    let basis : List ℤ = [] in
+    on_err _ c.from_residual-in_err-put_events.result (begins_rest drawn most cert basis _ _ _ c.in_ok-put_front.ensures.puts (c.in_err-put_events.ensures.goes drawn.net most cert basis))
 
 pub returns-in_err-found-clause-begins : goal.returns-in_err-found-clause-begins
 returns-in_err-found-clause-begins g c =
-    let drawn = reported c.args.drawn.now in
+    let drawn = c.args.drawn.now in
     let most = c.args.wanted.budget in
     let cert = c.args.wanted.cert in
-    on_err _ c.from_residual-in_err-found.result (begins_rest drawn most cert _ _ _ c.in_ok-put_front.ensures.puts
-    (stops_then (c.in_ok-put_events.ensures.goes drawn.net most cert) (stopped_net most cert c.network.ensures.network (c.in_err-found.ensures.goes drawn drawn.net.events))))
+    let basis = printed_known c.tell_finding.new.desk.work.known in
+    on_err _ c.from_residual-in_err-found.result (begins_rest drawn most cert basis _ _ _ c.in_ok-put_front.ensures.puts
+    (stops_then (c.in_ok-put_events.ensures.goes drawn.net most cert basis) (stopped_net most cert basis c.network.ensures.network (c.in_err-found.ensures.goes basis drawn drawn.net.events refl))))
 
 pub returns-in_err-tally-clause-begins : goal.returns-in_err-tally-clause-begins
 returns-in_err-tally-clause-begins g c =
-    let drawn = reported c.args.drawn.now in
+    let drawn = c.args.drawn.now in
     let most = c.args.wanted.budget in
     let cert = c.args.wanted.cert in
-    on_err _ c.from_residual-in_err-tally.result (begins_rest drawn most cert _ _ _ c.in_ok-put_front.ensures.puts
-    (stops_then (told_then (c.in_ok-put_events.ensures.goes drawn.net most cert) (told_net most cert c.network.ensures.network (c.in_ok-found.ensures.goes drawn drawn.net.events)))
+    let basis = printed_known c.tell_finding.new.desk.work.known in
+    on_err _ c.from_residual-in_err-tally.result (begins_rest drawn most cert basis _ _ _ c.in_ok-put_front.ensures.puts
+    (stops_then (told_then (c.in_ok-put_events.ensures.goes drawn.net most cert basis) (told_net most cert basis c.network.ensures.network (c.in_ok-found.ensures.goes basis drawn drawn.net.events refl)))
     c.in_err-tally.ensures.stops))
 
 pub returns-in_err-write_item-clause-begins : goal.returns-in_err-write_item-clause-begins
 returns-in_err-write_item-clause-begins g c =
-    let drawn = reported c.args.drawn.now in
+    let drawn = c.args.drawn.now in
     let most = c.args.wanted.budget in
     let cert = c.args.wanted.cert in
+    let basis = printed_known c.tell_finding.new.desk.work.known in
     let tells = c.in_ok-tally.ensures.tells in
-    on_err _ c.from_residual-in_err-write_item.result (begins_rest drawn most cert _ _ _ c.in_ok-put_front.ensures.puts
-    (stops_then (told_then (told_then (c.in_ok-put_events.ensures.goes drawn.net most cert) (told_net most cert c.network.ensures.network (c.in_ok-found.ensures.goes drawn drawn.net.events))) tells.2)
+    on_err _ c.from_residual-in_err-write_item.result (begins_rest drawn most cert basis _ _ _ c.in_ok-put_front.ensures.puts
+    (stops_then (told_then (told_then (c.in_ok-put_events.ensures.goes drawn.net most cert basis) (told_net most cert basis c.network.ensures.network (c.in_ok-found.ensures.goes basis drawn drawn.net.events refl))) tells.2)
     (stopped_line at_last (ending c.end_word-word.result)
-    (end_may (sized drawn.net most cert) drawn c.in_ok-found.found c.in_ok-tally.tally (length c.args.drawn.now.rows) c.end_word-word.result c.end_word-word.ensures.word)
+    (end_may (sized drawn.net most cert basis) drawn c.in_ok-found.found c.in_ok-tally.tally (length c.args.drawn.now.rows) c.end_word-word.result c.end_word-word.ensures.word)
     c.in_err-write_item.ensures.puts)))
 
 pub returns-clause-reports : goal.returns-clause-reports
 returns-clause-reports g c =
-    let drawn = reported c.args.drawn.now in
+    let drawn = c.args.drawn.now in
     let most = c.args.wanted.budget in
     let cert = c.args.wanted.cert in
+    let basis = printed_known c.tell_finding.new.desk.work.known in
     let tells = c.in_ok-tally.ensures.tells in
-    let t = told_then (told_then (c.in_ok-put_events.ensures.goes drawn.net most cert) (told_net most cert c.network.ensures.network (c.in_ok-found.ensures.goes drawn drawn.net.events))) tells.2 in
-    subst (λ (summary : Summary). (text : List ℕ) × Reports drawn most cert summary text × (g.K.Sink.told c.write_item.new.sink ≡ grown (g.K.Sink.told c.args.sink.now) text)) (sym c.summary_of.ensures)
-    (reports drawn most cert _ _ _ _ c.in_ok-found.found c.in_ok-tally.tally (length c.args.drawn.now.rows) tells.0 c.end_word-word.result c.in_ok-put_front.ensures.puts t c.in_ok-write_item.ensures.puts
+    let t = told_then (told_then (c.in_ok-put_events.ensures.goes drawn.net most cert basis) (told_net most cert basis c.network.ensures.network (c.in_ok-found.ensures.goes basis drawn drawn.net.events refl))) tells.2 in
+    reports drawn most cert basis _ _ _ _ c.in_ok-found.found c.in_ok-tally.tally (length c.args.drawn.now.rows) tells.0 c.end_word-word.result c.in_ok-put_front.ensures.puts t c.in_ok-write_item.ensures.puts
     c.end_word-word.ensures.word tells.1
-    (λ lines reads names ranges. entries drawn most cert c.requires.set.made.is_net (c.network.ensures.names ∙ ap (λ (net : Net). net.events) c.network.ensures.network)
-    (subst (λ n. n ≤ MAX_ROWS) (sym (length-map c.args.drawn.now.rows row_told)) c.requires.rows)
-    names (fine_rows drawn.net c.args.drawn.now.rows c.requires.within ranges) lines c.requires.least c.requires.most reads))
+    (λ lines reads names ranges. entries drawn most cert basis c.requires.set.made.is_net (c.network.ensures.names ∙ ap (λ (net : Net). net.events) c.network.ensures.network)
+    c.requires.rows
+    names (fine_rows drawn.net c.args.drawn.now.rows c.requires.within ranges) lines c.requires.least c.requires.most reads)

@@ -4,10 +4,12 @@ use Rattle.event_graph.specs.Proof.{Bound, Case}
 use Rattle.event_graph.specs.RootBound.{IsRootBound}
 use Rattle.branch.specs.Answers.{IsClosedAt, IsEnclosedBy}
 use Rattle.branch.specs.Needed.{IsNeededToBound}
+use Rattle.branch.specs.Step.Searched.{IsBoundCut, aimed}
 use Rattle.branch.specs.Step.Standing.{IsUpperIn}
 use Rattle.branch.specs.declared.best.Best.{Best}
 use Rattle.branch.specs.declared.search.Search.{Search}
-use Rattle.branch.proofs.Endings.{closed_at, enclosed_by, proof_count, root_loop, stopped_count}
+use Rattle.branch.proofs.Endings.{closed_at, cut_count, enclosed_by, proof_count, root_loop, stopped_count}
+use Rattle.branch.proofs.Results.{on_err}
 use Rattle.branch.proofs.Signs.{passed_separation}
 use Rattle.branch.proofs.UsableEdges.{root_upper}
 use Rattle.branch.proofs.bounding.bound_pair.Goals as goal
@@ -24,9 +26,10 @@ returns-in-Shown-clause-lines g c =
     let now : Search = c.search_bound.new.search in
     let best : Best = c.search_bound.new.best in
     let shown = rw c.in-Shown.is at c.in_ok-search_bound.ensures.ends in
-    let closed = closed_at net aim best shown.0 now.leaves shown.2.0 shown.2.1 in
+    let ray = c.search_bound.new.trial.ray.items in
+    let closed = closed_at net aim best c.args.budget shown.0 now.leaves ray shown.2.0 shown.2.1 in
     let passed : to_z w64 (of_z w64 best.value) ≡ best.value = passed_separation best.value shown.2.0.near in
-    (shown.0, shown.1, subst (λ (v : ℤ). IsClosedAt net aim.from aim.to v shown.0 now.leaves best.times.items) (sym passed) closed, shown.2.1.needed)
+    (shown.0, shown.1, subst (λ (v : ℤ). IsClosedAt (aimed net aim c.args.budget) v (record { lines = shown.0; leaves = now.leaves; times = best.times.items; ray = ray })) (sym passed) closed, shown.2.1.needed)
 
 pub returns-in-Shown-clause-count : goal.returns-in-Shown-clause-count
 returns-in-Shown-clause-count g c =
@@ -35,7 +38,7 @@ returns-in-Shown-clause-count g c =
     let now : Search = c.search_bound.new.search in
     let shown = rw c.in-Shown.is at c.in_ok-search_bound.ensures.ends in
     let budget : c.start.new.search.budget ≡ c.args.budget = ap (λ (s : Search). s.budget) c.start.ensures.others in
-    let within : now.leaves ≤ c.args.budget = omega (arith, c.in_ok-search_bound.ensures.within, c.search_bound.ensures.same.budget, budget) in
+    let within : now.leaves ≤ c.args.budget = omega (arith, c.search_bound.ensures.within, c.search_bound.ensures.same.budget, budget) in
     proof_count net (Bound aim.from aim.to c.search_bound.new.best.value) (IsNeededToBound net aim.from aim.to aim.known) c.args.budget shown.0 now.leaves c.requires.net within shown.2.1
 
 pub returns-in-Raised-clause-count : goal.returns-in-Raised-clause-count
@@ -46,7 +49,7 @@ returns-in-Raised-clause-count g c =
     let raised = rw c.in-Raised.is at c.in_ok-search_bound.ensures.ends in
     let (value, chosen, closed, searched, one_more) = raised.2.1 in
     let budget : c.start.new.search.budget ≡ c.args.budget = ap (λ (s : Search). s.budget) c.start.ensures.others in
-    let within : now.leaves ≤ c.args.budget = omega (arith, c.in_ok-search_bound.ensures.within, c.search_bound.ensures.same.budget, budget) in
+    let within : now.leaves ≤ c.args.budget = omega (arith, c.search_bound.ensures.within, c.search_bound.ensures.same.budget, budget) in
     stopped_count net (Bound aim.from aim.to value) (IsNeededToBound net aim.from aim.to aim.known) c.args.budget raised.0 now.leaves closed chosen c.requires.net within (omega (arith, one_more)) searched
 
 pub returns-in-Ended-clause-lines : goal.returns-in-Ended-clause-lines
@@ -63,9 +66,10 @@ returns-in-Ended-clause-lines g c =
     root_upper net aim.from aim.to upper (subst (λ (case : Case). IsUpperIn net case aim.from aim.to upper) none (c.upper_in-upper.ensures.upper aim.from c.start.ensures.source)) in
     let budget : c.start.new.search.budget ≡ c.args.budget = ap (λ (s : Search). s.budget) c.start.ensures.others in
     let used : now.leaves ≡ c.args.budget = ended.2.1 ∙ c.search_bound.ensures.same.budget ∙ budget in
-    let enclosed = enclosed_by net aim upper best c.args.budget ended.0 now.leaves chosen c.requires.net root c.upper_in-upper.ensures.within ended.2.0 used searched in
+    let ray = c.search_bound.new.trial.ray.items in
+    let enclosed = enclosed_by net aim upper best c.args.budget ended.0 now.leaves ray chosen c.requires.net root c.upper_in-upper.ensures.within ended.2.0 used searched in
     let passed : to_z w64 (of_z w64 best.value) ≡ best.value = passed_separation best.value ended.2.0.near in
-    (ended.0, ended.1, subst (λ (v : ℤ). IsEnclosedBy net aim.from aim.to upper v c.args.budget ended.0 now.leaves best.times.items) (sym passed) enclosed, searched.needed)
+    (ended.0, ended.1, subst (λ (v : ℤ). IsEnclosedBy (aimed net aim c.args.budget) upper v (record { lines = ended.0; leaves = now.leaves; times = best.times.items; ray = ray })) (sym passed) enclosed, searched.needed)
 
 pub returns-in-Ended-clause-count : goal.returns-in-Ended-clause-count
 returns-in-Ended-clause-count g c =
@@ -75,6 +79,23 @@ returns-in-Ended-clause-count g c =
     let ended = rw c.in-Ended.is at c.in_ok-search_bound.ensures.ends in
     let (chosen, searched) = ended.2.2 in
     let budget : c.start.new.search.budget ≡ c.args.budget = ap (λ (s : Search). s.budget) c.start.ensures.others in
-    let within : now.leaves ≤ c.args.budget = omega (arith, c.in_ok-search_bound.ensures.within, c.search_bound.ensures.same.budget, budget) in
+    let within : now.leaves ≤ c.args.budget = omega (arith, c.search_bound.ensures.within, c.search_bound.ensures.same.budget, budget) in
     stopped_count net (Bound aim.from aim.to c.search_bound.new.best.value) (IsNeededToBound net aim.from aim.to aim.known) c.args.budget ended.0 now.leaves now.leaves chosen c.requires.net within
     (omega arith) searched
+
+pub returns-in_err-search_bound-clause-cut : goal.returns-in_err-search_bound-clause-cut
+returns-in_err-search_bound-clause-cut g c =
+    let cut = c.in_err-search_bound.ensures.cut in
+    let short : IsBoundCut c.args.net.now c.args.aim c.search_bound.new.search.leaves cut.0 = cut.2 in
+    on_err c.from_residual.result _ (cut.0, cut.1, (short.value, (short.left, short.searched.reads)), short.searched.needed)
+
+pub returns-in_err-search_bound-clause-count : goal.returns-in_err-search_bound-clause-count
+returns-in_err-search_bound-clause-count g c =
+    let net = c.args.net.now in
+    let aim = c.args.aim in
+    let now : Search = c.search_bound.new.search in
+    let cut = c.in_err-search_bound.ensures.cut in
+    let short : IsBoundCut net aim now.leaves cut.0 = cut.2 in
+    let budget : c.start.new.search.budget ≡ c.args.budget = ap (λ (s : Search). s.budget) c.start.ensures.others in
+    let within : now.leaves ≤ c.args.budget = omega (arith, c.search_bound.ensures.within, c.search_bound.ensures.same.budget, budget) in
+    cut_count net (Bound aim.from aim.to short.value) (IsNeededToBound net aim.from aim.to aim.known) c.args.budget cut.0 now.leaves short.closed short.left c.requires.net within short.count short.searched

@@ -5,6 +5,7 @@ use Rattle.branch.specs.Step.Cases.{open_cases}
 use Rattle.branch.specs.Step.Searched.{IsBoundSearched}
 use Rattle.branch.specs.declared.search.Search.{Search}
 use Rattle.branch.proofs.Entering.{keeps_same, keeps_then, root_read}
+use Rattle.branch.proofs.Results.{on_err}
 use Rattle.branch.proofs.SearchedLines.{nothing_after}
 use Rattle.branch.proofs.bounding.search_bound.Goals as goal
 
@@ -25,6 +26,12 @@ cases-init g c =
       trial = c.requires.trial;
       same = keeps_same net s;
     }
+
+pub returns-in_err-step-clause-cut : goal.returns-in_err-step-clause-cut
+returns-in_err-step-clause-cut g c =
+    let inv = c.cases.invariant in
+    let more = c.in_err-step.ensures.cut in
+    on_err c.from_residual.result _ (inv.lines.0 ++ more.0, g.met.S.Scribe.cut_after _ _ _ _ _ inv.lines.1 more.1, more.2 inv.lines.0 inv.lines.2)
 
 pub returns-in-None-clause-ends : goal.returns-in-None-clause-ends
 returns-in-None-clause-ends g c =

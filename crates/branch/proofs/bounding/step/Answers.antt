@@ -22,11 +22,10 @@ returns-in_err-split_case-in-Splits-clause-cut g c =
     let open' : IsOpen net aim.from aim.to best c.args.search.now.cases.chosen c.in-Splits.number =
     subst (λ (v : ℤ). IsOpen net aim.from aim.to v c.args.search.now.cases.chosen c.in-Splits.number) (passed_separation best c.requires.best.near) c.in-Splits.ensures.looks in
     let cut = c.in_err-split_case-in-Splits.ensures.cut in
-    let left = cut.2 (Bound aim.from aim.to best) in
     on_err c.from_residual.result _ (
       Split c.in-Splits.number ∷ cut.0,
       cut.1,
-      split_cut net aim best c.args.search.now.leaves cut.0 c.args.search.now.cases.chosen c.in-Splits.number left.0 c.requires.best.least open' left.1,
+      split_cut net aim best c.args.search.now.leaves cut.0 c.args.search.now.cases.chosen c.in-Splits.number c.split_case.new.search c.requires.best.least open' (cut.2 (Bound aim.from aim.to best)),
     )
 
 pub returns-in_err-close_case-in-Beaten-clause-cut : goal.returns-in_err-close_case-in-Beaten-clause-cut
@@ -37,9 +36,9 @@ returns-in_err-close_case-in-Beaten-clause-cut g c =
     let looked = c.in-Beaten.ensures.looks in
     let within : looked.0 ≤ℤ best = subst (λ (v : ℤ). looked.0 ≤ℤ v) (passed_separation best c.requires.best.near) looked.2 in
     let cut = c.in_err-close_case-in-Beaten.ensures.cut in
-    let left = cut.2 aim.from looked.0 best c.requires.source looked.1 within in
+    let short = cut.2 aim.from looked.0 best c.requires.source looked.1 within in
     on_err c.from_residual-in_err-close_case-in-Beaten.result _
-    (cut.0, cut.1, path_cut net aim best best c.args.search.now.leaves cut.0 c.args.search.now.cases.chosen left.0 (omega (arith, ints)) left.1)
+    (cut.0, cut.1, path_cut net aim best best c.args.search.now.leaves cut.0 c.args.search.now.cases.chosen c.close_case.new.search (omega (arith, ints)) short)
 
 pub returns-in_err-close_case-in-Attained-clause-cut : goal.returns-in_err-close_case-in-Attained-clause-cut
 returns-in_err-close_case-in-Attained-clause-cut g c =
@@ -50,9 +49,9 @@ returns-in_err-close_case-in-Attained-clause-cut g c =
     let looked = c.in-Attained.ensures.looks in
     let past : best <ℤ value = subst (λ (v : ℤ). v <ℤ value) (passed_separation best c.requires.best.near) looked.1 in
     let cut = c.in_err-close_case-in-Attained.ensures.cut in
-    let left = cut.2 aim.from value value c.requires.source looked.0 (omega (arith, ints)) in
+    let short = cut.2 aim.from value value c.requires.source looked.0 (omega (arith, ints)) in
     on_err c.from_residual-in_err-close_case-in-Attained.result _
-    (cut.0, cut.1, path_cut net aim best value c.args.search.now.leaves cut.0 c.args.search.now.cases.chosen left.0 (omega (arith, ints)) left.1)
+    (cut.0, cut.1, path_cut net aim best value c.args.search.now.leaves cut.0 c.args.search.now.cases.chosen c.close_case-in-Attained.new.search (omega (arith, ints)) short)
 
 pub returns-in_ok-split_case-in-Splits-clause-advances : goal.returns-in_ok-split_case-in-Splits-clause-advances
 returns-in_ok-split_case-in-Splits-clause-advances g c =

@@ -1,4 +1,4 @@
-use Rattle.std.proofs.Common.{◌≡◌, ◌+◌, ◌∙◌, ℤ, List, [], ◌∷◌, ◌++◌, Some, sym, ap, subst, refl, arith, rules}
+use Rattle.std.proofs.Common.{◌≡◌, ◌+◌, ◌≤◌, ◌∙◌, ℤ, List, [], ◌∷◌, ◌++◌, Some, sym, ap, subst, refl, arith, rules}
 use Rattle.itv_base.specs.declared.names.EdgeName.{EdgeName}
 use Rattle.diff_bounds.specs.declared.fit.Fit.TheVariants.{Fits, Loop as Looped}
 use Rattle.event_graph.specs.Proof.{ClosesByLoop, Loop, Nothing, ProofLine}
@@ -6,9 +6,9 @@ use Rattle.event_graph.specs.Reading.{AtEachSplit}
 use Rattle.branch.specs.Answers.{IsFoundConsistent}
 use Rattle.branch.specs.Needed.{IsNeededToFind}
 use Rattle.branch.specs.Step.Cases.{open_cases}
-use Rattle.branch.specs.Step.Searched.{IsFindSearched}
+use Rattle.branch.specs.Step.Searched.{IsFindCut, IsFindSearched}
 use Rattle.branch.specs.declared.search.Search.{Search}
-use Rattle.branch.proofs.Endings.{found_consistent, found_inconsistent, found_unsettled, proof_count, root_searched, stopped_count}
+use Rattle.branch.proofs.Endings.{cut_count, found_consistent, found_inconsistent, found_unsettled, proof_count, root_searched, stopped_count}
 use Rattle.branch.proofs.Entering.{at_root, root_read}
 use Rattle.branch.proofs.Results.{on_err}
 use Rattle.branch.proofs.SearchedLines.{nothing_after}
@@ -19,7 +19,34 @@ returns-in_err-cut_loop-clause-cut g c =
     let walk : List EdgeName = c.walk.result.now in
     let is : c.start.result ≡ Looped = search rules in
     let closes : ClosesByLoop c.args.net.now [] walk = subst (ClosesByLoop c.args.net.now []) (sym c.walk.ensures) (c.start.ensures.walk is) in
-    on_err c.from_residual.result _ (Loop walk ∷ [], c.in_err-cut_loop.ensures.cut, ([], (closes, refl)))
+    on_err c.from_residual.result _ (Loop walk ∷ [], c.in_err-cut_loop.ensures.cut, ([], (closes, refl)), (root_searched c.args.net.now walk closes).needed)
+
+pub returns-in_err-cut_loop-clause-count : goal.returns-in_err-cut_loop-clause-count
+returns-in_err-cut_loop-clause-count g c =
+    let net = c.args.net.now in
+    let walk : List EdgeName = c.walk.result.now in
+    let is : c.start.result ≡ Looped = search rules in
+    let closes : ClosesByLoop net [] walk = subst (ClosesByLoop net []) (sym c.walk.ensures) (c.start.ensures.walk is) in
+    proof_count net Nothing (IsNeededToFind net) c.args.budget (Loop walk ∷ []) 1 c.requires.net (omega (arith, c.requires.budget)) (root_searched net walk closes)
+
+pub returns-in_err-try_times-clause-cut : goal.returns-in_err-try_times-clause-cut
+returns-in_err-try_times-clause-cut g c =
+    let inv = c.cases.invariant in
+    let more = c.in_err-try_times.ensures.cut in
+    let short : IsFindCut c.args.net.now c.try_times.new.search.leaves (inv.lines.0 ++ more.0) = more.2 inv.lines.0 inv.lines.2 in
+    on_err c.from_residual-in_err-try_times.result _
+    (inv.lines.0 ++ more.0, g.met.S.Scribe.cut_after _ _ _ _ _ inv.lines.1 more.1, (short.left, short.searched.reads), short.searched.needed)
+
+pub returns-in_err-try_times-clause-count : goal.returns-in_err-try_times-clause-count
+returns-in_err-try_times-clause-count g c =
+    let net = c.args.net.now in
+    let inv = c.cases.invariant in
+    let more = c.in_err-try_times.ensures.cut in
+    let now : Search = c.try_times.new.search in
+    let short : IsFindCut net now.leaves (inv.lines.0 ++ more.0) = more.2 inv.lines.0 inv.lines.2 in
+    let same = c.try_times.ensures.same in
+    let within : now.leaves ≤ c.args.budget = omega (arith, c.in_err-try_times.ensures.within, same.budget, inv.budget) in
+    cut_count net Nothing (IsNeededToFind net) c.args.budget (inv.lines.0 ++ more.0) now.leaves short.closed short.left c.requires.net within short.count short.searched
 
 pub returns-then-eq-clause-lines : goal.returns-then-eq-clause-lines
 returns-then-eq-clause-lines g c =

@@ -21,9 +21,8 @@ returns-in_err-split_case-in-Some-clause-cut g c =
     let breaks = c.in-Some.ensures.broken in
     let free = broken_is_free net chosen times c.in-Some.number c.requires.net c.requires.case.case c.times_in.ensures.meets breaks in
     let cut = c.in_err-split_case-in-Some.ensures.cut in
-    let left = cut.2 Nothing in
     on_err c.from_residual.result _
-    (Split c.in-Some.number ∷ cut.0, cut.1, find_cut net c.args.search.now.leaves cut.0 chosen c.in-Some.number times left.0 free c.times_in.ensures.meets breaks left.1)
+    (Split c.in-Some.number ∷ cut.0, cut.1, find_cut net c.args.search.now.leaves cut.0 chosen c.in-Some.number times c.split_case.new.search free c.times_in.ensures.meets breaks (cut.2 Nothing))
 
 pub returns-in_ok-split_case-in-Some-clause-advances : goal.returns-in_ok-split_case-in-Some-clause-advances
 returns-in_ok-split_case-in-Some-clause-advances g c =

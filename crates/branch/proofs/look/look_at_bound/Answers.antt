@@ -5,7 +5,7 @@ use Rattle.std.proofs.lemmas.List.{with_items_is}
 use Rattle.event_graph.specs.RootBound.{MeetsAlways}
 use Rattle.event_graph.specs.Satisfying.{Breaks, Satisfies}
 use Rattle.event_graph.specs.Times.{IsTime, separation}
-use Rattle.diff_bounds.specs.Limits.{IsNear}
+use Rattle.diff_bounds.specs.Limits.{IsTimely}
 use Rattle.branch.specs.Step.Standing.{HasUpper}
 use Rattle.branch.proofs.Looking.{near_times, open_at_bound}
 use Rattle.branch.proofs.UsableEdges.{meets_always}
@@ -43,7 +43,7 @@ returns-in-None-clause-looks c =
     let here : Satisfies out net = subst (λ (xs : List ℤ). Satisfies xs net) (c.deref.ensures.value ∙ written at) satisfies in
     let attained : separation out aim.from aim.to ≡ upper = c.times_in.ensures.attained aim.from aim.to upper c.requires.source c.requires.to c.requires.value in
     let P : List ℤ → ℤ → Type 0 = λ xs v.
-    HasUpper c.args.search.now.bounds aim.to v × (best <ℤ v) × Satisfies xs net × (separation xs aim.from aim.to ≡ v) × All IsNear xs in
+    HasUpper c.args.search.now.bounds aim.to v × (best <ℤ v) × Satisfies xs net × (separation xs aim.from aim.to ≡ v) × All IsTimely xs in
     subst (λ (xs : List ℤ). P xs (to_z w64 (of_z w64 upper))) (sym (written at))
     (subst (λ (v : ℤ). P out v) (sym passed) (c.requires.value, past, here, attained, c.times_in.ensures.near))
 

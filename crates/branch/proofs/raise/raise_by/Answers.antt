@@ -1,5 +1,5 @@
 use Rattle.std.proofs.Common.{◌≡◌, ◌<◌, ◌∙◌, ℕ, ℤ, pos, false, length, to_z, of_z, w64, get_or, subst, sym, arith, rules}
-use Rattle.diff_bounds.specs.Limits.{IsNear}
+use Rattle.diff_bounds.specs.Limits.{IsTimely}
 use Rattle.branch.specs.Step.Raising.{raised_to}
 use Rattle.branch.proofs.RaisingSets.{raised_step, rest_step}
 use Rattle.branch.proofs.Signs.{passed_near}
@@ -14,7 +14,7 @@ loop-event-preserved c =
     let within : i < length old = omega arith in
     let flag : i < length c.args.set.now = omega arith in
     let same : get_or now i (pos 0) ≡ get_or old i (pos 0) = inv.rest i (omega arith) in
-    let near : IsNear (get_or now i (pos 0)) = subst IsNear (sym same) (c.requires.near i (pos 0) within) in
+    let near : IsTimely (get_or now i (pos 0)) = subst IsTimely (sym same) (c.requires.near i (pos 0) within) in
     let passed : to_z w64 (of_z w64 (get_or now i (pos 0))) ≡ get_or now i (pos 0) = passed_near (get_or now i (pos 0)) near in
     let value : ℤ = to_z w64 (of_z w64 c.moved.result) in
     let is_value : value ≡ c.moved.result = search rules in

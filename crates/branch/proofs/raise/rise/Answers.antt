@@ -1,6 +1,6 @@
 use Rattle.std.proofs.Common.{◌≡◌, ◌<◌, ◌≤ℤ◌, ◌+ℤ◌, ◌-ℤ◌, ℕ, ℤ, pos, true, false, length, to_z, of_z, w64, get_or, subst, arith}
 use Rattle.std.proofs.lemmas.Option.{slice_get_within}
-use Rattle.diff_bounds.specs.Limits.{IsNear}
+use Rattle.diff_bounds.specs.Limits.{IsTimely}
 use Rattle.branch.proofs.RaisingSets.{lower_more, rise_of, upper_more}
 use Rattle.branch.proofs.Signs.{passed_near, passed_rise, passed_separation}
 use Rattle.branch.proofs.raise.rise.Goals as goal
@@ -12,7 +12,7 @@ loop-event-preserved c =
     let inv = c.loop-event.invariant in
     let span = c.widened-span.ensures in
     let time : ℤ = get_or times i (pos 0) in
-    let near : IsNear time = c.requires.near i (pos 0) (omega arith) in
+    let near : IsTimely time = c.requires.near i (pos 0) (omega arith) in
     let passed : to_z w64 (of_z w64 time) ≡ time = passed_near time near in
     record {
       highest = span.highest;

@@ -1,10 +1,9 @@
-use Rattle.std.proofs.Common.{◌≡◌, ◌+◌, ◌∙◌, List, [], ◌∷◌, ap, subst, sym}
+use Rattle.std.proofs.Common.{◌≡◌, ◌+◌, ◌∙◌, ℕ, List, [], ◌∷◌, ap, subst, sym}
 use Rattle.itv_base.specs.declared.names.EdgeName.{EdgeName}
 use Rattle.event_graph.specs.Proof.{Bound, Case, ClosesByPath, Path, ProofGoal}
 use Rattle.branch.specs.Step.Cases.{open_cases, siblings}
 use Rattle.branch.specs.declared.search.Search.{Search}
-use Rattle.branch.proofs.Entering.{HasClosed, closed_end, closed_next, closed_none, closed_one, path_reads, steps_after}
-use Rattle.event_graph.proofs.ReadingOn.{reads-append}
+use Rattle.branch.proofs.Entering.{HasClosed, closed_end, closed_next, closed_none, closed_one, path_reads, short_after, short_one, steps_after}
 use Rattle.branch.proofs.Results.{if_ok_then, on_err, on_err_then}
 use Rattle.branch.proofs.search.close_case.Goals as goal
 
@@ -17,9 +16,11 @@ returns-in_err-cut_path-clause-cut g c =
       Path walk ∷ [],
       c.in_err-cut_path.ensures.cut,
       λ from value best source upper most.
-          let closes : ClosesByPath net (Bound from c.args.to best) chosen walk =
-          subst (ClosesByPath net (Bound from c.args.to best) chosen) (sym c.walk.ensures) (c.find_path.ensures.path from value best source upper most) in
-          (siblings net chosen, path_reads net (Bound from c.args.to best) chosen walk closes),
+          let goal : ProofGoal = Bound from c.args.to best in
+          let closes : ClosesByPath net goal chosen walk = subst (ClosesByPath net goal chosen) (sym c.walk.ensures) (c.find_path.ensures.path from value best source upper most) in
+          let leaves : ℕ = c.args.search.now.leaves in
+          short_one net goal (open_cases net chosen) chosen leaves leaves c.find_path.new.search [] (Path walk) (closed_none net goal (open_cases net chosen) leaves) tt (path_reads net goal chosen walk closes)
+          (ap (λ (s : Search). s.leaves) c.find_path.ensures.others),
     )
 
 pub returns-in-Some-clause-lines : goal.returns-in-Some-clause-lines
@@ -92,6 +93,5 @@ returns-in-None-clause-cut g c =
       λ from value best source upper most.
           let goal : ProofGoal = Bound from c.args.to best in
           let closes : ClosesByPath net goal at.cases.chosen walk = subst (ClosesByPath net goal at.cases.chosen) (sym c.walk.ensures) (c.find_path.ensures.path from value best source upper most) in
-          let left = more.2 goal in
-          (left.0, reads-append net goal (Path walk ∷ []) more.0 (open_cases net at.cases.chosen) (open_cases net now.cases.chosen) left.0 (closed goal closes).closes.reads left.1),
+          short_after net goal (open_cases net at.cases.chosen) (open_cases net now.cases.chosen) at.leaves now.leaves c.enter_case.new.search (Path walk ∷ []) more.0 (closed goal closes) (more.2 goal),
     ))

@@ -4,8 +4,7 @@ use Rattle.diff_bounds.specs.declared.fit.Fit.TheVariants.{Loop as Looped}
 use Rattle.event_graph.specs.Proof.{Case, ClosesByLoop, Loop}
 use Rattle.branch.specs.Step.Cases.{open_cases, siblings, work_left}
 use Rattle.branch.specs.declared.search.Search.{Search}
-use Rattle.branch.proofs.Entering.{HasClosed, closed_end, closed_next, closed_one, keeps_bounds, keeps_then, loop_reads, steps_here}
-use Rattle.event_graph.proofs.ReadingOn.{reads-append}
+use Rattle.branch.proofs.Entering.{HasClosed, closed_end, closed_next, closed_one, keeps_bounds, keeps_then, loop_reads, short_one, steps_here}
 use Rattle.branch.proofs.Results.{on_err}
 use Rattle.branch.proofs.search.enter_case.Goals as goal
 
@@ -30,11 +29,9 @@ returns-in_err-cut_loop-clause-cut g c =
     on_err c.from_residual.result _ (
       lines.0 ++ Loop walk ∷ [],
       g.met.S.Scribe.cut_after _ _ _ _ _ lines.1 c.in_err-cut_loop.ensures.cut,
-      λ goal. (
-        siblings net chosen,
-        reads-append net goal lines.0 (Loop walk ∷ []) (open_cases net c.args.search.now.cases.chosen) (open_cases net chosen) (siblings net chosen)
-            (lines.2 goal).closes.reads (loop_reads net goal chosen walk closes),
-      ),
+      λ goal.
+          short_one net goal (open_cases net c.args.search.now.cases.chosen) chosen c.args.search.now.leaves c.loop-choice.search.leaves c.enter_choice.new.search lines.0 (Loop walk) (lines.2 goal) tt
+          (loop_reads net goal chosen walk closes) (ap (λ (s : Search). s.leaves) c.enter_choice.ensures.others),
     )
 
 pub returns-in-Some-leave_case-clause-lines : goal.returns-in-Some-leave_case-clause-lines

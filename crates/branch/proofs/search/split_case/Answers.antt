@@ -1,9 +1,10 @@
-use Rattle.std.proofs.Common.{◌≡◌, List, ap, subst, arith}
-use Rattle.event_graph.specs.Proof.{Case, Reads}
+use Rattle.std.proofs.Common.{◌≡◌, [], ap, refl, subst, arith}
+use Rattle.event_graph.specs.Proof.{Case}
 use Rattle.branch.specs.Step.Cases.{Chosen, first_of, open_cases, work_left}
-use Rattle.branch.specs.Step.Searched.{Steps}
+use Rattle.branch.specs.Step.Searched.{Steps, StepsShort}
 use Rattle.branch.proofs.CaseCounts.{free_room, split_falls}
-use Rattle.branch.proofs.Results.{if_ok_then, on_err_then}
+use Rattle.branch.proofs.Entering.{short_none}
+use Rattle.branch.proofs.Results.{if_ok_then, on_err, on_err_then}
 use Rattle.branch.proofs.search.split_case.Goals as goal
 
 pub push-requires-clause-room : goal.push-requires-clause-room
@@ -30,8 +31,14 @@ returns-clause-cut g c =
     (λ more. (
       more.0,
       g.met.S.Scribe.cut_after _ _ _ _ _ c.in_ok-split.ensures.grew more.1,
-      λ goal. subst (λ (chosen : Case). (left : List Case) × Reads net goal (open_cases net chosen) more.0 left) same (more.2 goal),
+      λ goal. subst (λ (chosen : Case). StepsShort net goal (open_cases net chosen) c.args.search.now.leaves c.enter_case.new.search more.0) same (more.2 goal),
     ))
+
+pub returns-in_err-split-clause-cut : goal.returns-in_err-split-clause-cut
+returns-in_err-split-clause-cut g c =
+    let search = c.args.search.now in
+    on_err c.from_residual.result _
+    ([], c.in_err-split.ensures.cut, λ goal. short_none c.args.net.now goal (open_cases c.args.net.now (first_of c.args.number search.cases.chosen)) search.leaves search refl)
 
 pub returns-clause-work : goal.returns-clause-work
 returns-clause-work g c =

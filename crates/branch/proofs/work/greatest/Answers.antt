@@ -1,12 +1,14 @@
-use Rattle.std.proofs.Common.{◌≡◌, ◌≤ℤ◌, ◌∙◌, ℤ, List, All, IsSomeAnd, true, to_z, of_z, w64, sym, ap, subst, rules}
+use Rattle.std.proofs.Common.{◌≡◌, ◌≤ℤ◌, ◌∙◌, ℤ, List, All, IsSomeAnd, true, to_z, of_z, w64, sym, ap, subst, rules, arith}
+use Rattle.std.proofs.lemmas.Int.{ints}
 use Rattle.event_graph.specs.Reading.{AtEachSplit}
 use Rattle.event_graph.specs.Satisfying.{Satisfies}
 use Rattle.event_graph.specs.Times.{separation}
 use Rattle.branch.specs.Needed.{IsNeededToBound}
+use Rattle.branch.specs.Step.Raising.{IsNearSeparation}
 use Rattle.branch.specs.Work.{IsClose, View, known_separation}
 use Rattle.branch.proofs.KnownTimes.{known_has, known_separation_is}
 use Rattle.branch.proofs.RaisingSets.{near_close}
-use Rattle.branch.proofs.Results.{if_ok_then, on_ok_then}
+use Rattle.branch.proofs.Results.{if_ok_then, on_err_then, on_ok_then}
 use Rattle.branch.proofs.Signs.{passed_separation}
 use Rattle.branch.proofs.work.greatest.Given.{Over}
 use Rattle.branch.proofs.work.greatest.Goals as goal
@@ -38,13 +40,31 @@ returns-clause-lines g c =
     let needed : AtEachSplit net (IsNeededToBound net from to (to_z w64 (of_z w64 c.separation_of-known.result))) more.0 = more.3 in
     (more.0, more.1, more.2, subst (λ (v : ℤ). AtEachSplit net (IsNeededToBound net from to v) more.0) (sym (known_is g at)) needed))
 
+pub returns-clause-cut : goal.returns-clause-cut
+returns-clause-cut g c =
+    let at = (goal.at.returns-clause-cut g c).After-separation_of-known in
+    let net = c.args.net.now in
+    let from = c.args.from in
+    let to = c.args.to in
+    on_err_then c.bound_pair.result _ _ c.bound_pair.ensures.cut
+    (λ cut.
+    let needed : AtEachSplit net (IsNeededToBound net from to (to_z w64 (of_z w64 c.separation_of-known.result))) cut.0 = cut.3 in
+    (cut.0, cut.1, cut.2, subst (λ (v : ℤ). AtEachSplit net (IsNeededToBound net from to v) cut.0) (sym (known_is g at)) needed))
+
 pub returns-clause-least : goal.returns-clause-least
 returns-clause-least g c =
     let at = (goal.at.returns-clause-least g c).After-separation_of-known in
     let reached : ℤ = separation c.bound_pair.new.best.times.items c.args.from c.args.to in
     on_ok_then c.bound_pair.result _ _ c.bound_pair.ensures.least (λ least. subst (λ (v : ℤ). v ≤ℤ reached) (sym (known_is g at)) least)
 
--- the search starts from the known times, which are near
+pub returns-clause-reached : goal.returns-clause-reached
+returns-clause-reached g c =
+    let known = c.separation_of-known in
+    let near : IsNearSeparation known.result = known.ensures.near in
+    let passed : to_z w64 (of_z w64 known.result) ≡ known.result = passed_separation known.result near in
+    on_ok_then c.bound_pair.result _ _ c.bound_pair.ensures.least (λ least. omega (arith, ints, near.0, passed, least))
+
+-- the search starts from the known times, which are timely
 pub bound_pair-requires-clause-best : goal.bound_pair-requires-clause-best
 bound_pair-requires-clause-best g c =
     let inside = c.work.inside in

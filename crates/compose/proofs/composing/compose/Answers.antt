@@ -36,9 +36,7 @@ invariant_of-result c =
     let joined = rw (parts, c.deref.ensures.value, c.as_slice.ensures.items, c.nets.ensures.nets) at c.in_ok-joins.ensures in
     let read = rw (parts, c.deref-2.ensures.value, c.as_slice-2.ensures.items, c.wires.ensures.wires) at c.in_ok-wires.ensures in
     let names = rw parts at c.in_ok-parts.ensures in
-    let rules = rw (c.deref-3.ensures.value, c.as_slice-3.ensures.items) at c.in_ok-rules.ensures in
-    let rows = rw (c.deref-4.ensures.value, c.as_slice-4.ensures.items) at c.in_ok-rows.ensures in
-    let made = composed-ok c.args.netlist.now sheets c.in_ok-joins.joins joined c.in_ok-wires.wires c.cycles-cycles.result c.in_ok-parts.parts c.in_ok-rules.rules c.in_ok-rows.rows read c.cycles-cycles.ensures.cycles names rules rows in
+    let made = composed-ok c.args.netlist.now sheets c.in_ok-joins.joins joined c.in_ok-wires.wires c.cycles-cycles.result c.in_ok-parts.parts read c.cycles-cycles.ensures.cycles names in
     let long : length sheets ≡ length c.args.netlist.now.parts = length-map c.in_ok-drawn.drawn.items (λ s. s.now) ∙ c.in_ok-drawn.ensures.count ∙ ap length parts in
     IfOk-at_ok IsDesign made (composed_whole c.args.netlist.now sheets c.cycles-cycles.ensures.netlist c.in_ok-drawn.ensures.whole long)
 
@@ -50,7 +48,5 @@ returns c =
     let joined = rw (parts, c.deref.ensures.value, c.as_slice.ensures.items, c.nets.ensures.nets) at c.in_ok-joins.ensures in
     let read = rw (parts, c.deref-2.ensures.value, c.as_slice-2.ensures.items, c.wires.ensures.wires) at c.in_ok-wires.ensures in
     let names = rw parts at c.in_ok-parts.ensures in
-    let rules = rw (c.deref-3.ensures.value, c.as_slice-3.ensures.items) at c.in_ok-rules.ensures in
-    let rows = rw (c.deref-4.ensures.value, c.as_slice-4.ensures.items) at c.in_ok-rows.ensures in
-    let made = composed-ok c.args.netlist.now sheets c.in_ok-joins.joins joined c.in_ok-wires.wires c.cycles-cycles.result c.in_ok-parts.parts c.in_ok-rules.rules c.in_ok-rows.rows read c.cycles-cycles.ensures.cycles names rules rows in
+    let made = composed-ok c.args.netlist.now sheets c.in_ok-joins.joins joined c.in_ok-wires.wires c.cycles-cycles.result c.in_ok-parts.parts read c.cycles-cycles.ensures.cycles names in
     record { answer = ap (composed_on c.args.netlist.now) (sym drawn) ∙ made }

@@ -2,7 +2,7 @@ use Rattle.std.proofs.Common.{◌∙◌, refl, sym, ap}
 use Rattle.itv_base.specs.Memory.{MemSink, shelf_told, sink_told}
 use Rattle.itv_base.specs.Outside.{Rose}
 use Rattle.itv_cli.specs.Run.{Call, HasWriteFault, call_of}
-use Rattle.itv_cli.specs.Task.{Task, bounds}
+use Rattle.words.specs.Task.{Task, bounds}
 use Rattle.conformance.specs.Clients.{Asks, IsFrontOf}
 use Rattle.conformance.proofs.Faults.{front_over, front_right, sink_cut}
 use Rattle.conformance.proofs.clients.front_of.Goals as goal

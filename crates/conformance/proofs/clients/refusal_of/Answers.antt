@@ -1,15 +1,21 @@
-use Rattle.std.proofs.Common.{◌∙◌, refl, sym, ap}
+use Rattle.std.proofs.Common.{◌≡◌, ◌⊎◌, ℕ, List, ◌∙◌, refl, sym, ap}
 use Rattle.itv_base.specs.Memory.{MemSink, shelf_told, sink_told}
-use Rattle.reading.specs.Refusal.{refusal_text}
-use Rattle.itv_cli.specs.Run.{Call, IsRefused, call_of}
-use Rattle.conformance.proofs.Telling.{refused_so, sink_holds}
+use Rattle.jobs.specs.declared.answer.Answer.TheVariants.{DesignRefused}
+use Rattle.words.specs.Task.{Task}
+use Rattle.itv_cli.specs.Run.{Call, HasRefused, call_of}
+use Rattle.conformance.specs.Clients.{Asks, IsAnswerOf, IsRefusalOf}
+use Rattle.conformance.proofs.Telling.{refused_line, refused_others, refused_over_files, refused_wrote, sink_holds}
 use Rattle.conformance.proofs.clients.refusal_of.Goals as goal
 
 pub returns-in-Refused : goal.returns-in-Refused
 returns-in-Refused c =
     let call : Call = call_of c.args.words.now (shelf_told c.args.shelf.now) (shelf_told c.run.new.shelf) (sink_told c.in_ok-sink.sink) (sink_told c.run.new.sink) in
-    let m : IsRefused call = c.in-Refused.ensures.means in
+    let m : HasRefused call = c.in-Refused.ensures.means in
+    let either : (asked : Task) → Asks c.args.words.now asked
+    → IsRefusalOf c.args.shelf.now.files asked c.in_ok-from_slice-in-Refused.field-0.items ⊎ IsAnswerOf c.args.shelf.now.files asked DesignRefused c.in_ok-from_slice-in-Refused.field-0.items =
+    refused_over_files call c.args.shelf.now.files c.in_ok-from_slice-in-Refused.field-0.items refl m
+    (sink_holds c.in_ok-sink.sink c.run.new.sink (refused_line call m) (refused_wrote call m) (ap (λ (s : MemSink). s.bytes) c.in_ok-sink.ensures.fresh) ∙ (sym c.bytes.ensures.written ∙ sym c.in_ok-from_slice-in-Refused.ensures.items)) in
     record {
-      right = refused_so call c.args.shelf.now.files c.in_ok-from_slice-in-Refused.field-0.items refl m
-          (sink_holds c.in_ok-sink.sink c.run.new.sink (refusal_text m.place m.why) m.wrote (ap (λ (s : MemSink). s.bytes) c.in_ok-sink.ensures.fresh) ∙ (sym c.bytes.ensures.written ∙ sym c.in_ok-from_slice-in-Refused.ensures.items));
+      right = either;
+      others = λ asked asks other. refused_others c.args.shelf.now.files asked c.in_ok-from_slice-in-Refused.field-0.items asks.own other (either asked asks);
     }

@@ -1,6 +1,6 @@
 use Rattle.std.proofs.Common.{◌∙◌, refl, sym, ap}
 use Rattle.itv_base.specs.Memory.{MemSink, shelf_told, sink_told}
-use Rattle.job_answer.specs.declared.answer.Answer.TheVariants.{AllPass}
+use Rattle.jobs.specs.declared.answer.Answer.TheVariants.{AllPass}
 use Rattle.itv_cli.specs.Run.{Call, HasAnswered, call_of}
 use Rattle.conformance.proofs.Telling.{passed, passed_right, sink_holds}
 use Rattle.conformance.proofs.clients.report_of.Goals as goal

@@ -1,6 +1,6 @@
 use Rattle.std.proofs.Common.{◌≡◌, ◌∙◌, ◌<◌, ℤ, SFits, ap, arith, length, of_z, rules, set, to_z, w64}
 use Rattle.std.proofs.lemmas.Int.{to_z-of_z}
-use Rattle.diff_bounds.proofs.Lifting.{all_near, times_more}
+use Rattle.diff_bounds.proofs.Lifting.{all_timely, times_more}
 use Rattle.diff_bounds.proofs.times.write_times.Goals as goal
 
 pub loop-event-preserved : goal.loop-event-preserved
@@ -13,4 +13,4 @@ loop-event-preserved c =
     c.time_in.ensures.range c.loop-event.invariant
 
 pub returns-clause-range : goal.returns-clause-range
-returns-clause-range c = all_near c.loop-event.out c.args.events (c.loop-event.auto.out ∙ c.requires.count) (λ v below. c.loop-event.invariant.range v (omega arith))
+returns-clause-range c = all_timely c.loop-event.out c.args.events (c.loop-event.auto.out ∙ c.requires.count) (λ v below. c.loop-event.invariant.range v (omega arith))

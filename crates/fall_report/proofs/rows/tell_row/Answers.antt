@@ -2,7 +2,7 @@ use Rattle.std.proofs.Common.{◌+◌, ◌||◌, Bool, ap, refl}
 use Rattle.slack_report.specs.declared.words.Which.TheVariants.{Max}
 use Rattle.slack_report.specs.Entry.{row}
 use Rattle.slack_report.specs.Text.{entry_text}
-use Rattle.unroll.specs.Drawn.{name_of}
+use Rattle.drawn.specs.Drawn.{name_of}
 use Rattle.fall_report.specs.Fall.{Telling, at_bound, before_rows}
 use Rattle.fall_report.specs.Step.{asked, behind_row, telling}
 use Rattle.fall_report.proofs.Following.{job_of, spent_in}

@@ -1,4 +1,5 @@
 use Rattle.std.proofs.Common.{◌≡◌, ◌≤◌, Some, slice_get, take}
+use Rattle.event_graph.specs.Limits.{weight_limit}
 use Rattle.event_graph.specs.Network.{Constraint}
 use Rattle.falling.specs.Cap.{widest_of_causes}
 use Rattle.falling.proofs.limits.constraint_width.Given as goal
@@ -7,5 +8,5 @@ use Rattle.falling.proofs.limits.constraint_width.Given as goal
 abbrev pub invariant-loop-cause : goal.invariant-loop-cause
 invariant-loop-cause l = record {
   width : (k : Constraint) → slice_get l.net.constraints l.number ≡ Some k → l.width ≡ widest_of_causes (take l.cause k.causes);
-  most : l.width ≤ 1000000000000;
+  most : l.width ≤ weight_limit;
 }

@@ -1,6 +1,6 @@
 use Rattle.std.proofs.Common.{refl}
 use Rattle.design_gen.specs.Files.{design_files}
-use Rattle.words.specs.Task.{bounds, fall, matrix, check, generated}
+use Rattle.words.specs.Task.{bounds, fall, redraw, matrix, check, generated, whatif}
 use Rattle.itv_cli.proofs.Fetching.{opens_made, opens_shelf}
 use Rattle.itv_cli.proofs.opening.open.Goals as goal
 
@@ -14,6 +14,10 @@ returns-in-Fall-clause-opens g c =
     rw c.in-Fall.is
     (opens_shelf (g.H.Shelf.told c.args.shelf.now) (g.H.Shelf.told c.open_fall.new.shelf) (fall c.in-Fall.design.now c.in-Fall.budget c.in-Fall.cert) c.open_fall.result refl c.open_fall.ensures.opens)
 
+pub returns-in-Redraw-clause-opens : goal.returns-in-Redraw-clause-opens
+returns-in-Redraw-clause-opens g c =
+    rw c.in-Redraw.is (opens_shelf (g.H.Shelf.told c.args.shelf.now) (g.H.Shelf.told c.open_redraw.new.shelf) (redraw c.in-Redraw.design.now c.in-Redraw.budget) c.open_redraw.result refl c.open_redraw.ensures.opens)
+
 pub returns-in-Matrix-clause-opens : goal.returns-in-Matrix-clause-opens
 returns-in-Matrix-clause-opens g c =
     rw c.in-Matrix.is (opens_shelf (g.H.Shelf.told c.args.shelf.now) (g.H.Shelf.told c.open_matrix.new.shelf) (matrix c.in-Matrix.design.now) c.open_matrix.result refl c.open_matrix.ensures.opens)
@@ -26,3 +30,8 @@ returns-in-Check-clause-opens g c =
 pub returns-in-Generated-clause-opens : goal.returns-in-Generated-clause-opens
 returns-in-Generated-clause-opens g c =
     rw c.in-Generated.is (opens_made (g.H.Shelf.told c.args.shelf.now) (design_files c.in-Generated.size) (generated c.in-Generated.size c.in-Generated.budget) c.open_generated.result refl c.open_generated.ensures.opens)
+
+pub returns-in-Whatif-clause-opens : goal.returns-in-Whatif-clause-opens
+returns-in-Whatif-clause-opens g c =
+    rw c.in-Whatif.is
+    (opens_shelf (g.H.Shelf.told c.args.shelf.now) (g.H.Shelf.told c.open_whatif.new.shelf) (whatif c.in-Whatif.design.now c.in-Whatif.edits.now c.in-Whatif.budget) c.open_whatif.result refl c.open_whatif.ensures.opens)

@@ -1,6 +1,6 @@
 use Rattle.std.proofs.Common.{List, ℕ, Ok, refl}
 use Rattle.itv_base.specs.declared.limits.TheConstants.{REPORT_LIMIT}
-use Rattle.unroll.specs.Drawn.{Drawn}
+use Rattle.drawn.specs.Drawn.{Drawn}
 use Rattle.reading.specs.declared.place.Place.TheVariants.{Report}
 use Rattle.reading.specs.Opening.{Opening, gives, ◌>>=◌, file_at}
 use Rattle.reading.proofs.Opens.{opens_then, opens_up}

@@ -1,4 +1,3 @@
-use Rattle.drawn_names.proofs.Designs.{drawn_rows_are_few}
 use Rattle.itv_cli.specs.Job.{fall_at}
 use Rattle.itv_cli.proofs.Steps.{design_up, design_then}
 use Rattle.itv_cli.proofs.opening.open_fall.Goals as goal
@@ -7,11 +6,6 @@ pub returns-in_err-drawn-clause-opens : goal.returns-in_err-drawn-clause-opens
 returns-in_err-drawn-clause-opens g c =
     design_up c.args.design.now (fall_at c.args.budget c.args.cert) (g.H.Shelf.told c.args.shelf.now) (g.H.Shelf.told c.open_design.new.shelf) c.in_err-drawn.field-0.0 c.from_residual.result
     c.from_residual.ensures.1 c.in_err-drawn.ensures.opens
-
-pub for_fall-requires : goal.for_fall-requires
-for_fall-requires g c = record {
-  rows = drawn_rows_are_few (g.H.Shelf.told c.args.shelf.now) c.args.design.now c.in_ok-drawn.drawn c.in_ok-drawn.ensures.opens.0;
-}
 
 pub returns-clause-opens : goal.returns-clause-opens
 returns-clause-opens g c =

@@ -2,7 +2,6 @@ use Rattle.std.proofs.Common.{codes}
 use Rattle.reading.specs.Opening.{gives}
 use Rattle.itv_cli.specs.declared.ready.Ready.TheVariants.{Generated}
 use Rattle.itv_cli.proofs.Steps.{design_up, design_ready}
-use Rattle.drawn_names.proofs.Designs.{drawn_rows_are_few}
 use Rattle.itv_cli.proofs.opening.open_made.Goals as goal
 
 pub returns-in_err-drawn-clause-opens : goal.returns-in_err-drawn-clause-opens
@@ -13,7 +12,3 @@ returns-in_err-drawn-clause-opens g c =
 pub returns-clause-opens : goal.returns-clause-opens
 returns-clause-opens g c =
     design_ready (codes "bus.json") (λ drawn. Generated drawn c.args.size c.args.budget) (g.H.Shelf.told c.args.made.now) (g.H.Shelf.told c.open_design.new.shelf) c.in_ok-drawn.drawn c.in_ok-drawn.ensures.opens
-
-pub returns-clause-allowed : goal.returns-clause-allowed
-returns-clause-allowed g c =
-    (c.requires.budget, drawn_rows_are_few (g.H.Shelf.told c.args.made.now) (codes "bus.json") c.in_ok-drawn.drawn c.in_ok-drawn.ensures.opens.0)

@@ -10,9 +10,9 @@ pub returns-in_err-push_part : goal.returns-in_err-push_part
 returns-in_err-push_part c =
     let p = err_from_is_err_and c.from_residual.result c.from_residual.ensures.1 in
     rw (p.1, p.2, ← c.loop-n.invariant)
-    (walk_fault_map is_memory with_part view c.loop-n.n c.loop-n.n c.loop-n.parts c.args.list.now c.index-list-n.result c.in_err-push_part.field-0.0 c.loop-n-test.true c.index-list-n.is c.in_err-push_part.ensures)
+    (walk_fault_map is_memory (with_part c.args.version) view c.loop-n.n c.loop-n.n c.loop-n.parts c.args.list.now c.index-list-n.result c.in_err-push_part.field-0.0 c.loop-n-test.true c.index-list-n.is c.in_err-push_part.ensures)
 
 pub loop-n-preserved : goal.loop-n-preserved
 loop-n-preserved c =
-    sym (walk_on_map with_part view c.loop-n.n c.loop-n.n c.loop-n.parts c.push_part.new.parts c.args.list.now c.index-list-n.result c.loop-n-test.true c.index-list-n.is c.in_ok-push_part.ensures)
+    sym (walk_on_map (with_part c.args.version) view c.loop-n.n c.loop-n.n c.loop-n.parts c.push_part.new.parts c.args.list.now c.index-list-n.result c.loop-n-test.true c.index-list-n.is c.in_ok-push_part.ensures)
     ∙ c.loop-n.invariant

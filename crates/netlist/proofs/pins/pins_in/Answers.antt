@@ -1,7 +1,8 @@
 use Rattle.std.proofs.Common.{◌∙◌, ap, sym}
 use Rattle.serde_json.specs.View.{view}
 use Rattle.netlist.specs.Netlist.{pin_at}
-use Rattle.netlist.proofs.PinLists.{next_seen, with_rest, rest_none, rest_more}
+use Rattle.json_tree.proofs.ReadLists.{with_rest, rest_none, rest_more}
+use Rattle.netlist.proofs.PinLists.{next_seen}
 use Rattle.netlist.proofs.pins.pins_in.Goals as goal
 
 pub returns-in_default : goal.returns-in_default

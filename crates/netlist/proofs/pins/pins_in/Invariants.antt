@@ -1,7 +1,8 @@
 use Rattle.std.proofs.Common.{◌≡◌, ◌++◌, drop, map}
 use Rattle.std.specs.Prelude.{option_map}
 use Rattle.serde_json.specs.View.{view}
-use Rattle.netlist.specs.Netlist.{all_of, pin_at}
+use Rattle.json_tree.specs.Words.{all_of}
+use Rattle.netlist.specs.Netlist.{pin_at}
 use Rattle.netlist.proofs.pins.pins_in.Given as goal
 
 -- what is read, and what the elements that are left give, are what all of them give

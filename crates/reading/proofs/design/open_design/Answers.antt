@@ -1,6 +1,6 @@
 use Rattle.std.proofs.Common.{◌∙◌, sym}
 use Rattle.serde_json.specs.View.{view}
-use Rattle.unroll.specs.Drawn.{Drawn}
+use Rattle.drawn.specs.Drawn.{Drawn}
 use Rattle.reading.specs.declared.place.Place.TheVariants.{File}
 use Rattle.reading.specs.Design.{tree_drawn, tree_in}
 use Rattle.reading.proofs.Opens.{opens_then, opens_up}

@@ -1,7 +1,7 @@
 use Rattle.std.proofs.lemmas.Result.{err_from_is_err_and}
 use Rattle.itv_base.proofs.Written.{left_after, left_cut}
 use Rattle.line_words.proofs.Printing.{spaced_by}
-use Rattle.reading.specs.Word.{spelled}
+use Rattle.reading.specs.Step.Word.{spelled}
 use Rattle.reading.proofs.put.put_words.Goals as goal
 
 pub returns-in_err-put_word : goal.returns-in_err-put_word

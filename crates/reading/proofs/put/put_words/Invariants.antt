@@ -2,7 +2,7 @@ use Rattle.std.proofs.Common.{map, drop}
 use Rattle.std.specs.List.{flat_map}
 use Rattle.itv_base.proofs.Written.{Left}
 use Rattle.line_words.specs.Lines.{spaced}
-use Rattle.reading.specs.Word.{spelled}
+use Rattle.reading.specs.Step.Word.{spelled}
 use Rattle.reading.proofs.put.put_words.Given as goal
 
 abbrev pub invariant-loop-word : goal.invariant-loop-word

@@ -1,12 +1,10 @@
-use Rattle.std.proofs.Common.{◌+◌, [], take, drop}
-use Rattle.reading.specs.Design.{sheets_from}
+use Rattle.std.proofs.Common.{◌+◌, [], drop}
+use Rattle.reading.specs.Design.{sheets_in, sheets_of_files}
+use Rattle.reading.specs.Opening.{each}
 use Rattle.reading.proofs.Opens.{Resumes}
-use Rattle.reading.proofs.Named.{AreThere}
 use Rattle.reading.proofs.sheets.open_sheets.Given as goal
 
--- the names that are left lead on to the sheets of all, and each name before them has its sheet
+-- the names that are left lead on to the sheets of all
 abbrev pub invariant-loop-k : goal.invariant-loop-k
-invariant-loop-k g l = record {
-  resumes : Resumes (g.H.Shelf.told l.fn.shelf) (g.H.Shelf.told l.shelf) (sheets_from 1 [] l.names) (sheets_from (l.k + 1) l.sheets.entries (drop l.k l.names));
-  there : AreThere l.sheets (take l.k l.names);
-}
+invariant-loop-k g l =
+    Resumes (g.H.Shelf.told l.fn.shelf) (g.H.Shelf.told l.shelf) (sheets_of_files l.netlist l.names) (each (sheets_in l.netlist) (l.k + 1) l.sheets.entries (drop l.k l.names))

@@ -1,5 +1,4 @@
 use Rattle.std.proofs.Common.{◌≡◌, ◌↔◌, IsTrue, subst, ◌∙◌}
-use Rattle.unroll.specs.Reported.{row_told}
 use Rattle.branch.specs.declared.answer.Root.{Root}
 use Rattle.branch.specs.declared.answer.Root.TheVariants as roots
 use Rattle.report_check.proofs.Rooting.{limit_greatest, limit_least}
@@ -10,9 +9,9 @@ pub returns-clause-limit : goal.returns-clause-limit
 returns-clause-limit c =
     elim c.match-side.branch [
       | in-Greatest w ↦
-          limit_greatest c.args.net.now (row_told c.args.row.now) c.args.side w.root_bound-root.result c.args.limit c.is_root.result w.in-Greatest.is w.root_bound-root.ensures.root
+          limit_greatest c.args.net.now c.args.row.now c.args.side w.root_bound-root.result c.args.limit c.is_root.result w.in-Greatest.is w.root_bound-root.ensures.root
           (subst (λ (r : Root). IsTrue c.is_root.result ↔ (r ≡ roots.Bound c.args.limit)) w.root-is c.is_root.ensures.root)
       | in-LeastBy w ↦
-          limit_least c.args.net.now (row_told c.args.row.now) c.args.side w.in-LeastBy.field-0 w.root_bound.result c.args.limit c.is_root.result w.in-LeastBy.is w.root_bound.ensures.root
+          limit_least c.args.net.now c.args.row.now c.args.side w.in-LeastBy.field-0 w.root_bound.result c.args.limit c.is_root.result w.in-LeastBy.is w.root_bound.ensures.root
           (subst (λ (r : Root). IsTrue c.is_root.result ↔ (r ≡ roots.Bound c.args.limit)) (w.root-is ∙ w.reversed_root-root.ensures.root) c.is_root.ensures.root)
     ]

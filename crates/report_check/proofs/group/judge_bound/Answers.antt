@@ -1,13 +1,12 @@
 use Rattle.std.proofs.Common.{ap}
 use Rattle.slack_report.specs.Items.{item_view}
-use Rattle.unroll.specs.Reported.{reported}
 use Rattle.report_check.specs.Step.Stages.{side_told, telling_of}
 use Rattle.report_check.proofs.Judging.{bound_some}
 use Rattle.report_check.proofs.group.judge_bound.Goals as goal
 
 pub returns-in-Bound-clause-decides : goal.returns-in-Bound-clause-decides
 returns-in-Bound-clause-decides c lines told =
-    bound_some (reported c.args.drawn.now) c.network.result.now (telling_of (reported c.args.drawn.now) c.args.told.now) (side_told c.args.side) lines (item_view c.args.item.now) c.in-Bound.which
+    bound_some c.args.drawn.now c.network.result.now (telling_of c.args.drawn.now c.args.told.now) (side_told c.args.side) lines (item_view c.args.item.now) c.in-Bound.which
     c.in-Bound.bound c.args.whole c.proves_bound.result c.network.ensures.network (ap item_view c.in-Bound.is) (c.proves_bound.ensures.proves lines) told c.behind_bound.result (c.is_which.ensures.which.0 c.if-is_which.true) c.if-proves_bound.true
-    (c.behind_bound.ensures.stage (reported c.args.drawn.now))
-    (c.behind_bound.ensures.fits (reported c.args.drawn.now) c.requires.telling c.requires.side (c.proves_bound.ensures.times c.if-proves_bound.true))
+    (c.behind_bound.ensures.stage c.args.drawn.now)
+    (c.behind_bound.ensures.fits c.args.drawn.now c.requires.telling c.requires.side (c.proves_bound.ensures.times c.if-proves_bound.true))

@@ -1,6 +1,6 @@
 use Rattle.std.proofs.Common.{◌∙◌, sym, refl}
 use Rattle.sheet.proofs.GroupTable.{adds-first, adds-cause}
-use Rattle.sheet.specs.Steps.{link_view}
+use Rattle.sheet.specs.Step.{link_view}
 use Rattle.sheet.proofs.groups.join_group.Goals as goal
 
 pub returns-in-Some : goal.returns-in-Some

@@ -1,5 +1,5 @@
 use Rattle.sheet.proofs.GroupTable.{adds-linear, adds-row}
-use Rattle.sheet.specs.Steps.{link_view}
+use Rattle.sheet.specs.Step.{link_view}
 use Rattle.sheet.proofs.groups.push_link.Goals as goal
 
 pub returns-in_ok-push_rule-in-Lin : goal.returns-in_ok-push_rule-in-Lin

@@ -1,6 +1,6 @@
 use Rattle.std.proofs.Common.{◌≡◌, drop}
 use Rattle.sheet.specs.Lanes.{lane_marks}
-use Rattle.sheet.specs.Steps.{AreMarks, with_marks}
+use Rattle.sheet.specs.Step.{AreMarks, with_marks}
 use Rattle.sheet.proofs.LaneLists.{marks_left}
 use Rattle.sheet.proofs.lanes.push_marks.Given as goal
 

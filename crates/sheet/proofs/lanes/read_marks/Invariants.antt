@@ -2,7 +2,7 @@ use Rattle.std.proofs.Common.{◌≡◌, ◌+◌, ◌≤◌, [], ◌++◌, All, 
 use Rattle.std.specs.List.{flat_map, enumerate_from}
 use Rattle.sheet.specs.declared.mark.TheConstants.{MAX_MARKS}
 use Rattle.sheet.specs.Lanes.{lane_marks, marks_of, numbered_from}
-use Rattle.sheet.specs.Steps.{AreMarks, with_marks, span_of, spans_of}
+use Rattle.sheet.specs.Step.{AreMarks, with_marks, span_of, spans_of}
 use Rattle.sheet.proofs.lanes.read_marks.Given as goal
 
 abbrev pub invariant-loop-k : goal.invariant-loop-k

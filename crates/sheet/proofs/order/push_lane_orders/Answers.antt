@@ -10,4 +10,4 @@ pub loop-k-preserved : goal.loop-k-preserved
 loop-k-preserved c =
     let at = numbered-read c.args.lanes.now c.loop-k.k c.get.result.now c.args.spans.now _ c.get.ensures.lane c.requires.spans in
     let now = rw at at c.loop-k.invariant in
-    rw (c.in_ok-push_lane_order.ensures c.loop-k.k, append_assoc) now
+    rw (c.in_ok-push_lane_order.ensures, append_assoc) now

@@ -2,7 +2,7 @@ use Rattle.std.proofs.Common.{◌≡◌, drop}
 use Rattle.std.specs.Prelude.{filter_map}
 use Rattle.sheet.specs.Lanes.{numbered, pin_of}
 use Rattle.sheet.specs.Sheet.{read_pins}
-use Rattle.sheet.specs.Steps.{with_pins}
+use Rattle.sheet.specs.Step.{with_pins}
 use Rattle.sheet.proofs.pins.read_pins.Given as goal
 
 abbrev pub invariant-loop-k : goal.invariant-loop-k

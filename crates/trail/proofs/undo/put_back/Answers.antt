@@ -1,6 +1,6 @@
 use Rattle.std.proofs.Common.{◌<◌, ◌∷◌, [], length, Some, sym, ap, ◌∙◌, arith, length-set}
 use Rattle.std.proofs.lemmas.List.Elements.{All-pop}
-use Rattle.trail.specs.Undo.{slots_before}
+use Rattle.trail.specs.Step.Undo.{slots_before}
 use Rattle.trail.proofs.SlotsBefore.{slots_before-append}
 use Rattle.trail.proofs.undo.put_back.Goals as goal
 

@@ -1,5 +1,5 @@
 use Rattle.std.proofs.Common.{◌≡◌, ◌<◌, All, length}
-use Rattle.trail.specs.Undo.{slots_before}
+use Rattle.trail.specs.Step.Undo.{slots_before}
 use Rattle.trail.proofs.undo.put_back.Given as goal
 
 -- what is left to put back leads to where the whole would have led

@@ -1,5 +1,6 @@
-use Rattle.std.proofs.Common.{◌≡◌, ◌∙◌, arith}
+use Rattle.std.proofs.Common.{◌≡◌, ◌∙◌, ap, sym, arith}
 use Rattle.unroll.specs.Cycle.{rows_of, rules_of}
+use Rattle.unroll.specs.Cycles.{origins_of}
 use Rattle.unroll.specs.Step.Kept.{kept_rows, kept_rules}
 use Rattle.unroll.proofs.BetweenLists.{kept_rows_between, kept_rules_between}
 use Rattle.unroll.proofs.DrawnSteps.{kept_room, made_by, made_is, made_kept}
@@ -20,24 +21,28 @@ network_of-requires-clause-room c =
 pub rows_in-requires-clause-between : goal.rows_in-requires-clause-between
 rows_in-requires-clause-between c =
     let d = c.args.design.now in
-    rw (c.deref-2.ensures.value, c.in_ok-asked.ensures, c.in_ok-numbered.ensures, c.requires.marks) (kept_rows_between d c.cycles-cycles.ensures.design)
+    rw (c.deref-3.ensures.value, c.in_ok-asked.ensures, c.in_ok-numbered.ensures, c.requires.marks) (kept_rows_between d c.cycles-cycles.ensures.design)
 
-pub invariant_of-result : goal.invariant_of-result
-invariant_of-result c =
+pub of-requires : goal.of-requires
+of-requires c =
     let d = c.args.design.now in
     let rules : c.deref.result.now ≡ kept_rules d.cycles (rules_of d) = c.deref.ensures.value ∙ (rw c.in_ok-numbered.ensures at c.in_ok-rules.ensures) in
-    let asked : c.deref-2.result.now ≡ kept_rows d.cycles (rows_of d) = c.deref-2.ensures.value ∙ (rw c.in_ok-numbered.ensures at c.in_ok-asked.ensures) in
-    let parts : c.in_ok-copied.field-0 ≡ d.parts = c.in_ok-copied.ensures ∙ c.parts.ensures.parts in
-    let made = made_by d c.args.marks c.cycles-cycles.result c.deref.result.now c.deref-2.result.now c.in_ok-network_of.field-0 c.in_ok-copied.field-0 c.in_ok-labels_of.field-0.items c.in_ok-rows_in.field-0
-    c.requires.marks c.cycles-cycles.ensures.cycles rules asked c.in_ok-network_of.ensures parts c.in_ok-labels_of.ensures c.in_ok-rows_in.ensures in
-    made_kept d c.in_ok-network_of.field-0 c.in_ok-copied.field-0 c.in_ok-labels_of.field-0.items c.in_ok-rows_in.field-0 c.cycles-cycles.ensures.design made
+    let asked : c.deref-3.result.now ≡ kept_rows d.cycles (rows_of d) = c.deref-3.ensures.value ∙ (rw c.in_ok-numbered.ensures at c.in_ok-asked.ensures) in
+    let parts : c.in_ok-parts.parts ≡ d.parts = c.in_ok-parts.ensures ∙ c.parts.ensures.parts in
+    let drew : c.in_ok-origins.origins ≡ origins_of c.deref.result.now c.cycles-cycles.result =
+    c.in_ok-origins.ensures ∙ ap (λ rules. origins_of rules c.cycles-cycles.result) (c.deref-2.ensures.value ∙ sym c.deref.ensures.value) in
+    let made = made_by d c.args.marks c.cycles-cycles.result c.deref.result.now c.deref-3.result.now c.in_ok-network.network c.in_ok-origins.origins c.in_ok-parts.parts c.in_ok-labels.labels.items c.in_ok-rows.rows
+    c.requires.marks c.cycles-cycles.ensures.cycles rules asked c.in_ok-network.ensures drew parts c.in_ok-labels.ensures c.in_ok-rows.ensures in
+    made_kept d c.in_ok-network.network c.in_ok-origins.origins c.in_ok-parts.parts c.in_ok-labels.labels.items c.in_ok-rows.rows c.cycles-cycles.ensures.design c.requires.rows made
 
 pub returns : goal.returns
 returns c =
     let d = c.args.design.now in
     let rules : c.deref.result.now ≡ kept_rules d.cycles (rules_of d) = c.deref.ensures.value ∙ (rw c.in_ok-numbered.ensures at c.in_ok-rules.ensures) in
-    let asked : c.deref-2.result.now ≡ kept_rows d.cycles (rows_of d) = c.deref-2.ensures.value ∙ (rw c.in_ok-numbered.ensures at c.in_ok-asked.ensures) in
-    let parts : c.in_ok-copied.field-0 ≡ d.parts = c.in_ok-copied.ensures ∙ c.parts.ensures.parts in
-    let made = made_by d c.args.marks c.cycles-cycles.result c.deref.result.now c.deref-2.result.now c.in_ok-network_of.field-0 c.in_ok-copied.field-0 c.in_ok-labels_of.field-0.items c.in_ok-rows_in.field-0
-    c.requires.marks c.cycles-cycles.ensures.cycles rules asked c.in_ok-network_of.ensures parts c.in_ok-labels_of.ensures c.in_ok-rows_in.ensures in
-    made_is d c.in_ok-network_of.field-0 c.in_ok-copied.field-0 c.in_ok-labels_of.field-0.items c.in_ok-rows_in.field-0 c.cycles-cycles.ensures.design made
+    let asked : c.deref-3.result.now ≡ kept_rows d.cycles (rows_of d) = c.deref-3.ensures.value ∙ (rw c.in_ok-numbered.ensures at c.in_ok-asked.ensures) in
+    let parts : c.in_ok-parts.parts ≡ d.parts = c.in_ok-parts.ensures ∙ c.parts.ensures.parts in
+    let drew : c.in_ok-origins.origins ≡ origins_of c.deref.result.now c.cycles-cycles.result =
+    c.in_ok-origins.ensures ∙ ap (λ rules. origins_of rules c.cycles-cycles.result) (c.deref-2.ensures.value ∙ sym c.deref.ensures.value) in
+    let made = made_by d c.args.marks c.cycles-cycles.result c.deref.result.now c.deref-3.result.now c.in_ok-network.network c.in_ok-origins.origins c.in_ok-parts.parts c.in_ok-labels.labels.items c.in_ok-rows.rows
+    c.requires.marks c.cycles-cycles.ensures.cycles rules asked c.in_ok-network.ensures drew parts c.in_ok-labels.ensures c.in_ok-rows.ensures in
+    c.of.ensures.drawn ∙ made_is d c.in_ok-network.network c.in_ok-origins.origins c.in_ok-parts.parts c.in_ok-labels.labels.items c.in_ok-rows.rows c.cycles-cycles.ensures.design made

@@ -1,6 +1,6 @@
 use Rattle.std.proofs.Common.{◌∙◌, Some, ap, Ok, sym, arith}
 use Rattle.unroll.proofs.BetweenLists.{few_marks}
-use Rattle.unroll.proofs.DrawnSteps.{drawn_past, drawn_within, few_constraints, passed_of}
+use Rattle.unroll.proofs.DrawnSteps.{drawn_past, drawn_within, few_constraints, few_rows, passed_of}
 use Rattle.unroll.proofs.draw.unroll.Goals as goal
 
 pub first_passed-requires-clause-marks : goal.first_passed-requires-clause-marks
@@ -18,6 +18,12 @@ draw-requires-clause-constraints c =
     let d = c.args.design.now in
     let none = passed_of d c.cycles.result c.of-counts.result c.first_passed.result c.cycles.ensures.cycles c.of-counts.ensures.counts c.first_passed.ensures in
     few_constraints d (sym c.in_default.is ∙ none)
+
+pub draw-requires-clause-rows : goal.draw-requires-clause-rows
+draw-requires-clause-rows c =
+    let d = c.args.design.now in
+    let none = passed_of d c.cycles.result c.of-counts.result c.first_passed.result c.cycles.ensures.cycles c.of-counts.ensures.counts c.first_passed.ensures in
+    few_rows d (sym c.in_default.is ∙ none)
 
 pub returns : goal.returns
 returns c =

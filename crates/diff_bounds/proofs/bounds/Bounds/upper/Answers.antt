@@ -1,6 +1,6 @@
 use Rattle.std.proofs.Common.{◌≡◌, ◌∙◌, ℕ, ℤ, Option, IfSome, ap, subst, sym, zero-add}
 use Rattle.diff_bounds.specs.Labels.{stamp_at}
-use Rattle.diff_bounds.specs.Limits.{IsReach}
+use Rattle.event_graph.specs.Limits.{IsReach}
 use Rattle.diff_bounds.specs.Standing.{Standing, upper_of}
 use Rattle.diff_bounds.proofs.Standings.{stands_reach, upper_greatest}
 use Rattle.diff_bounds.proofs.bounds.Bounds.upper.Goals as goal

@@ -3,7 +3,7 @@ use Rattle.std.specs.Vec.{with_item}
 use Rattle.trail.specs.declared.trail.Trail.TheInside.{Inside}
 use Rattle.trail.specs.declared.undo.Slot.{Slot}
 use Rattle.trail.specs.Stack.{Stack, with_stamp}
-use Rattle.trail.specs.Inside.{stack_in, IsSound}
+use Rattle.trail.specs.Step.Inside.{stack_in, IsSound}
 use Rattle.trail.proofs.Steps.{slot_in, depth_in, IsSound-slot, stack_in-slot, IsSound-saved, stack_in-saved, room-saved_slot}
 use Rattle.trail.proofs.trail.Trail.set_label.Goals as goal
 use Rattle.trail.proofs.trail.Trail.set_label.Goals.{then-was-level, else-was-level}

@@ -1,0 +1,32 @@
+-- Chains: edges that lead from one event to another, each met with equality by some times.
+use Rattle.std.specs.Prelude.{◌≡◌, ◌<ℤ◌, ◌≤ℤ◌, ℕ, ℤ, List, All, IsSomeAnd}
+use Rattle.itv_base.specs.declared.names.EdgeName.{EdgeName}
+use Rattle.itv_base.specs.declared.names.EventId.{EventId}
+use Rattle.event_graph.specs.Edges.{edge}
+use Rattle.event_graph.specs.Network.{Net}
+use Rattle.event_graph.specs.Proof.{IsWalk}
+use Rattle.event_graph.specs.Satisfying.{Satisfies}
+use Rattle.event_graph.specs.Times.{separation}
+
+-- the named edge is there, and the times meet it with equality
+abbrev pub IsTight : Net → List ℤ → EdgeName → Type 0
+IsTight net times name = IsSomeAnd (edge net name) (λ e. separation times e.from e.to ≡ e.weight)
+
+-- the named edges lead one after another from an event to an event, and the times meet each of them with equality
+pub record IsChain (net : Net) (times : List ℤ) (from to : EventId) (names : List EdgeName) : Type 0 where
+  pub walk : IsWalk net from names to
+  pub tight : All (IsTight net times) names
+
+-- other times that satisfy the network have a greater separation of the pair
+abbrev pub IsExceeded : Net → List ℤ → EventId → EventId → Type 0
+IsExceeded net times from to = (others : List ℤ) × Satisfies others net × (separation times from to <ℤ separation others from to)
+
+-- the times satisfy the network, and no others that do have a greater separation of the pair
+pub record AreBest (net : Net) (times : List ℤ) (from to : EventId) : Type 0 where
+  pub satisfies : Satisfies times net
+  pub most : (others : List ℤ) → Satisfies others net → separation others from to ≤ℤ separation times from to
+
+-- the number of events of the networks that a memory is for, and the chain that was found last
+pub record Found : Type 0 where
+  pub events : ℕ
+  pub names : List EdgeName

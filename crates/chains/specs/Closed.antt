@@ -1,0 +1,19 @@
+-- Sets of events that no edge enters which the times meet with equality.
+use Rattle.std.specs.Prelude.{false, ℤ, Bool, IsTrue, List, IfSome, slice_index_or}
+use Rattle.itv_base.specs.declared.names.EdgeName.{EdgeName}
+use Rattle.itv_base.specs.declared.names.EventId.{EventId}
+use Rattle.event_graph.specs.Edges.{edge}
+use Rattle.event_graph.specs.Network.{Net}
+use Rattle.chains.specs.Chain.{IsTight}
+
+-- the event is in the set, which has a flag for each
+abbrev pub Has : List Bool → EventId → Type 0
+Has set event = IsTrue (slice_index_or set event.0 false)
+
+-- the named edge does not lead into the set from outside, or the times do not meet it with equality
+abbrev pub IsClosedAt : Net → List ℤ → List Bool → EdgeName → Type 0
+IsClosedAt net times set name = IsTight net times name → IfSome (edge net name) (λ e. Has set e.to → Has set e.from)
+
+-- no edge that the times meet with equality leads into the set from outside
+abbrev pub IsClosed : Net → List ℤ → List Bool → Type 0
+IsClosed net times set = (name : EdgeName) → IsClosedAt net times set name

@@ -1,0 +1,7 @@
+pub mod Chain
+pub mod Closed
+pub mod Named
+pub mod Only
+pub mod Laws
+pub mod MarkingLaws
+pub mod Step

@@ -1,0 +1,2 @@
+-- Words of contracts within this crate.
+pub mod Spreading

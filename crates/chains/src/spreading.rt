@@ -1,0 +1,133 @@
+//! How events are reached, backwards along the edges that times meet with equality.
+
+ghost use Rattle.std.specs.Prelude.{◌≡◌, ◌<◌, ◌-ℤ◌, ℕ, false, All, IfNone, IfSome, IsTrue, length};
+ghost use Rattle.itv_base.specs.declared.names.EdgeName.{EdgeName as NameOfEdge};
+ghost use Rattle.itv_base.specs.declared.names.EventId.{EventId as EventIdOf};
+ghost use Rattle.event_graph.specs.Network.{IsNet};
+ghost use Rattle.event_graph.specs.Times.{IsTime, separation};
+ghost use Rattle.chains.specs.Chain.{IsTight};
+ghost use Rattle.chains.specs.Closed.{Has, IsClosed};
+ghost use Rattle.chains.specs.Step.Spreading.{IsSpread, IsTightEdge, LooksAt};
+
+use crate::spread::Spread;
+use event_graph::{Edge, Network};
+use itv_base::{EdgeName, EventId, Side};
+
+/// Reaches events backwards until one is reached, or all that can be are. The answer is whether that one was reached.
+pub fn spread_back(net: &Network, times: &[i64], from: EventId, spread: &mut Spread) -> bool
+    requires net { IsNet net.now }
+    requires count { length times.now ≡ net.now.events }
+    requires times { All IsTime times.now }
+    requires from { from.0 < net.now.events }
+    requires events { length spread.old.reached ≡ net.now.events }
+    ensures events { length spread.new.reached ≡ length spread.old.reached }
+    ensures spreads { (to : EventIdOf) → IsSpread net.now times.now to spread.old
+        → IsSpread net.now times.now to spread.new }
+    ensures reached { IsTrue result → Has spread.new.reached from }
+    ensures unreached { result ≡ false → Has spread.new.reached from → ⊥ }
+    ensures closed { result ≡ false → IsClosed net.now times.now spread.new.reached }
+{
+    while !spread.has(from) {
+        let count = spread.len();
+        sweep(net, times, spread);
+        if spread.len() == count {
+            return false;
+        }
+    }
+    true
+}
+
+// Looks at all edges, from the first constraint to the last and back: edges that lead through the constraints in either order are
+// found in one sweep.
+fn sweep(net: &Network, times: &[i64], spread: &mut Spread)
+    requires net { IsNet net.now }
+    requires count { length times.now ≡ net.now.events }
+    requires times { All IsTime times.now }
+    requires events { length spread.old.reached ≡ net.now.events }
+    ensures { LooksAt net.now times.now (λ name. Unit {0}) spread.old spread.new }
+{
+    for number in 0..net.len() {
+        look_along(net, times, number, spread);
+    }
+    for number in (0..net.len()).rev() {
+        look_along(net, times, number, spread);
+    }
+}
+
+// Looks at the edges of a constraint.
+fn look_along(net: &Network, times: &[i64], number: u32, spread: &mut Spread)
+    requires net { IsNet net.now }
+    requires number { number < length net.now.constraints }
+    requires count { length times.now ≡ net.now.events }
+    requires times { All IsTime times.now }
+    requires events { length spread.old.reached ≡ net.now.events }
+    ensures { LooksAt net.now times.now (λ (name : NameOfEdge). name.constraint ≡ number) spread.old spread.new }
+{
+    // A linear constraint names no cause, and has its from-event as cause 0.
+    for cause in 0..net.cause_count(number).max(1) {
+        let lower = EdgeName {
+            constraint: number,
+            cause,
+            side: Side::Lower,
+        };
+        look(net, times, lower, spread);
+        let upper = EdgeName {
+            constraint: number,
+            cause,
+            side: Side::Upper,
+        };
+        look(net, times, upper, spread);
+    }
+}
+
+// Looks at an edge: if the times meet it with equality, and it leads from an event that was not reached to one that was, the first one
+// is reached too.
+fn look(net: &Network, times: &[i64], name: EdgeName, spread: &mut Spread)
+    requires count { length times.now ≡ net.now.events }
+    requires times { All IsTime times.now }
+    requires events { length spread.old.reached ≡ net.now.events }
+    ensures { LooksAt net.now times.now (λ other. other ≡ name) spread.old spread.new }
+{
+    if let Some(edge) = tight_edge(net, times, name)
+        && spread.has(edge.to)
+        && !spread.has(edge.from)
+    {
+        spread.reach(edge.from, name);
+    }
+}
+
+// The edge of a name, if it is there and the times meet it with equality.
+fn tight_edge(net: &Network, times: &[i64], name: EdgeName) -> Option<Edge>
+    requires count { length times.now ≡ net.now.events }
+    requires times { All IsTime times.now }
+    ensures edge { IfSome result (IsTightEdge net.now times.now name) }
+    ensures from { IfSome result (λ e. e.from.0 < net.now.events) }
+    ensures to { IfSome result (λ e. e.to.0 < net.now.events) }
+    ensures none { IfNone result (IsTight net.now times.now name → ⊥) }
+{
+    let edge = net.edge(name)?;
+    if separation(times, edge.from, edge.to) == edge.weight {
+        Some(edge)
+    } else {
+        None
+    }
+}
+
+// How much later the second event comes than the first, in picoseconds.
+fn separation(times: &[i64], from: EventId, to: EventId) -> i64
+    requires from { from.0 < length times.now }
+    requires to { to.0 < length times.now }
+    requires times { All IsTime times.now }
+    ensures { result ≡ separation times.now from to }
+{
+    difference(times[to.0 as usize], times[from.0 as usize])
+}
+
+// A time less another.
+fn difference(time: i64, earlier: i64) -> i64
+    requires time { IsTime time }
+    requires earlier { IsTime earlier }
+    ensures { result ≡ time -ℤ earlier }
+{
+    time - earlier
+}

@@ -1,0 +1,14 @@
+pub mod Anys
+pub mod NegatedNet
+pub mod Between
+pub mod Literals
+pub mod Ways
+pub mod Holding
+pub mod Covering
+pub mod Proving
+pub mod Shapes
+pub mod Walking
+pub mod Checked
+pub mod Faults
+pub mod Judging
+pub mod Deciding

@@ -1,0 +1,202 @@
+-- Proofs line by line: values that fall from a source, and clauses that are kept.
+use Rattle.std.specs.Prelude.{◌≡◌, ◌==◌, ◌⊎◌, ◌+◌, ◌^◌, ℕ, ℤ, pos, neg_ℤ, ◌+ℤ◌, ◌≤ℤ◌, ◌<ℤ◌, if◌then◌else◌, int_le, List, [], ◌∷◌, ◌++◌, map, set, All, Any, Contains, Option, Some, None, IsSome, IsSomeAnd, slice_get}
+use Rattle.itv_base.specs.declared.names.EventId.{EventId}
+use Rattle.event_graph.specs.Network.{Net}
+use Rattle.event_graph.specs.Times.{time_of}
+use Rattle.falling.specs.Cap.{cap}
+use Rattle.falling.specs.Derivation.{starting_values}
+use Rattle.clauses.specs.declared.basis.Basis.{Basis}
+use Rattle.clauses.specs.declared.basis.Step.{Step}
+use Rattle.clauses.specs.declared.literal.Literal.{Literal}
+use Rattle.clauses.specs.declared.way.Way.{Way}
+use Rattle.clauses.specs.Clauses.{Clause, IsClause, literal_edge, opposite}
+
+-- what is to be shown: that no satisfying separation of the pair exceeds the claim
+pub record Goal : Type 0 where
+  pub from : EventId
+  pub to : EventId
+  pub claim : ℤ
+
+-- a line: an event falls to a value, a literal is known, a loop is kept as a clause, a block opens with literals assumed, in place of one that is
+-- open, and it closes
+pub data ClauseLine : Type 0 where
+  Fall : EventId → ℤ → Basis → ClauseLine
+  Know : Literal → Basis → ClauseLine
+  Loop : EventId → List Step → ClauseLine
+  Assume : List Literal → ClauseLine
+  Close : ClauseLine
+
+-- the values, none of which is below its event's time, and the literals that are known to hold
+pub record Frame : Type 0 where
+  pub values : List ℤ
+  pub known : List Literal
+
+-- the literals that a block assumes, and what follows
+pub record Block : Type 0 where
+  pub assumed : List Literal
+  pub frame : Frame
+
+-- what holds outside of blocks, the clauses that were kept, and the block that is open
+pub record State : Type 0 where
+  pub frame : Frame
+  pub kept : List Clause
+  pub block : Option Block
+
+-- the state before the first line
+abbrev pub starting : Net → EventId → State
+starting net from = record { frame = record { values = starting_values net from; known = [] }; kept = []; block = None }
+
+-- the frame that lines speak of: that of the block, if one is open
+abbrev pub frame_in : Frame → Option Block → Frame
+frame_in frame None = frame
+frame_in frame (Some block) = block.frame
+
+abbrev pub frame_of : State → Frame
+frame_of state = frame_in state.frame state.block
+
+-- the state with another frame there
+abbrev pub with_frame_in : State → Option Block → Frame → State
+with_frame_in state None frame = record { frame = frame; kept = state.kept; block = None }
+with_frame_in state (Some block) frame = record { frame = state.frame; kept = state.kept; block = Some (record { assumed = block.assumed; frame = frame }) }
+
+abbrev pub with_frame : State → Frame → State
+with_frame state frame = with_frame_in state state.block frame
+
+-- the literal is known not to hold
+abbrev pub IsRefused : Frame → Literal → Type 0
+IsRefused frame l = Contains frame.known (opposite l)
+
+-- the least value that a line may give
+abbrev pub lowest : Net → ℤ
+lowest net = neg_ℤ (pos (cap net + 1))
+
+-- a clause none of whose literals can hold gives its target a value, which lies below the one it has
+pub record Falls (net : Net) (frame : Frame) (event : EventId) (value : ℤ) (c : Clause) : Type 0 where
+  pub target : c.target ≡ event
+  pub refused : All (IsRefused frame) c.literals
+  pub ways : All (λ (way : Way). (time_of frame.values way.from +ℤ way.weight) ≤ℤ value) c.ways
+  pub least : lowest net ≤ℤ value
+  pub lower : value <ℤ time_of frame.values event
+
+-- a clause without ways, of whose literals only this one can hold
+pub record Forces (frame : Frame) (l : Literal) (c : Clause) : Type 0 where
+  pub among : Contains c.literals l
+  pub others : All (λ (other : Literal). (other ≡ l) ⊎ IsRefused frame other) c.literals
+  pub none : c.ways ≡ []
+  pub unknown : Contains frame.known l → ⊥
+
+-- ---- loops
+
+-- where a walk back from an event is: some literal holds, or the event comes within the sum of where the walk is, or within one of the ways
+pub record Walk : Type 0 where
+  pub literals : List Literal
+  pub at : EventId
+  pub sum : ℤ
+  pub ways : List Way
+
+-- the wider of two ways
+abbrev pub wider : Way → Way → Way
+wider way other = if int_le way.weight other.weight then other else way
+
+-- a way beside others, of which there is one for each event: the wider
+abbrev pub with_way : Way → List Way → List Way
+with_way way [] = way ∷ []
+with_way way (other ∷ ways) =
+    if way.from.0 == other.from.0 then wider way other ∷ ways else other ∷ with_way way ways
+
+-- the way that leads on by a sum
+abbrev pub way_after : ℤ → Way → Way
+way_after sum way = record { from = way.from; weight = sum +ℤ way.weight }
+
+-- ways beside others, led on by a sum, but for the one that is gone through
+abbrev pub with_others : ℤ → ℕ → ℕ → List Way → List Way → List Way
+with_others sum number through [] ways = ways
+with_others sum number through (way ∷ more) ways =
+    with_others sum (number + 1) through more (if number == through then ways else with_way (way_after sum way) ways)
+
+-- the walk after a step by a clause through one of its ways
+abbrev pub stepped : Walk → Clause → ℕ → Way → Walk
+stepped walk c through way =
+    record { literals = walk.literals ++ c.literals; at = way.from; sum = walk.sum +ℤ way.weight; ways = with_others walk.sum 0 through c.ways walk.ways }
+
+-- a number to which another can be added
+abbrev pub IsNear : ℤ → Type 0
+IsNear z = (neg_ℤ (pos (2 ^ 60)) ≤ℤ z) × (z ≤ℤ pos (2 ^ 60))
+
+-- the numbers of a walk can be added
+pub record IsNearWalk (walk : Walk) : Type 0 where
+  pub sum : IsNear walk.sum
+  pub ways : All (λ (way : Way). IsNear way.weight) walk.ways
+
+-- a step leads from a walk to a walk
+abbrev pub StepsTo : Net → List Clause → Walk → Step → Walk → Type 0
+StepsTo net kept walk step next =
+    (c : Clause) × (way : Way) × IsClause net kept step.basis c × (c.target ≡ walk.at) × (slice_get c.ways step.through ≡ Some way)
+    × (next ≡ stepped walk c step.through way) × IsNearWalk next
+
+-- steps lead from a walk to a walk
+abbrev pub Walks : Net → List Clause → Walk → List Step → Walk → Type 0
+Walks net kept walk [] after = walk ≡ after
+Walks net kept walk (step ∷ steps) after = (next : Walk) × StepsTo net kept walk step next × Walks net kept next steps after
+
+-- the walk of no steps
+abbrev pub starting_walk : EventId → Walk
+starting_walk event = record { literals = []; at = event; sum = pos 0; ways = [] }
+
+-- the walk is back where it started with a sum below 0, and so its event comes within one of the ways
+pub record IsLoop (net : Net) (kept : List Clause) (event : EventId) (steps : List Step) (after : Walk) : Type 0 where
+  pub walks : Walks net kept (starting_walk event) steps after
+  pub back : after.at ≡ event
+  pub below : after.sum <ℤ pos 0
+
+-- what a loop shows
+abbrev pub loop_clause : EventId → Walk → Clause
+loop_clause event walk = record { literals = walk.literals; target = event; ways = walk.ways }
+
+-- ---- lines
+
+-- some value shows that no times meet all that the frame says: that of the source is below 0, that of the to-event is not above the claim, or some
+-- value is below minus the cap
+abbrev pub IsEnded : Net → Goal → List ℤ → Type 0
+IsEnded net goal values =
+    (time_of values goal.from <ℤ pos 0) ⊎ (time_of values goal.to ≤ℤ goal.claim) ⊎ Any (λ (value : ℤ). value <ℤ neg_ℤ (pos (cap net))) values
+
+-- not all of the literals hold
+abbrev pub refuting : EventId → List Literal → Clause
+refuting event assumed = record { literals = map opposite assumed; target = event; ways = [] }
+
+-- a line leads from a state to a state
+abbrev pub IsLine : Net → Goal → State → ClauseLine → State → Type 0
+IsLine net goal state (Fall event value basis) next =
+    ((c : Clause) × IsClause net state.kept basis c × Falls net (frame_of state) event value c)
+    × (next ≡ with_frame state (record { values = set (frame_of state).values event.0 value; known = (frame_of state).known }))
+IsLine net goal state (Know l basis) next =
+    ((c : Clause) × IsClause net state.kept basis c × Forces (frame_of state) l c)
+    × (next ≡ with_frame state (record { values = (frame_of state).values; known = (frame_of state).known ++ l ∷ [] }))
+IsLine net goal state (Loop event steps) next =
+    (after : Walk) × IsLoop net state.kept event steps after
+    × (next ≡ record { frame = state.frame; kept = state.kept ++ loop_clause event after ∷ []; block = state.block })
+IsLine net goal state (Assume literals) next =
+    All (λ (l : Literal). IsSome (literal_edge net l)) literals
+    × (next ≡ record {
+      frame = state.frame;
+      kept = state.kept;
+      block = Some (record { assumed = literals; frame = record { values = state.frame.values; known = state.frame.known ++ literals } });
+    })
+IsLine net goal state Close next =
+    IsSomeAnd state.block (λ (block : Block). IsEnded net goal block.frame.values
+    × (next ≡ record { frame = state.frame; kept = state.kept ++ refuting goal.from block.assumed ∷ []; block = None }))
+
+-- lines lead from a state to a state
+abbrev pub Leads : Net → Goal → State → List ClauseLine → State → Type 0
+Leads net goal state [] after = state ≡ after
+Leads net goal state (line ∷ lines) after = (next : State) × IsLine net goal state line next × Leads net goal next lines after
+
+-- a state with no open block that has ended
+pub record IsOver (net : Net) (goal : Goal) (state : State) : Type 0 where
+  pub closed : state.block ≡ None
+  pub ended : IsEnded net goal state.frame.values
+
+-- the lines are a proof of the goal
+abbrev pub IsClauseProof : Net → Goal → List ClauseLine → Type 0
+IsClauseProof net goal lines = (after : State) × Leads net goal (starting net goal.from) lines after × IsOver net goal after

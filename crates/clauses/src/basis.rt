@@ -1,0 +1,26 @@
+//! Where clauses come from.
+
+use crate::literal::Literal;
+use itv_base::EdgeName;
+
+/// Where a clause comes from. Constraints have their numbers from 0, and so have the clauses that were kept.
+#[derive(Clone, Copy, Debug, PartialEq, Eq)]
+pub enum Basis {
+    /// An always-edge.
+    ByEdge(EdgeName),
+    /// The edge that a literal says is met.
+    BySide(Literal),
+    /// A latest constraint whose high ends are all finite.
+    ByLatest(u32),
+    /// An earliest constraint whose low ends are all finite.
+    ByEarliest(u32),
+    /// A clause that was kept.
+    ByKept(u32),
+}
+
+/// A step of a walk back from an event: by the clause of a basis, through one of its ways, which have numbers from 0.
+#[derive(Clone, Copy, Debug, PartialEq, Eq)]
+pub struct Step {
+    pub basis: Basis,
+    pub through: u32,
+}

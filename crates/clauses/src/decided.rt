@@ -1,0 +1,90 @@
+//! What a proof and times say of a pair.
+
+ghost use Rattle.std.specs.Prelude.{◌≡◌, ◌↔◌, ◌<◌, ◌<ℤ◌, IsTrue, All, length};
+ghost use Rattle.event_graph.specs.Satisfying.{Satisfies};
+ghost use Rattle.event_graph.specs.Times.{IsTime, separation};
+ghost use Rattle.clauses.specs.declared.decided.Verdict.TheVariants.{Closed};
+ghost use Rattle.clauses.specs.Checking.{IsChecking, IsVerdict};
+
+use crate::checker::ClauseChecker;
+use crate::claim::Claim;
+use event_graph::Network;
+use falling::Limits;
+use itv_base::EventId;
+
+/// What a proof and times say of the pair of a goal: its greatest separation, in picoseconds, that no times satisfy the
+/// network, or nothing.
+#[derive(Clone, Copy, Debug, PartialEq, Eq)]
+pub enum Verdict {
+    Closed(i64),
+    Inconsistent,
+    Open,
+}
+
+/// What a checker and times, in picoseconds and one per event, say of the pair of its goal. The greatest separation is
+/// closed where the lines are a proof with a claim below the far line, and the times satisfy and attain it. No times
+/// satisfy where the lines are a proof with a claim below minus the far line.
+pub fn decide(net: &Network, checker: &ClauseChecker, times: &[i64]) -> Verdict
+    requires checking { IsChecking net.now checker.now }
+    requires count { length times.now ≡ net.now.events }
+    requires times { All IsTime times.now }
+    ensures verdict { IsVerdict net.now checker.now.goal times.now result }
+{
+    let _events = net.events();
+    if !checker.is_over(net) {
+        return Verdict::Open;
+    }
+    if is_low(checker.claim(), checker.limits()) {
+        return Verdict::Inconsistent;
+    }
+    if !is_near(checker.claim(), checker.limits()) {
+        return Verdict::Open;
+    }
+    if !attains(net, checker, times) {
+        return Verdict::Open;
+    }
+    closed_at(checker.claim())
+}
+
+// Whether a claim is below minus the far line.
+fn is_low(claim: Claim, limits: Limits) -> bool
+    ensures { IsTrue result ↔ (claim.value <ℤ limits.lowest) }
+{
+    claim.value < limits.lowest
+}
+
+// Whether a claim is below the far line.
+fn is_near(claim: Claim, limits: Limits) -> bool
+    ensures { IsTrue result ↔ (claim.value <ℤ limits.far) }
+{
+    claim.value < limits.far
+}
+
+// The verdict that the greatest separation is what is claimed.
+fn closed_at(claim: Claim) -> Verdict
+    ensures { result ≡ Closed claim.value }
+{
+    Verdict::Closed(claim.value)
+}
+
+// Whether times satisfy and attain what a checker's goal claims.
+fn attains(net: &Network, checker: &ClauseChecker, times: &[i64]) -> bool
+    requires checking { IsChecking net.now checker.now }
+    requires count { length times.now ≡ net.now.events }
+    requires times { All IsTime times.now }
+    ensures satisfies { IsTrue result → Satisfies times.now net.now }
+    ensures attained { IsTrue result → separation times.now checker.now.goal.from checker.now.goal.to ≡ checker.now.goal.claim }
+{
+    is_separation(times, checker.from(), checker.to(), checker.claim())
+        && net.broken(times).is_none()
+}
+
+// Whether times have a separation.
+fn is_separation(times: &[i64], from: EventId, to: EventId, claim: Claim) -> bool
+    requires times { All IsTime times.now }
+    requires from { from.0 < length times.now }
+    requires to { to.0 < length times.now }
+    ensures { IsTrue result ↔ (separation times.now from to ≡ claim.value) }
+{
+    times[to.0 as usize] - times[from.0 as usize] == claim.value
+}

@@ -1,0 +1,36 @@
+//! Literals.
+
+ghost use Rattle.std.specs.Prelude.{◌≡◌};
+
+use std::fmt;
+
+/// The lower side of a cause of a latest or earliest constraint, by their numbers from 0, and whether it is met: that
+/// the target comes no earlier than the cause and its low end, or that it comes earlier.
+#[derive(Clone, Copy, Debug, PartialEq, Eq)]
+pub struct Literal {
+    pub constraint: u32,
+    pub cause: u32,
+    pub is_met: bool,
+}
+
+impl fmt::Display for Literal {
+    fn fmt<W: fmt::Write>(&self, f: &mut fmt::Formatter<W>) -> fmt::Result {
+        let kind = if self.is_met { "met" } else { "not met" };
+        write!(f, "that side {}.{} is {kind}", self.constraint, self.cause)
+    }
+}
+
+impl Literal {
+    ghost use Rattle.clauses.specs.Clauses.{opposite};
+
+    /// The literal that holds where this one does not.
+    pub fn opposite(self) -> Literal
+        ensures { result ≡ opposite self }
+    {
+        Literal {
+            constraint: self.constraint,
+            cause: self.cause,
+            is_met: !self.is_met,
+        }
+    }
+}

@@ -1,0 +1,10 @@
+//! Ways.
+
+use itv_base::EventId;
+
+/// A way by which an event is bounded: it comes at most `weight` picoseconds after `from`.
+#[derive(Clone, Copy, Debug, PartialEq, Eq)]
+pub struct Way {
+    pub from: EventId,
+    pub weight: i64,
+}

@@ -1,0 +1,247 @@
+-- What the ends of runs of one job say over files that are told.
+use Rattle.std.proofs.Common.{◌≡◌, ◌∙◌, ◌+◌, ◌≤◌, ℕ, Bool, true, false, List, ◌++◌, length, take, Option, Some, None, ◌⊎◌, inl, inr, refl, sym, ap, subst, arith, nat_lt, codes, if◌then◌else◌, leb}
+use Rattle.std.proofs.lemmas.Bool.{ltb-false}
+use Rattle.std.proofs.lemmas.List.{length-take, take_all}
+use Rattle.std.proofs.lemmas.Option.{same_Some}
+use Rattle.std.specs.Option.{option_map_or}
+use Rattle.event_graph.specs.Bounds.{IsInconsistent}
+use Rattle.event_graph.specs.RootBound.{HasNoRoot}
+use Rattle.itv_base.specs.Memory.{MemSink, sink_told}
+use Rattle.itv_base.specs.Outside.{Files, ShelfTold, SinkTold, file_of, grown}
+use Rattle.itv_base.specs.declared.limits.TheConstants.{MAX_MATRIX_EVENTS, REPORT_LIMIT}
+use Rattle.design_gen.specs.Files.{design_files}
+use Rattle.jobs.specs.Ending.{answer_of}
+use Rattle.jobs.specs.declared.answer.Answer.{Answer}
+use Rattle.jobs.specs.declared.answer.Answer.TheVariants as answers
+use Rattle.slack_report.specs.Text.{report_text}
+use Rattle.slack_report.specs.declared.words.EndWord.{EndWord}
+use Rattle.slack_report.specs.declared.words.EndWord.TheVariants as endings
+use Rattle.right_report.specs.Laws.{AllMet, SomeBroken, SomeSatisfy}
+use Rattle.right_report.specs.Right.At.{at_last}
+use Rattle.right_report.specs.Right.Facts.{BeginsRightReport}
+use Rattle.right_report.specs.Texts.{IsAcceptedText, IsRefusedText}
+use Rattle.right_report.proofs.Ending.{fail_end_is_so, inconsistent_end_is_so, pass_end_is_so}
+use Rattle.right_report.proofs.Refusing.{accepted_text_is_right, one_refused_line}
+use Rattle.drawn.specs.Drawn.{Drawn}
+use Rattle.drawn_names.proofs.Designs.{drawn_names_have_form, drawn_ranges_have_form}
+use Rattle.reading.specs.declared.place.Place.{Place}
+use Rattle.reading.specs.declared.place.Place.TheVariants.{Report}
+use Rattle.reading.specs.Design.{design_at}
+use Rattle.reading.specs.declared.refusal.Refusal.{Refusal}
+use Rattle.reading.specs.declared.refusal.Refusal.TheVariants.{TooLong}
+use Rattle.reading.specs.Opening.{Comes, End, Opening, gives, refuses, fetches, ◌>>=◌, ready, refused, unread, told_end, file_at, within_limit}
+use Rattle.unroll.specs.declared.fault.UnrollFault.TheVariants.{TooMany}
+use Rattle.bounds_report.proofs.WrittenLaws.{written_is_accepted, written_is_right}
+use Rattle.matrix_report.specs.Matrix.{AnswersMatrix, IsMatrixText}
+use Rattle.report_check.specs.Check.{AnswersCheck, refused_text}
+use Rattle.summary_report.specs.Summary.{AnswersSummary}
+use Rattle.itv_cli.specs.Bounds.{AnswersBounds}
+use Rattle.itv_cli.specs.Task.{Task, bounds, check, generated, matrix, taken, task}
+use Rattle.itv_cli.specs.Job.{Answers, made_for, matrix_at, opening}
+use Rattle.itv_cli.specs.Run.{Call, CameTo, EndsOver, HasAnswered, Means, outcome_of}
+use Rattle.itv_cli.specs.declared.outcome.Outcome.{Outcome}
+use Rattle.itv_cli.specs.declared.outcome.Outcome.TheVariants as ends
+use Rattle.itv_cli.specs.declared.ready.Ready.{Ready}
+use Rattle.itv_cli.specs.declared.ready.Ready.TheVariants as given
+use Rattle.conformance.specs.Clients.{AsksBounds, AsksCheck, AsksMatrix, Draws, IsReportEnd, IsRightFile, IsSummaryOf, IsWrongFile}
+use Rattle.conformance.proofs.Telling.{HasReported, answer_over, came_over, never_refused, reported_over, same_asked, same_ready, told_behind, told_then}
+
+-- ---- what was answered
+
+means_answered : (call : Call) (answer : Answer) → (answer ≡ answers.DesignRefused → ⊥) → Means call (outcome_of answer) → HasAnswered call answer
+means_answered call answers.AllPass other m = m
+means_answered call answers.SomeFail other m = m
+means_answered call answers.Inconsistent other m = m
+means_answered call answers.Undecided other m = m
+means_answered call answers.CheckRefused other m = m
+means_answered call answers.DesignRefused other m = absurd (other refl)
+
+pub answered_by : (call : Call) (result : Outcome) (answer : Answer) → (answer ≡ answers.DesignRefused → ⊥) → Means call result → result ≡ outcome_of answer → HasAnswered call answer
+answered_by call result answer other means e = means_answered call answer other (subst (λ end. Means call end) e means)
+
+-- a reading that comes to something over told files comes to it
+told_shelf : Files → ShelfTold
+told_shelf files = record { files = Some files; faults = 0; last = codes ""; is_faithful = true }
+
+comes_by : {A : Type 0} (files : Files) (next : List ℕ → Opening A) (most : ℕ) (place : Place) (name : List ℕ) (x : A) (file : Option (List ℕ)) → file_of files name ≡ file
+    → ((bytes : List ℕ) → told_end files (next bytes) ≡ ready x → Comes (told_shelf files) (next bytes) (ready x))
+    → option_map_or (λ bytes. told_end files (next (take most bytes))) file (unread place name) ≡ ready x → Comes (told_shelf files) (fetches place name most next) (ready x)
+unfolding told_shelf
+comes_by files next most place name x None is more e = absurd (cc e)
+comes_by files next most place name x (Some bytes) is more e = inr (take most bytes, rw is refl, more (take most bytes) e)
+
+told_comes : {A : Type 0} (files : Files) (o : Opening A) (x : A) → told_end files o ≡ ready x → Comes (told_shelf files) o (ready x)
+told_comes files (gives y) x e = sym e
+told_comes files (refuses place why) x e = absurd (cc e)
+told_comes files (fetches place name most next) x e = comes_by files next most place name x (file_of files name) refl (λ bytes h. told_comes files (next bytes) x h) e
+
+-- ---- job bounds
+
+fails : (word : EndWord) → answers.SomeFail ≡ answer_of word → word ≡ endings.Fail
+fails endings.Pass e = absurd (cc e)
+fails endings.Fail e = refl
+fails endings.Inconsistent e = absurd (cc e)
+fails endings.Undecided e = absurd (cc e)
+
+passes : (word : EndWord) → answers.AllPass ≡ answer_of word → word ≡ endings.Pass
+passes endings.Pass e = refl
+passes endings.Fail e = absurd (cc e)
+passes endings.Inconsistent e = absurd (cc e)
+passes endings.Undecided e = absurd (cc e)
+
+none_word : (word : EndWord) → answers.Inconsistent ≡ answer_of word → word ≡ endings.Inconsistent
+none_word endings.Pass e = absurd (cc e)
+none_word endings.Fail e = absurd (cc e)
+none_word endings.Inconsistent e = refl
+none_word endings.Undecided e = absurd (cc e)
+
+module _ (call : Call) (files : Files) (budget : ℕ) (cert : Bool) (drawn : Drawn) (told : call.shelf_before.files ≡ Some files) (asks : AsksBounds call.words files budget cert drawn) where
+  bounds_said : (answer : Answer) (m : HasAnswered call answer) → AnswersBounds drawn budget cert answer m.text
+  bounds_said answer m =
+      let h = reported_over files asks.design budget cert answer m.text (answer_over call files (bounds asks.design budget cert) answer m.text told m refl (record { words = asks.words; own = refl })) in
+      subst (λ (d : Drawn). AnswersBounds d budget cert answer m.text) (same_ready h.drawn drawn (sym h.draws ∙ asks.draws)) h.answers
+
+  begins : (answer : Answer) (text : List ℕ) (a : AnswersBounds drawn budget cert answer text) → BeginsRightReport drawn a.reports.lines
+  begins answer text a = (at_last, written_is_right drawn budget cert a.reports.lines a.reports.is_written)
+
+  pub bounds_met : (result : Outcome) → Means call result → result ≡ ends.AllPass → SomeSatisfy drawn.net × AllMet drawn
+  bounds_met result means e =
+      let m = answered_by call result answers.AllPass (λ same. cc same) means e in
+      let a = bounds_said answers.AllPass m in
+      pass_end_is_so drawn a.reports.lines (begins answers.AllPass m.text a) (a.reports.sums.ends ∙ ap (λ word. Some word) (passes a.summary.end a.is_answer))
+
+  pub bounds_broken : (result : Outcome) → Means call result → result ≡ ends.SomeFail → SomeBroken drawn
+  bounds_broken result means e =
+      let m = answered_by call result answers.SomeFail (λ same. cc same) means e in
+      let a = bounds_said answers.SomeFail m in
+      fail_end_is_so drawn a.reports.lines (begins answers.SomeFail m.text a) (a.reports.sums.ends ∙ ap (λ word. Some word) (fails a.summary.end a.is_answer))
+
+  pub bounds_none : (result : Outcome) → Means call result → result ≡ ends.Inconsistent → IsInconsistent drawn.net
+  bounds_none result means e =
+      let m = answered_by call result answers.Inconsistent (λ same. cc same) means e in
+      let a = bounds_said answers.Inconsistent m in
+      inconsistent_end_is_so drawn a.reports.lines (begins answers.Inconsistent m.text a) (a.reports.sums.ends ∙ ap (λ word. Some word) (none_word a.summary.end a.is_answer))
+
+-- with the lines of proofs the text is accepted
+pub bounds_accepted : (call : Call) (files : Files) (budget : ℕ) (drawn : Drawn) (result : Outcome) → call.shelf_before.files ≡ Some files → AsksBounds call.words files budget true drawn → Means call result → IsReportEnd result
+    → (text : List ℕ) × IsAcceptedText drawn text × (call.sink_after ≡ grown call.sink_before text)
+bounds_accepted call files budget drawn result told asks means end =
+    let answer = answer_of end.0 in
+    let m = answered_by call result answer (λ same. never_refused end.0 (sym same)) means end.1 in
+    let a = bounds_said call files budget true drawn told asks answer m in
+    let comes = told_comes files (design_at asks.design) drawn asks.draws in
+    let accepted = written_is_accepted drawn budget a.reports.lines a.reports.is_written (drawn_names_have_form (told_shelf files) asks.design drawn comes) (drawn_ranges_have_form (told_shelf files) asks.design drawn comes) in
+    (m.text, subst (IsAcceptedText drawn) (sym a.reports.is_text) accepted, m.wrote)
+
+-- ---- job check
+
+-- bytes within a limit are the whole file
+whole_by : (place : Place) (limit : ℕ) (file bytes : List ℕ) (test : Bool) → nat_lt limit (length (take (limit + 1) file)) ≡ test → (files : Files)
+    → told_end files (if test then refuses place TooLong else gives (take (limit + 1) file)) ≡ ready bytes → file ≡ bytes
+whole_by place limit file bytes true is files e = absurd (cc e)
+whole_by place limit file bytes false is files e =
+    let short : length (take (limit + 1) file) ≤ limit = not_less limit (length (take (limit + 1) file)) is in
+    let count = length-take (limit + 1) file in
+    sym (take_all (limit + 1) file (omega (arith, short, count))) ∙ same_ready (take (limit + 1) file) bytes e
+  where
+    not_less : (a b : ℕ) → nat_lt a b ≡ false → b ≤ a
+    not_less a b e = ltb-false a b e
+
+file_by : (files : Files) (place : Place) (name : List ℕ) (limit : ℕ) (bytes : List ℕ) (file : Option (List ℕ)) → file_of files name ≡ file
+    → option_map_or (λ whole. told_end files (within_limit place limit (take (limit + 1) whole))) file (unread place name) ≡ ready bytes → file_of files name ≡ Some bytes
+file_by files place name limit bytes None is e = absurd (cc e)
+file_by files place name limit bytes (Some whole) is e = is ∙ ap (λ all. Some all) (whole_by place limit whole bytes (nat_lt limit (length (take (limit + 1) whole))) refl files e)
+
+file_had : (files : Files) (place : Place) (name : List ℕ) (limit : ℕ) (bytes : List ℕ) → told_end files (file_at place name limit) ≡ ready bytes → file_of files name ≡ Some bytes
+file_had files place name limit bytes e = file_by files place name limit bytes (file_of files name) refl e
+
+record HasChecked (files : Files) (report : List ℕ) (drawn : Drawn) (answer : Answer) (text : List ℕ) : Type 0 where
+  bytes : List ℕ
+  is_file : file_of files report ≡ Some bytes
+  answers : AnswersCheck drawn bytes answer text
+
+module _ (call : Call) (files : Files) (report : List ℕ) (drawn : Drawn) (told : call.shelf_before.files ≡ Some files) (asks : AsksCheck call.words files report drawn) where
+  check_said : (answer : Answer) (m : HasAnswered call answer) → HasChecked files report drawn answer m.text
+  check_said answer m =
+      let a = answer_over call files (check asks.design report) answer m.text told m refl (record { words = asks.words; own = refl }) in
+      let (other, draws, more) = told_behind files (design_at asks.design) (λ d. file_at Report report REPORT_LIMIT >>= (λ bytes. gives (given.Check d bytes))) a.given a.reads in
+      let (bytes, had, is) = told_then files (file_at Report report REPORT_LIMIT) (λ bytes. given.Check other bytes) a.given more in
+      let same : other ≡ drawn = same_ready other drawn (sym draws ∙ asks.draws) in
+      record {
+        bytes = bytes;
+        is_file = file_had files Report report REPORT_LIMIT bytes had;
+        answers = subst (λ (d : Drawn). AnswersCheck d bytes answer m.text) same (subst (λ g. Answers g answer m.text) (sym is) a.answers);
+      }
+
+  pub check_right : (result : Outcome) → Means call result → result ≡ ends.AllPass → IsRightFile files report drawn
+  check_right result means e =
+      let m = answered_by call result answers.AllPass (λ same. cc same) means e in
+      let h = check_said answers.AllPass m in
+      record { bytes = h.bytes; is_file = h.is_file; is_right = accepted_text_is_right drawn h.bytes h.answers.0 }
+
+  pub check_wrong : (result : Outcome) → Means call result → result ≡ ends.CheckRefused
+      → (line : ℕ) × IsWrongFile files report drawn line × (call.sink_after ≡ grown call.sink_before (refused_text line))
+  check_wrong result means e =
+      let m = answered_by call result answers.CheckRefused (λ same. cc same) means e in
+      let h = check_said answers.CheckRefused m in
+      let (line, wrong, is) = h.answers in (
+        line,
+        record { bytes = h.bytes; is_file = h.is_file; is_wrong = wrong; one = λ other also. one_refused_line drawn h.bytes other line also wrong },
+        subst (λ text. call.sink_after ≡ grown call.sink_before text) is m.wrote,
+      )
+
+  -- a file without a wrong line is right, where the run answers
+  pub check_whole : (result : Outcome) → Means call result → (result ≡ ends.AllPass) ⊎ (result ≡ ends.CheckRefused) → ((bytes : List ℕ) (line : ℕ) → file_of files report ≡ Some bytes → IsRefusedText drawn bytes line → ⊥)
+      → IsRightFile files report drawn
+  check_whole result means (inl e) none = check_right result means e
+  check_whole result means (inr e) none =
+      let (line, wrong, wrote) = check_wrong result means e in
+      absurd (none wrong.bytes line wrong.is_file wrong.is_wrong)
+
+-- ---- job matrix
+
+-- a network that is not refused is given
+matrix_had : (files : Files) (drawn : Drawn) (to : Ready) (test : Bool) (place : Place) (why : Refusal) → told_end files (if test then refuses place why else gives (given.Matrix drawn)) ≡ ready to → given.Matrix drawn ≡ to
+matrix_had files drawn to true place why e = absurd (cc e)
+matrix_had files drawn to false place why e = same_ready (given.Matrix drawn) to e
+
+module _ (call : Call) (files : Files) (drawn : Drawn) (told : call.shelf_before.files ≡ Some files) (asks : AsksMatrix call.words files drawn) where
+  matrix_said : (answer : Answer) (m : HasAnswered call answer) → AnswersMatrix drawn answer m.text
+  matrix_said answer m =
+      let a = answer_over call files (matrix asks.design) answer m.text told m refl (record { words = asks.words; own = refl }) in
+      let (other, draws, more) = told_behind files (design_at asks.design) matrix_at a.given a.reads in
+      let is : given.Matrix other ≡ a.given = matrix_had files other a.given (nat_lt MAX_MATRIX_EVENTS other.net.events) _ _ more in
+      subst (λ (d : Drawn). AnswersMatrix d answer m.text) (same_ready other drawn (sym draws ∙ asks.draws)) (subst (λ g. Answers g answer m.text) (sym is) a.answers)
+
+  pub matrix_bounds : (result : Outcome) → Means call result → result ≡ ends.AllPass → (text : List ℕ) × IsMatrixText drawn text × (call.sink_after ≡ grown call.sink_before text)
+  matrix_bounds result means e = let m = answered_by call result answers.AllPass (λ same. cc same) means e in (m.text, matrix_said answers.AllPass m, m.wrote)
+
+  pub matrix_none : (result : Outcome) → Means call result → result ≡ ends.Inconsistent → HasNoRoot drawn.net
+  matrix_none result means e = let m = answered_by call result answers.Inconsistent (λ same. cc same) means e in (matrix_said answers.Inconsistent m).0
+
+-- ---- job self
+
+-- the end of a reading over made files is theirs
+pub came_made : (call : Call) (size budget : ℕ) (end : End Ready) → taken call.words ≡ task (generated size budget) → CameTo call end → end ≡ told_end (design_files size) (opening (generated size budget))
+came_made call size budget end is came =
+    (subst (λ t. EndsOver (made_for t) call.shelf_before call.shelf_after t end) (same_asked call.words (generated size budget) came.asked is came.words) came.ends).0
+
+pub self_sums : (call : Call) (size budget : ℕ) (result : Outcome) → taken call.words ≡ task (generated size budget) → Means call result → IsReportEnd result
+    → (text : List ℕ) × IsSummaryOf size text × (call.sink_after ≡ grown call.sink_before text)
+self_sums call size budget result is means end =
+    let answer = answer_of end.0 in
+    let m = answered_by call result answer (λ same. never_refused end.0 (sym same)) means end.1 in
+    let (drawn, draws, same) = told_then (design_files size) (design_at (codes "bus.json")) (λ d. given.Generated d size budget) m.given (sym (came_made call size budget (ready m.given) is m.came)) in
+    let a = (subst (λ g. Answers g answer m.text) (sym same) m.answers).0 in (
+      m.text,
+      record {
+        drawn = drawn;
+        draws = draws;
+        lines = a.comes.lines;
+        is_right = written_is_right drawn budget false a.comes.lines a.comes.is_written;
+        summary = a.summary;
+        sums = a.comes.sums;
+        is_text = a.is_text;
+      },
+      m.wrote,
+    )

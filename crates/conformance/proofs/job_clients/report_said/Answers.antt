@@ -1,0 +1,18 @@
+use Rattle.std.proofs.Common.{refl}
+use Rattle.itv_base.specs.Memory.{shelf_told, sink_told}
+use Rattle.itv_cli.specs.Run.{Call, call_of}
+use Rattle.conformance.proofs.JobEnds.{bounds_accepted, bounds_broken, bounds_met, bounds_none}
+use Rattle.conformance.proofs.Telling.{sink_bytes}
+use Rattle.conformance.proofs.job_clients.report_said.Goals as goal
+
+pub returns : goal.returns
+returns c =
+    let call : Call = call_of c.args.words.now (shelf_told c.args.shelf.now) (shelf_told c.run.new.shelf) (sink_told c.args.sink.now) (sink_told c.run.new.sink) in
+    record {
+      met = λ budget cert drawn asks e. bounds_met call c.args.shelf.now.files budget cert drawn refl asks c.run.result c.run.ensures.means e;
+      broken = λ budget cert drawn asks e. bounds_broken call c.args.shelf.now.files budget cert drawn refl asks c.run.result c.run.ensures.means e;
+      none = λ budget cert drawn asks e. bounds_none call c.args.shelf.now.files budget cert drawn refl asks c.run.result c.run.ensures.means e;
+      accepted = λ budget drawn asks end.
+          let (text, is, wrote) = bounds_accepted call c.args.shelf.now.files budget drawn c.run.result refl asks c.run.ensures.means end in
+          (text, is, sink_bytes c.args.sink.now c.run.new.sink text wrote);
+    }

@@ -1,0 +1,104 @@
+//! Callers of `run` for one job each, over files and a sink in memory, proved from its clauses alone.
+
+ghost use Rattle.std.specs.Prelude.{◌≡◌, ◌⊎◌, ◌++◌, ℕ, Bool, List, IfOk, IfSome, true};
+ghost use Rattle.event_graph.specs.Bounds.{IsInconsistent};
+ghost use Rattle.event_graph.specs.RootBound.{HasNoRoot};
+ghost use Rattle.matrix_report.specs.Matrix.{IsMatrixText};
+ghost use Rattle.report_check.specs.Check.{refused_text};
+ghost use Rattle.right_report.specs.Laws.{AllMet, SomeBroken, SomeSatisfy};
+ghost use Rattle.right_report.specs.Texts.{IsAcceptedText};
+ghost use Rattle.drawn.specs.Drawn.{Drawn};
+ghost use Rattle.reading.specs.declared.refusal.Refusal.{Refusal};
+ghost use Rattle.reading.specs.declared.place.Place.{Place};
+ghost use Rattle.reading.specs.Refusal.{refusal_text};
+ghost use Rattle.words.specs.Task.{bounds, generated, redraw, taken, task};
+ghost use Rattle.conformance.specs.Clients.{AsksBounds, AsksCheck, AsksMatrix, HasNoWrong, IsReportEnd, IsRightFile, IsSummaryOf, IsWrongFile, WroteOne};
+
+use itv_base::{NoMemory, ShelfMem, SinkMem, Texts};
+use itv_cli::{Outcome, run};
+use std::alloc::Global;
+
+/// A run of job bounds. Where it passes, some times satisfy the network and all that do meet every requirement. Where it fails,
+/// satisfying times break one, and where it ends inconsistent no times satisfy. With the lines of proofs it writes a text that job
+/// check accepts, whatever its end.
+pub fn report_said(
+    alloc: Global,
+    words: &Texts,
+    shelf: &mut ShelfMem,
+    sink: &mut SinkMem,
+) -> Outcome
+    ensures met { (budget : ℕ) (cert : Bool) (drawn : Drawn) → AsksBounds words.now shelf.old.files budget cert drawn
+        → result ≡ Outcome.AllPass → SomeSatisfy drawn.net × AllMet drawn }
+    ensures broken { (budget : ℕ) (cert : Bool) (drawn : Drawn) → AsksBounds words.now shelf.old.files budget cert drawn
+        → result ≡ Outcome.SomeFail → SomeBroken drawn }
+    ensures none { (budget : ℕ) (cert : Bool) (drawn : Drawn) → AsksBounds words.now shelf.old.files budget cert drawn
+        → result ≡ Outcome.Inconsistent → IsInconsistent drawn.net }
+    ensures accepted { (budget : ℕ) (drawn : Drawn) → AsksBounds words.now shelf.old.files budget true drawn
+        → IsReportEnd result → WroteOne sink.old sink.new (IsAcceptedText drawn) }
+{
+    run(alloc, words, shelf, sink)
+}
+
+/// A run of job check. Where it passes, the file is the text of a right report, whoever wrote it. Where it refuses, it writes the
+/// number of the one wrong line. So where it answers, a file without a wrong line is right.
+pub fn checked_of(alloc: Global, words: &Texts, shelf: &mut ShelfMem, sink: &mut SinkMem) -> Outcome
+    ensures right { (report : List ℕ) (drawn : Drawn) → AsksCheck words.now shelf.old.files report drawn
+        → result ≡ Outcome.AllPass → IsRightFile shelf.old.files report drawn }
+    ensures wrong { (report : List ℕ) (drawn : Drawn) → AsksCheck words.now shelf.old.files report drawn
+        → result ≡ Outcome.CheckRefused → (line : ℕ) × IsWrongFile shelf.old.files report drawn line
+        × (sink.new.bytes ≡ sink.old.bytes ++ refused_text line) }
+    ensures whole { (report : List ℕ) (drawn : Drawn) → AsksCheck words.now shelf.old.files report drawn
+        → (result ≡ Outcome.AllPass) ⊎ (result ≡ Outcome.CheckRefused) → HasNoWrong shelf.old.files report drawn
+        → IsRightFile shelf.old.files report drawn }
+{
+    run(alloc, words, shelf, sink)
+}
+
+/// A run of job matrix. Where it passes it writes the root bounds of all pairs, and where it ends inconsistent there are none.
+pub fn matrix_of(alloc: Global, words: &Texts, shelf: &mut ShelfMem, sink: &mut SinkMem) -> Outcome
+    ensures bounds { (drawn : Drawn) → AsksMatrix words.now shelf.old.files drawn
+        → result ≡ Outcome.AllPass → WroteOne sink.old sink.new (IsMatrixText drawn) }
+    ensures none { (drawn : Drawn) → AsksMatrix words.now shelf.old.files drawn
+        → result ≡ Outcome.Inconsistent → HasNoRoot drawn.net }
+{
+    run(alloc, words, shelf, sink)
+}
+
+/// A run of job self. With any end of a report it writes what a right report of the design of that size comes to. It is never refused
+/// for a file that is too long.
+pub fn self_of(alloc: Global, words: &Texts, shelf: &mut ShelfMem, sink: &mut SinkMem) -> Outcome
+    ensures sums { (size budget : ℕ) → taken words.now ≡ task (generated size budget)
+        → IsReportEnd result → WroteOne sink.old sink.new (IsSummaryOf size) }
+    ensures fits { (size budget : ℕ) → taken words.now ≡ task (generated size budget) → result ≡ Outcome.Refused
+        → (place : Place) × (why : Refusal) × (why ≡ Refusal.TooLong → ⊥)
+        × (sink.new.bytes ≡ sink.old.bytes ++ refusal_text place why) }
+{
+    run(alloc, words, shelf, sink)
+}
+
+/// A run of job redraw, and where it draws a counterexample one of job bounds on the drawing, which is the file of a name then: it ends
+/// with a fail, unless its output or memory fails.
+pub fn redrawn_of(
+    alloc: Global,
+    words: &Texts,
+    shelf: &mut ShelfMem,
+    room: u32,
+    name: &str,
+    again: &Texts,
+) -> Result<Option<Outcome>, NoMemory>
+    ensures fails { IfOk result (λ end. IfSome end (λ outcome.
+        (design : List ℕ) (budget most : ℕ) (cert : Bool) → taken words.now ≡ task (redraw design budget)
+        → taken again.now ≡ task (bounds name.now most cert)
+        → (outcome ≡ Outcome.SomeFail) ⊎ ((outcome ≡ Outcome.WriteFault) ⊎ (outcome ≡ Outcome.NoMemory)))) }
+{
+    let mut sink = SinkMem::new(alloc, room)?;
+    match run(alloc, words, shelf, &mut sink) {
+        Outcome::SomeFail => {
+            let mut files = ShelfMem::new(alloc)?;
+            files.add(alloc, name, sink.bytes())?;
+            let mut report = SinkMem::new(alloc, room)?;
+            Ok(Some(run(alloc, again, &mut files, &mut report)))
+        }
+        _ => Ok(None),
+    }
+}

@@ -1,0 +1,291 @@
+//! Job redraw: drawings to the byte, what job bounds makes of them, and the other ends.
+
+use conformance_kit::{
+    CIRCLE, MET, MISSED, SETTLES, UNMET, files_end, run_ends, shelf_of, shelf_with, written_by,
+};
+use itv_base::ShelfMem;
+use itv_cli::Outcome;
+use std::alloc::Global;
+use std::test::Fail;
+
+const REDRAW: [&str; 3] = ["--job", "redraw", "s"];
+
+// A sheet with a node for each character, on lanes of their own.
+fn sheet_of(alloc: Global, nodes: &str, edges: &str) -> Result<String, Fail> {
+    let mut lanes = String::new(alloc);
+    for node in nodes.chars() {
+        if !lanes.is_empty() {
+            lanes.push_str(",")?;
+        }
+        lanes.push_str(format!(in alloc; r#"{{"node":"{node}"}}"#)?.as_str())?;
+    }
+    Ok(format!(in alloc; r#"{{"signal":[{lanes}],"edge":[{edges}]}}"#)?)
+}
+
+// The drawing of a sheet is this line with the status of a fail, and job bounds answers the drawing with a fail.
+fn draws(alloc: Global, sheet: &str, drawing: &str) -> Result<(), Fail> {
+    let text = format!(in alloc; "{drawing}\n")?;
+    let mut shelf = shelf_with(alloc, "s", sheet.as_bytes())?;
+    run_ends(
+        alloc,
+        &REDRAW,
+        &mut shelf,
+        (Outcome::SomeFail, text.as_str()),
+    )?;
+    fails_again(alloc, text.as_str())
+}
+
+// Job bounds answers a drawing with a report of one row, whose verdict is a fail.
+fn fails_again(alloc: Global, drawing: &str) -> Result<(), Fail> {
+    let mut shelf = shelf_with(alloc, "d", drawing.as_bytes())?;
+    let report = written_by(alloc, &["d"], &mut shelf)?;
+    let fails = report.as_str().contains("\nrows 1\n")
+        && report.as_str().contains("\nverdict fail ")
+        && report.as_str().ends_with("\nend fail\n");
+    match fails {
+        true => Ok(()),
+        false => Err(Fail::new(format_args!("job bounds answers {report}"))),
+    }
+}
+
+// A run of the job on a sheet ends so, and writes just this.
+fn ends(alloc: Global, sheet: &str, wanted: (Outcome, &str)) -> Result<(), Fail> {
+    files_end(alloc, &[("s", sheet)], &REDRAW, wanted)
+}
+
+// ---- drawings
+
+#[test]
+fn a_missed_requirement_is_drawn(rt: HostRuntime) -> Result<(), Fail> {
+    draws(
+        rt.alloc(),
+        MISSED,
+        r#"{"signal":[{"name":"U.a@0","wave":"01","node":".a"},{"name":"U.b@0","wave":"0.1","node":"..b"}],"edge":["a->b @lin [250,250]","a->b @req [0,249]"]}"#,
+    )
+}
+
+// The first row in order that fails is drawn, at the times behind its verdict, by their order and with equal times at one place.
+#[test]
+fn the_first_failed_row_is_drawn(rt: HostRuntime) -> Result<(), Fail> {
+    let alloc = rt.alloc();
+    let edges =
+        r#""a->b @lin [5,5]","a->c @lin [3,9]","a->b @req [0,5]","a->b @ask","a->c @req [4,9]","b->c @req [0,0]""#;
+    let sheet = sheet_of(alloc, "abc", edges)?;
+    draws(
+        alloc,
+        sheet.as_str(),
+        r#"{"signal":[{"name":"U.a@0","wave":"01","node":".a"},{"name":"U.c@0","wave":"0.1","node":"..b"},{"name":"U.b@0","wave":"0..1","node":"...c"}],"edge":["a->b @lin [3,3]","b->c @lin [2,2]","a->b @req [4,9]"]}"#,
+    )
+}
+
+// Of events at one time the two of the row come first, and then the others by number.
+#[test]
+fn events_at_one_time(rt: HostRuntime) -> Result<(), Fail> {
+    let alloc = rt.alloc();
+    let edges = r#""a->b @lin [0,0]","b->c @lin [0,0]","c->d @lin [0,0]","d->c @req [1,2]""#;
+    let sheet = sheet_of(alloc, "abcd", edges)?;
+    draws(
+        alloc,
+        sheet.as_str(),
+        r#"{"signal":[{"name":"U.d@0","wave":"01","node":".a"},{"name":"U.c@0","wave":"01","node":".b"},{"name":"U.a@0","wave":"01","node":".c"},{"name":"U.b@0","wave":"01","node":".d"}],"edge":["a->b @lin [0,0]","b->c @lin [0,0]","c->d @lin [0,0]","a->b @req [1,2]"]}"#,
+    )
+}
+
+// The low end is broken.
+#[test]
+fn a_fail_on_the_low_side(rt: HostRuntime) -> Result<(), Fail> {
+    let alloc = rt.alloc();
+    let sheet = sheet_of(alloc, "ab", r#""a->b @lin [7,250]","b->a @req [-249,*]""#)?;
+    draws(
+        alloc,
+        sheet.as_str(),
+        r#"{"signal":[{"name":"U.a@0","wave":"01","node":".a"},{"name":"U.b@0","wave":"0.1","node":"..b"}],"edge":["a->b @lin [250,250]","b->a @req [-249,*]"]}"#,
+    )
+}
+
+// A quotation mark and a backslash have a backslash before them, as marks of the design and as marks of the drawing.
+#[test]
+fn marks_that_are_escaped(rt: HostRuntime) -> Result<(), Fail> {
+    let alloc = rt.alloc();
+    let edges = r#""\"->\\ @lin [3,3]","\\->/ @lin [4,4]","/->\" @req [0,5]""#;
+    let sheet = format!(in alloc;
+        r#"{{"signal":[{{"node":"\""}},{{"node":"\\"}},{{"node":"/"}}],"edge":[{edges}]}}"#
+    )?;
+    draws(
+        alloc,
+        sheet.as_str(),
+        r#"{"signal":[{"name":"U.\"@0","wave":"01","node":".a"},{"name":"U.\\@0","wave":"0.1","node":"..b"},{"name":"U./@0","wave":"0..1","node":"...c"}],"edge":["a->b @lin [3,3]","b->c @lin [4,4]","c->a @req [0,5]"]}"#,
+    )
+}
+
+// A row from an event to itself has one mark.
+#[test]
+fn an_event_and_itself(rt: HostRuntime) -> Result<(), Fail> {
+    let alloc = rt.alloc();
+    let sheet = sheet_of(alloc, "a", r#""a->a @req [1,2]""#)?;
+    draws(
+        alloc,
+        sheet.as_str(),
+        r#"{"signal":[{"name":"U.a@0","wave":"01","node":".a"}],"edge":["a->a @req [1,2]"]}"#,
+    )
+}
+
+// ---- gaps
+
+// Gaps below the limit of an end and at it stay, and a wider one between neighbours is made the limit.
+#[test]
+fn gaps_about_the_limit(rt: HostRuntime) -> Result<(), Fail> {
+    let alloc = rt.alloc();
+    let edges =
+        r#""a->b @lin [9999999999999,9999999999999]","b->c @lin [10000000000000,10000000000000]","d->c @lin [*,-10000000000000]","e->c @lin [10000000000000,10000000000000]","d->e @lin [20000000000000,20000000000000]","c->a @req [0,1]""#;
+    let wide = sheet_of(alloc, "abcde", edges)?;
+    ends(
+        alloc,
+        wide.as_str(),
+        (Outcome::Refused, "refused file 0 Label 4 TooWide\n"),
+    )?;
+    let edges =
+        r#""a->b @lin [9999999999999,9999999999999]","b->c @lin [10000000000000,10000000000000]","c->d @lin [1,1]","a->d @req [*,0]""#;
+    let sheet = sheet_of(alloc, "abcd", edges)?;
+    draws(
+        alloc,
+        sheet.as_str(),
+        r#"{"signal":[{"name":"U.a@0","wave":"01","node":".a"},{"name":"U.b@0","wave":"0.1","node":"..b"},{"name":"U.c@0","wave":"0..1","node":"...c"},{"name":"U.d@0","wave":"0...1","node":"....d"}],"edge":["a->b @lin [9999999999999,9999999999999]","b->c @lin [10000000000000,10000000000000]","c->d @lin [1,1]","a->d @req [*,0]"]}"#,
+    )
+}
+
+// Nothing bounds the pair above, so its times are raised past the end, to one above the limit: the drawing has the limit.
+#[test]
+fn a_gap_above_the_limit(rt: HostRuntime) -> Result<(), Fail> {
+    let alloc = rt.alloc();
+    let edges = r#""a->b @lin [10000000000000,*]","b->c @lin [0,5]","a->b @req [0,9999999999999]""#;
+    let sheet = sheet_of(alloc, "abc", edges)?;
+    draws(
+        alloc,
+        sheet.as_str(),
+        r#"{"signal":[{"name":"U.a@0","wave":"01","node":".a"},{"name":"U.b@0","wave":"0.1","node":"..b"},{"name":"U.c@0","wave":"0.1","node":"..c"}],"edge":["a->b @lin [10000000000000,10000000000000]","b->c @lin [0,0]","a->b @req [0,9999999999999]"]}"#,
+    )
+}
+
+// On a side that nothing bounds the times are raised past the end. The gap is within the limit and past the end.
+#[test]
+fn a_side_that_nothing_bounds(rt: HostRuntime) -> Result<(), Fail> {
+    let alloc = rt.alloc();
+    let mut shelf = shelf_with(alloc, "s", UNMET.as_bytes())?;
+    let drawing = written_by(alloc, &REDRAW, &mut shelf)?;
+    let front =
+        r#"{"signal":[{"name":"U.a@0","wave":"01","node":".a"},{"name":"U.b@0","wave":"0.1","node":"..b"}],"edge":["a->b @lin ["#;
+    let text = drawing.as_str();
+    match text.starts_with(front) && text.ends_with("\"a->b @req [0,1000]\"]}\n") {
+        true => fails_again(alloc, text),
+        false => Err(Fail::new(format_args!("{drawing}"))),
+    }
+}
+
+// ---- many events
+
+// So many cycles of one clock, and a requirement from one edge to the next that fails.
+fn cycles_of(alloc: Global, cycles: u32) -> Result<ShelfMem, Fail> {
+    let netlist = format!(in alloc;
+        r#"{{"itv":1,"cycles":{cycles},"parts":[{{"name":"C","sheet":"c"}}],"edges":["C.a C.a @req+1 [0,5]"]}}"#
+    )?;
+    let clock = r#"{"signal":[{"wave":"p","node":"a"}],"edge":["a->a @lin+1 [10,10]"]}"#;
+    Ok(shelf_of(alloc, &[("s", netlist.as_str()), ("c", clock)])?)
+}
+
+// How often a text stands in another.
+fn count_of(text: &str, part: &str) -> usize {
+    text.split(part).count() - 1
+}
+
+// All 93 events are drawn, and of more the first 93, with the pair among them. The drawing has a rule less than events, and a demand.
+#[test]
+fn more_events_than_marks(rt: HostRuntime) -> Result<(), Fail> {
+    let alloc = rt.alloc();
+    for (cycles, drawn) in [(2, 2), (92, 92), (93, 93), (94, 93), (200, 93)] {
+        let drawing = written_by(alloc, &REDRAW, &mut cycles_of(alloc, cycles)?)?;
+        let text = drawing.as_str();
+        assert_eq!(&rt; count_of(text, "\"name\":"), drawn);
+        assert_eq!(&rt; count_of(text, "@lin [10,10]"), drawn - 1);
+        assert_eq!(&rt; count_of(text, "@req [0,5]"), 1);
+        fails_again(alloc, text)?;
+    }
+    Ok(())
+}
+
+// The row leads 64 cycles on, and of the two events of each cycle 91 more are drawn, up to the later one of cycle 45, at 455. The gap
+// from there to the row's event at 640 is that of both, whatever comes between.
+#[test]
+fn a_gap_that_no_drawn_event_fills(rt: HostRuntime) -> Result<(), Fail> {
+    let alloc = rt.alloc();
+    let netlist =
+        r#"{"itv":1,"cycles":65,"parts":[{"name":"C","sheet":"c"}],"edges":["C.a C.a @req+64 [0,5]"]}"#;
+    let clock =
+        r#"{"signal":[{"wave":"p","node":"a"},{"node":"b"}],"edge":["a->a @lin+1 [10,10]","a->b @lin [5,5]"]}"#;
+    let mut shelf = shelf_of(alloc, &[("s", netlist), ("c", clock)])?;
+    let drawing = written_by(alloc, &REDRAW, &mut shelf)?;
+    let text = drawing.as_str();
+    assert_eq!(&rt; count_of(text, "\"name\":"), 93);
+    assert_eq!(&rt; count_of(text, "@lin [5,5]"), 91);
+    assert_eq!(&rt; count_of(text, "@lin [185,185]"), 1);
+    fails_again(alloc, text)
+}
+
+// ---- other ends
+
+#[test]
+fn nothing_failed(rt: HostRuntime) -> Result<(), Fail> {
+    let alloc = rt.alloc();
+    ends(alloc, MET, (Outcome::AllPass, "nothing failed\n"))?;
+    ends(
+        alloc,
+        CIRCLE,
+        (Outcome::Inconsistent, "finding inconsistent\n"),
+    )?;
+    let few = ["--job=redraw", "--budget=1", "s"];
+    let undecided = (Outcome::Undecided, "nothing failed\n");
+    files_end(alloc, &[("s", SETTLES)], &few, undecided)?;
+    let more = ["--job=redraw", "--cert", "--budget=2", "s"];
+    let pass = (Outcome::AllPass, "nothing failed\n");
+    files_end(alloc, &[("s", SETTLES)], &more, pass)
+}
+
+// A row that fails at an end of the widest kind is refused by its number, on either side, and just inside it is drawn.
+#[test]
+fn ends_that_are_too_wide(rt: HostRuntime) -> Result<(), Fail> {
+    let alloc = rt.alloc();
+    let high = r#""a->b @lin [0,*]","a->b @req [*,*]","a->b @req [0,10000000000000]""#;
+    let sheet = sheet_of(alloc, "ab", high)?;
+    let refused = (Outcome::Refused, "refused design Wide 1\n");
+    ends(alloc, sheet.as_str(), refused)?;
+    let low = r#""a->b @lin [*,0]","a->b @req [-10000000000000,0]""#;
+    let sheet = sheet_of(alloc, "ab", low)?;
+    let refused = (Outcome::Refused, "refused design Wide 0\n");
+    ends(alloc, sheet.as_str(), refused)?;
+    let both = r#""a->b @lin [0,*]","a->b @req [1,10000000000000]","a->b @req [0,5]""#;
+    let sheet = sheet_of(alloc, "ab", both)?;
+    let refused = (Outcome::Refused, "refused design Wide 0\n");
+    ends(alloc, sheet.as_str(), refused)?;
+    for edges in [
+        r#""a->b @lin [0,*]","a->b @req [0,9999999999999]""#,
+        r#""a->b @lin [*,0]","a->b @req [-9999999999999,10000000000000]""#,
+    ] {
+        let sheet = sheet_of(alloc, "ab", edges)?;
+        let mut shelf = shelf_with(alloc, "s", sheet.as_bytes())?;
+        let text = written_by(alloc, &REDRAW, &mut shelf)?;
+        fails_again(alloc, text.as_str())?;
+    }
+    Ok(())
+}
+
+#[test]
+fn refusals_come_first(rt: HostRuntime) -> Result<(), Fail> {
+    let alloc = rt.alloc();
+    let refused = (Outcome::Refused, "refused file 0 NotJson\n");
+    ends(alloc, "{", refused)?;
+    let mut nothing = shelf_of(alloc, &[])?;
+    let unread = (Outcome::ReadFault, "cannot read file 0\n");
+    run_ends(alloc, &REDRAW, &mut nothing, unread)?;
+    let bad_words = (Outcome::BadWords, "bad words\n");
+    run_ends(alloc, &["--job=redraw"], &mut nothing, bad_words)
+}

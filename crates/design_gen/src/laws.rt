@@ -1,0 +1,8 @@
+//! Laws of the generated design. The functions do nothing; what they ensure holds of every size.
+
+ghost use Rattle.design_gen.specs.Files.{FilesFit};
+
+/// No file of the generated design is longer than a file may be.
+pub fn files_fit()
+    ensures { FilesFit }
+{}

@@ -1,0 +1,9 @@
+//! The names of events, as they are kept.
+
+/// The name of an event, with the number of its part, counted from 0, in place of the part's name.
+#[derive(Clone, Copy, Debug, PartialEq, Eq)]
+pub struct EventLabel {
+    pub part: u32,
+    pub mark: u8,
+    pub cycle: u32,
+}

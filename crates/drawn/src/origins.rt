@@ -1,0 +1,7 @@
+//! The origins of causes.
+
+use itv_base::Listing;
+use origin::Origin;
+
+/// The origins of the causes of constraints: a list for each constraint, in order, and in it an origin for each cause, in order.
+pub type Origins = Listing<Listing<Origin>>;

@@ -1,0 +1,17 @@
+//! The separations that are asked for.
+
+use itv_base::{EventId, Listing, RowKind};
+use origin::Origin;
+
+/// A separation that is asked for, from an event to an event, what is wanted of it, and what draws it: an edge of a sheet or one of
+/// the netlist.
+#[derive(Clone, Copy, Debug, PartialEq, Eq)]
+pub struct Row {
+    pub kind: RowKind,
+    pub from: EventId,
+    pub to: EventId,
+    pub origin: Origin,
+}
+
+/// Rows in order.
+pub type Rows = Listing<Row>;

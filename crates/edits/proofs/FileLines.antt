@@ -1,0 +1,165 @@
+-- A file of edits is read line by line: the edits that were read, in front of those that are still read.
+use Rattle.std.proofs.Common.{◌≡◌, ◌==◌, ◌+◌, ◌<◌, ℕ, Bool, true, false, cond, List, [], ◌∷◌, ◌++◌, length, All, Result, Ok, Err, IfOk, IsErrAnd, if◌then◌else◌, refl, sym, ap, subst, ◌∙◌, arith, append_assoc, append-nil, length-append}
+use Rattle.std.specs.List.{after_first, before_first, onto_first, position_or_len, slice_split}
+use Rattle.std.specs.Str.{IsUtf8, is_utf8}
+use Rattle.std.proofs.lemmas.List.Splits.{slice_split_first, slice_split_none}
+use Rattle.std.proofs.lemmas.List.Sums.{fails_before_first}
+use Rattle.std.proofs.lemmas.List.Elements.{All-cons}
+use Rattle.std.proofs.lemmas.Str.{IsUtf8-from_is_utf8, is_utf8-from_IsUtf8}
+use Rattle.itv_base.specs.Reading.{◌>>=◌, Gives, HasFault, Unless}
+use Rattle.line_words.specs.Lines.{is_feed}
+use Rattle.event_graph.specs.Network.{Net}
+use Rattle.edits.specs.declared.edit.RangeEdit.{RangeEdit}
+use Rattle.edits.specs.declared.fault.EditsFault.{EditsFault}
+use Rattle.edits.specs.declared.fault.EditsFault.TheVariants.{Line}
+use Rattle.edits.specs.EditLine.{IsThere, cause_of, edit_at, edit_named}
+use Rattle.edits.specs.EditsFile.{edits_from, is_memory}
+use Rattle.edits.proofs.EditTexts.{edit_takes}
+
+-- ---- one line
+
+-- a line that is a text
+pub edit_text : (net : Net) (n : ℕ) (line text : List ℕ) (result : Result RangeEdit EditsFault) → IsUtf8 line → text ≡ line → result ≡ edit_named net n (cause_of text)
+    → result ≡ edit_at net n line
+edit_text net n line text result is_text same is = rw (is_utf8-from_IsUtf8 line is_text) (is ∙ ap (λ t. edit_named net n (cause_of t)) same)
+
+untext_by : (net : Net) (n : ℕ) (line : List ℕ) (b : Bool) → is_utf8 line ≡ b → (IsUtf8 line → ⊥)
+    → ◌≡◌ {A = Result RangeEdit EditsFault} (Err (Line n)) (if b then edit_named net n (cause_of line) else Err (Line n))
+untext_by net n line true is other = absurd (other (IsUtf8-from_is_utf8 line is))
+untext_by net n line false is other = refl
+
+-- a line that is none
+pub edit_untext : (net : Net) (n : ℕ) (line : List ℕ) → (IsUtf8 line → ⊥) → Err (Line n) ≡ edit_at net n line
+edit_untext net n line other = untext_by net n line (is_utf8 line) refl other
+
+-- ---- the first line of a text
+
+cut_is : (text line behind : List ℕ) → position_or_len is_feed text < length text → line ≡ before_first is_feed text → behind ≡ after_first is_feed text
+    → slice_split is_feed text ≡ line ∷ slice_split is_feed behind
+cut_is text line behind h first rest = slice_split_first is_feed text 0 h ∙ rw (first, rest) refl
+
+uncut_is : (text : List ℕ) → position_or_len is_feed text ≡ length text → slice_split is_feed text ≡ text ∷ []
+uncut_is text h = slice_split_none is_feed text (λ k d within. fails_before_first is_feed text k d (omega arith))
+
+-- a text has at least one part
+abbrev HasPart : List (List ℕ) → Type 0
+HasPart [] = ⊥
+HasPart (part ∷ parts) = Unit {0}
+
+cons_part : (b : Bool) (byte : ℕ) (parts : List (List ℕ)) → HasPart parts → HasPart (cond b ([] ∷ parts) (onto_first byte parts))
+cons_part true byte parts some = tt
+cons_part false byte [] some = tt
+cons_part false byte (part ∷ parts) some = tt
+
+split_some : (text : List ℕ) → HasPart (slice_split is_feed text)
+split_some [] = tt
+split_some (b ∷ text) = cons_part (is_feed b) b (slice_split is_feed text) (split_some text)
+
+-- ---- the edits so far
+
+-- edits that were read in front of those that are still read
+abbrev pub behind_edits : List RangeEdit → Result (List RangeEdit) EditsFault → Result (List RangeEdit) EditsFault
+behind_edits front rest = rest >>= λ others. Ok (front ++ others)
+
+-- the edits so far, and the text that is left
+abbrev pub EditsSoFar : Net → List RangeEdit → List ℕ → Result (List RangeEdit) EditsFault → Type 0
+EditsSoFar net edits text total = behind_edits edits (edits_from net (length edits + 1) (slice_split is_feed text)) ≡ total
+
+none_by : (rest : Result (List RangeEdit) EditsFault) → behind_edits [] rest ≡ rest
+none_by (Ok others) = refl
+none_by (Err fault) = refl
+
+pub none_yet : (net : Net) (text : List ℕ) → EditsSoFar net [] text (edits_from net 1 (slice_split is_feed text))
+none_yet net text = none_by (edits_from net 1 (slice_split is_feed text))
+
+more_by : (front : List RangeEdit) (edit : RangeEdit) (rest : Result (List RangeEdit) EditsFault)
+    → behind_edits front (rest >>= λ others. Ok (edit ∷ others)) ≡ behind_edits (front ++ edit ∷ []) rest
+more_by front edit (Ok others) = ap (λ es. Ok es) (sym (append_assoc front (edit ∷ []) others))
+more_by front edit (Err fault) = refl
+
+-- a line in front of others
+line_first : (net : Net) (n : ℕ) (line : List ℕ) (lines : List (List ℕ)) → HasPart lines
+    → edits_from net n (line ∷ lines) ≡ (edit_at net n line >>= λ first. edits_from net (n + 1) lines >>= λ others. Ok (first ∷ others))
+line_first net n line [] some = absurd some
+line_first net n line (next ∷ lines) some = refl
+
+module _ (net : Net) (edits : List RangeEdit) (text line behind : List ℕ) (n : ℕ) (total : Result (List RangeEdit) EditsFault) (so_far : EditsSoFar net edits text total)
+    (cut : position_or_len is_feed text < length text) (first : line ≡ before_first is_feed text) (rest : behind ≡ after_first is_feed text) (number : n ≡ length edits + 1) where
+  one_line : behind_edits edits (edit_at net n line >>= λ first. edits_from net (n + 1) (slice_split is_feed behind) >>= λ others. Ok (first ∷ others)) ≡ total
+  one_line =
+      let step : edits_from net n (slice_split is_feed text) ≡ (edit_at net n line >>= λ first. edits_from net (n + 1) (slice_split is_feed behind) >>= λ others. Ok (first ∷ others)) =
+      ap (edits_from net n) (cut_is text line behind cut first rest) ∙ line_first net n line (slice_split is_feed behind) (split_some behind) in
+      ap (behind_edits edits) (sym step ∙ ap (λ m. edits_from net m (slice_split is_feed text)) number) ∙ so_far
+
+  -- one more line is read
+  pub goes_on : (edit : RangeEdit) (more : List RangeEdit) → Ok edit ≡ edit_at net n line → more ≡ edits ++ edit ∷ [] → EditsSoFar net more behind total
+  goes_on edit more read grows =
+      let next : n + 1 ≡ length (edits ++ edit ∷ []) + 1 = omega (arith, number, length-append edits (edit ∷ [])) in
+      let others : Result (List RangeEdit) EditsFault = edits_from net (n + 1) (slice_split is_feed behind) in
+      let step : behind_edits edits (others >>= λ others. Ok (edit ∷ others)) ≡ total =
+      ap (λ (o : Result RangeEdit EditsFault). behind_edits edits (o >>= λ first. others >>= λ others. Ok (first ∷ others))) read ∙ one_line in
+      rw grows (ap (λ m. behind_edits (edits ++ edit ∷ []) (edits_from net m (slice_split is_feed behind))) (sym next) ∙ (sym (more_by edits edit others) ∙ step))
+
+  -- a line with a fault ends the reading
+  pub stops : (fault : EditsFault) → Err fault ≡ edit_at net n line → total ≡ Err fault
+  stops fault read =
+      sym (ap (λ (o : Result RangeEdit EditsFault). behind_edits edits (o >>= λ first. edits_from net (n + 1) (slice_split is_feed behind) >>= λ others. Ok (first ∷ others))) read ∙ one_line)
+
+unless_is : (b : Bool) (P : Type 0) → P → Unless b P
+unless_is true P p = tt
+unless_is false P p = p
+
+pub told : (total : Result (List RangeEdit) EditsFault) (fault : EditsFault) → total ≡ Err fault → HasFault is_memory total fault
+told total fault is = unless_is (is_memory fault) (total ≡ Err fault) is
+
+-- what the exit of a `?` returns
+pub stops_by : (total result : Result (List RangeEdit) EditsFault) (fault : EditsFault) → IsErrAnd result (λ other. other ≡ fault) → total ≡ Err fault
+    → Gives is_memory (λ (edits : List RangeEdit). edits) result total
+stops_by total (Ok edits) fault out is = absurd out
+stops_by total (Err other) fault out is = rw out (told total fault is)
+
+-- ---- the end
+
+module _ (net : Net) (edits : List RangeEdit) (text : List ℕ) (total : Result (List RangeEdit) EditsFault) (so_far : EditsSoFar net edits text total)
+    (uncut : position_or_len is_feed text ≡ length text) where
+  last_part : behind_edits edits (if length text == 0 then Ok [] else Err (Line (length edits + 1))) ≡ total
+  last_part = ap (λ parts. behind_edits edits (edits_from net (length edits + 1) parts)) (sym (uncut_is text uncut)) ∙ so_far
+
+  -- nothing is left
+  pub ends_whole : (length text == 0) ≡ true → total ≡ Ok edits
+  ends_whole empty = sym last_part ∙ rw empty (ap (λ es. Ok es) (append-nil edits))
+
+  -- something is left that is no line
+  pub ends_short : (n : ℕ) → (length text == 0) ≡ false → n ≡ length edits + 1 → total ≡ Err (Line n)
+  ends_short n some number = sym last_part ∙ rw some (ap (λ m. Err (Line m)) (sym number))
+
+-- ---- the causes are there
+
+there_more : (net : Net) (n : ℕ) (line : List ℕ) (o : Result RangeEdit EditsFault) (r : Result (List RangeEdit) EditsFault) (edits : List RangeEdit) → edit_at net n line ≡ o
+    → (o >>= λ first. r >>= λ others. Ok (first ∷ others)) ≡ Ok edits → ((others : List RangeEdit) → r ≡ Ok others → All (IsThere net) others) → All (IsThere net) edits
+there_more net n line (Ok e) (Ok others) edits is h all =
+    let same : e ∷ others ≡ edits = cc in
+    let first : IsThere net e = (edit_takes net n line e is).there in
+    subst (All (IsThere net)) same (All-cons (IsThere net) e others first (all others refl))
+there_more net n line (Ok e) (Err fault) edits is h all = absurd (cc)
+there_more net n line (Err fault) r edits is h all = absurd (cc)
+
+none_there : (net : Net) (n : ℕ) (b : Bool) (edits : List RangeEdit) → ◌≡◌ {A = Result (List RangeEdit) EditsFault} (if b then Ok [] else Err (Line n)) (Ok edits) → All (IsThere net) edits
+none_there net n true edits h = let same : [] ≡ edits = cc in subst (All (IsThere net)) same (λ k d within. absurd (omega arith))
+none_there net n false edits h = absurd (cc)
+
+-- the cause of each edit that was read is there
+pub edits_there : (net : Net) (n : ℕ) (lines : List (List ℕ)) (edits : List RangeEdit) → edits_from net n lines ≡ Ok edits → All (IsThere net) edits
+edits_there net n [] edits h = none_there net n true edits h
+edits_there net n (rest ∷ []) edits h = none_there net n (length rest == 0) edits h
+edits_there net n (line ∷ next ∷ lines) edits h =
+    there_more net n line (edit_at net n line) (edits_from net (n + 1) (next ∷ lines)) edits refl h (edits_there net (n + 1) (next ∷ lines))
+
+pub there_read : (net : Net) (lines : List (List ℕ)) (result : Result (List RangeEdit) EditsFault) → Gives is_memory (λ (edits : List RangeEdit). edits) result (edits_from net 1 lines)
+    → IfOk result (All (IsThere net))
+there_read net lines (Ok edits) read = edits_there net 1 lines edits read
+there_read net lines (Err fault) read = tt
+
+pub there_of : (net : Net) (bytes : List ℕ) (result : Result (List RangeEdit) EditsFault) → Gives is_memory (λ (edits : List RangeEdit). edits) result (edits_from net 1 (slice_split is_feed bytes))
+    → IfOk result (All (IsThere net))
+there_of net bytes result read = there_read net (slice_split is_feed bytes) result read

@@ -1,0 +1,2 @@
+pub mod EditTexts
+pub mod FileLines

@@ -1,0 +1,29 @@
+use Rattle.std.proofs.Common.{◌≡◌, ◌+◌, length, ◌∙◌, ap, sym, Err}
+use Rattle.std.specs.List.{slice_split}
+use Rattle.line_words.specs.Lines.{is_feed}
+use Rattle.edits.specs.EditLine.{edit_at}
+use Rattle.edits.specs.EditsFile.{edits_from}
+use Rattle.edits.proofs.FileLines.{ends_short, goes_on, stops, stops_by}
+use Rattle.edits.proofs.file.read_lines.Goals as goal
+
+pub returns-in_err-edit : goal.returns-in_err-edit
+returns-in_err-edit c =
+    let cut = c.in-Some.ensures in
+    let number : c.len.result + 1 ≡ length c.loop-line.edits.items + 1 = ap (λ n. n + 1) (c.len.ensures ∙ c.loop-line.edits.ok.0) in
+    let read : Err c.in_err-edit.field-0.0 ≡ edit_at c.args.net.now (c.len.result + 1) c.in-Some.line.now = c.in_err-edit.ensures in
+    stops_by (edits_from c.args.net.now 1 (slice_split is_feed c.args.bytes.now)) c.from_residual.result c.in_err-edit.field-0.0 c.from_residual.ensures.1
+    (stops c.args.net.now c.loop-line.edits.items c.loop-line.rest.now c.in-Some.line.now c.in-Some.behind.now (c.len.result + 1) _ c.loop-line.invariant cut.0 cut.1 cut.2 number
+    c.in_err-edit.field-0.0 read)
+
+pub loop-line-preserved : goal.loop-line-preserved
+loop-line-preserved c =
+    let cut = c.in-Some.ensures in
+    let number : c.len.result + 1 ≡ length c.loop-line.edits.items + 1 = ap (λ n. n + 1) (c.len.ensures ∙ c.loop-line.edits.ok.0) in
+    goes_on c.args.net.now c.loop-line.edits.items c.loop-line.rest.now c.in-Some.line.now c.in-Some.behind.now (c.len.result + 1) _ c.loop-line.invariant cut.0 cut.1 cut.2 number
+    c.in_ok-edit.edit c.push.new.self.items c.in_ok-edit.ensures c.in_ok-push.ensures.items
+
+pub returns-then-not-is_empty : goal.returns-then-not-is_empty
+returns-then-not-is_empty c =
+    let number : c.len-then-not-is_empty.result + 1 ≡ length c.loop-line.edits.items + 1 = ap (λ n. n + 1) (c.len-then-not-is_empty.ensures ∙ c.loop-line.edits.ok.0) in
+    ends_short c.args.net.now c.loop-line.edits.items c.loop-line.rest.now _ c.loop-line.invariant c.in_default.ensures (c.len-then-not-is_empty.result + 1)
+    (sym c.if-not-is_empty.ensures) number

@@ -1,0 +1,13 @@
+use Rattle.std.proofs.Common.{length}
+use Rattle.std.specs.List.{slice_split}
+use Rattle.line_words.specs.Lines.{is_feed}
+use Rattle.edits.specs.EditsFile.{edits_from}
+use Rattle.edits.proofs.FileLines.{EditsSoFar}
+use Rattle.edits.proofs.file.read_lines.Given as goal
+
+-- the edits so far, and the text that is left
+abbrev pub invariant-loop-line : goal.invariant-loop-line
+invariant-loop-line l = EditsSoFar l.net l.edits.items l.rest (edits_from l.net 1 (slice_split is_feed l.bytes))
+
+abbrev pub decreases-loop-line : goal.decreases-loop-line
+decreases-loop-line l = length l.rest

@@ -1,0 +1,49 @@
+-- Files of edits: a line for each, with a line end.
+use Rattle.std.specs.Prelude.{◌≡◌, ◌<◌, ◌+◌, ◌-◌, ◌==◌, ℕ, Bool, true, false, nat_lt, if◌then◌else◌, List, [], ◌∷◌, length, Option, Some, None, slice_get, count_by, Result, Ok, Err}
+use Rattle.std.specs.Option.{option_map_or}
+use Rattle.std.specs.List.{after_first, before_first, position_or_len, slice_split}
+use denote.Ref.{Bor}
+use Rattle.itv_base.specs.Reading.{◌>>=◌}
+use Rattle.line_words.specs.Lines.{is_feed}
+use Rattle.event_graph.specs.Network.{Net}
+use Rattle.edits.specs.EditLine.{edit_at}
+use Rattle.edits.specs.declared.edit.RangeEdit.{RangeEdit}
+use Rattle.edits.specs.declared.fault.EditsFault.{EditsFault}
+use Rattle.edits.specs.declared.fault.EditsFault.TheVariants.{Line, NoMemory, NoSuch, Range, TooLong, TooMany}
+use Rattle.edits.specs.declared.file.TheConstants.{MAX_EDITS, MAX_EDITS_BYTES}
+
+-- the edits of a file that was cut at its line ends, from a line of a number on: what stands behind the last line end is nothing or a line
+-- that is not of the form
+abbrev pub edits_from : Net → ℕ → List (List ℕ) → Result (List RangeEdit) EditsFault
+edits_from net n [] = Ok []
+edits_from net n (rest ∷ []) = if length rest == 0 then Ok [] else Err (Line n)
+edits_from net n (line ∷ next ∷ lines) =
+    edit_at net n line >>= λ first. edits_from net (n + 1) (next ∷ lines) >>= λ others. Ok (first ∷ others)
+
+-- nothing stands behind the last line end
+abbrev pub is_ended : List ℕ → Bool
+is_ended bytes = option_map_or is_feed (slice_get bytes (length bytes - 1)) true
+
+-- how many lines there are: one for each line end, and one more for what stands behind the last
+abbrev pub line_count : List ℕ → ℕ
+line_count bytes = count_by is_feed bytes + (if is_ended bytes then 0 else 1)
+
+-- the edits of a file, or its first fault
+abbrev pub edits_of : Net → List ℕ → Result (List RangeEdit) EditsFault
+edits_of net bytes =
+    if nat_lt MAX_EDITS_BYTES (length bytes) then Err TooLong
+    else (if nat_lt MAX_EDITS (line_count bytes) then Err (TooMany (line_count bytes)) else edits_from net 1 (slice_split is_feed bytes))
+
+-- memory was wanted, which is no fault of the file
+abbrev pub is_memory : EditsFault → Bool
+is_memory TooLong = false
+is_memory (TooMany count) = false
+is_memory (Line n) = false
+is_memory (Range n fault) = false
+is_memory (NoSuch n) = false
+is_memory NoMemory = true
+
+-- the first line of a text, and the text behind the end of that line, or none where no line ends
+abbrev pub Cuts : List ℕ → Option (Bor (List ℕ) × Bor (List ℕ)) → Type 0
+Cuts text None = position_or_len is_feed text ≡ length text
+Cuts text (Some parts) = (position_or_len is_feed text < length text) × (parts.0.now ≡ before_first is_feed text) × (parts.1.now ≡ after_first is_feed text)

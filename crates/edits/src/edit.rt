@@ -1,0 +1,14 @@
+//! Edits of a network.
+
+use itv_base::{Listing, Range};
+
+/// Another range for a cause of a constraint, both by their numbers from 0. Cause 0 of a linear constraint is its from-event.
+#[derive(Clone, Copy, Debug, PartialEq, Eq)]
+pub struct RangeEdit {
+    pub constraint: u32,
+    pub cause: u32,
+    pub range: Range,
+}
+
+/// Edits in the order in which they are made.
+pub type Edits = Listing<RangeEdit>;

@@ -1,0 +1,39 @@
+//! Why bytes are no edits.
+
+ghost use Rattle.std.specs.Prelude.{◌≡◌};
+ghost use Rattle.edits.specs.declared.fault.EditsFault.TheVariants.{NoMemory};
+
+use itv_base::RangeFault;
+use std::alloc::AllocFailed;
+use thiserror::Error;
+
+/// The first fault of a file of edits. Lines are told by their number from 1.
+#[derive(Clone, Copy, Debug, PartialEq, Eq, Error)]
+pub enum EditsFault {
+    /// There are more bytes than [`MAX_EDITS_BYTES`](crate::MAX_EDITS_BYTES).
+    #[error("the file is too long")]
+    TooLong,
+    /// There are more lines than [`MAX_EDITS`](crate::MAX_EDITS), so many.
+    #[error("{0} lines are too many")]
+    TooMany(u64),
+    /// The line is not of the form, or has no end.
+    #[error("line {0} is no edit")]
+    Line(u64),
+    /// The ends on the line make no range.
+    #[error("the ends of line {0} make no range")]
+    Range(u64, RangeFault),
+    /// The network has not the cause that the line names.
+    #[error("the cause of line {0} is not there")]
+    NoSuch(u64),
+    /// Memory was wanted and not found.
+    #[error("out of memory")]
+    NoMemory,
+}
+
+impl<T: Drop> From<AllocFailed<T>> for EditsFault {
+    ghost from_gives = { λ _ e. e ≡ NoMemory };
+
+    fn from(_: AllocFailed<T>) -> EditsFault {
+        EditsFault::NoMemory
+    }
+}

@@ -1,0 +1,99 @@
+//! Reading a file of edits.
+
+ghost use Rattle.std.specs.Prelude.{◌≡◌, ◌≤◌, List, All, IfOk, count_by, length};
+ghost use Rattle.std.specs.List.{position_or_len, slice_split};
+ghost use Rattle.itv_base.specs.Reading.{Gives};
+ghost use Rattle.line_words.specs.Lines.{is_feed};
+ghost use Rattle.edits.specs.EditLine.{IsThere};
+ghost use Rattle.edits.specs.EditsFile.{Cuts, edits_from, edits_of, is_ended, is_memory, line_count};
+ghost use Rattle.edits.specs.declared.edit.RangeEdit.{RangeEdit};
+
+use crate::edit::{Edits, RangeEdit};
+use crate::fault::EditsFault;
+use crate::line::read_edit;
+use event_graph::Network;
+use std::alloc::Global;
+
+/// The most bytes of a file of edits.
+pub const MAX_EDITS_BYTES: usize = 1_048_576;
+
+/// The most lines of a file of edits.
+pub const MAX_EDITS: u64 = 1_000;
+
+/// Reads a file of edits of a network: for each a line `set C.I [l,u]` with a line end, where C is the number of a constraint, I
+/// that of one of its causes, both from 0, and `[l,u]` the range that this cause is to have, in picoseconds, `*` where open. A file
+/// that is too long is told first, then one of too many lines, then the first line with a fault. Of a line the form comes first,
+/// then its range, and then whether the network has the cause. Bytes behind the last line end are a line that is not of the form.
+pub fn read_edits(alloc: Global, net: &Network, bytes: &[u8]) -> Result<Edits, EditsFault>
+    ensures read { Gives is_memory (λ (edits : List RangeEdit). edits) result (edits_of net.now bytes.now) }
+    ensures there { IfOk result (All (IsThere net.now)) }
+{
+    if MAX_EDITS_BYTES < bytes.len() {
+        return Err(EditsFault::TooLong);
+    }
+    let count = line_count(bytes);
+    if MAX_EDITS < count {
+        return Err(EditsFault::TooMany(count));
+    }
+    read_lines(alloc, net, bytes)
+}
+
+// How many lines there are.
+fn line_count(bytes: &[u8]) -> u64
+    ensures { result ≡ line_count bytes.now }
+{
+    let count = feeds(bytes) as u64;
+    if is_ended(bytes) { count } else { count + 1 }
+}
+
+fn feeds(bytes: &[u8]) -> usize
+    ensures count { result ≡ count_by is_feed bytes.now }
+    ensures within { result ≤ length bytes.now }
+{
+    bytes.iter().filter(|b| **b == b'\n').count()
+}
+
+// Whether nothing stands behind the last line end.
+fn is_ended(bytes: &[u8]) -> bool
+    ensures { result ≡ is_ended bytes.now }
+{
+    match bytes.last() {
+        None => true,
+        Some(b) => *b == b'\n',
+    }
+}
+
+// The edits of bytes without limits.
+fn read_lines(alloc: Global, net: &Network, bytes: &[u8]) -> Result<Edits, EditsFault>
+    ensures { Gives is_memory (λ (edits : List RangeEdit). edits) result (edits_from net.now 1 (slice_split is_feed bytes.now)) }
+{
+    let mut edits: Vec<RangeEdit> = Vec::new(alloc);
+    let mut rest = bytes;
+    while let Some((line, behind)) = cut_line(rest) {
+        let edit = read_edit(net, edits.len() as u64 + 1, line)?;
+        edits.push(edit)?;
+        rest = behind;
+    }
+    if !rest.is_empty() {
+        return Err(EditsFault::Line(edits.len() as u64 + 1));
+    }
+    Ok(Edits::from(edits))
+}
+
+// The first line of a text, and the text behind its end.
+fn cut_line(text: &[u8]) -> Option<(&[u8], &[u8])>
+    ensures { Cuts text.now result }
+{
+    let len = line_len(text);
+    if len == text.len() {
+        return None;
+    }
+    Some((&text[..len], &text[len + 1..]))
+}
+
+fn line_len(text: &[u8]) -> usize
+    ensures len { result ≡ position_or_len is_feed text.now }
+    ensures within { result ≤ length text.now }
+{
+    text.iter().take_while(|b| **b != b'\n').count()
+}

@@ -1,0 +1,8 @@
+//! Laws of edits. Each is the contract of a function that does nothing.
+
+ghost use Rattle.edits.specs.Laws.{EditLinesAreRead};
+
+/// A line of a file of edits is read as an edit exactly where it is the text of that edit, and the network has its cause.
+pub fn edit_lines_are_read()
+    ensures law { EditLinesAreRead }
+{}

@@ -1,0 +1,3 @@
+pub mod WholeGrades
+pub mod Members
+pub mod GradesSteps

@@ -1,0 +1,5 @@
+pub use Rattle.itv_base.specs.Range
+pub use Rattle.itv_base.specs.Reading
+pub use Rattle.serde_json.specs.View
+pub mod Fault
+pub mod Grades

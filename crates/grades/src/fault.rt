@@ -1,0 +1,38 @@
+//! Why the grades of a tree are none.
+
+ghost use Rattle.std.specs.Prelude.{◌≡◌};
+ghost use Rattle.grades.specs.declared.fault.GradesFault.TheVariants.{NoMemory};
+
+use itv_base::{NoMemory as OutOfMemory, RangeFault};
+use std::alloc::AllocFailed;
+use thiserror::Error;
+
+/// The first fault of the grades of a tree: their form as a whole is looked at before any range. Grades and parameters are numbered
+/// from 0 in the byte order of their names.
+#[derive(Clone, Copy, Debug, PartialEq, Eq, Error)]
+pub enum GradesFault {
+    /// `itv_grades` is there and no object from names to objects from names to lists of two, each a whole number or null.
+    #[error("`itv_grades` has not the form of speed grades")]
+    Grades,
+    /// The two ends of a parameter are no range: the number of the grade, that of the parameter in it, and why.
+    #[error("parameter {1} of grade {0} is no range")]
+    Limits(u64, u64, RangeFault),
+    #[error("out of memory")]
+    NoMemory,
+}
+
+impl<T: Drop> From<AllocFailed<T>> for GradesFault {
+    ghost from_gives = { λ _ e. e ≡ NoMemory };
+
+    fn from(_: AllocFailed<T>) -> GradesFault {
+        GradesFault::NoMemory
+    }
+}
+
+impl From<OutOfMemory> for GradesFault {
+    ghost from_gives = { λ _ e. e ≡ NoMemory };
+
+    fn from(_: OutOfMemory) -> GradesFault {
+        GradesFault::NoMemory
+    }
+}

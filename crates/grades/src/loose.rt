@@ -1,0 +1,143 @@
+//! Grades as they are written, their ends not yet known to be ranges.
+
+ghost use Rattle.std.specs.Prelude.{◌≡◌, IfOk, codes, option_and_then};
+ghost use Rattle.serde_json.specs.Find.{get};
+ghost use Rattle.serde_json.specs.View.{view, members_view};
+ghost use Rattle.json_tree.specs.Words.{all_of, members, members_of};
+ghost use Rattle.grades.specs.Grades.{grade_of, grades_in, grades_told, parameter_of};
+
+use itv_base::{Listing, NoMemory, Text, is_name};
+use json_tree::{EndPair, ends_by, list_of};
+use serde_json::{Map, Value};
+use std::alloc::Global;
+use std::marker::Model;
+
+/// A parameter with its two ends.
+#[derive(Debug, Drop)]
+pub struct LooseParameter {
+    pub name: Text,
+    pub ends: EndPair,
+}
+
+impl Model for LooseParameter {
+    ghost use Rattle.json_tree.specs.Pairs.{ends_view};
+    ghost use Rattle.grades.specs.declared.grade.Parameter.{Parameter};
+
+    ghost Value = { Parameter };
+
+    ghost view = { λ p. record { name = p.name; range = ends_view p.ends } };
+}
+
+/// Parameters in the byte order of their names.
+pub type LooseParameters = Listing<LooseParameter>;
+
+/// A grade with its parameters.
+#[derive(Debug, Drop)]
+pub struct LooseGrade {
+    pub name: Text,
+    pub parameters: LooseParameters,
+}
+
+impl Model for LooseGrade {
+    ghost use Rattle.grades.specs.declared.grade.Grade.{Grade};
+
+    ghost Value = { Grade };
+
+    ghost view = { λ g. record { name = g.name; parameters = g.parameters } };
+}
+
+/// Grades in the byte order of their names.
+pub type LooseGrades = Listing<LooseGrade>;
+
+/// The grades of a tree, none where it has no such key; nothing where another thing stands there.
+pub fn told_grades(alloc: Global, tree: &Value) -> Result<Option<LooseGrades>, NoMemory>
+    ensures { IfOk result (λ grades. grades ≡ grades_told (get (codes "itv_grades") (view tree.now))) }
+{
+    match tree.get("itv_grades") {
+        Some(value) => listed_grades(alloc, value),
+        None => Ok(Some(LooseGrades::new(alloc))),
+    }
+}
+
+// The grades of an object.
+fn listed_grades(alloc: Global, value: &Value) -> Result<Option<LooseGrades>, NoMemory>
+    ensures { IfOk result (λ grades. grades ≡ grades_in (view value.now)) }
+{
+    match value.as_object() {
+        Some(map) => grades_in(alloc, map),
+        None => Ok(None),
+    }
+}
+
+// The grades of the members of an object, if each of them is one.
+fn grades_in(alloc: Global, map: &Map<String, Value>) -> Result<Option<LooseGrades>, NoMemory>
+    ensures { IfOk result (λ grades. grades ≡ all_of grade_of (members (members_view map.now.entries))) }
+{
+    let mut grades = LooseGrades::new(alloc);
+    for (name, value) in map.iter() {
+        let Some(grade) = told_grade(alloc, name.as_str(), value)? else {
+            return Ok(None);
+        };
+        grades.push(grade)?;
+    }
+    Ok(Some(grades))
+}
+
+// The grade of a member, if it is one.
+fn told_grade(alloc: Global, name: &str, value: &Value) -> Result<Option<LooseGrade>, NoMemory>
+    ensures { IfOk result (λ grade. grade ≡ grade_of (name.now, view value.now)) }
+{
+    if !is_name(name) {
+        return Ok(None);
+    }
+    let Some(map) = value.as_object() else {
+        return Ok(None);
+    };
+    let Some(parameters) = parameters_in(alloc, map)? else {
+        return Ok(None);
+    };
+    Ok(Some(LooseGrade {
+        name: Text::from_text(alloc, name)?,
+        parameters,
+    }))
+}
+
+// The parameters of the members of an object, if each of them is one.
+fn parameters_in(
+    alloc: Global,
+    map: &Map<String, Value>,
+) -> Result<Option<LooseParameters>, NoMemory>
+    ensures { IfOk result (λ parameters. parameters ≡ all_of parameter_of (members (members_view map.now.entries))) }
+{
+    let mut parameters = LooseParameters::new(alloc);
+    for (name, value) in map.iter() {
+        let Some(parameter) = told_parameter(alloc, name.as_str(), value)? else {
+            return Ok(None);
+        };
+        parameters.push(parameter)?;
+    }
+    Ok(Some(parameters))
+}
+
+// The parameter of a member, if it is one.
+fn told_parameter(
+    alloc: Global,
+    name: &str,
+    value: &Value,
+) -> Result<Option<LooseParameter>, NoMemory>
+    ensures { IfOk result (λ parameter. parameter ≡ parameter_of (name.now, view value.now)) }
+{
+    if !is_name(name) {
+        return Ok(None);
+    }
+    let Some(list) = list_of(value) else {
+        return Ok(None);
+    };
+    let Some(ends) = ends_by(list) else {
+        return Ok(None);
+    };
+    Ok(Some(LooseParameter {
+        name: Text::from_text(alloc, name)?,
+        ends,
+    }))
+}

@@ -1,0 +1,3 @@
+pub mod Works
+pub mod Ending
+pub mod Events

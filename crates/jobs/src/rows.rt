@@ -1,0 +1,45 @@
+//! The rows of a drawn network, and the line of one.
+
+ghost use Rattle.std.specs.Prelude.{◌≡◌, ◌<◌, Some, length, slice_get};
+ghost use Rattle.itv_base.specs.Outside.{Puts};
+ghost use Rattle.slack_report.specs.Entry.{row as entry_row};
+ghost use Rattle.slack_report.specs.Text.{entry_text};
+ghost use Rattle.drawn.specs.Drawn.{IsRowOf, name_of};
+
+use drawn::{DrawnNetwork, Row};
+use itv_base::{PutFailed, Sink};
+use line_words::LineBuffer;
+use slack_report::{Item, write_item};
+
+/// The row of a number, counted from 0, which is there.
+pub fn row_at(drawn: &DrawnNetwork, number: u32) -> &Row
+    requires number { number < length drawn.now.rows }
+    ensures row { slice_get drawn.now.rows number ≡ Some result.now }
+    ensures within { IsRowOf drawn.now.net result.now }
+{
+    drawn.rows().get(u64::from(number))
+}
+
+/// The line that says what is asked of a row, by its number. It is put by one put where it fits the buffer.
+pub fn put_row<K: Sink>(
+    number: u32,
+    row: &Row,
+    drawn: &DrawnNetwork,
+    buffer: &mut LineBuffer,
+    sink: &mut K,
+) -> Result<(), PutFailed>
+    requires row { IsRowOf drawn.now.net row.now }
+    ensures puts { Puts (K.told sink.old) (K.told sink.new)
+        (entry_text (entry_row number row.now.kind (name_of drawn.now row.now.from) (name_of drawn.now row.now.to))) result }
+{
+    write_item(
+        &Item::Row {
+            number,
+            kind: row.kind,
+            from: drawn.name(row.from),
+            to: drawn.name(row.to),
+        },
+        buffer,
+        sink,
+    )
+}

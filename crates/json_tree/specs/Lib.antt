@@ -1,0 +1,6 @@
+pub use Rattle.itv_base.specs.Range
+pub use Rattle.serde_json.specs.Data
+pub use Rattle.serde_json.specs.Find
+pub use Rattle.serde_json.specs.View
+pub mod Words
+pub mod Pairs

@@ -1,0 +1,10 @@
+//! What stands in a tree of JSON: lists, texts, names and whole numbers, under a key or by themselves, and pairs of ends.
+//! The words of its contracts are shared by all that read trees: the elements of an array, and the members of an object with their keys.
+//! The one contract: a call gives what its definition says of the tree, and nothing exactly where the tree has something else there.
+#![tactic(auto)]
+
+mod ends;
+mod values;
+
+pub use ends::{EndPair, ends_by};
+pub use values::{list_at, list_of, name_of, text_at, whole_at};

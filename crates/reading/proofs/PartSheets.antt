@@ -1,0 +1,141 @@
+-- Each part has its sheet among those that were read.
+use Rattle.std.proofs.Common.{◌≡◌, ℕ, ◌+◌, ◌==◌, ◌&&◌, Bool, true, false, cond, if◌then◌else◌, List, [], ◌∷◌, All, get_or, Option, Some, None, IsSome, refl, sym, ap, ◌∙◌, subst}
+use Rattle.std.specs.Prelude.{is_none}
+use Rattle.std.specs.Map.{lookup}
+use Rattle.std.specs.Str.{bytes_eq}
+use Rattle.std.proofs.lemmas.List.Elements.{All-cons, All-nil, All-weaker}
+use Rattle.std.proofs.lemmas.Slice.Eq.{bytes_eq-Decides}
+use Rattle.serde_json.specs.Data.{Data}
+use Rattle.itv_base.specs.Outside.{ShelfTold}
+use Rattle.wavejson.specs.Drawing.{Drawing, diagram_of}
+use Rattle.grades.specs.declared.grade.Grade.{Grade}
+use Rattle.sheet.specs.Contents.{Contents as SheetContents}
+use Rattle.sheet.specs.Sheet.{sheet_by}
+use Rattle.netlist.specs.declared.part.Part.{Part}
+use Rattle.netlist.specs.Contents.{Contents}
+use Rattle.netlist.specs.Netlist.{lone_netlist, sheet_names}
+use Rattle.netlist.proofs.SheetNames.{sheets_hold}
+use Rattle.compose.specs.declared.sheet_key.SheetKey.{SheetKey}
+use Rattle.compose.specs.Sheets.{key_of, same_key}
+use Rattle.compose.proofs.Keys.{same_key_itself}
+use Rattle.reading.specs.declared.place.Place.{Place}
+use Rattle.reading.specs.declared.place.Place.TheVariants.{File}
+use Rattle.reading.specs.declared.refusal.Refusal.TheVariants.{Diagram, Sheet}
+use Rattle.reading.specs.Opening.{gives, at, each, Comes, ready, ◌>>=◌}
+use Rattle.reading.specs.Design.{NamedSheets, grades_in, is_unread, plain_key, sheet_among, sheets_at, sheets_in, sheets_of_files, tree_in, with_part, with_sheet}
+use Rattle.reading.proofs.Opens.{gave, opening_then, each_keeps, each_brings}
+
+-- the sheet of a key is among the sheets
+abbrev pub IsThere : SheetKey → NamedSheets → Type 0
+IsThere key sheets = IsSome (sheet_among sheets key)
+
+-- ---- one sheet more
+
+found_here : (test : Bool) (sheet : SheetContents) (rest : Option SheetContents) → test ≡ true → IsSome (cond test (Some sheet) rest)
+found_here true sheet rest is = refl
+found_here false sheet rest is = absurd (cc is)
+
+-- where one of two is found, the other, whose rest finds as much, is found too
+found_too : (test : Bool) (old new : SheetContents) (rest more : Option SheetContents) → (IsSome rest → IsSome more) → IsSome (cond test (Some old) rest) → IsSome (cond test (Some new) more)
+found_too true old new rest more on is = refl
+found_too false old new rest more on is = on is
+
+-- a sheet that was put in is there
+pub sheet_added : (sheets : NamedSheets) (key : SheetKey) (sheet : SheetContents) → IsThere key (with_sheet sheets key sheet)
+sheet_added [] key sheet = found_here (same_key key key) sheet None (same_key_itself key)
+sheet_added (e ∷ es) key sheet = at (same_key key e.0) refl (sheet_added es key sheet)
+  where
+    at : (b : Bool) → same_key key e.0 ≡ b → IsThere key (with_sheet es key sheet) → IsThere key (cond b ((e.0, sheet) ∷ es) (e ∷ with_sheet es key sheet))
+    at true is rest = found_here (same_key key e.0) sheet (sheet_among es key) is
+    at false is rest = subst (λ t. IsSome (cond t (Some e.1) (sheet_among (with_sheet es key sheet) key))) (sym is) rest
+
+-- and those that were there still are
+pub sheet_kept : (sheets : NamedSheets) (key other : SheetKey) (sheet : SheetContents) → IsThere other sheets → IsThere other (with_sheet sheets key sheet)
+sheet_kept [] key other sheet there = absurd (cc there)
+sheet_kept (e ∷ es) key other sheet there = at (same_key key e.0) (sheet_kept es key other sheet) there
+  where
+    at : (b : Bool) → (IsThere other es → IsThere other (with_sheet es key sheet)) → IsThere other (e ∷ es) → IsThere other (cond b ((e.0, sheet) ∷ es) (e ∷ with_sheet es key sheet))
+    at true rest there = found_too (same_key other e.0) e.1 sheet (sheet_among es other) (sheet_among es other) (λ is. is) there
+    at false rest there = found_too (same_key other e.0) e.1 e.1 (sheet_among es other) (sheet_among (with_sheet es key sheet) other) rest there
+
+-- the sheet of the one part of a netlist that a sheet stands for is there
+pub lone_drawn : (name : List ℕ) (netlist : Contents) (sheets : NamedSheets) (sheet : SheetContents) → netlist ≡ lone_netlist name → sheets ≡ with_sheet [] (plain_key name) sheet
+    → All (λ (part : Part). IsThere (key_of part) sheets) netlist.parts
+lone_drawn name netlist sheets sheet is has =
+    let one : All (λ (part : Part). IsThere (key_of part) (with_sheet [] (plain_key name) sheet)) (lone_netlist name).parts =
+    All-cons (λ (part : Part). IsThere (key_of part) (with_sheet [] (plain_key name) sheet)) _ [] (sheet_added [] (plain_key name) sheet) (All-nil (λ (part : Part). IsThere (key_of part) (with_sheet [] (plain_key name) sheet))) in
+    let same : All (λ (part : Part). IsThere (key_of part) sheets) (lone_netlist name).parts = subst (λ (es : NamedSheets). All (λ (part : Part). IsThere (key_of part) es) (lone_netlist name).parts) (sym has) one in
+    subst (λ (n : Contents). All (λ (part : Part). IsThere (key_of part) sheets) n.parts) (sym is) same
+
+-- ---- the parts of one file
+
+some_if : {A : Type 0} (o : Option A) → is_none o ≡ false → IsSome o
+some_if None is = absurd (cc is)
+some_if (Some x) is = refl
+
+both_of : (a b : Bool) → a ≡ true → (a && b) ≡ false → b ≡ false
+both_of true b is none = none
+both_of false b is none = absurd (cc is)
+
+module _ (shelf : ShelfTold) (place : Place) (name : List ℕ) (grades : Option (List Grade)) (drawing : Drawing) where
+  -- a part that is drawn on the file has its sheet behind it
+  part_brings : (n : ℕ) (sheets more : NamedSheets) (part : Part) → Comes shelf (with_part place name grades drawing n sheets part) (ready more) → part.sheet ≡ name → IsThere (key_of part) more
+  part_brings n sheets more part comes named = by (is_unread sheets name part) refl comes
+    where
+      by : (b : Bool) → is_unread sheets name part ≡ b
+          → Comes shelf (if b then (at place Sheet (sheet_by grades part.grade drawing) >>= (λ sheet. gives (with_sheet sheets (key_of part) sheet))) else gives sheets) (ready more) → IsThere (key_of part) more
+      by true unread came =
+          let (sheet, first, rest) = opening_then shelf (at place Sheet (sheet_by grades part.grade drawing)) (λ sheet. gives (with_sheet sheets (key_of part) sheet)) more came in
+          subst (IsThere (key_of part)) (gave shelf (with_sheet sheets (key_of part) sheet) more rest) (sheet_added sheets (key_of part) sheet)
+      by false known came =
+          let same : bytes_eq name part.sheet ≡ true = (bytes_eq-Decides name part.sheet).1 (sym named) in
+          subst (IsThere (key_of part)) (gave shelf sheets more came) (some_if (sheet_among sheets (key_of part)) (both_of (bytes_eq name part.sheet) (is_none (sheet_among sheets (key_of part))) same known))
+
+  part_keeps : (key : SheetKey) (n : ℕ) (sheets more : NamedSheets) (part : Part) → IsThere key sheets → Comes shelf (with_part place name grades drawing n sheets part) (ready more) → IsThere key more
+  part_keeps key n sheets more part there comes = by (is_unread sheets name part) comes
+    where
+      by : (b : Bool) → Comes shelf (if b then (at place Sheet (sheet_by grades part.grade drawing) >>= (λ sheet. gives (with_sheet sheets (key_of part) sheet))) else gives sheets) (ready more) → IsThere key more
+      by true came =
+          let (sheet, first, rest) = opening_then shelf (at place Sheet (sheet_by grades part.grade drawing)) (λ sheet. gives (with_sheet sheets (key_of part) sheet)) more came in
+          subst (IsThere key) (gave shelf (with_sheet sheets (key_of part) sheet) more rest) (sheet_kept sheets (key_of part) key sheet there)
+      by false came = subst (IsThere key) (gave shelf sheets more came) there
+
+-- ---- files
+
+-- each part that is drawn on a sheet of this name has its own
+abbrev pub AreDrawn : List Part → List ℕ → NamedSheets → Type 0
+AreDrawn parts name sheets = All (λ (part : Part). part.sheet ≡ name → IsThere (key_of part) sheets) parts
+
+module _ (shelf : ShelfTold) (netlist : Contents) where
+  -- what the reading of a file went through
+  file_parts : (number : ℕ) (sheets more : NamedSheets) (name : List ℕ) → Comes shelf (sheets_in netlist number sheets name) (ready more)
+      → (drawing : Drawing) × (grades : Option (List Grade)) × Comes shelf (each (with_part (File number) name grades drawing) 0 sheets netlist.parts) (ready more)
+  file_parts number sheets more name comes =
+      let (tree, fetched, read) = opening_then shelf (tree_in (File number) name) (λ tree. sheets_at netlist number sheets name tree) more comes in
+      let (drawing, drawn, rest) = opening_then shelf (at (File number) Diagram (diagram_of tree)) (λ drawing. grades_in netlist.version (File number) tree >>= (λ grades. each (with_part (File number) name grades drawing) 0 sheets netlist.parts)) more read in
+      let (grades, told, last) = opening_then shelf (grades_in netlist.version (File number) tree) (λ grades. each (with_part (File number) name grades drawing) 0 sheets netlist.parts) more rest in
+      (drawing, grades, last)
+
+  file_brings : (number : ℕ) (sheets more : NamedSheets) (name : List ℕ) → Comes shelf (sheets_in netlist number sheets name) (ready more) → AreDrawn netlist.parts name more
+  file_brings number sheets more name comes =
+      let (drawing, grades, last) = file_parts number sheets more name comes in
+      each_brings (λ (part : Part) sheets. part.sheet ≡ name → IsThere (key_of part) sheets) shelf (with_part (File number) name grades drawing)
+      (part_brings shelf (File number) name grades drawing)
+      (λ y n a b x holds came named. part_keeps shelf (File number) name grades drawing (key_of y) n a b x (holds named) came) 0 sheets more netlist.parts last
+
+  file_keeps : (key : SheetKey) (number : ℕ) (sheets more : NamedSheets) (name : List ℕ) → IsThere key sheets → Comes shelf (sheets_in netlist number sheets name) (ready more) → IsThere key more
+  file_keeps key number sheets more name there comes =
+      let (drawing, grades, last) = file_parts number sheets more name comes in
+      each_keeps (IsThere key) shelf (with_part (File number) name grades drawing) (part_keeps shelf (File number) name grades drawing key) 0 sheets more netlist.parts there last
+
+  files_bring : (names : List (List ℕ)) (sheets : NamedSheets) → Comes shelf (sheets_of_files netlist names) (ready sheets) → All (λ name. AreDrawn netlist.parts name sheets) names
+  files_bring names sheets comes =
+      each_brings (λ name sheets. AreDrawn netlist.parts name sheets) shelf (sheets_in netlist) file_brings
+      (λ name n a b x holds came. All-weaker (λ (part : Part). part.sheet ≡ name → IsThere (key_of part) a) (λ (part : Part). part.sheet ≡ name → IsThere (key_of part) b)
+      (λ part is named. file_keeps (key_of part) n a b x (is named) came) netlist.parts holds) 1 [] sheets names comes
+
+  -- the sheet of each part is there
+  pub parts_drawn : (sheets : NamedSheets) → Comes shelf (sheets_of_files netlist (sheet_names netlist.parts)) (ready sheets) → All (λ (part : Part). IsThere (key_of part) sheets) netlist.parts
+  parts_drawn sheets comes =
+      let by_sheet : All (λ (part : Part). AreDrawn netlist.parts part.sheet sheets) netlist.parts = sheets_hold (λ name. AreDrawn netlist.parts name sheets) netlist.parts (files_bring (sheet_names netlist.parts) sheets comes) in
+      λ k d within. by_sheet k d within k d within refl

@@ -1,0 +1,23 @@
+//! The events of a drawing: when they come, and where they stand.
+
+use itv_base::EventId;
+
+/// Events of a drawing at most: there are so many marks.
+pub const MOST_DRAWN: usize = 93;
+
+/// An event and its time in picoseconds.
+#[derive(Clone, Copy, Debug, PartialEq, Eq)]
+pub struct Timed {
+    pub event: EventId,
+    pub time: i64,
+}
+
+/// An event with its number in the order of time from 0, the place at which its lane rises from 1, and its drawn time in
+/// picoseconds.
+#[derive(Clone, Copy, Debug, PartialEq, Eq)]
+pub struct Stand {
+    pub event: EventId,
+    pub number: u32,
+    pub place: u32,
+    pub time: i64,
+}

@@ -1,0 +1,61 @@
+-- The text of a drawing in a file is read as a design.
+use Rattle.std.proofs.Common.{◌≡◌, ◌≤◌, ◌<◌, ◌+◌, ℕ, List, [], length, take, Option, Some, true, false, nat_lt, ◌∙◌, refl, ap, arith, rules}
+use Rattle.std.specs.Option.{option_map_or}
+use Rattle.std.specs.Str.{is_utf8}
+use Rattle.std.proofs.lemmas.List.{take_all}
+use Rattle.serde_json.specs.Data.{Data}
+use Rattle.serde_json.specs.Read.{read}
+use Rattle.itv_base.specs.Names.{Name}
+use Rattle.itv_base.specs.Outside.{Files, file_of}
+use Rattle.itv_base.specs.Range.{Ends}
+use Rattle.itv_base.specs.declared.limits.TheConstants.{FILE_LIMIT}
+use Rattle.itv_base.specs.declared.names.EventId.{EventId}
+use Rattle.compose.proofs.Keys.{same_key_itself}
+use Rattle.netlist.specs.Netlist.{lone_netlist}
+use Rattle.drawn.specs.Drawn.{Drawn}
+use Rattle.unroll.specs.Drawn.{drawn_of}
+use Rattle.reading.specs.Design.{design_at, drawn_at, plain_key, tree_at, tree_drawn, with_sheet}
+use Rattle.reading.specs.declared.place.Place.TheVariants.{File}
+use Rattle.reading.specs.Opening.{Opening, gives, ◌>>=◌, ready, told_end, unread, within_limit}
+use Rattle.redraw.specs.declared.stand.Stand.{Stand}
+use Rattle.redraw.specs.Drawing.{Lane, sketch_of}
+use Rattle.redraw.proofs.Ordered.{Every}
+use Rattle.redraw_design.proofs.Lone.{design_drawn, design_is, unrolled_is}
+use Rattle.redraw_read.proofs.Sheets.{IsDrawable, sheet_drawn, sheet_is}
+use Rattle.redraw_read.proofs.Tree.{diagram_is, sketch_tree}
+
+-- ---- the tree
+
+-- what a drawn sheet draws
+sheet_gives : (name : EventId → Name) (from to : EventId) (ends : Ends) (ss : List Stand) (file : List ℕ) → IsDrawable name from to ends ss
+    → drawn_at (lone_netlist file) (with_sheet [] (plain_key file) (sheet_drawn name from to ends ss)) ≡ gives (drawn_of (design_drawn (sheet_drawn name from to ends ss)))
+unfolding drawn_at
+sheet_gives name from to ends ss file h =
+    rw (same_key_itself (plain_key file), design_is file (sheet_drawn name from to ends ss), unrolled_is name from to ends ss h.numbers h.few) refl
+
+pub tree_gives : (name : EventId → Name) (from to : EventId) (ends : Ends) (ss : List Stand) (file : List ℕ) → IsDrawable name from to ends ss
+    → Every (λ (lane : Lane). 0 < length lane.name) (sketch_of name from to ends ss).lanes
+    → tree_drawn file (sketch_tree (sketch_of name from to ends ss)) ≡ gives (drawn_of (design_drawn (sheet_drawn name from to ends ss)))
+tree_gives name from to ends ss file h long =
+    rw (diagram_is (sketch_of name from to ends ss) long, sheet_is name from to ends ss h) (sheet_gives name from to ends ss file h)
+
+-- ---- the file
+
+not_long : (limit n : ℕ) → n ≤ limit → nat_lt limit n ≡ false
+not_long limit n h = search rules
+
+-- the reading behind the bytes of the file
+abbrev next_of : List ℕ → List ℕ → Opening Drawn
+next_of file bytes = (within_limit (File 0) FILE_LIMIT bytes >>= (λ bytes. tree_at (File 0) bytes)) >>= (λ tree. tree_drawn file tree)
+
+bytes_give : (files : Files) (file bytes : List ℕ) (tree : Data) (drawn : Drawn) → length bytes ≤ FILE_LIMIT → is_utf8 bytes ≡ true → read bytes ≡ Some tree
+    → tree_drawn file tree ≡ gives drawn → told_end files (next_of file bytes) ≡ ready drawn
+unfolding tree_at
+bytes_give files file bytes tree drawn short utf8 reads draws = rw (not_long FILE_LIMIT (length bytes) short, utf8, reads, draws) refl
+
+pub file_gives : (files : Files) (file text : List ℕ) (tree : Data) (drawn : Drawn) → file_of files file ≡ Some text → length text ≤ FILE_LIMIT → is_utf8 text ≡ true → read text ≡ Some tree
+    → tree_drawn file tree ≡ gives drawn → told_end files (design_at file) ≡ ready drawn
+file_gives files file text tree drawn there short utf8 reads draws =
+    ap (λ (o : Option (List ℕ)). option_map_or (λ bytes. told_end files (next_of file (take (FILE_LIMIT + 1) bytes))) o (unread (File 0) file)) there
+    ∙ ap (λ bytes. told_end files (next_of file bytes)) (take_all (FILE_LIMIT + 1) text (omega (arith, short)))
+    ∙ bytes_give files file text tree drawn short utf8 reads draws

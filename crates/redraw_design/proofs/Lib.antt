@@ -1,0 +1,4 @@
+pub mod Lone
+pub mod Files
+pub mod Again
+pub mod Breaks

@@ -1,0 +1,4 @@
+mod Fails
+mod ReadBack
+mod Scanning
+mod Answering

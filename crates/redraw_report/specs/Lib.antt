@@ -1,0 +1,4 @@
+pub mod Failed
+pub mod Redraw
+pub mod Step
+pub mod Laws

@@ -1,0 +1,57 @@
+-- What job redraw answers and writes.
+use Rattle.std.specs.Prelude.{◌≡◌, ℕ, Bool, false, if◌then◌else◌, List, length, Some, codes}
+use Rattle.jobs.specs.declared.answer.Answer.{Answer}
+use Rattle.jobs.specs.declared.answer.Answer.TheVariants.{AllPass, SomeFail, Inconsistent, Undecided, DesignRefused}
+use Rattle.slack_report.specs.declared.words.EndWord.{EndWord}
+use Rattle.slack_report.specs.declared.words.EndWord.TheVariants as endings
+use Rattle.slack_report.specs.Entry.{Entry}
+use Rattle.drawn.specs.Drawn.{Drawn, IsRowOf}
+use Rattle.right_report.specs.Told.{end_in}
+use Rattle.bounds_report.specs.Reports.{IsWrittenReport}
+use Rattle.reading.specs.declared.place.Place.TheVariants.{Design}
+use Rattle.reading.specs.declared.refusal.Refusal.TheVariants.{Wide}
+use Rattle.reading.specs.Refusal.{refusal_text}
+use Rattle.redraw.specs.Drawing.{demand_of, row_at}
+use Rattle.redraw.specs.Text.{redrawn}
+use Rattle.redraw_report.specs.Failed.{Failed, IsBroken, first_failed, is_wide_on}
+
+-- the end that a row breaks is one that no drawing can be past
+abbrev pub is_wide : Drawn → Failed → Bool
+is_wide drawn failed = is_wide_on (demand_of (row_at drawn failed.row).kind) failed.side
+
+-- what is answered where a row fails
+abbrev pub failed_answer : Drawn → Failed → Answer
+failed_answer drawn failed = if is_wide drawn failed then DesignRefused else SomeFail
+
+-- and what is written: the drawing of the row at times that break it, or that its end is too wide for one
+abbrev pub failed_text : Drawn → Failed → List ℕ
+failed_text drawn failed = if is_wide drawn failed then refusal_text Design (Wide failed.row) else redrawn drawn failed.row failed.times
+
+-- what is answered and written for the first failed row of a report; the row is between events, of which each has a name
+pub record Draws (drawn : Drawn) (lines : List Entry) (answer : Answer) (text : List ℕ) : Type 0 where
+  pub failed : Failed
+  pub first : first_failed lines ≡ Some failed
+  pub broken : IsBroken drawn failed
+  pub within : IsRowOf drawn.net broken.asked
+  pub named : length drawn.names ≡ drawn.net.events
+  pub is_answer : answer ≡ failed_answer drawn failed
+  pub is_text : text ≡ failed_text drawn failed
+
+-- what is answered and written for a report by the word at its end
+abbrev pub Says : Drawn → List Entry → EndWord → Answer → List ℕ → Type 0
+Says drawn lines endings.Pass answer text = (answer ≡ AllPass) × (text ≡ codes "nothing failed\n")
+Says drawn lines endings.Fail answer text = Draws drawn lines answer text
+Says drawn lines endings.Inconsistent answer text = (answer ≡ Inconsistent) × (text ≡ codes "finding inconsistent\n")
+Says drawn lines endings.Undecided answer text = (answer ≡ Undecided) × (text ≡ codes "nothing failed\n")
+
+-- there is a report of the budget, as job bounds writes it, for which this is answered and written
+pub record AnswersRedraw (drawn : Drawn) (most : ℕ) (answer : Answer) (text : List ℕ) : Type 0 where
+  pub lines : List Entry
+  pub word : EndWord
+  pub is_written : IsWrittenReport drawn most false lines
+  pub ends : end_in lines ≡ Some word
+  pub says : Says drawn lines word answer text
+
+-- what the job may have begun to write: what it writes with some answer
+abbrev pub BeginsRedraw : Drawn → ℕ → List ℕ → Type 0
+BeginsRedraw drawn most text = (answer : Answer) × AnswersRedraw drawn most answer text

@@ -1,0 +1,160 @@
+//! Writing what was found.
+
+ghost use Rattle.std.specs.Prelude.{◌≡◌, ◌≤◌, ℕ, List, All, IfOk, OnErr};
+ghost use Rattle.itv_base.specs.declared.limits.TheConstants.{MAX_BUDGET};
+ghost use Rattle.itv_base.specs.Outside.{CutShort, grown};
+ghost use Rattle.slack_report.specs.Entry.{IsName};
+ghost use Rattle.bounds_report.specs.Reports.{HasRanges};
+ghost use Rattle.jobs.specs.Works.{Works};
+ghost use Rattle.reading.specs.Refusal.{refusal_text};
+ghost use Rattle.redraw.specs.Drawing.{demand_of};
+ghost use Rattle.redraw.specs.Text.{redrawn};
+ghost use Rattle.redraw_report.specs.Redraw.{AnswersRedraw, BeginsRedraw, Draws, Says};
+ghost use Rattle.redraw_report.specs.Failed.{IsBroken, is_end_at, is_wide_on};
+ghost use Rattle.redraw_report.specs.Step.{IsSearched, TellsFail, fail_view};
+
+use crate::scan::{Fail, first_failed};
+use crate::search::{Search, searched};
+use drawn::DrawnNetwork;
+use itv_base::{END_LIMIT, PutFailed, Range, RowKind, Sink};
+use jobs::{Answer, Unanswered, row_at};
+use reading::{Place, Refusal, put_refusal};
+use redraw::{DrawSpace, draw};
+use requirements::Verdict;
+use slack_report::{EndWord, Items};
+use std::alloc::Global;
+
+/// Searches a drawn network as job bounds does, each search closing at most `budget` cases, and writes the drawing of the first row
+/// that fails, at times that break its requirement. A row that breaks the widest end that a range may have is refused: no drawing is
+/// past it. Where no row fails the text says so, and where no times satisfy the network another does. All memory is taken before the
+/// first put.
+pub fn write_redraw<K: Sink>(
+    alloc: Global,
+    drawn: &DrawnNetwork,
+    budget: u64,
+    sink: &mut K,
+) -> Result<Answer, Unanswered>
+    requires least { 1 ≤ budget }
+    requires most { budget ≤ MAX_BUDGET }
+    requires names { All IsName drawn.now.names }
+    requires ranges { HasRanges drawn.now }
+    ensures works { Works (AnswersRedraw drawn.now budget) (BeginsRedraw drawn.now budget)
+        (K.told sink.old) (K.told sink.new) result }
+{
+    let mut work = DrawSpace::new(alloc)?;
+    let search = searched(alloc, drawn, budget)?;
+    Ok(put_answer(drawn, &search, &mut work, sink)?)
+}
+
+// Puts what a search comes to.
+fn put_answer<K: Sink>(
+    drawn: &DrawnNetwork,
+    search: &Search,
+    work: &mut DrawSpace,
+    sink: &mut K,
+) -> Result<Answer, PutFailed>
+    requires fail { search.now.end ≡ EndWord.Fail → TellsFail drawn.now search.now.report }
+    ensures answers { IfOk result (λ answer. (text : List ℕ) × Says drawn.now search.now.report search.now.end answer text
+        × (K.told sink.new ≡ grown (K.told sink.old) text)) }
+    ensures begins { OnErr result ((answer : Answer) × (text : List ℕ) × Says drawn.now search.now.report search.now.end answer text
+        × CutShort (K.told sink.old) (K.told sink.new) text) }
+{
+    match search.end {
+        EndWord::Pass => put_text(b"nothing failed\n", Answer::AllPass, sink),
+        EndWord::Fail => put_first(drawn, search.report.items(), work, sink),
+        EndWord::Inconsistent => put_text(b"finding inconsistent\n", Answer::Inconsistent, sink),
+        EndWord::Undecided => put_text(b"nothing failed\n", Answer::Undecided, sink),
+    }
+}
+
+// Puts a text, for an answer.
+fn put_text<K: Sink>(text: &[u8], answer: Answer, sink: &mut K) -> Result<Answer, PutFailed>
+    ensures answer { IfOk result (λ given. (given ≡ answer) × (K.told sink.new ≡ grown (K.told sink.old) text.now)) }
+    ensures cut { OnErr result (CutShort (K.told sink.old) (K.told sink.new) text.now) }
+{
+    sink.put(text)?;
+    Ok(answer)
+}
+
+// Draws the first failed row of a report that has one, or refuses it.
+fn put_first<K: Sink>(
+    drawn: &DrawnNetwork,
+    items: &Items,
+    work: &mut DrawSpace,
+    sink: &mut K,
+) -> Result<Answer, PutFailed>
+    requires told { TellsFail drawn.now items.now }
+    ensures answers { IfOk result (λ answer. (text : List ℕ) × Draws drawn.now items.now answer text
+        × (K.told sink.new ≡ grown (K.told sink.old) text)) }
+    ensures begins { OnErr result ((answer : Answer) × (text : List ℕ) × Draws drawn.now items.now answer text
+        × CutShort (K.told sink.old) (K.told sink.new) text) }
+{
+    let Some(fail) = first_failed(items) else {
+        unreachable!();
+    };
+    // The network has a name for each event.
+    let _network = drawn.network();
+    let row = row_at(drawn, fail.row);
+    if is_wide(row.kind, fail.side) {
+        put_wide(fail.row, sink)
+    } else {
+        put_drawing(drawn, fail, work, sink)
+    }
+}
+
+// Refuses a row.
+fn put_wide<K: Sink>(row: u32, sink: &mut K) -> Result<Answer, PutFailed>
+    ensures answer { IfOk result (λ answer. (answer ≡ Answer.DesignRefused)
+        × (K.told sink.new ≡ grown (K.told sink.old) (refusal_text Place.Design (Refusal.Wide row)))) }
+    ensures cut { OnErr result (CutShort (K.told sink.old) (K.told sink.new) (refusal_text Place.Design (Refusal.Wide row))) }
+{
+    put_refusal(Place::Design, Refusal::Wide(row), sink)?;
+    Ok(Answer::DesignRefused)
+}
+
+// Draws a row.
+fn put_drawing<K: Sink>(
+    drawn: &DrawnNetwork,
+    fail: Fail<'_>,
+    work: &mut DrawSpace,
+    sink: &mut K,
+) -> Result<Answer, PutFailed>
+    requires broken { IsBroken drawn.now (fail_view fail) }
+    ensures answer { IfOk result (λ answer. (answer ≡ Answer.SomeFail)
+        × (K.told sink.new ≡ grown (K.told sink.old) (redrawn drawn.now fail.entry.row fail.entry.times.now))) }
+    ensures cut { OnErr result (CutShort (K.told sink.old) (K.told sink.new) (redrawn drawn.now fail.entry.row fail.entry.times.now)) }
+{
+    draw(drawn, fail.row, fail.times, work, sink)?;
+    Ok(Answer::SomeFail)
+}
+
+// Whether the end that a row breaks on a side is one that no drawing can be past.
+fn is_wide(kind: RowKind, side: Verdict) -> bool
+    ensures { result ≡ is_wide_on (demand_of kind) side }
+{
+    match kind {
+        RowKind::Ask => false,
+        RowKind::Req(range) => is_wide_on(range, side),
+    }
+}
+
+// Whether the end of a range on a side is the limit of a finite end itself, or on the low side minus that.
+fn is_wide_on(range: Range, side: Verdict) -> bool
+    ensures { result ≡ is_wide_on range side }
+{
+    match side {
+        Verdict::FailHigh => is_end_at(range.high(), END_LIMIT),
+        Verdict::FailLow => is_end_at(range.low(), -END_LIMIT),
+        Verdict::Pass | Verdict::Undecided => false,
+    }
+}
+
+// Whether an end is a number.
+fn is_end_at(end: Option<i64>, limit: i64) -> bool
+    ensures { result ≡ is_end_at end limit }
+{
+    match end {
+        None => false,
+        Some(end) => end <= limit && limit <= end,
+    }
+}

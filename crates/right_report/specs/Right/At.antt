@@ -1,0 +1,128 @@
+-- Where a right report stands between two lines, with what the lines to come are held to.
+use Rattle.std.specs.Prelude.{ℕ, ◌+◌, ℤ, Bool, true, false, ◌||◌, if◌then◌else◌, List, [], Option, Some, None}
+use Rattle.itv_base.specs.Names.{Name}
+use Rattle.itv_base.specs.Range.{Ends}
+use Rattle.event_graph.specs.Proof.{ProofLine}
+use Rattle.requirements.specs.declared.bound.Bound.{Bound}
+use Rattle.requirements.specs.declared.bound.Bound.TheVariants as bounds
+use Rattle.requirements.specs.declared.verdict.Verdict.{Verdict}
+use Rattle.requirements.specs.declared.verdict.Verdict.TheVariants as verdicts
+use Rattle.itv_base.specs.declared.row_kind.RowKind.{RowKind}
+use Rattle.itv_base.specs.declared.row_kind.RowKind.TheVariants as kinds
+use Rattle.slack_report.specs.declared.words.EndWord.{EndWord}
+use Rattle.slack_report.specs.declared.words.EndWord.TheVariants as endings
+use Rattle.slack_report.specs.declared.words.FindingWord.{FindingWord}
+use Rattle.slack_report.specs.declared.words.FindingWord.TheVariants as findings
+use Rattle.slack_report.specs.declared.words.Which.{Which}
+use Rattle.slack_report.specs.declared.words.Which.TheVariants as sorts
+use Rattle.drawn.specs.declared.row.Row.{Row}
+
+-- what the end word goes by: the finding, whether some verdict was a fail, and whether some bound was left open
+pub record Course : Type 0 where
+  pub found : FindingWord
+  pub fails : Bool
+  pub within : Bool
+
+-- a row that is being told, by its number, behind what came before and before the later rows
+pub record Telling : Type 0 where
+  pub course : Course
+  pub number : ℕ
+  pub row : Row
+  pub later : List Row
+
+-- which bound of a row comes: the greatest, or the least behind the greatest
+pub data Side : Type 0 where
+  greatest : Side
+  least_by : Bound → Side
+
+-- where a report stands between two lines
+pub data At : Type 0 where
+  at_heading : At
+  at_budget : At
+  at_events : At
+  at_event : ℕ → List Name → At
+  at_finding : List ProofLine → At
+  at_known : At
+  at_rows : FindingWord → At
+  at_row : Course → ℕ → List Row → At
+  at_bound : Telling → Side → List ProofLine → At
+  at_times : Telling → Side → Bound → At
+  at_raise : Telling → Side → List ℤ → At
+  at_verdict : Telling → Ends → Bound → Bound → At
+  at_past : Telling → Ends → Bound → Bound → At
+  at_slack : Course → ℕ → List Row → Ends → Bound → Bound → At
+  at_end : EndWord → At
+  at_last : At
+
+-- ---- where lines lead
+
+abbrev pub which_of : Side → Which
+which_of greatest = sorts.Max
+which_of (least_by most) = sorts.Min
+
+abbrev pub is_within : Bound → Bool
+is_within (bounds.Closed value) = false
+is_within bounds.Unbounded = false
+is_within (bounds.Within limit attained) = true
+
+abbrev pub is_fail : Verdict → Bool
+is_fail verdicts.Pass = false
+is_fail verdicts.FailHigh = true
+is_fail verdicts.FailLow = true
+is_fail verdicts.Undecided = false
+
+abbrev pub with_bounds : Course → Bound → Bound → Course
+with_bounds course least most = record course { within = course.within || (is_within least || is_within most) }
+
+abbrev pub with_verdict : Course → Verdict → Course
+with_verdict course word = record course { fails = course.fails || is_fail word }
+
+-- behind both bounds of a row
+abbrev pub judged : RowKind → Telling → Bound → Bound → At
+judged kinds.Ask row least most = at_row (with_bounds row.course least most) (row.number + 1) row.later
+judged (kinds.Req range) row least most = at_verdict row range least most
+
+-- behind a bound and its lines
+abbrev pub bounded : Telling → Side → Bound → At
+bounded row greatest value = at_bound row (least_by value) []
+bounded row (least_by most) value = judged row.row.kind row value most
+
+-- behind the line of a bound
+abbrev pub behind_bound : Telling → Side → Bound → At
+behind_bound row side (bounds.Within limit None) = bounded row side (bounds.Within limit None)
+behind_bound row side (bounds.Within limit (Some found)) = at_times row side (bounds.Within limit (Some found))
+behind_bound row side (bounds.Closed value) = at_times row side (bounds.Closed value)
+behind_bound row side bounds.Unbounded = at_times row side bounds.Unbounded
+
+-- behind the times of a bound
+abbrev pub behind_times : Telling → Side → Bound → List ℤ → At
+behind_times row side bounds.Unbounded list = at_raise row side list
+behind_times row side (bounds.Closed value) list = bounded row side (bounds.Closed value)
+behind_times row side (bounds.Within limit attained) list = bounded row side (bounds.Within limit attained)
+
+-- behind a verdict and the times that break the requirement
+abbrev pub behind_past : Telling → Ends → Bound → Bound → Verdict → At
+behind_past row range least most word = at_slack (with_verdict (with_bounds row.course least most) word) (row.number + 1) row.later range least most
+
+-- behind a verdict
+abbrev pub behind_verdict : Telling → Ends → Bound → Bound → Verdict → At
+behind_verdict row range least most word = if is_fail word then at_past row range least most else behind_past row range least most word
+
+abbrev pub course_of : FindingWord → Course
+course_of word = record { found = word; fails = false; within = false }
+
+-- behind a finding
+abbrev pub behind_finding : FindingWord → At
+behind_finding findings.Consistent = at_known
+behind_finding findings.Inconsistent = at_end endings.Inconsistent
+behind_finding findings.Unsettled = at_rows findings.Unsettled
+
+-- the word at the end where no verdict was a fail
+abbrev pub undecided_or_pass : FindingWord → Bool → EndWord
+undecided_or_pass findings.Consistent within = if within then endings.Undecided else endings.Pass
+undecided_or_pass findings.Inconsistent within = endings.Inconsistent
+undecided_or_pass findings.Unsettled within = endings.Undecided
+
+-- the word at the end
+abbrev pub end_word : Course → EndWord
+end_word course = if course.fails then endings.Fail else undecided_or_pass course.found course.within

@@ -1,0 +1,49 @@
+-- The places of right reports among those of the order of texts.
+use Rattle.std.specs.Prelude.{◌≡◌, ◌+◌, ℕ, Bool, true, false, List, length, Some}
+use Rattle.requirements.specs.declared.bound.Bound.{Bound}
+use Rattle.requirements.specs.declared.bound.Bound.TheVariants as bounds
+use Rattle.slack_report.specs.declared.place.Place.{Place}
+use Rattle.slack_report.specs.declared.place.Place.TheVariants as at
+use Rattle.slack_report.specs.declared.place.Spot.{Spot}
+use Rattle.slack_report.specs.Entry.{Entry}
+use Rattle.slack_report.specs.Order.{before_event, before_row, is_required, next}
+use Rattle.drawn.specs.Drawn.{Drawn}
+use Rattle.drawn.specs.declared.row.Row.{Row}
+use Rattle.right_report.specs.Right.At.{At, Telling, at_heading, at_budget, at_events, at_event, at_finding, at_known, at_rows, at_row, at_bound, at_times, at_raise, at_verdict, at_past, at_slack, at_end, at_last, which_of}
+use Rattle.right_report.specs.Right.Facts.{right}
+use Rattle.right_report.specs.Right.Following.{MayFollow}
+
+abbrev pub is_unbounded : Bound → Bool
+is_unbounded (bounds.Closed value) = false
+is_unbounded bounds.Unbounded = true
+is_unbounded (bounds.Within limit attained) = false
+
+-- a row of a report with some number behind it, by whether it demands a range
+abbrev pub spot_behind : Drawn → ℕ → List Row → Bool → Spot
+spot_behind drawn number later required = record { events = length drawn.names; next = number; left = length later; is_required = required }
+
+abbrev pub spot_of : Drawn → Telling → Spot
+spot_of drawn row = spot_behind drawn (row.number + 1) row.later (is_required row.row.kind)
+
+abbrev pub place_of : Drawn → At → Place
+place_of drawn at_heading = at.Heading
+place_of drawn at_budget = at.Budget
+place_of drawn at_events = at.Events
+place_of drawn (at_event number names) = before_event (length drawn.names) number (length names)
+place_of drawn (at_finding lines) = at.Finding (length drawn.names)
+place_of drawn at_known = at.FoundTimes (length drawn.names)
+place_of drawn (at_rows word) = at.Rows (length drawn.names)
+place_of drawn (at_row course number later) = before_row (length drawn.names) number (length later)
+place_of drawn (at_bound row side lines) = at.Bound (spot_of drawn row) (which_of side)
+place_of drawn (at_times row side value) = at.Times (spot_of drawn row) (which_of side) (is_unbounded value)
+place_of drawn (at_raise row side list) = at.Raise (spot_of drawn row) (which_of side)
+place_of drawn (at_verdict row range least most) = at.Verdict (spot_behind drawn (row.number + 1) row.later true)
+place_of drawn (at_past row range least most) = at.FailTimes (spot_behind drawn (row.number + 1) row.later true)
+place_of drawn (at_slack course number later range least most) = at.Slack (spot_behind drawn number later true)
+place_of drawn (at_end word) = at.End
+place_of drawn at_last = at.Nothing
+
+-- a line that may follow in a right report may stand there in the order of texts, and leads to the same place
+abbrev pub RightLinesKeepOrder : Type 0
+RightLinesKeepOrder = (drawn : Drawn) (here : At) (line : Entry) (behind : At) → MayFollow (right drawn.net) drawn here line behind
+    → next (place_of drawn here) line ≡ Some (place_of drawn behind)

@@ -1,0 +1,12 @@
+use Rattle.std.proofs.Common.{◌≡◌, ◌≤◌}
+use Rattle.settle.specs.Racing.{IsRacing, line_count}
+use Rattle.settle.proofs.settler.Settler.greatest.Given as goal
+
+-- both searches are under way, and together have taken no more lines than turns
+abbrev pub invariant-loop-turn : goal.invariant-loop-turn
+invariant-loop-turn l = record {
+  racing : IsRacing l.net l.race;
+  from : l.race.from ≡ l.fn.from;
+  to : l.race.to ≡ l.fn.to;
+  lines : line_count l.race ≤ l.turn;
+}

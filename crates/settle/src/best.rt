@@ -1,0 +1,83 @@
+//! The best times found so far.
+
+ghost use Rattle.std.specs.Prelude.{◌≡◌, ◌↔◌, ◌<◌, ◌<ℤ◌, IsTrue, All, IfSome, length};
+ghost use Rattle.event_graph.specs.Satisfying.{Satisfies};
+ghost use Rattle.event_graph.specs.Times.{IsTime, separation};
+ghost use Rattle.settle.specs.Racing.{AreTimes};
+
+use clauses::Claim;
+use event_graph::Network;
+use falling::View;
+use itv_base::{EventId, NoMemory};
+use std::alloc::Global;
+
+/// Times that satisfy a network, in picoseconds, one per event, with the greatest separation of a pair that was found, if any
+/// were found; and what is claimed: that separation, or a number below every separation.
+#[derive(Debug, Drop)]
+pub struct Best {
+    pub times: Option<Vec<i64>>,
+    pub claim: Claim,
+}
+
+/// The times of a network that the values of a search in a view stand for.
+pub fn times_of(alloc: Global, view: View, values: &Vec<i64>) -> Result<Vec<i64>, NoMemory> {
+    let mut times = Vec::new(alloc);
+    for value in values {
+        match view {
+            View::Plain => times.push(*value)?,
+            View::Negated => times.push(value.saturating_mul(-1))?,
+        }
+    }
+    Ok(times)
+}
+
+/// The separation of a pair in times, where they satisfy a network and it is more than a claim.
+pub fn more_by(
+    net: &Network,
+    from: EventId,
+    to: EventId,
+    claim: Claim,
+    times: &Vec<i64>,
+) -> Option<Claim>
+    requires from { from.0 < net.now.events }
+    requires to { to.0 < net.now.events }
+    ensures count { IfSome result (λ _. length times.now.items ≡ net.now.events) }
+    ensures times { IfSome result (λ _. All IsTime times.now.items) }
+    ensures satisfies { IfSome result (λ more. AreTimes net.now from to more.value times.now.items) }
+    ensures more { IfSome result (λ more. claim.value <ℤ more.value) }
+{
+    if times.len() != net.events() as usize || !times.iter().all(|time| is_time(*time)) {
+        return None;
+    }
+    let more = separation_of(times, from, to);
+    if !is_less(claim, more) || net.broken(times).is_some() {
+        return None;
+    }
+    Some(more)
+}
+
+// Whether a number is a time.
+fn is_time(time: i64) -> bool
+    ensures { IsTrue result ↔ IsTime time }
+{
+    -2_305_843_009_213_693_952 < time && time < 2_305_843_009_213_693_952
+}
+
+// Whether a claim is less than another.
+fn is_less(claim: Claim, other: Claim) -> bool
+    ensures { IsTrue result ↔ (claim.value <ℤ other.value) }
+{
+    claim.value < other.value
+}
+
+// The separation of a pair in times.
+fn separation_of(times: &Vec<i64>, from: EventId, to: EventId) -> Claim
+    requires times { All IsTime times.now.items }
+    requires from { from.0 < length times.now.items }
+    requires to { to.0 < length times.now.items }
+    ensures { result.value ≡ separation times.now.items from to }
+{
+    Claim {
+        value: times[to.0 as usize] - times[from.0 as usize],
+    }
+}

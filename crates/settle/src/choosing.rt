@@ -1,0 +1,110 @@
+//! Choices of sides.
+
+use crate::engine::{Engine, Proposal};
+use crate::numbered::Numbered;
+use crate::places::at;
+use crate::rules::Rule;
+use itv_base::NoMemory;
+
+// A side that may be chosen, and a value, in picoseconds: the least goes first.
+#[derive(Clone, Copy)]
+struct Candidate {
+    literal: Numbered,
+    need: u64,
+    value: i64,
+}
+
+impl Engine {
+    /// Chooses a side of an earliest constraint that the values break: of the one whose target has the least value, the side that is
+    /// broken least. Where the values break none, they are times.
+    pub fn choose(&mut self) -> Result<Proposal, NoMemory> {
+        let Some(candidate) = self.first_candidate() else {
+            return Ok(Proposal::Times);
+        };
+        if self.blocks == 0 {
+            return Ok(Proposal::Rests);
+        }
+        self.changes.fill(0);
+        self.labels.choose(candidate.literal)?;
+        Ok(Proposal::Nothing)
+    }
+
+    // The side to choose, if the values break an earliest constraint.
+    fn first_candidate(&self) -> Option<Candidate> {
+        let mut first: Option<Candidate> = None;
+        for number in 0..self.rules.earliest().len() {
+            let rule = self.rules.rule(at(self.rules.earliest(), number, 0));
+            if let Some(literal) = self.broken_side(rule) {
+                let value = self.labels.value(rule.target);
+                let need = self.need_of(rule);
+                first = earlier(
+                    first,
+                    Candidate {
+                        literal,
+                        need,
+                        value,
+                    },
+                );
+            }
+        }
+        first
+    }
+
+    // How much the sides of a rule were needed lately.
+    fn need_of(&self, rule: Rule) -> u64 {
+        let mut most = 0;
+        for number in 0..rule.literals.count {
+            let side = self.rules.literal(rule, number).side;
+            most = at(&self.activity, side, 0).max(most);
+        }
+        most
+    }
+
+    // The side of an earliest constraint that is broken least and may hold, if the values break all sides.
+    fn broken_side(&self, rule: Rule) -> Option<Numbered> {
+        let mut least: Option<Candidate> = None;
+        for number in 0..rule.literals.count {
+            let literal = self.rules.literal(rule, number);
+            let value = self.excess(literal);
+            if value <= 0 {
+                return None;
+            }
+            if !self.labels.holds(literal.opposite()) {
+                least = earlier(
+                    least,
+                    Candidate {
+                        literal,
+                        need: 0,
+                        value,
+                    },
+                );
+            }
+        }
+        match least {
+            Some(candidate) => Some(candidate.literal),
+            None => None,
+        }
+    }
+
+    // By how much the values break the edge of a side: not at all where this is at most 0.
+    fn excess(&self, literal: Numbered) -> i64 {
+        let Some(place) = self.rules.of_side(literal.side) else {
+            return 0;
+        };
+        let rule = self.rules.rule(place);
+        let way = self.rules.way(rule, 0);
+        let given = self.labels.value(way.from).saturating_add(way.weight);
+        self.labels.value(rule.target).saturating_sub(given)
+    }
+}
+
+// The candidate of lesser value, the first of two that are equal.
+fn earlier(first: Option<Candidate>, other: Candidate) -> Option<Candidate> {
+    match first {
+        Some(candidate) if other.need < candidate.need => Some(candidate),
+        Some(candidate) if other.need == candidate.need && candidate.value <= other.value => {
+            Some(candidate)
+        }
+        _ => Some(other),
+    }
+}

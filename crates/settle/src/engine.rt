@@ -1,0 +1,220 @@
+//! The search of one view, step by step.
+
+ghost use Rattle.std.specs.Prelude.{All};
+ghost use Rattle.event_graph.specs.Network.{IsNet};
+ghost use Rattle.clauses.specs.Checking.{IsNearClause};
+
+use crate::labels::Labels;
+use crate::line::ProofLine;
+use crate::rules::Rules;
+use crate::sweep::Sweep;
+use clauses::{Basis, Clause};
+use event_graph::Network;
+use itv_base::{EventId, NoMemory};
+use std::alloc::Global;
+
+/// What a step has come to.
+#[derive(Debug, Drop)]
+pub enum Proposal {
+    /// The search goes on.
+    Nothing,
+    /// A line for the checker.
+    Line(ProofLine),
+    /// The values are times that satisfy.
+    Times,
+    /// The lines that were proposed are a proof.
+    Over,
+    /// A side is to be chosen, and no more blocks are allowed.
+    Rests,
+}
+
+/// An event that has come down to a value, in picoseconds, with which a block or all ends.
+#[derive(Clone, Copy, Debug, PartialEq, Eq)]
+pub struct Need {
+    pub event: EventId,
+    pub value: i64,
+}
+
+/// A search for a proof in one view of a network. Nothing of what it proposes is believed.
+#[derive(Debug, Drop)]
+pub struct Engine {
+    pub alloc: Global,
+    pub rules: Rules,
+    pub labels: Labels,
+    pub sweep: Sweep,
+    pub from: EventId,
+    pub to: EventId,
+    pub least: i64,
+    /// How often each event has fallen since the latest choice.
+    pub changes: Vec<u32>,
+    /// The number of the latest walk that came by each event, and the number of walks.
+    pub stamps: Vec<usize>,
+    pub walks: usize,
+    /// The place of the next entry whose literal was not heard of.
+    pub heard: usize,
+    /// The next link to examine.
+    pub link: Option<usize>,
+    /// An event below minus the cap.
+    pub low: Option<EventId>,
+    /// An event from which a walk back is to be tried.
+    pub walk: Option<EventId>,
+    /// How many of the clauses that the checker keeps are rules.
+    pub adopted: u32,
+    /// Lines that are to be proposed, the last one first.
+    pub outbox: Vec<ProofLine>,
+    /// How much each side was needed lately, and what the next need counts.
+    pub activity: Vec<u64>,
+    pub gain: u64,
+    /// How many more blocks are allowed.
+    pub blocks: u64,
+    pub is_over: bool,
+}
+
+impl Engine {
+    /// The search at its start, where no blocks are allowed.
+    pub fn new(
+        alloc: Global,
+        net: &Network,
+        from: EventId,
+        to: EventId,
+        cap: i64,
+    ) -> Result<Engine, NoMemory> {
+        let rules = Rules::new(alloc, net)?;
+        let events = net.events() as usize;
+        let sides = rules.sides();
+        let labels = Labels::new(alloc, events, sides, from, cap)?;
+        Ok(Engine {
+            alloc,
+            rules,
+            labels,
+            sweep: Sweep::new(alloc, net.events())?,
+            from,
+            to,
+            least: cap.saturating_mul(-1).saturating_sub(1),
+            changes: vec![in alloc; 0; events]?,
+            stamps: vec![in alloc; 0; events]?,
+            walks: 0,
+            heard: 0,
+            link: None,
+            low: None,
+            walk: None,
+            adopted: 0,
+            outbox: Vec::new(alloc),
+            activity: vec![in alloc; 0; sides]?,
+            gain: 1024,
+            blocks: 0,
+            is_over: false,
+        })
+    }
+
+    /// Allows so many blocks more.
+    pub fn allow(&mut self, blocks: u64) {
+        self.blocks = blocks;
+        if 0 < self.labels.level() && self.outbox.is_empty() {
+            self.go_back(0);
+        }
+    }
+
+    /// Gives up: nothing more is proposed.
+    pub fn stop(&mut self) {
+        self.is_over = true;
+    }
+
+    /// A step of the search, where the checker has kept clauses and claims a number of picoseconds.
+    pub fn step(
+        &mut self,
+        net: &Network,
+        kept: &Vec<Clause>,
+        claim: i64,
+    ) -> Result<Proposal, NoMemory>
+        requires net { IsNet net.now }
+        requires kept { All IsNearClause kept.now.items }
+    {
+        if let Some(line) = self.outbox.pop() {
+            return Ok(Proposal::Line(line));
+        }
+        if self.is_over {
+            return Ok(Proposal::Rests);
+        }
+        if (self.adopted as usize) < kept.len() {
+            self.adopt(net, kept)?;
+            return Ok(Proposal::Nothing);
+        }
+        if let Some(need) = self.end(claim) {
+            return self.end_with(need);
+        }
+        if let Some(event) = self.walk {
+            self.walk = None;
+            self.go_round(event)?;
+            return Ok(Proposal::Nothing);
+        }
+        self.look_on()
+    }
+
+    // Makes a rule of the next clause that the checker has kept, and examines it.
+    fn adopt(&mut self, net: &Network, kept: &Vec<Clause>) -> Result<(), NoMemory>
+        requires net { IsNet net.now }
+        requires kept { All IsNearClause kept.now.items }
+    {
+        let rule = self.rules.len();
+        self.rules
+            .push_rule(net, kept, Basis::ByKept(self.adopted))?;
+        self.adopted = self.adopted.saturating_add(1);
+        self.examine(rule)
+    }
+
+    // What has come down far enough, if anything.
+    fn end(&self, claim: i64) -> Option<Need> {
+        if self.labels.value(self.from) < 0 {
+            return Some(Need {
+                event: self.from,
+                value: -1,
+            });
+        }
+        if self.labels.value(self.to) <= claim {
+            return Some(Need {
+                event: self.to,
+                value: claim,
+            });
+        }
+        match self.low {
+            Some(event) => Some(Need {
+                event,
+                value: self.least,
+            }),
+            None => None,
+        }
+    }
+
+    // Ends the block that the choices make, or all where nothing was chosen.
+    fn end_with(&mut self, need: Need) -> Result<Proposal, NoMemory> {
+        if self.labels.level() == 0 {
+            self.is_over = true;
+            return Ok(Proposal::Over);
+        }
+        self.blocks = self.blocks.saturating_sub(1);
+        self.refute(need)?;
+        Ok(Proposal::Nothing)
+    }
+
+    // Examines the next rule of a chain, or finds the next chain, or chooses.
+    fn look_on(&mut self) -> Result<Proposal, NoMemory> {
+        if let Some(place) = self.link {
+            let link = self.rules.link(place);
+            self.link = link.next;
+            self.examine(link.rule)?;
+            return Ok(Proposal::Nothing);
+        }
+        if self.heard < self.labels.len() {
+            self.hear();
+            return Ok(Proposal::Nothing);
+        }
+        match self.sweep.next() {
+            Some(event) => {
+                self.link = self.rules.of_event(event);
+                Ok(Proposal::Nothing)
+            }
+            None => self.choose(),
+        }
+    }
+}

@@ -1,0 +1,183 @@
+//! What a search holds at the moment: values of events and literals that hold, each with the entry that made it so.
+
+use crate::numbered::Numbered;
+use crate::places::{at, put};
+use itv_base::{EventId, NoMemory};
+use std::alloc::Global;
+
+/// A change: an event fell from a value to a value, in picoseconds, where an entry before had made it fall to the first; or a
+/// literal came to hold.
+#[derive(Clone, Copy, Debug, PartialEq, Eq)]
+pub enum Change {
+    Fell(Fallen),
+    Held(Numbered),
+}
+
+/// The fall of an event.
+#[derive(Clone, Copy, Debug, PartialEq, Eq)]
+pub struct Fallen {
+    pub event: EventId,
+    pub old: i64,
+    pub new: i64,
+    pub before: Option<usize>,
+}
+
+/// An entry of the trail: a change, the rule that made it or none where it was chosen, and its level.
+#[derive(Clone, Copy, Debug, PartialEq, Eq)]
+pub struct Entry {
+    pub change: Change,
+    pub rule: Option<usize>,
+    pub level: usize,
+}
+
+// What is read where there is no entry.
+const NO_ENTRY: Entry = Entry {
+    change: Change::Held(Numbered {
+        side: 0,
+        is_met: true,
+    }),
+    rule: None,
+    level: 0,
+};
+
+/// The value of each event, in picoseconds, the literals that hold, and the trail of changes. A level begins with each choice.
+#[derive(Debug, Drop)]
+pub struct Labels {
+    values: Vec<i64>,
+    last: Vec<Option<usize>>,
+    places: Vec<Option<usize>>,
+    trail: Vec<Entry>,
+    starts: Vec<usize>,
+}
+
+impl Labels {
+    /// The labels at the start, where the source is at 0 and the other events are at the cap.
+    pub fn new(
+        alloc: Global,
+        events: usize,
+        sides: usize,
+        from: EventId,
+        cap: i64,
+    ) -> Result<Labels, NoMemory> {
+        let mut values = vec![in alloc; cap; events]?;
+        put(&mut values, from.0 as usize, 0);
+        Ok(Labels {
+            values,
+            last: vec![in alloc; None; events]?,
+            places: vec![in alloc; None; sides.saturating_mul(2)]?,
+            trail: Vec::new(alloc),
+            starts: Vec::new(alloc),
+        })
+    }
+
+    /// The values, one per event.
+    pub fn values(&self) -> &Vec<i64> {
+        &self.values
+    }
+
+    /// The value of an event, and 0 for one that is not there.
+    pub fn value(&self, event: EventId) -> i64 {
+        at(&self.values, event.0 as usize, 0)
+    }
+
+    /// The latest entry of an event, if it has fallen.
+    pub fn last_of(&self, event: EventId) -> Option<usize> {
+        at(&self.last, event.0 as usize, None)
+    }
+
+    /// The entry of a literal, if it holds.
+    pub fn place_of(&self, literal: Numbered) -> Option<usize> {
+        at(&self.places, literal.place(), None)
+    }
+
+    /// Whether a literal holds.
+    pub fn holds(&self, literal: Numbered) -> bool {
+        self.place_of(literal).is_some()
+    }
+
+    /// The entry at a place.
+    pub fn entry(&self, place: usize) -> Entry {
+        at(&self.trail, place, NO_ENTRY)
+    }
+
+    /// The number of entries.
+    pub fn len(&self) -> usize {
+        self.trail.len()
+    }
+
+    /// The number of levels.
+    pub fn level(&self) -> usize {
+        self.starts.len()
+    }
+
+    /// The place of the first entry that is not of level 0.
+    pub fn root_end(&self) -> usize {
+        at(&self.starts, 0, self.trail.len())
+    }
+
+    /// Lowers an event to a value by a rule.
+    pub fn lower(&mut self, event: EventId, value: i64, rule: usize) -> Result<(), NoMemory> {
+        let place = self.trail.len();
+        let change = Change::Fell(Fallen {
+            event,
+            old: self.value(event),
+            new: value,
+            before: self.last_of(event),
+        });
+        self.push(change, Some(rule))?;
+        put(&mut self.values, event.0 as usize, value);
+        put(&mut self.last, event.0 as usize, Some(place));
+        Ok(())
+    }
+
+    /// Lets a literal hold by a rule.
+    pub fn hold(&mut self, literal: Numbered, rule: usize) -> Result<(), NoMemory> {
+        let place = self.trail.len();
+        self.push(Change::Held(literal), Some(rule))?;
+        put(&mut self.places, literal.place(), Some(place));
+        Ok(())
+    }
+
+    /// Chooses a literal, with which a level begins.
+    pub fn choose(&mut self, literal: Numbered) -> Result<(), NoMemory> {
+        let place = self.trail.len();
+        self.starts.push(place)?;
+        self.push(Change::Held(literal), None)?;
+        put(&mut self.places, literal.place(), Some(place));
+        Ok(())
+    }
+
+    // Puts an entry behind the others.
+    fn push(&mut self, change: Change, rule: Option<usize>) -> Result<(), NoMemory> {
+        let level = self.starts.len();
+        self.trail.push(Entry {
+            change,
+            rule,
+            level,
+        })?;
+        Ok(())
+    }
+
+    /// Takes back all that came with the levels behind one.
+    pub fn go_back(&mut self, level: usize) {
+        let end = at(&self.starts, level, self.trail.len());
+        for _ in end..self.trail.len() {
+            self.take_back();
+        }
+        self.starts.truncate(level);
+    }
+
+    // Takes back the latest entry.
+    fn take_back(&mut self) {
+        let Some(entry) = self.trail.pop() else {
+            return;
+        };
+        match entry.change {
+            Change::Fell(fallen) => {
+                put(&mut self.values, fallen.event.0 as usize, fallen.old);
+                put(&mut self.last, fallen.event.0 as usize, fallen.before);
+            }
+            Change::Held(literal) => put(&mut self.places, literal.place(), None),
+        }
+    }
+}

@@ -1,0 +1,28 @@
+//! Greatest separations of any network, with choices of both kinds, by falling values, sides that are chosen, and clauses that
+//! are kept. Two searches take turns: one in the network, one in its negation. Neither is proved to be right; a checker takes
+//! each of their lines as it is made.
+//! The contract of the crate: [`Settler::greatest`] gives the greatest separation of a pair with times that attain it and a proof
+//! by clauses, or times and a ray that show it unbounded, or a proof that no times satisfy, or that so many turns were spent.
+#![tactic(auto)]
+
+mod best;
+mod choosing;
+mod engine;
+mod examining;
+mod found;
+mod labels;
+mod line;
+mod numbered;
+mod places;
+mod prover;
+mod race;
+mod refuting;
+mod rounds;
+mod rules;
+mod settler;
+mod sweep;
+mod taking;
+
+pub use found::{Found, Settled};
+pub use line::ProofLine;
+pub use settler::Settler;

@@ -1,0 +1,19 @@
+//! Lines of proofs.
+
+use clauses::{Basis, EventFall, Literal, Step};
+use itv_base::EventId;
+
+/// A line of a proof by clauses.
+#[derive(Debug, Drop)]
+pub enum ProofLine {
+    /// An event falls to a value.
+    Fall(EventFall),
+    /// A literal is known by the clause of a basis.
+    Know(Literal, Basis),
+    /// The clause of a loop of steps back from an event is kept.
+    Loop(EventId, Vec<Step>),
+    /// A block opens that assumes literals.
+    Assume(Vec<Literal>),
+    /// The block closes, and it is kept that not all that it assumes holds.
+    Close,
+}

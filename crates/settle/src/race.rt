@@ -1,0 +1,281 @@
+//! Two searches that take turns: in a network from the from-event, and in its negation from the to-event.
+
+ghost use Rattle.std.specs.Prelude.{◌≡◌, ◌<◌, ◌≤◌, ◌+◌, ◌^◌, pos, neg_ℤ, ◌-ℤ◌, ◌≤ℤ◌, ◌<ℤ◌, IsFalse, All, IfOk, IfSome, OnOk, length};
+ghost use Rattle.event_graph.specs.Network.{Net};
+ghost use Rattle.event_graph.specs.Times.{IsTime};
+ghost use Rattle.falling.specs.Course.{AreLimits};
+ghost use Rattle.falling.specs.Kinds.{negated};
+ghost use Rattle.settle.specs.declared.prover.Told.TheVariants.{Over};
+ghost use Rattle.settle.specs.Racing.{IsEnding, IsOverAs, IsRacing, IsRayEnding, line_count};
+
+use crate::best::{Best, more_by, times_of};
+use crate::prover::{Prover, Told};
+use clauses::Claim;
+use event_graph::Network;
+use falling::{Limits, View, gap_level};
+use itv_base::{EventId, NoMemory};
+use std::alloc::Global;
+
+/// With what a race ends.
+#[derive(Debug, Drop)]
+pub enum Ending {
+    /// The lines of a view prove that nothing exceeds the best times.
+    Closed(View),
+    /// The best times and this ray show that every number is exceeded.
+    Unbounded(Vec<bool>),
+    /// The lines of a view prove that no times satisfy.
+    Inconsistent(View),
+}
+
+/// Two searches for the greatest separation of a pair. They share the best times that either finds. The one whose turn it is goes on
+/// until it rests; then the other is allowed as many blocks, and after both have rested more are allowed.
+#[derive(Debug, Drop)]
+pub struct Race {
+    pub from: EventId,
+    pub to: EventId,
+    pub limits: Limits,
+    /// The search in the network.
+    pub plain: Prover,
+    /// The search in its negation, with the pair turned round.
+    pub turned: Prover,
+    pub best: Best,
+    pub view: View,
+    pub blocks: u64,
+}
+
+impl Race {
+    /// A race at the start.
+    pub fn new(
+        alloc: Global,
+        net: &Network,
+        negation: &Network,
+        from: EventId,
+        to: EventId,
+        limits: Limits,
+    ) -> Result<Race, NoMemory>
+        requires from { from.0 < net.now.events }
+        requires to { to.0 < net.now.events }
+        requires limits { AreLimits net.now limits }
+        requires negation { negation.now ≡ negated net.now }
+        ensures racing { IfOk result (IsRacing net.now) }
+        ensures from { IfOk result (λ race. race.from ≡ from) }
+        ensures to { IfOk result (λ race. race.to ≡ to) }
+        ensures lines { IfOk result (λ race. line_count race ≡ 0) }
+    {
+        let claim = start_claim(limits);
+        Ok(Race {
+            from,
+            to,
+            limits,
+            plain: Prover::new(alloc, net, from, to, claim)?,
+            turned: Prover::new(alloc, negation, to, from, claim)?,
+            best: Best { times: None, claim },
+            view: View::Plain,
+            blocks: 0,
+        })
+    }
+
+    /// One turn, which may end the race.
+    pub fn turn(
+        &mut self,
+        alloc: Global,
+        net: &Network,
+        negation: &Network,
+    ) -> Result<Option<Ending>, NoMemory>
+        requires racing { IsRacing net.now self.old }
+        requires negation { negation.now ≡ negated net.now }
+        ensures racing { OnOk result (IsRacing net.now self.new) }
+        ensures ending { IfOk result (λ ending. IfSome ending (IsEnding net.now self.new)) }
+        ensures lines { OnOk result (line_count self.new ≤ line_count self.old + 1) }
+        ensures from { OnOk result (self.new.from ≡ self.old.from) }
+        ensures to { OnOk result (self.new.to ≡ self.old.to) }
+    {
+        match self.step(alloc, net, negation)? {
+            Told::GoesOn => Ok(None),
+            Told::Times => self.take_times(alloc, net, negation),
+            Told::Over => Ok(self.decide()),
+            Told::Rests => {
+                self.pass_on();
+                Ok(None)
+            }
+        }
+    }
+
+    // A step of the search whose turn it is.
+    fn step(&mut self, alloc: Global, net: &Network, negation: &Network) -> Result<Told, NoMemory>
+        requires racing { IsRacing net.now self.old }
+        requires negation { negation.now ≡ negated net.now }
+        ensures racing { OnOk result (IsRacing net.now self.new) }
+        ensures over { IfOk result (λ told. told ≡ Over → IsOverAs self.new.view net.now self.new) }
+        ensures lines { OnOk result (line_count self.new ≤ line_count self.old + 1) }
+        ensures from { self.new.from ≡ self.old.from }
+        ensures to { self.new.to ≡ self.old.to }
+    {
+        match self.view {
+            View::Plain => self.plain.step(alloc, net),
+            View::Negated => self.turned.step(alloc, negation),
+        }
+    }
+
+    // The ending, where the lines of the search whose turn it is are a proof that nothing exceeds the best times, or that no times
+    // satisfy.
+    fn decide(&self) -> Option<Ending>
+        ensures ending { IfSome result (λ ending. (net : Net) → IsRacing net self.now
+            → IsOverAs self.now.view net self.now → IsEnding net self.now ending) }
+    {
+        if self.best.times.is_none() {
+            return Some(Ending::Inconsistent(self.view));
+        }
+        if is_far(self.best.claim, self.limits) {
+            return None;
+        }
+        Some(Ending::Closed(self.view))
+    }
+
+    // Gives the turn to the other search, and allows it blocks.
+    fn pass_on(&mut self)
+        ensures from { self.new.from ≡ self.old.from }
+        ensures to { self.new.to ≡ self.old.to }
+        ensures limits { self.new.limits ≡ self.old.limits }
+        ensures plain { self.new.plain ≡ self.old.plain }
+        ensures turned { self.new.turned ≡ self.old.turned }
+        ensures best { self.new.best ≡ self.old.best }
+    {
+        match self.view {
+            View::Plain => {
+                self.view = View::Negated;
+                self.turned.allow(self.blocks);
+            }
+            View::Negated => {
+                self.view = View::Plain;
+                self.blocks = more_blocks(self.blocks);
+                self.plain.allow(self.blocks);
+            }
+        }
+    }
+
+    // Takes the values of the search whose turn it is as times, if they satisfy and are better than the best, and claims what they
+    // attain. The search gives up if they are not.
+    fn take_times(
+        &mut self,
+        alloc: Global,
+        net: &Network,
+        negation: &Network,
+    ) -> Result<Option<Ending>, NoMemory>
+        requires racing { IsRacing net.now self.old }
+        requires negation { negation.now ≡ negated net.now }
+        ensures racing { OnOk result (IsRacing net.now self.new) }
+        ensures ending { IfOk result (λ ending. IfSome ending (IsEnding net.now self.new)) }
+        ensures lines { OnOk result (line_count self.new ≡ line_count self.old) }
+        ensures from { OnOk result (self.new.from ≡ self.old.from) }
+        ensures to { OnOk result (self.new.to ≡ self.old.to) }
+    {
+        let times = self.times_found(alloc)?;
+        let Some(claim) = more_by(net, self.from, self.to, self.best.claim, &times) else {
+            self.give_up();
+            return Ok(None);
+        };
+        let ending = ending_by(alloc, net, self.from, self.to, self.limits, claim, &times)?;
+        self.plain.raise(net, claim);
+        self.turned.raise(negation, claim);
+        self.best = Best {
+            times: Some(times),
+            claim,
+        };
+        Ok(ending)
+    }
+
+    // The times that the values of the search whose turn it is stand for.
+    fn times_found(&self, alloc: Global) -> Result<Vec<i64>, NoMemory> {
+        match self.view {
+            View::Plain => times_of(alloc, View::Plain, self.plain.values()),
+            View::Negated => times_of(alloc, View::Negated, self.turned.values()),
+        }
+    }
+
+    // Lets the search whose turn it is give up.
+    fn give_up(&mut self)
+        ensures same { self.new ≡ self.old }
+    {
+        match self.view {
+            View::Plain => self.plain.stop(),
+            View::Negated => self.turned.stop(),
+        }
+    }
+}
+
+// A number of picoseconds below every separation of times that are near each other.
+fn start_claim(limits: Limits) -> Claim
+    requires least { neg_ℤ (pos (2 ^ 62)) ≤ℤ limits.lowest }
+    ensures { result.value ≡ limits.lowest -ℤ pos 1 }
+{
+    Claim {
+        value: limits.lowest - 1,
+    }
+}
+
+// Whether a claim is at least the far line.
+fn is_far(claim: Claim, limits: Limits) -> bool
+    ensures near { IsFalse result → claim.value <ℤ limits.far }
+{
+    limits.far <= claim.value
+}
+
+// One and a half times as many blocks, and at least 4.
+fn more_blocks(blocks: u64) -> u64 {
+    blocks.saturating_add(blocks / 2).max(4)
+}
+
+// The ending, where a separation is at least the far line and the events beyond a gap among the times are a ray.
+fn ending_by(
+    alloc: Global,
+    net: &Network,
+    from: EventId,
+    to: EventId,
+    limits: Limits,
+    claim: Claim,
+    times: &Vec<i64>,
+) -> Result<Option<Ending>, NoMemory>
+    requires from { from.0 < net.now.events }
+    requires to { to.0 < net.now.events }
+    requires limits { AreLimits net.now limits }
+    requires count { length times.now.items ≡ net.now.events }
+    requires times { All IsTime times.now.items }
+    ensures ray { IfOk result (λ ending. IfSome ending (IsRayEnding net.now from to times.now.items)) }
+{
+    if !is_far(claim, limits) {
+        return Ok(None);
+    }
+    let ray = ray_of(alloc, net, from, limits, times)?;
+    if net.is_ray(times, &ray, from, to) {
+        return Ok(Some(Ending::Unbounded(ray)));
+    }
+    Ok(None)
+}
+
+// The events beyond a gap among times, seen from an event.
+fn ray_of(
+    alloc: Global,
+    net: &Network,
+    from: EventId,
+    limits: Limits,
+    times: &Vec<i64>,
+) -> Result<Vec<bool>, NoMemory>
+    requires from { from.0 < net.now.events }
+    requires limits { AreLimits net.now limits }
+    requires count { length times.now.items ≡ net.now.events }
+    ensures count { IfOk result (λ ray. length ray.items ≡ net.now.events) }
+{
+    let count = times.len();
+    let mut values = vec![in alloc; 0; count]?;
+    let base = times[from.0 as usize];
+    for event in 0..count {
+        values[event] = times[event].saturating_sub(base);
+    }
+    let level = gap_level(net, &values, limits);
+    let mut ray = vec![in alloc; false; count]?;
+    for event in 0..count {
+        ray[event] = level.value < values[event];
+    }
+    Ok(ray)
+}

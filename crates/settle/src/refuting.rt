@@ -1,0 +1,212 @@
+//! What of the choices an end needs.
+
+use crate::engine::{Engine, Need};
+use crate::labels::{Change, Entry, Labels};
+use crate::line::ProofLine;
+use crate::places::{at, put};
+use clauses::{EventFall, Literal};
+use itv_base::{EventId, NoMemory};
+
+// What an end needs of the entries from the first one on that is not of level 0.
+#[derive(Drop)]
+struct Needs {
+    first: usize,
+    /// The values that entries are needed at, in picoseconds.
+    values: Vec<Option<i64>>,
+    /// The latest level, and how many entries of it are needed and were not gone through.
+    level: usize,
+    open: usize,
+    /// The literals that the block assumes, and the latest level but one among them.
+    used: Vec<Literal>,
+    back: usize,
+}
+
+impl Engine {
+    /// Writes the block that shows an end, from its last line to its first, and goes back to where the latest of its literals can
+    /// be refused. The block assumes one literal of the latest level: the latest one that all of it comes from.
+    pub fn refute(&mut self, need: Need) -> Result<(), NoMemory> {
+        let first = self.labels.root_end();
+        let count = self.labels.len().saturating_sub(first);
+        let mut needs = Needs {
+            first,
+            values: vec![in self.alloc; None; count]?,
+            level: self.labels.level(),
+            open: 0,
+            used: Vec::new(self.alloc),
+            back: 0,
+        };
+        self.want(&mut needs, need.event, need.value);
+        self.outbox.push(ProofLine::Close)?;
+        for place in (first..self.labels.len()).rev() {
+            if let Some(value) = needs.at(place) {
+                self.go_through(&mut needs, place, value)?;
+            }
+        }
+        self.gain = self.gain.saturating_add(self.gain / 8);
+        if 1 << 50 < self.gain {
+            self.halve();
+        }
+        let level = needs.back;
+        self.outbox.push(ProofLine::Assume(needs.used))?;
+        self.go_back(level);
+        Ok(())
+    }
+
+    // Assumes the literal of an entry that is needed, or wants what made it and writes its line.
+    fn go_through(&mut self, needs: &mut Needs, place: usize, value: i64) -> Result<(), NoMemory> {
+        let entry = self.labels.entry(place);
+        needs.pass(entry);
+        if let Change::Held(literal) = entry.change {
+            self.count_need(literal.side);
+        }
+        match entry.change {
+            Change::Held(literal) if needs.ends_at(entry) => {
+                needs.used.push(self.rules.named(literal))?;
+                if entry.level < needs.level {
+                    needs.back = needs.back.max(entry.level);
+                }
+                Ok(())
+            }
+            _ => match entry.rule {
+                Some(rule) => self.put_line(needs, entry, rule, value),
+                None => Ok(()),
+            },
+        }
+    }
+
+    // Counts a need of a side.
+    fn count_need(&mut self, side: usize) {
+        let count = at(&self.activity, side, 0).saturating_add(self.gain);
+        put(&mut self.activity, side, count);
+    }
+
+    // Makes all counts of needs smaller.
+    fn halve(&mut self) {
+        for side in 0..self.activity.len() {
+            let count = at(&self.activity, side, 0) / 1_099_511_627_776;
+            put(&mut self.activity, side, count);
+        }
+        self.gain = (self.gain / 1_099_511_627_776).max(1024);
+    }
+
+    // Wants what made an entry, and writes its line.
+    fn put_line(
+        &mut self,
+        needs: &mut Needs,
+        entry: Entry,
+        rule: usize,
+        value: i64,
+    ) -> Result<(), NoMemory> {
+        self.want_reason(needs, entry, rule, value);
+        let basis = self.rules.rule(rule).basis;
+        match entry.change {
+            Change::Fell(fallen) => {
+                let event = fallen.event;
+                self.outbox.push(ProofLine::Fall(EventFall {
+                    event,
+                    value,
+                    basis,
+                }))?;
+            }
+            Change::Held(literal) => {
+                let named = self.rules.named(literal);
+                self.outbox.push(ProofLine::Know(named, basis))?;
+            }
+        }
+        Ok(())
+    }
+
+    // Wants what a rule needs for an entry.
+    fn want_reason(&self, needs: &mut Needs, entry: Entry, rule: usize, value: i64) {
+        let rule = self.rules.rule(rule);
+        for number in 0..rule.literals.count {
+            let literal = self.rules.literal(rule, number);
+            if entry.change != Change::Held(literal) {
+                if let Some(place) = self.labels.place_of(literal.opposite()) {
+                    needs.lower(&self.labels, place, 0);
+                }
+            }
+        }
+        for number in 0..rule.ways.count {
+            let way = self.rules.way(rule, number);
+            self.want(needs, way.from, value.saturating_sub(way.weight));
+        }
+    }
+
+    // Wants the earliest entry by which an event is at most at a value, if that is not of level 0.
+    fn want(&self, needs: &mut Needs, event: EventId, value: i64) {
+        let mut found = None;
+        let mut next = self.labels.last_of(event);
+        for _ in 0..self.labels.len() {
+            let Some(place) = next else {
+                break;
+            };
+            match self.labels.entry(place).change {
+                Change::Fell(fallen) if fallen.old <= value => {
+                    found = None;
+                    next = fallen.before;
+                }
+                Change::Fell(fallen) if fallen.new <= value => {
+                    found = Some(place);
+                    next = None;
+                }
+                _ => next = None,
+            }
+        }
+        if let Some(place) = found {
+            needs.lower(&self.labels, place, value);
+        }
+    }
+
+    /// Goes back to a level. What waited is let go: where the level ended, nothing did.
+    pub fn go_back(&mut self, level: usize) {
+        self.labels.go_back(level);
+        self.sweep.clear();
+        self.changes.fill(0);
+        self.link = None;
+        self.low = None;
+        self.walk = None;
+        self.heard = self.labels.len();
+    }
+}
+
+impl Needs {
+    // The value that an entry is needed at, if it is.
+    fn at(&self, place: usize) -> Option<i64> {
+        at(&self.values, place.saturating_sub(self.first), None)
+    }
+
+    // Goes through an entry that is needed.
+    fn pass(&mut self, entry: Entry) {
+        if entry.level == self.level {
+            self.open = self.open.saturating_sub(1);
+        }
+    }
+
+    // Whether the literal of an entry is to be assumed: it was chosen, is of a level before the latest, or is what all of the latest
+    // level comes from.
+    fn ends_at(&self, entry: Entry) -> bool {
+        entry.rule.is_none() || entry.level < self.level || self.open == 0
+    }
+
+    // Needs an entry at a value, or at the lower one where it is needed already.
+    fn lower(&mut self, labels: &Labels, place: usize, value: i64) {
+        if place < self.first {
+            return;
+        }
+        let least = match self.at(place) {
+            Some(other) => other.min(value),
+            None => {
+                if labels.entry(place).level == self.level {
+                    self.open = self.open.saturating_add(1);
+                }
+                value
+            }
+        };
+        put(
+            &mut self.values,
+            place.saturating_sub(self.first),
+            Some(least),
+        );
+    }
+}

@@ -1,0 +1,167 @@
+//! Loops among the reasons of values.
+
+use crate::engine::Engine;
+use crate::labels::Change;
+use crate::line::ProofLine;
+use crate::places::{at, put};
+use crate::rules::Rule;
+use clauses::{Step, Way};
+use itv_base::{EventId, NoMemory};
+
+// The way that gives an event its value: the rule of the event's latest fall, and the number of its greatest way.
+#[derive(Clone, Copy)]
+struct Lead {
+    rule: Rule,
+    through: u32,
+    way: Way,
+}
+
+// How many literals or ways a loop that is proposed may have, counted with repeats.
+const MOST: usize = 64;
+
+// A walk back round a loop.
+#[derive(Drop)]
+struct Round {
+    event: EventId,
+    steps: Vec<Step>,
+    sum: i64,
+    literals: usize,
+    out: Vec<Way>,
+}
+
+impl Engine {
+    /// Walks back from an event along what gives each its value. Where the walk comes to an event again, round a loop with a sum
+    /// below 0 that lowers that event, the loop is proposed.
+    pub fn go_round(&mut self, event: EventId) -> Result<(), NoMemory> {
+        match self.met_again(event) {
+            Some(event) => self.propose_round(event),
+            None => Ok(()),
+        }
+    }
+
+    // The first event that the walk back from an event comes to twice, if it does.
+    fn met_again(&mut self, event: EventId) -> Option<EventId> {
+        self.walks = self.walks.saturating_add(1);
+        let mut here = event;
+        for _ in 0..self.stamps.len().saturating_add(1) {
+            let place = here.0 as usize;
+            if at(&self.stamps, place, 0) == self.walks {
+                return Some(here);
+            }
+            put(&mut self.stamps, place, self.walks);
+            here = match self.lead(here) {
+                Some(lead) => lead.way.from,
+                None => return None,
+            };
+        }
+        None
+    }
+
+    // The way that gives an event its value, if it has fallen by one.
+    fn lead(&self, event: EventId) -> Option<Lead> {
+        let place = self.labels.last_of(event)?;
+        let number = self.labels.entry(place).rule?;
+        let rule = self.rules.rule(number);
+        let mut best = None;
+        let mut most = self.least;
+        let mut through = 0;
+        for number in 0..rule.ways.count {
+            let way = self.rules.way(rule, number);
+            let given = self.labels.value(way.from).saturating_add(way.weight);
+            if most < given {
+                most = given;
+                best = Some(Lead { rule, through, way });
+            }
+            through = through.saturating_add(1);
+        }
+        best
+    }
+
+    // Proposes the loop back to an event, if it lowers it.
+    fn propose_round(&mut self, event: EventId) -> Result<(), NoMemory> {
+        let mut round = Round {
+            event,
+            steps: Vec::new(self.alloc),
+            sum: 0,
+            literals: 0,
+            out: Vec::new(self.alloc),
+        };
+        let mut here = event;
+        for _ in 0..self.stamps.len() {
+            let Some(lead) = self.lead(here) else {
+                return Ok(());
+            };
+            self.step_back(&mut round, lead)?;
+            here = lead.way.from;
+            if here == event {
+                return self.propose(round);
+            }
+        }
+        Ok(())
+    }
+
+    // Goes through a way, and leaves the others of its rule as ways out.
+    fn step_back(&self, round: &mut Round, lead: Lead) -> Result<(), NoMemory> {
+        for number in 0..lead.rule.ways.count {
+            if number != lead.through as usize {
+                let way = self.rules.way(lead.rule, number);
+                let weight = way.weight.saturating_add(round.sum);
+                join(
+                    &mut round.out,
+                    Way {
+                        from: way.from,
+                        weight,
+                    },
+                )?;
+            }
+        }
+        round.literals = round.literals.saturating_add(lead.rule.literals.count);
+        round.sum = round.sum.saturating_add(lead.way.weight);
+        round.steps.push(Step {
+            basis: lead.rule.basis,
+            through: lead.through,
+        })?;
+        Ok(())
+    }
+
+    // Proposes a loop, if it is below 0, small, and lowers its event.
+    fn propose(&mut self, round: Round) -> Result<(), NoMemory> {
+        let lowers = round.sum < 0 && self.most_out(&round) < self.labels.value(round.event);
+        if !lowers || MOST < round.literals || MOST < round.out.len() {
+            return Ok(());
+        }
+        self.outbox.push(ProofLine::Loop(round.event, round.steps))?;
+        Ok(())
+    }
+
+    // The greatest value that a way out of a loop gives, or the least value that a line may give.
+    fn most_out(&self, round: &Round) -> i64 {
+        let mut most = self.least;
+        for way in &round.out {
+            let given = self.labels.value(way.from).saturating_add(way.weight);
+            most = most.max(given);
+        }
+        most
+    }
+}
+
+// Joins a way to others: of two from one event the wider stays.
+fn join(ways: &mut Vec<Way>, way: Way) -> Result<(), NoMemory> {
+    for place in 0..ways.len() {
+        let other = ways[place];
+        if other.from == way.from {
+            put(ways, place, wider(way, other));
+            return Ok(());
+        }
+    }
+    ways.push(way)?;
+    Ok(())
+}
+
+// The wider of two ways.
+fn wider(way: Way, other: Way) -> Way {
+    if way.weight <= other.weight {
+        return other;
+    }
+    way
+}

@@ -1,0 +1,356 @@
+//! The table of rules: every clause that the search knows, in one form.
+
+ghost use Rattle.std.specs.Prelude.{◌<◌, All, length};
+ghost use Rattle.event_graph.specs.Network.{IsNet};
+ghost use Rattle.clauses.specs.Checking.{IsNearClause};
+
+use crate::numbered::Numbered;
+use crate::places::{at, put};
+use clauses::{Basis, Clause, Literal, Way, literal_at, shape_of, way_at};
+use event_graph::Network;
+use itv_base::{EdgeName, EventId, NoMemory, RuleKind, Side};
+use std::alloc::Global;
+
+/// A stretch of a list.
+#[derive(Clone, Copy, Debug, PartialEq, Eq)]
+pub struct Span {
+    pub first: usize,
+    pub count: usize,
+}
+
+/// A clause: some of its literals holds, or its target comes within some of its ways. Both are stretches of the table's lists.
+#[derive(Clone, Copy, Debug, PartialEq, Eq)]
+pub struct Rule {
+    pub basis: Basis,
+    pub target: EventId,
+    pub literals: Span,
+    pub ways: Span,
+}
+
+/// A rule in a chain, and the place of the next link.
+#[derive(Clone, Copy, Debug, PartialEq, Eq)]
+pub struct Link {
+    pub rule: usize,
+    pub next: Option<usize>,
+}
+
+// No rule, literal, way or link: what is read where there is none.
+const NO_SPAN: Span = Span { first: 0, count: 0 };
+
+const NO_RULE: Rule = Rule {
+    basis: Basis::ByKept(0),
+    target: EventId(0),
+    literals: NO_SPAN,
+    ways: NO_SPAN,
+};
+
+const NO_LITERAL: Numbered = Numbered {
+    side: 0,
+    is_met: true,
+};
+
+const NO_NAME: Literal = Literal {
+    constraint: 0,
+    cause: 0,
+    is_met: true,
+};
+
+const NO_WAY: Way = Way {
+    from: EventId(0),
+    weight: 0,
+};
+
+const NO_LINK: Link = Link {
+    rule: 0,
+    next: None,
+};
+
+/// The rules of a network, and those of clauses that were kept behind them.
+///
+/// A rule stands in the chain of each event that one of its ways is from, and in that of the opposite of each of its literals:
+/// there it may come to say more.
+#[derive(Debug, Drop)]
+pub struct Rules {
+    rules: Vec<Rule>,
+    literals: Vec<Numbered>,
+    ways: Vec<Way>,
+    links: Vec<Link>,
+    by_event: Vec<Option<usize>>,
+    by_literal: Vec<Option<usize>>,
+    sides: Vec<Literal>,
+    side_rules: Vec<Option<usize>>,
+    first_sides: Vec<usize>,
+    earliest: Vec<usize>,
+}
+
+impl Rules {
+    /// The rules of a network.
+    pub fn new(alloc: Global, net: &Network) -> Result<Rules, NoMemory> {
+        let mut rules = Rules {
+            rules: Vec::new(alloc),
+            literals: Vec::new(alloc),
+            ways: Vec::new(alloc),
+            links: Vec::new(alloc),
+            by_event: vec![in alloc; None; net.events() as usize]?,
+            by_literal: Vec::new(alloc),
+            sides: Vec::new(alloc),
+            side_rules: Vec::new(alloc),
+            first_sides: Vec::new(alloc),
+            earliest: Vec::new(alloc),
+        };
+        for number in 0..net.len() {
+            rules.push_sides(net, number)?;
+        }
+        for number in 0..net.len() {
+            rules.push_constraint(net, number)?;
+        }
+        Ok(rules)
+    }
+
+    // Numbers the sides of an earliest constraint with two or more causes.
+    fn push_sides(&mut self, net: &Network, number: u32) -> Result<(), NoMemory>
+        requires number { number < length net.now.constraints }
+    {
+        let first = self.sides.len();
+        self.first_sides.push(first)?;
+        if !is_choice(net, number, RuleKind::Early) {
+            return Ok(());
+        }
+        for cause in 0..net.cause_count(number) {
+            self.sides.push(Literal {
+                constraint: number,
+                cause,
+                is_met: true,
+            })?;
+            self.side_rules.push(None)?;
+            self.by_literal.push(None)?;
+            self.by_literal.push(None)?;
+        }
+        Ok(())
+    }
+
+    // Adds the rules of a constraint.
+    fn push_constraint(&mut self, net: &Network, number: u32) -> Result<(), NoMemory>
+        requires net { IsNet net.now }
+        requires number { number < length net.now.constraints }
+    {
+        let count = net.cause_count(number);
+        for cause in 0..count.max(1) {
+            self.push_edge(net, number, cause, Side::Upper)?;
+            self.push_edge(net, number, cause, Side::Lower)?;
+        }
+        if is_choice(net, number, RuleKind::Late) {
+            self.push_rule(net, &[], Basis::ByLatest(number))?;
+        }
+        if is_choice(net, number, RuleKind::Early) {
+            for cause in 0..count {
+                self.push_side(net, number, cause)?;
+            }
+            self.push_earliest(net, number)?;
+        }
+        Ok(())
+    }
+
+    // Adds the rule of an always-edge.
+    fn push_edge(
+        &mut self,
+        net: &Network,
+        constraint: u32,
+        cause: u32,
+        side: Side,
+    ) -> Result<(), NoMemory>
+        requires net { IsNet net.now }
+    {
+        let name = EdgeName {
+            constraint,
+            cause,
+            side,
+        };
+        if net.is_always(name) {
+            self.push_rule(net, &[], Basis::ByEdge(name))?;
+        }
+        Ok(())
+    }
+
+    // Adds the rules of the edges of a side and of its refusal.
+    fn push_side(&mut self, net: &Network, constraint: u32, cause: u32) -> Result<(), NoMemory>
+        requires net { IsNet net.now }
+    {
+        let met = Literal {
+            constraint,
+            cause,
+            is_met: true,
+        };
+        let place = self.rules.len();
+        self.push_rule(net, &[], Basis::BySide(met))?;
+        if place < self.rules.len() {
+            let side = self.number_of(met).side;
+            put(&mut self.side_rules, side, Some(place));
+        }
+        self.push_rule(net, &[], Basis::BySide(met.opposite()))
+    }
+
+    // Adds the rule that some side of an earliest constraint is met, if no low end is open.
+    fn push_earliest(&mut self, net: &Network, number: u32) -> Result<(), NoMemory>
+        requires net { IsNet net.now }
+    {
+        let place = self.rules.len();
+        self.push_rule(net, &[], Basis::ByEarliest(number))?;
+        if place < self.rules.len() {
+            self.earliest.push(place)?;
+        }
+        Ok(())
+    }
+
+    /// Adds the rule of the clause of a basis, if there is one.
+    pub fn push_rule(
+        &mut self,
+        net: &Network,
+        kept: &[Clause],
+        basis: Basis,
+    ) -> Result<(), NoMemory>
+        requires net { IsNet net.now }
+        requires kept { All IsNearClause kept.now }
+    {
+        let Some(shape) = shape_of(net, kept, basis) else {
+            return Ok(());
+        };
+        let rule = self.rules.len();
+        let first_literal = self.literals.len();
+        for place in 0..shape.literals {
+            if let Some(literal) = literal_at(net, kept, basis, place) {
+                self.push_literal(rule, first_literal, literal)?;
+            }
+        }
+        let first_way = self.ways.len();
+        for place in 0..shape.ways {
+            if let Some(way) = way_at(net, kept, basis, place) {
+                self.push_way(rule, way)?;
+            }
+        }
+        self.rules.push(Rule {
+            basis,
+            target: shape.target,
+            literals: Span {
+                first: first_literal,
+                count: self.literals.len().saturating_sub(first_literal),
+            },
+            ways: Span {
+                first: first_way,
+                count: self.ways.len().saturating_sub(first_way),
+            },
+        })?;
+        Ok(())
+    }
+
+    // Adds a literal of a rule whose literals begin at a place, but for one that is there already.
+    fn push_literal(
+        &mut self,
+        rule: usize,
+        first: usize,
+        literal: Literal,
+    ) -> Result<(), NoMemory> {
+        let numbered = self.number_of(literal);
+        for place in first..self.literals.len() {
+            if at(&self.literals, place, NO_LITERAL) == numbered {
+                return Ok(());
+            }
+        }
+        self.literals.push(numbered)?;
+        let head = numbered.opposite().place();
+        let next = at(&self.by_literal, head, None);
+        put(&mut self.by_literal, head, Some(self.links.len()));
+        self.links.push(Link { rule, next })?;
+        Ok(())
+    }
+
+    // Adds a way of a rule.
+    fn push_way(&mut self, rule: usize, way: Way) -> Result<(), NoMemory> {
+        self.ways.push(way)?;
+        let head = way.from.0 as usize;
+        let next = at(&self.by_event, head, None);
+        put(&mut self.by_event, head, Some(self.links.len()));
+        self.links.push(Link { rule, next })?;
+        Ok(())
+    }
+
+    // A literal by the number of its side.
+    fn number_of(&self, literal: Literal) -> Numbered {
+        let first = at(&self.first_sides, literal.constraint as usize, 0);
+        Numbered {
+            side: first.saturating_add(literal.cause as usize),
+            is_met: literal.is_met,
+        }
+    }
+
+    /// The literal of a number.
+    pub fn named(&self, numbered: Numbered) -> Literal {
+        let met = at(&self.sides, numbered.side, NO_NAME);
+        Literal {
+            constraint: met.constraint,
+            cause: met.cause,
+            is_met: numbered.is_met,
+        }
+    }
+
+    /// The rule of the edge of a side, if there is one.
+    pub fn of_side(&self, side: usize) -> Option<usize> {
+        at(&self.side_rules, side, None)
+    }
+
+    /// The number of rules.
+    pub fn len(&self) -> usize {
+        self.rules.len()
+    }
+
+    /// The number of sides.
+    pub fn sides(&self) -> usize {
+        self.sides.len()
+    }
+
+    /// The rule at a place.
+    pub fn rule(&self, place: usize) -> Rule {
+        at(&self.rules, place, NO_RULE)
+    }
+
+    /// The literal of a number of a rule.
+    pub fn literal(&self, rule: Rule, number: usize) -> Numbered {
+        at(
+            &self.literals,
+            rule.literals.first.saturating_add(number),
+            NO_LITERAL,
+        )
+    }
+
+    /// The way of a number of a rule.
+    pub fn way(&self, rule: Rule, number: usize) -> Way {
+        at(&self.ways, rule.ways.first.saturating_add(number), NO_WAY)
+    }
+
+    /// The link at a place.
+    pub fn link(&self, place: usize) -> Link {
+        at(&self.links, place, NO_LINK)
+    }
+
+    /// The chain of rules with a way from an event.
+    pub fn of_event(&self, event: EventId) -> Option<usize> {
+        at(&self.by_event, event.0 as usize, None)
+    }
+
+    /// The chain of rules with the opposite of a literal.
+    pub fn of_literal(&self, literal: Numbered) -> Option<usize> {
+        at(&self.by_literal, literal.place(), None)
+    }
+
+    /// The rules that some side of an earliest constraint is met.
+    pub fn earliest(&self) -> &Vec<usize> {
+        &self.earliest
+    }
+}
+
+// Whether a constraint is of a kind and has two or more causes.
+fn is_choice(net: &Network, number: u32, kind: RuleKind) -> bool
+    requires number { number < length net.now.constraints }
+{
+    net.kind(number) == kind && 1 < net.cause_count(number)
+}

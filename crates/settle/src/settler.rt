@@ -1,0 +1,166 @@
+//! Greatest separations of a network.
+
+ghost use Rattle.std.specs.Prelude.{◌≡◌, ◌<◌, ◌≤◌, ℕ, ℤ, Some, IfOk};
+ghost use Rattle.std.specs.Global.{Vec};
+ghost use Rattle.itv_base.specs.declared.names.EventId.{EventId};
+ghost use Rattle.event_graph.specs.Network.{Net};
+ghost use Rattle.falling.specs.declared.view.View.TheVariants.{Negated, Plain};
+ghost use Rattle.settle.specs.declared.found.Settled.TheVariants.{Closed};
+ghost use Rattle.settle.specs.Found.{IsFound, IsMadeFor};
+ghost use Rattle.settle.specs.Racing.{IsEnding, IsRacing, line_count};
+
+use crate::best::Best;
+use crate::found::{Found, Settled};
+use crate::line::ProofLine;
+use crate::prover::Prover;
+use crate::race::{Ending, Race};
+use clauses::Claim;
+use event_graph::Network;
+use falling::{Limits, View, limits_of, negation_of};
+use itv_base::{EventId, NoMemory};
+use std::alloc::Global;
+
+/// Finds greatest separations over one network, whatever its choices.
+///
+/// It is made for a network, and every later call is given the same one. Each call takes memory, and gives it back with what it
+/// finds.
+#[derive(Debug, Drop)]
+pub struct Settler {
+    negation: Network,
+    limits: Limits,
+}
+
+impl Settler {
+    /// A settler for a network, or `NoMemory`.
+    pub fn new(alloc: Global, net: &Network) -> Result<Settler, NoMemory>
+        ensures made { IfOk result (IsMadeFor net.now) }
+    {
+        Ok(Settler {
+            negation: negation_of(alloc, net)?,
+            limits: limits_of(net),
+        })
+    }
+
+    /// The greatest separation of a pair of events, in picoseconds, found in at most so many turns, with what shows it; or
+    /// `NoMemory`. A turn makes at most one line.
+    pub fn greatest(
+        &self,
+        alloc: Global,
+        net: &Network,
+        from: EventId,
+        to: EventId,
+        turns: u64,
+    ) -> Result<Found, NoMemory>
+        requires made { IsMadeFor net.now self.now }
+        requires from { from.0 < net.now.events }
+        requires to { to.0 < net.now.events }
+        ensures found { IfOk result (IsFound net.now from to turns) }
+    {
+        let mut race = Race::new(alloc, net, &self.negation, from, to, self.limits)?;
+        for turn in 0..turns {
+            if let Some(ending) = race.turn(alloc, net, &self.negation)? {
+                return Ok(found_by(alloc, net, from, to, race, ending, turn + 1));
+            }
+        }
+        Ok(spent(alloc, turns))
+    }
+}
+
+// What a race between a pair that has ended has found.
+fn found_by(
+    alloc: Global,
+    net: &Network,
+    from: EventId,
+    to: EventId,
+    race: Race,
+    ending: Ending,
+    turns: u64,
+) -> Found
+    requires racing { IsRacing net.now race }
+    requires from { race.from ≡ from }
+    requires to { race.to ≡ to }
+    requires ending { IsEnding net.now race ending }
+    requires lines { line_count race ≤ turns }
+    ensures found { (most : ℕ) → turns ≤ most → IsFound net.now from to most result }
+{
+    let _events = net.events();
+    let Race {
+        from: _,
+        to: _,
+        limits: _,
+        plain,
+        turned,
+        best,
+        view: _,
+        blocks: _,
+    } = race;
+    let claim = best.claim;
+    match ending {
+        Ending::Closed(view) => Found {
+            answer: closed_at(claim),
+            times: times_in(alloc, best),
+            ray: Vec::new(alloc),
+            view,
+            lines: lines_of(view, plain, turned),
+            turns,
+        },
+        Ending::Unbounded(ray) => Found {
+            answer: Settled::Unbounded,
+            times: times_in(alloc, best),
+            ray,
+            view: View::Plain,
+            lines: Vec::new(alloc),
+            turns,
+        },
+        Ending::Inconsistent(view) => Found {
+            answer: Settled::Inconsistent,
+            times: Vec::new(alloc),
+            ray: Vec::new(alloc),
+            view,
+            lines: lines_of(view, plain, turned),
+            turns,
+        },
+    }
+}
+
+// The answer that the greatest separation is what is claimed.
+fn closed_at(claim: Claim) -> Settled
+    ensures { result ≡ Closed claim.value }
+{
+    Settled::Closed(claim.value)
+}
+
+// The best times, if there are any.
+fn times_in(alloc: Global, best: Best) -> Vec<i64>
+    ensures { (times : Vec ℤ) → best.times ≡ Some times → result ≡ times }
+{
+    match best.times {
+        Some(times) => times,
+        None => Vec::new(alloc),
+    }
+}
+
+// The lines of the search of a view.
+fn lines_of(view: View, plain: Prover, turned: Prover) -> Vec<ProofLine>
+    ensures plain { view ≡ Plain → result.items ≡ plain.lines }
+    ensures negated { view ≡ Negated → result.items ≡ turned.lines }
+{
+    match view {
+        View::Plain => plain.into_lines(),
+        View::Negated => turned.into_lines(),
+    }
+}
+
+// What is found where all turns were spent.
+fn spent(alloc: Global, turns: u64) -> Found
+    ensures found { (net : Net) (from to : EventId) → IsFound net from to turns result }
+{
+    Found {
+        answer: Settled::Spent,
+        times: Vec::new(alloc),
+        ray: Vec::new(alloc),
+        view: View::Plain,
+        lines: Vec::new(alloc),
+        turns,
+    }
+}

@@ -1,0 +1,114 @@
+//! Stored lines, given to a checker.
+
+ghost use Rattle.std.specs.Prelude.{◌≡◌, IsTrue, IsFalse, IfOk};
+ghost use Rattle.clauses.specs.Checking.{IsChecking, TakesLine};
+ghost use Rattle.clauses.specs.Lines.{Assume, Close, Fall, Know, Loop};
+ghost use Rattle.settle.specs.Proofs.{line_of};
+
+use crate::line::ProofLine;
+use clauses::{
+    AssumeFault, Basis, ClauseChecker, CloseFault, EventFall, KnowFault, Literal, LoopFault, Step,
+};
+use event_graph::Network;
+use itv_base::{EventId, NoMemory};
+use std::alloc::Global;
+
+/// Gives a line to a checker. The answer is whether the checker has taken it; where it has not, nothing has changed.
+pub fn take_line(
+    alloc: Global,
+    net: &Network,
+    checker: &mut ClauseChecker,
+    line: &ProofLine,
+) -> Result<bool, NoMemory>
+    requires checking { IsChecking net.now checker.old }
+    ensures taken { IfOk result (λ taken. IsTrue taken → TakesLine net.now checker.old (line_of line.now) checker.new) }
+    ensures unchanged { IfOk result (λ taken. IsFalse taken → checker.new ≡ checker.old) }
+{
+    match line {
+        ProofLine::Fall(fall) => Ok(take_fall(net, checker, *fall)),
+        ProofLine::Know(literal, basis) => take_know(net, checker, *literal, *basis),
+        ProofLine::Loop(event, steps) => keep_loop(alloc, net, checker, *event, steps),
+        ProofLine::Assume(literals) => assume(alloc, net, checker, literals),
+        ProofLine::Close => close(alloc, net, checker),
+    }
+}
+
+// Takes a fall, if there is such an event and it may fall.
+fn take_fall(net: &Network, checker: &mut ClauseChecker, fall: EventFall) -> bool
+    requires checking { IsChecking net.now checker.old }
+    ensures taken { IsTrue result → TakesLine net.now checker.old (Fall fall.event fall.value fall.basis) checker.new }
+    ensures unchanged { IsFalse result → checker.new ≡ checker.old }
+{
+    if net.events() <= fall.event.0 {
+        return false;
+    }
+    checker.take_fall(net, fall).is_ok()
+}
+
+// Takes a literal that is known, if it may be.
+fn take_know(
+    net: &Network,
+    checker: &mut ClauseChecker,
+    literal: Literal,
+    basis: Basis,
+) -> Result<bool, NoMemory>
+    requires checking { IsChecking net.now checker.old }
+    ensures taken { IfOk result (λ taken. IsTrue taken → TakesLine net.now checker.old (Know literal basis) checker.new) }
+    ensures unchanged { IfOk result (λ taken. IsFalse taken → checker.new ≡ checker.old) }
+{
+    match checker.take_know(net, literal, basis) {
+        Ok(()) => Ok(true),
+        Err(KnowFault::NoMemory) => Err(NoMemory),
+        Err(_) => Ok(false),
+    }
+}
+
+// Keeps the clause of a loop, if it is one.
+fn keep_loop(
+    alloc: Global,
+    net: &Network,
+    checker: &mut ClauseChecker,
+    event: EventId,
+    steps: &Vec<Step>,
+) -> Result<bool, NoMemory>
+    requires checking { IsChecking net.now checker.old }
+    ensures taken { IfOk result (λ taken. IsTrue taken → TakesLine net.now checker.old (Loop event steps.now.items) checker.new) }
+    ensures unchanged { IfOk result (λ taken. IsFalse taken → checker.new ≡ checker.old) }
+{
+    match checker.keep_loop(alloc, net, event, steps) {
+        Ok(()) => Ok(true),
+        Err(LoopFault::NoMemory) => Err(NoMemory),
+        Err(_) => Ok(false),
+    }
+}
+
+// Opens a block, if its literals may be assumed.
+fn assume(
+    alloc: Global,
+    net: &Network,
+    checker: &mut ClauseChecker,
+    literals: &Vec<Literal>,
+) -> Result<bool, NoMemory>
+    requires checking { IsChecking net.now checker.old }
+    ensures taken { IfOk result (λ taken. IsTrue taken → TakesLine net.now checker.old (Assume literals.now.items) checker.new) }
+    ensures unchanged { IfOk result (λ taken. IsFalse taken → checker.new ≡ checker.old) }
+{
+    match checker.assume(alloc, net, literals) {
+        Ok(()) => Ok(true),
+        Err(AssumeFault::NoMemory) => Err(NoMemory),
+        Err(_) => Ok(false),
+    }
+}
+
+// Closes the block that is open, if it has ended.
+fn close(alloc: Global, net: &Network, checker: &mut ClauseChecker) -> Result<bool, NoMemory>
+    requires checking { IsChecking net.now checker.old }
+    ensures taken { IfOk result (λ taken. IsTrue taken → TakesLine net.now checker.old Close checker.new) }
+    ensures unchanged { IfOk result (λ taken. IsFalse taken → checker.new ≡ checker.old) }
+{
+    match checker.close(alloc, net) {
+        Ok(()) => Ok(true),
+        Err(CloseFault::NoMemory) => Err(NoMemory),
+        Err(_) => Ok(false),
+    }
+}

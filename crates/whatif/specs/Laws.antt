@@ -1,0 +1,18 @@
+-- Laws of sessions.
+use Rattle.std.specs.Prelude.{◌≡◌, ℕ}
+use Rattle.event_graph.specs.Network.{Net}
+use Rattle.branch.specs.declared.answer.Answer.{Answer}
+use Rattle.branch.specs.declared.answer.Answer.TheVariants.{Closed, Unbounded, Enclosed}
+use Rattle.whatif.specs.Session.{IsRightBound, KeptBound}
+
+-- the answer settles the bound
+abbrev pub IsSettledAnswer : Answer → Type 0
+IsSettledAnswer (Closed value) = Unit {0}
+IsSettledAnswer Unbounded = Unit {0}
+IsSettledAnswer (Enclosed upper attained) = ⊥
+
+-- Two bounds of one pair that are right for one network and are settled have one answer, whatever their budgets and however they came about: a bound
+-- that was kept is the one that a search from scratch settles.
+abbrev pub SettledBoundsAgree : Type 0
+SettledBoundsAgree = (net : Net) (budget other : ℕ) (a b : KeptBound) → IsRightBound net budget a → IsRightBound net other b → a.pair ≡ b.pair
+    → IsSettledAnswer a.answer → IsSettledAnswer b.answer → a.answer ≡ b.answer

@@ -1,0 +1,46 @@
+//! Why a session was not made, or not edited.
+
+ghost use Rattle.std.specs.Prelude.{◌≡◌};
+ghost use Rattle.whatif.specs.declared.fault.SessionFault.TheVariants.{NoMemory};
+
+use itv_base::NoMemory as OutOfMemory;
+use std::alloc::AllocError;
+use thiserror::Error;
+
+/// Why a session was not made.
+#[derive(Clone, Copy, Debug, PartialEq, Eq, Error)]
+pub enum SessionFault {
+    /// There are more pairs than [`MAX_PAIRS`](crate::MAX_PAIRS), so many.
+    #[error("{0} pairs are too many")]
+    TooManyPairs(u64),
+    /// Memory was wanted and not found.
+    #[error("out of memory")]
+    NoMemory,
+}
+
+/// Why a session was not edited.
+#[derive(Clone, Copy, Debug, PartialEq, Eq, Error)]
+pub enum EditFault {
+    /// The constraint or the cause is not there.
+    #[error("there is no such cause")]
+    NoSuch,
+    /// Memory was wanted and not found.
+    #[error("out of memory")]
+    NoMemory,
+}
+
+impl From<AllocError> for SessionFault {
+    ghost from_gives = { λ _ e. e ≡ NoMemory };
+
+    fn from(_: AllocError) -> SessionFault {
+        SessionFault::NoMemory
+    }
+}
+
+impl From<OutOfMemory> for SessionFault {
+    ghost from_gives = { λ _ e. e ≡ NoMemory };
+
+    fn from(_: OutOfMemory) -> SessionFault {
+        SessionFault::NoMemory
+    }
+}

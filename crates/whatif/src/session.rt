@@ -1,0 +1,260 @@
+//! Sessions of edits.
+
+ghost use Rattle.std.specs.Prelude.{◌≡◌, ◌+◌, ◌<◌, ◌≤◌, All, IfErr, IfOk, IsSome, OnErr, OnOk, length, map, option_map};
+ghost use Rattle.std.specs.Option.{option_copied};
+ghost use Rattle.event_graph.specs.Network.{IsNet, cause_at, with_range};
+ghost use Rattle.branch.specs.Work.{IsMadeFor};
+ghost use Rattle.branch.specs.declared.answer.Found.TheVariants as findings;
+ghost use Rattle.whatif.specs.Session.{AttainsKnown, HasPlaces, IsEditFault, IsEdited, IsKeptOf, IsPairIn, IsPairOf, IsRight, IsRightFinding, IsSessionFault, IsSettled, KeptBound, answers_of, both_ways, bound_at};
+ghost use Rattle.whatif.specs.declared.change.Change.{Change};
+ghost use Rattle.whatif.specs.declared.settling.TheConstants.{MAX_BOUNDS};
+
+use crate::bound::{Kept, KeptBound};
+use crate::change::Change;
+use crate::copying::copied;
+use crate::fault::{EditFault, SessionFault};
+use crate::pair::Pair;
+use crate::settling::settle_by;
+use branch::{Answer, Found, Work};
+use cert_checker::Checker;
+use event_graph::Network;
+use itv_base::{NoMemory, Range};
+use std::alloc::Global;
+use std::marker::Model;
+
+/// The most pairs of a session.
+pub const MAX_PAIRS: usize = 64;
+
+/// A network whose ranges are edited, and the bounds of pairs of its events, which are kept from one edit to the next. It has a copy of
+/// the network of its own.
+#[derive(Debug, Drop)]
+pub struct Session {
+    alloc: Global,
+    net: Network,
+    budget: u64,
+    pairs: Vec<Pair>,
+    found: Found,
+    // Two for each pair: its own, and that of the reversed pair.
+    bounds: Vec<KeptBound>,
+    checker: Checker,
+}
+
+impl Model for Session {
+    ghost use Rattle.whatif.specs.Session.{IsSound, View};
+
+    ghost Value = { View };
+
+    ghost view = { λ s. record { net = s.net; budget = s.budget; pairs = s.pairs.items; found = s.found; bounds = s.bounds.items } };
+
+    ghost invariant = { λ s. IsSound (record { net = s.net; budget = s.budget; pairs = s.pairs.items; found = s.found; bounds = s.bounds.items }) s.checker.room };
+}
+
+impl Session {
+    /// A session of pairs of events of a network, at most [`MAX_PAIRS`], each search of which closes at most `budget` cases. It takes
+    /// all the memory that it ever needs but the working memory of an edit's searches.
+    pub fn new(
+        alloc: Global,
+        net: &Network,
+        pairs: &[Pair],
+        budget: u64,
+    ) -> Result<Session, SessionFault>
+        requires within { All (IsPairOf net.now.events) pairs.now }
+        requires budget { 0 < budget }
+        ensures net { IfOk result (λ s. s.net ≡ net.now) }
+        ensures budget { IfOk result (λ s. s.budget ≡ budget) }
+        ensures pairs { IfOk result (λ s. s.pairs ≡ pairs.now) }
+        ensures right { IfOk result IsRight }
+        ensures least { IfOk result AttainsKnown }
+        ensures few { OnOk result (length pairs.now ≤ MAX_PAIRS) }
+        ensures fault { IfErr result (IsSessionFault (length pairs.now)) }
+    {
+        if MAX_PAIRS < pairs.len() {
+            return Err(SessionFault::TooManyPairs(pairs.len() as u64));
+        }
+        let net = copied(alloc, net)?;
+        let mut checker = Checker::new(alloc, &net)?;
+        let mut bounds = bounds_for(alloc, pairs, net.events())?;
+        let pairs = Vec::from_slice(alloc, pairs)?;
+        let found = begin(alloc, &net, &mut checker, budget, &mut bounds)?;
+        Ok(Session {
+            alloc,
+            net,
+            budget,
+            pairs,
+            found,
+            bounds,
+            checker,
+        })
+    }
+
+    /// Sets the range of a cause of a constraint, keeps each bound that this leaves right, and searches the others anew. The answer is
+    /// `NoSuch` exactly where the constraint or the cause is not there. After a refusal the session is unchanged.
+    pub fn edit(&mut self, constraint: u32, cause: u32, range: Range) -> Result<Change, EditFault>
+        ensures edited { IfOk result (IsEdited self.old constraint cause range self.new) }
+        ensures there { OnOk result (IsSome (cause_at self.old.net constraint cause)) }
+        ensures right { IsRight self.new }
+        ensures fault { IfErr result (IsEditFault self.old.net constraint cause) }
+        ensures unchanged { OnErr result (self.new ≡ self.old) }
+    {
+        let work = work_for(self.alloc, &mut self.net, constraint, cause, range)?;
+        Ok(settle_by(
+            &self.net,
+            work,
+            &mut self.checker,
+            self.budget,
+            &mut self.found,
+            &mut self.bounds,
+        ))
+    }
+
+    /// The network, with all edits so far.
+    pub fn network(&self) -> &Network
+        ensures { result.now ≡ self.now.net }
+    {
+        &self.net
+    }
+
+    /// Whether times satisfy the network, as far as the budget tells.
+    pub fn finding(&self) -> Found
+        ensures found { result ≡ self.now.found }
+        ensures right { IsRight self.now }
+    {
+        self.found
+    }
+
+    /// The greatest separation of a pair by its number from 0, or `None` exactly where the finding isn't consistent.
+    pub fn greatest_of(&self, pair: u32) -> Option<Answer>
+        requires there { pair < length self.now.pairs }
+        ensures { result ≡ option_map (λ (b : KeptBound). b.answer) (bound_at self.now.found self.now.bounds (pair + pair)) }
+    {
+        let bound = self.bound(2 * pair as usize)?;
+        Some(bound.answer())
+    }
+
+    /// The greatest separation of the reversed pair, which is minus the least one of the pair, or `None` exactly where the finding
+    /// isn't consistent.
+    pub fn least_of(&self, pair: u32) -> Option<Answer>
+        requires there { pair < length self.now.pairs }
+        ensures { result ≡ option_map (λ (b : KeptBound). b.answer) (bound_at self.now.found self.now.bounds (pair + pair + 1)) }
+    {
+        let bound = self.bound(2 * pair as usize + 1)?;
+        Some(bound.answer())
+    }
+
+    /// What the greatest separation of a pair keeps, with the same `None`.
+    pub fn greatest_kept(&self, pair: u32) -> Option<Kept<'_>>
+        requires there { pair < length self.now.pairs }
+        ensures { IsKeptOf result (bound_at self.now.found self.now.bounds (pair + pair)) }
+    {
+        let bound = self.bound(2 * pair as usize)?;
+        Some(bound.kept())
+    }
+
+    /// What that of the reversed pair keeps, with the same `None`.
+    pub fn least_kept(&self, pair: u32) -> Option<Kept<'_>>
+        requires there { pair < length self.now.pairs }
+        ensures { IsKeptOf result (bound_at self.now.found self.now.bounds (pair + pair + 1)) }
+    {
+        let bound = self.bound(2 * pair as usize + 1)?;
+        Some(bound.kept())
+    }
+
+    /// The answers of all bounds, two for each pair, or none where the finding isn't consistent.
+    pub fn answers(&self, alloc: Global) -> Result<Vec<Answer>, NoMemory>
+        ensures { IfOk result (λ answers. answers.items ≡ answers_of self.now.found self.now.bounds) }
+    {
+        match self.found {
+            Found::Consistent => answers_in(alloc, &self.bounds),
+            Found::Inconsistent | Found::Unsettled => Ok(Vec::new(alloc)),
+        }
+    }
+
+    // The bound of a number, where the finding is consistent.
+    fn bound(&self, number: usize) -> Option<&KeptBound>
+        requires there { number < length self.now.pairs + length self.now.pairs }
+        ensures { option_copied result ≡ bound_at self.now.found self.now.bounds number }
+    {
+        match self.found {
+            Found::Consistent => self.bounds.get(number),
+            Found::Inconsistent | Found::Unsettled => None,
+        }
+    }
+}
+
+// The answer of each bound.
+fn answers_in(alloc: Global, bounds: &[KeptBound]) -> Result<Vec<Answer>, NoMemory>
+    ensures { IfOk result (λ answers. answers.items ≡ map (λ (b : KeptBound). b.answer) bounds.now) }
+{
+    let mut answers = Vec::new(alloc);
+    for k in 0..bounds.len() {
+        answers.push(bounds[k].answer())?;
+    }
+    Ok(answers)
+}
+
+// Room for the bounds of pairs and of the reversed ones, of which nothing is searched yet.
+fn bounds_for(alloc: Global, pairs: &[Pair], events: u32) -> Result<Vec<KeptBound>, NoMemory>
+    ensures pairs { IfOk result (λ bounds. map (λ (b : KeptBound). b.pair) bounds.items ≡ both_ways pairs.now) }
+    ensures places { IfOk result (λ bounds. All (HasPlaces events) bounds.items) }
+{
+    let mut bounds = Vec::new(alloc);
+    for k in 0..pairs.len() {
+        let Pair { from, to } = pairs[k];
+        bounds.push(KeptBound::new(alloc, pairs[k], events)?)?;
+        bounds.push(KeptBound::new(alloc, Pair { from: to, to: from }, events)?)?;
+    }
+    Ok(bounds)
+}
+
+// The first finding and the first search of each bound.
+fn begin(
+    alloc: Global,
+    net: &Network,
+    checker: &mut Checker,
+    budget: u64,
+    bounds: &mut [KeptBound],
+) -> Result<Found, NoMemory>
+    requires room { checker.old.room ≡ length net.now.constraints }
+    requires budget { 0 < budget }
+    requires count { length bounds.old ≤ MAX_BOUNDS }
+    requires pairs { All (IsPairIn net.now.events) bounds.old }
+    requires places { All (HasPlaces net.now.events) bounds.old }
+    ensures net { OnOk result (IsNet net.now) }
+    ensures finding { IfOk result (IsRightFinding net.now budget) }
+    ensures settled { IfOk result (λ found. (change : Change) × IsSettled net.now budget findings.Unsettled found bounds.old bounds.new change) }
+    ensures places { OnOk result (All (HasPlaces net.now.events) bounds.new) }
+    ensures room { checker.new.room ≡ checker.old.room }
+{
+    let work = Work::new(alloc, net)?;
+    let mut found = Found::Unsettled;
+    settle_by(net, work, checker, budget, &mut found, bounds);
+    Ok(found)
+}
+
+// Sets a range, and takes the memory for searches of the network with it. Where there is none, the range is set back.
+fn work_for(
+    alloc: Global,
+    net: &mut Network,
+    constraint: u32,
+    cause: u32,
+    range: Range,
+) -> Result<Work, EditFault>
+    ensures made { IfOk result (IsMadeFor net.new) }
+    ensures set { OnOk result (net.new ≡ with_range net.old constraint cause range) }
+    ensures there { OnOk result (IsSome (cause_at net.old constraint cause)) }
+    ensures fault { IfErr result (IsEditFault net.old constraint cause) }
+    ensures unchanged { OnErr result (net.new ≡ net.old) }
+{
+    if !net.has_cause(constraint, cause) {
+        return Err(EditFault::NoSuch);
+    }
+    let old = net.cause(constraint, cause).range;
+    net.set_range(constraint, cause, range);
+    match Work::new(alloc, net) {
+        Ok(work) => Ok(work),
+        Err(_) => {
+            net.set_range(constraint, cause, old);
+            Err(EditFault::NoMemory)
+        }
+    }
+}

@@ -1,0 +1,143 @@
+//! Settling the bounds of a session for a network: each is kept or searched anew.
+
+ghost use Rattle.std.specs.Prelude.{◌≡◌, ◌<◌, ◌≤◌, ◌↔◌, [], All, IsSomeAnd, IsTrue, length, unwrap_or};
+ghost use Rattle.event_graph.specs.Satisfying.{Satisfies};
+ghost use Rattle.branch.specs.Work.{IsMadeFor};
+ghost use Rattle.branch.specs.declared.answer.Found.TheVariants as findings;
+ghost use Rattle.whatif.specs.Session.{AreSettled, HasPlaces, IsCloseBound, IsPairIn, IsRightFinding, IsSearched, IsSettled, MayKeepFrom};
+ghost use Rattle.whatif.specs.declared.settling.TheConstants.{MAX_BOUNDS};
+
+use crate::bound::KeptBound;
+use crate::change::Change;
+use branch::{Found, Quiet, Work, find};
+use cert_checker::Checker;
+use event_graph::{Network, ScribeFailed};
+
+/// The most bounds that there are.
+pub const MAX_BOUNDS: usize = 128;
+
+/// Settles a finding and bounds for a network, where the finding was another one before: each bound is kept or searched anew, if the
+/// network has satisfying times now.
+pub fn settle(
+    net: &Network,
+    work: &mut Work,
+    checker: &mut Checker,
+    budget: u64,
+    found: &mut Found,
+    bounds: &mut [KeptBound],
+) -> Change
+    requires made { IsMadeFor net.now work.old }
+    requires room { checker.old.room ≡ length net.now.constraints }
+    requires budget { 0 < budget }
+    requires count { length bounds.old ≤ MAX_BOUNDS }
+    requires pairs { All (IsPairIn net.now.events) bounds.old }
+    requires places { All (HasPlaces net.now.events) bounds.old }
+    requires close { found.old ≡ findings.Consistent → All IsCloseBound bounds.old }
+    ensures finding { IsRightFinding net.now budget found.new }
+    ensures settled { IsSettled net.now budget found.old found.new bounds.old bounds.new result }
+    ensures places { All (HasPlaces net.now.events) bounds.new }
+    ensures room { checker.new.room ≡ checker.old.room }
+{
+    let was = *found;
+    let now = find_times(net, work, budget);
+    *found = now;
+    match now {
+        Found::Consistent => settle_bounds(net, work, checker, budget, was, bounds),
+        Found::Inconsistent | Found::Unsettled => Change {
+            kept: 0,
+            searched: 0,
+        },
+    }
+}
+
+/// The same with working memory of its own, which is given back at the end.
+pub fn settle_by(
+    net: &Network,
+    mut work: Work,
+    checker: &mut Checker,
+    budget: u64,
+    found: &mut Found,
+    bounds: &mut [KeptBound],
+) -> Change
+    requires made { IsMadeFor net.now work }
+    requires room { checker.old.room ≡ length net.now.constraints }
+    requires budget { 0 < budget }
+    requires count { length bounds.old ≤ MAX_BOUNDS }
+    requires pairs { All (IsPairIn net.now.events) bounds.old }
+    requires places { All (HasPlaces net.now.events) bounds.old }
+    requires close { found.old ≡ findings.Consistent → All IsCloseBound bounds.old }
+    ensures finding { IsRightFinding net.now budget found.new }
+    ensures settled { IsSettled net.now budget found.old found.new bounds.old bounds.new result }
+    ensures places { All (HasPlaces net.now.events) bounds.new }
+    ensures room { checker.new.room ≡ checker.old.room }
+{
+    settle(net, &mut work, checker, budget, found, bounds)
+}
+
+// Whether some times satisfy the network, which are known afterwards.
+fn find_times(net: &Network, work: &mut Work, budget: u64) -> Found
+    requires made { IsMadeFor net.now work.old }
+    requires budget { 0 < budget }
+    ensures made { IsMadeFor net.now work.new }
+    ensures finding { IsRightFinding net.now budget result }
+    ensures known { result ≡ findings.Consistent → IsSomeAnd work.new.known (λ times. Satisfies times net.now) }
+{
+    match find(work, net, budget, &mut Quiet) {
+        Ok(found) => found,
+        Err(ScribeFailed) => {
+            // A quiet scribe never fails.
+            unreachable!()
+        }
+    }
+}
+
+// Keeps or searches each bound of a network with known times.
+fn settle_bounds(
+    net: &Network,
+    work: &mut Work,
+    checker: &mut Checker,
+    budget: u64,
+    was: Found,
+    bounds: &mut [KeptBound],
+) -> Change
+    requires made { IsMadeFor net.now work.old }
+    requires known { IsSomeAnd work.old.known (λ times. Satisfies times net.now) }
+    requires room { checker.old.room ≡ length net.now.constraints }
+    requires budget { 0 < budget }
+    requires count { length bounds.old ≤ MAX_BOUNDS }
+    requires pairs { All (IsPairIn net.now.events) bounds.old }
+    requires places { All (HasPlaces net.now.events) bounds.old }
+    requires close { was ≡ findings.Consistent → All IsCloseBound bounds.old }
+    ensures settled { AreSettled (MayKeepFrom was net.now) (IsSearched net.now budget (unwrap_or work.old.known [])) bounds.old bounds.new result.kept result.searched }
+    ensures places { All (HasPlaces net.now.events) bounds.new }
+    ensures room { checker.new.room ≡ checker.old.room }
+{
+    let mut change = Change {
+        kept: 0,
+        searched: 0,
+    };
+    for k in 0..bounds.len() {
+        if keeps(net, checker, was, &bounds[k]) {
+            change.kept += 1;
+        } else {
+            bounds[k].search(net, work, budget);
+            change.searched += 1;
+        }
+    }
+    change
+}
+
+// Whether a bound is kept, where the finding was this one before.
+fn keeps(net: &Network, checker: &mut Checker, was: Found, bound: &KeptBound) -> bool
+    requires pair { IsPairIn net.now.events bound.now }
+    requires places { HasPlaces net.now.events bound.now }
+    requires room { checker.old.room ≡ length net.now.constraints }
+    requires close { was ≡ findings.Consistent → IsCloseBound bound.now }
+    ensures keeps { IsTrue result ↔ MayKeepFrom was net.now bound.now }
+    ensures room { checker.new.room ≡ checker.old.room }
+{
+    match was {
+        Found::Consistent => bound.may_keep(net, checker),
+        Found::Inconsistent | Found::Unsettled => false,
+    }
+}

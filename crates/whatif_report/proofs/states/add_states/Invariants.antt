@@ -1,0 +1,7 @@
+use Rattle.std.proofs.Common.{◌≡◌, ◌+◌, ◌++◌, drop}
+use Rattle.whatif_report.specs.Text.{states_text}
+use Rattle.whatif_report.proofs.states.add_states.Given as goal
+
+-- the states so far, and those of the edits that are left
+abbrev pub invariant-loop-k : goal.invariant-loop-k
+invariant-loop-k l = l.text.items ++ states_text (l.k + 1) l.kinds (drop l.k l.edits) (drop l.k l.notes) ≡ l.fn.text.items ++ states_text 1 l.kinds l.edits l.notes

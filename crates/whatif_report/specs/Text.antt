@@ -1,0 +1,131 @@
+-- The text of job whatif: the states of a network behind edits of its ranges.
+use Rattle.std.specs.Prelude.{◌≡◌, ◌+◌, ◌⊎◌, ℕ, Bool, false, List, [], ◌∷◌, ◌++◌, length, All, codes, Some}
+use Rattle.itv_base.specs.Numerals.{number_text}
+use Rattle.itv_base.specs.declared.row_kind.RowKind.{RowKind}
+use Rattle.itv_base.specs.declared.row_kind.RowKind.TheVariants as kinds
+use Rattle.line_words.specs.Words.{Word}
+use Rattle.line_words.specs.Lines.{ended, line_of}
+use Rattle.branch.specs.declared.answer.Answer.{Answer}
+use Rattle.branch.specs.declared.answer.Answer.TheVariants as answers
+use Rattle.branch.specs.declared.answer.Found.{Found}
+use Rattle.branch.specs.declared.answer.Found.TheVariants as founds
+use Rattle.requirements.specs.Bounds.{HasTimes, reversed}
+use Rattle.requirements.specs.Verdicts.{verdict_of}
+use Rattle.requirements.specs.declared.bound.Bound.{Bound}
+use Rattle.requirements.specs.declared.bound.Bound.TheVariants as bounds
+use Rattle.slack_report.specs.Entry.{ending, finding}
+use Rattle.slack_report.specs.Text.{bound_words, entry_text, range_word, verdict_words}
+use Rattle.slack_report.specs.declared.words.EndWord.{EndWord}
+use Rattle.slack_report.specs.declared.words.FindingWord.{FindingWord}
+use Rattle.slack_report.specs.declared.words.FindingWord.TheVariants as findings
+use Rattle.right_report.specs.Right.At.{Course, course_of, end_word, is_fail, with_bounds, with_verdict}
+use Rattle.edits.specs.declared.edit.RangeEdit.{RangeEdit}
+use Rattle.whatif.specs.Runs.{Note}
+
+-- ---- a row
+
+-- the greatest bound of an answer for a pair
+abbrev pub greatest_bound : Answer → Bound
+greatest_bound (answers.Closed value) = bounds.Closed value
+greatest_bound answers.Unbounded = bounds.Unbounded
+greatest_bound (answers.Enclosed upper attained) = bounds.Within upper (Some attained)
+
+-- the least bound of a pair, by the answer for the reversed pair
+abbrev pub least_bound : Answer → Bound
+least_bound answer = reversed (greatest_bound answer)
+
+-- the words of the verdict on a requirement; an ask has none
+abbrev pub judged_words : RowKind → Bound → Bound → List Word
+judged_words kinds.Ask least most = []
+judged_words (kinds.Req range) least most = verdict_words (verdict_of range least most)
+
+-- a row on one line: both of its bounds, and the verdict
+abbrev pub row_words : ℕ → RowKind → Bound → Bound → List Word
+row_words number kind least most =
+    codes "row" ∷ number_text number ∷ codes "max" ∷ (bound_words most ++ (codes "min" ∷ (bound_words least ++ judged_words kind least most)))
+
+-- the lines of rows of these kinds, the first of which has a number, by the answers, two for each row; without answers there are none
+abbrev pub rows_text : ℕ → List RowKind → List Answer → List ℕ
+rows_text number [] found = []
+rows_text number (kind ∷ others) [] = []
+rows_text number (kind ∷ others) (most ∷ []) = []
+rows_text number (kind ∷ others) (most ∷ least ∷ found) =
+    ended (line_of (row_words number kind (least_bound least) (greatest_bound most))) ++ rows_text (number + 1) others found
+
+-- ---- a state
+
+abbrev pub found_word : Found → FindingWord
+found_word founds.Consistent = findings.Consistent
+found_word founds.Inconsistent = findings.Inconsistent
+found_word founds.Unsettled = findings.Unsettled
+
+-- the finding and the rows; where the finding isn't consistent there are no answers, and so no rows
+abbrev pub found_text : List RowKind → Found → List Answer → List ℕ
+found_text rows found list = entry_text (finding (found_word found)) ++ rows_text 0 rows list
+
+-- a constraint, a full stop and one of its causes
+abbrev pub cause_word : ℕ → ℕ → Word
+cause_word constraint cause = number_text constraint ++ (46 ∷ number_text cause)
+
+-- the line that begins a state behind an edit
+abbrev pub state_words : ℕ → RangeEdit → Note → List Word
+state_words number e note =
+    codes "state" ∷ number_text number ∷ cause_word e.constraint e.cause ∷ range_word e.range ∷ codes "kept" ∷ number_text note.change.kept
+    ∷ codes "searched" ∷ number_text note.change.searched ∷ []
+
+-- the states behind edits, the first of which has a number
+abbrev pub states_text : ℕ → List RowKind → List RangeEdit → List Note → List ℕ
+states_text number rows [] notes = []
+states_text number rows (e ∷ edits) [] = []
+states_text number rows (e ∷ edits) (note ∷ notes) =
+    ended (line_of (state_words number e note)) ++ (found_text rows note.found note.answers ++ states_text (number + 1) rows edits notes)
+
+-- ---- the end
+
+-- a requirement is known to be broken; an ask has none
+abbrev pub is_broken : RowKind → Bound → Bound → Bool
+is_broken kinds.Ask least most = false
+is_broken (kinds.Req range) least most = is_fail (verdict_of range least most)
+
+-- what the rows so far and one more come to
+abbrev pub judged_row : Course → RowKind → Bound → Bound → Course
+judged_row course kinds.Ask least most = with_bounds course least most
+judged_row course (kinds.Req range) least most = with_verdict (with_bounds course least most) (verdict_of range least most)
+
+abbrev pub judged_rows : Course → List RowKind → List Answer → Course
+judged_rows course [] found = course
+judged_rows course (kind ∷ others) [] = course
+judged_rows course (kind ∷ others) (most ∷ []) = course
+judged_rows course (kind ∷ others) (most ∷ least ∷ found) = judged_rows (judged_row course kind (least_bound least) (greatest_bound most)) others found
+
+-- the word at the end, by a finding and the answers for rows: a report of that state ends with it
+abbrev pub ending_of : List RowKind → Found → List Answer → EndWord
+ending_of rows found list = end_word (judged_rows (course_of (found_word found)) rows list)
+
+-- the note of the last state: that behind all others
+abbrev pub last_note : Note → List Note → Note
+last_note first [] = first
+last_note first (note ∷ notes) = last_note note notes
+
+-- ---- the whole
+
+-- the heading, the state before any edit, those behind the edits, and the word at the end, by the last of them
+abbrev pub whatif_text : List RowKind → Note → List RangeEdit → List Note → List ℕ
+whatif_text rows first edits notes =
+    ended (codes "itv whatif 1") ++ (ended (codes "state 0") ++ (found_text rows first.found first.answers ++ (states_text 1 rows edits notes
+    ++ entry_text (ending (ending_of rows (last_note first notes).found (last_note first notes).answers)))))
+
+-- ---- what a note is held to
+
+-- the numbers of an answer are below 2^61 in absolute value
+abbrev pub IsTimed : Answer → Type 0
+IsTimed answer = HasTimes (greatest_bound answer)
+
+-- there are two answers for each row, or none
+abbrev pub IsCountFor : List RowKind → List Answer → Type 0
+IsCountFor rows list = (length list ≡ 0) ⊎ (length list ≡ length rows + length rows)
+
+-- a note is of a session of these rows
+pub record IsNoteOf (rows : List RowKind) (note : Note) : Type 0 where
+  pub timed : All IsTimed note.answers
+  pub count : IsCountFor rows note.answers

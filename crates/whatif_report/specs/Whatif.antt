@@ -1,0 +1,62 @@
+-- What job whatif answers and writes.
+use Rattle.std.specs.Prelude.{◌≡◌, ℕ, List, map}
+use Rattle.itv_base.specs.declared.row_kind.RowKind.{RowKind}
+use Rattle.event_graph.specs.Network.{Net}
+use Rattle.drawn.specs.Drawn.{Drawn}
+use Rattle.drawn.specs.declared.row.Row.{Row}
+use Rattle.jobs.specs.Ending.{answer_of}
+use Rattle.jobs.specs.declared.answer.Answer.{Answer}
+use Rattle.edits.specs.declared.edit.RangeEdit.{RangeEdit}
+use Rattle.whatif.specs.declared.change.Change.{Change}
+use Rattle.whatif.specs.declared.pair.Pair.{Pair}
+use Rattle.whatif.specs.Session.{AttainsKnown, IsRight, View}
+use Rattle.whatif.specs.Runs.{IsRun, Note, note_of}
+use Rattle.whatif_report.specs.Text.{ending_of, last_note, whatif_text}
+
+-- the pair of a row
+abbrev pub pair_of : Row → Pair
+pair_of row = record { from = row.from; to = row.to }
+
+-- the pairs of rows, and what is wanted of each
+abbrev pub pairs_of : List Row → List Pair
+pairs_of rows = map pair_of rows
+
+abbrev pub kinds_of : List Row → List RowKind
+kinds_of rows = map (λ (row : Row). row.kind) rows
+
+-- a new session of pairs of events of a network, each search of which closes at most so many cases
+pub record IsFirst (net : Net) (pairs : List Pair) (budget : ℕ) (s : View) : Type 0 where
+  pub net_is : s.net ≡ net
+  pub budget_is : s.budget ≡ budget
+  pub pairs_are : s.pairs ≡ pairs
+  pub right : IsRight s
+  pub least : AttainsKnown s
+
+-- nothing was kept and nothing searched anew
+abbrev pub no_change : Change
+no_change = record { kept = 0; searched = 0 }
+
+-- The edits lead from a session through sessions, each of which is right. The text is of all of them, and the answer is by the last.
+pub record AnswersFrom (first : View) (kinds : List RowKind) (edits : List RangeEdit) (answer : Answer) (text : List ℕ) : Type 0 where
+  pub last : View
+  pub notes : List Note
+  pub run : IsRun first edits last notes
+  pub note : Note
+  pub noted : note ≡ note_of no_change first
+  pub is_text : text ≡ whatif_text kinds note edits notes
+  pub is_answer : answer ≡ answer_of (ending_of kinds (last_note note notes).found (last_note note notes).answers)
+
+-- the same from a new session
+abbrev pub AnswersFor : Net → List Pair → List RowKind → ℕ → List RangeEdit → Answer → List ℕ → Type 0
+AnswersFor net pairs kinds budget edits answer text = (first : View) × IsFirst net pairs budget first × AnswersFrom first kinds edits answer text
+
+-- What may have been begun: all states are known before anything is put, so it is a front of a whole text.
+abbrev pub BeginsFor : Net → List Pair → List RowKind → ℕ → List RangeEdit → List ℕ → Type 0
+BeginsFor net pairs kinds budget edits text = (answer : Answer) × AnswersFor net pairs kinds budget edits answer text
+
+-- what the job answers and writes of a drawn network
+abbrev pub AnswersWhatif : Drawn → ℕ → List RangeEdit → Answer → List ℕ → Type 0
+AnswersWhatif drawn budget edits answer text = AnswersFor drawn.net (pairs_of drawn.rows) (kinds_of drawn.rows) budget edits answer text
+
+abbrev pub BeginsWhatif : Drawn → ℕ → List RangeEdit → List ℕ → Type 0
+BeginsWhatif drawn budget edits text = BeginsFor drawn.net (pairs_of drawn.rows) (kinds_of drawn.rows) budget edits text

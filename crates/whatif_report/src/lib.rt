@@ -1,0 +1,13 @@
+//! Job whatif: from a drawn network and edits of its ranges to the bounds of its rows before and behind each edit.
+//! The contract of the crate: `write_whatif` writes the states of a session that the edits lead through, each with its finding, how
+//! many bounds were kept and searched, and both bounds of each row; where a put failed, a front of such a text.
+#![tactic(auto)]
+
+mod asked;
+mod ending;
+mod rows;
+mod states;
+mod words;
+mod write;
+
+pub use write::write_whatif;

@@ -1,0 +1,98 @@
+//! The lines of rows.
+
+ghost use Rattle.std.specs.Prelude.{◌≡◌, ◌++◌, ◌≤◌, All, OnOk, length};
+ghost use Rattle.std.specs.List.{flat_map};
+ghost use Rattle.line_words.specs.Lines.{ended, line_of, spaced};
+ghost use Rattle.requirements.specs.Bounds.{HasTimes};
+ghost use Rattle.slack_report.specs.Text.{bound_words};
+ghost use Rattle.whatif.specs.declared.session.TheConstants.{MAX_PAIRS};
+ghost use Rattle.whatif_report.specs.Text.{IsCountFor, IsTimed, greatest_bound, judged_words, least_bound, row_words, rows_text};
+
+use crate::words::{add, add_bound, add_number, add_spaced, add_verdict};
+use branch::Answer;
+use itv_base::{NoMemory, RowKind};
+use requirements::{BothBounds, Bound, judge};
+
+/// Adds the lines of rows by the answers for their pairs: two for each row, its own and that of the reversed pair, or none.
+pub fn add_rows(text: &mut Vec<u8>, kinds: &[RowKind], answers: &[Answer]) -> Result<(), NoMemory>
+    requires timed { All IsTimed answers.now }
+    requires count { IsCountFor kinds.now answers.now }
+    requires few { length kinds.now ≤ MAX_PAIRS }
+    ensures added { OnOk result (text.new.items ≡ text.old.items ++ rows_text 0 kinds.now answers.now) }
+{
+    if answers.is_empty() {
+        return Ok(());
+    }
+    for k in 0..kinds.len() {
+        let both = both_of(answers[2 * k], answers[2 * k + 1]);
+        add_row(text, k as u64, kinds[k], &both)?;
+    }
+    Ok(())
+}
+
+/// Both bounds of a row, by the answers for its pair and for the reversed pair.
+pub fn both_of(most: Answer, least: Answer) -> BothBounds
+    requires most { IsTimed most }
+    requires least { IsTimed least }
+    ensures greatest { result.greatest ≡ greatest_bound most }
+    ensures least { result.least ≡ least_bound least }
+    ensures most_times { HasTimes result.greatest }
+    ensures least_times { HasTimes result.least }
+{
+    BothBounds {
+        greatest: greatest_bound(most),
+        least: greatest_bound(least).reversed(),
+    }
+}
+
+// The greatest bound of an answer.
+fn greatest_bound(answer: Answer) -> Bound
+    requires { IsTimed answer }
+    ensures bound { result ≡ greatest_bound answer }
+    ensures times { HasTimes result }
+{
+    match answer {
+        Answer::Closed(value) => Bound::Closed(value),
+        Answer::Unbounded => Bound::Unbounded,
+        Answer::Enclosed { upper, attained } => Bound::Within {
+            limit: upper,
+            attained: Some(attained),
+        },
+    }
+}
+
+// The line of a row.
+fn add_row(
+    text: &mut Vec<u8>,
+    number: u64,
+    kind: RowKind,
+    both: &BothBounds,
+) -> Result<(), NoMemory>
+    ensures { OnOk result (text.new.items ≡ text.old.items ++ ended (line_of (row_words number kind both.now.least both.now.greatest))) }
+{
+    add(text, b"row")?;
+    add_number(text, number)?;
+    add_side(text, b"max", both.greatest)?;
+    add_side(text, b"min", both.least)?;
+    add_judged(text, kind, both)?;
+    add(text, b"\n")?;
+    Ok(())
+}
+
+// A word, and the words of a bound.
+fn add_side(text: &mut Vec<u8>, word: &[u8], value: Bound) -> Result<(), NoMemory>
+    ensures { OnOk result (text.new.items ≡ text.old.items ++ (spaced word.now ++ flat_map spaced (bound_words value))) }
+{
+    add_spaced(text, word)?;
+    add_bound(text, value)
+}
+
+// The verdict on a requirement; an ask has none.
+fn add_judged(text: &mut Vec<u8>, kind: RowKind, both: &BothBounds) -> Result<(), NoMemory>
+    ensures { OnOk result (text.new.items ≡ text.old.items ++ flat_map spaced (judged_words kind both.now.least both.now.greatest)) }
+{
+    match kind {
+        RowKind::Ask => Ok(()),
+        RowKind::Req(range) => add_verdict(text, judge(range, both)),
+    }
+}

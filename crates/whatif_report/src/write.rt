@@ -1,0 +1,155 @@
+//! Writing the states of a session.
+
+ghost use Rattle.std.specs.Prelude.{◌≡◌, ◌<◌, ◌≤◌, All, IfOk, length};
+ghost use Rattle.edits.specs.EditLine.{IsThere};
+ghost use Rattle.jobs.specs.Works.{Works};
+ghost use Rattle.whatif.specs.Session.{IsPairOf};
+ghost use Rattle.whatif.specs.declared.session.TheConstants.{MAX_PAIRS};
+ghost use Rattle.whatif_report.specs.Text.{IsNoteOf, last_note, whatif_text};
+ghost use Rattle.whatif_report.specs.Whatif.{AnswersFor, AnswersFrom, AnswersWhatif, BeginsFor, BeginsWhatif};
+
+use crate::asked::{kinds_of, pairs_of};
+use crate::ending::{add_ending, end_word, last_of};
+use crate::states::{add_found, add_states};
+use crate::words::add;
+use drawn::DrawnNetwork;
+use edits::{Edits, RangeEdit};
+use event_graph::Network;
+use itv_base::{NoMemory, RowKind, Sink};
+use jobs::{Answer, Unanswered, answer_of};
+use std::alloc::Global;
+use whatif::{Change, Note, Pair, Session, SessionFault, note_session, run_edits};
+
+/// Writes the bounds of the rows of a drawn network, of which there are at most [`MAX_PAIRS`](whatif::MAX_PAIRS), and those behind each
+/// edit of a list. Each cause of an edit is there, and each search closes at most `budget` cases. All states are computed before the
+/// one put.
+pub fn write_whatif<K: Sink>(
+    alloc: Global,
+    drawn: &DrawnNetwork,
+    edits: &Edits,
+    budget: u64,
+    sink: &mut K,
+) -> Result<Answer, Unanswered>
+    requires rows { length drawn.now.rows ≤ MAX_PAIRS }
+    requires budget { 0 < budget }
+    requires there { All (IsThere drawn.now.net) edits.now }
+    ensures works { Works (AnswersWhatif drawn.now budget edits.now) (BeginsWhatif drawn.now budget edits.now)
+        (K.told sink.old) (K.told sink.new) result }
+{
+    let rows = drawn.rows().as_slice();
+    let pairs = pairs_of(alloc, rows)?;
+    let kinds = kinds_of(alloc, rows)?;
+    write_states(
+        alloc,
+        drawn.network(),
+        &pairs,
+        &kinds,
+        edits.as_slice(),
+        budget,
+        sink,
+    )
+}
+
+// The text of all states, and what the job answers.
+#[derive(Drop)]
+struct Told {
+    text: Vec<u8>,
+    answer: Answer,
+}
+
+// Writes the states of a new session along edits.
+fn write_states<K: Sink>(
+    alloc: Global,
+    net: &Network,
+    pairs: &[Pair],
+    kinds: &[RowKind],
+    edits: &[RangeEdit],
+    budget: u64,
+    sink: &mut K,
+) -> Result<Answer, Unanswered>
+    requires within { All (IsPairOf net.now.events) pairs.now }
+    requires count { length kinds.now ≡ length pairs.now }
+    requires few { length kinds.now ≤ MAX_PAIRS }
+    requires budget { 0 < budget }
+    requires there { All (IsThere net.now) edits.now }
+    ensures works { Works (AnswersFor net.now pairs.now kinds.now budget edits.now) (BeginsFor net.now pairs.now kinds.now budget edits.now)
+        (K.told sink.old) (K.told sink.new) result }
+{
+    let told = told_of(alloc, net, pairs, kinds, edits, budget)?;
+    sink.put(&told.text)?;
+    Ok(told.answer)
+}
+
+// The states of a new session along edits.
+fn told_of(
+    alloc: Global,
+    net: &Network,
+    pairs: &[Pair],
+    kinds: &[RowKind],
+    edits: &[RangeEdit],
+    budget: u64,
+) -> Result<Told, NoMemory>
+    requires within { All (IsPairOf net.now.events) pairs.now }
+    requires count { length kinds.now ≡ length pairs.now }
+    requires few { length kinds.now ≤ MAX_PAIRS }
+    requires budget { 0 < budget }
+    requires there { All (IsThere net.now) edits.now }
+    ensures { IfOk result (λ t. AnswersFor net.now pairs.now kinds.now budget edits.now t.answer t.text.items) }
+{
+    match Session::new(alloc, net, pairs, budget) {
+        Ok(mut session) => states_of(alloc, &mut session, kinds, edits),
+        Err(SessionFault::NoMemory) => Err(NoMemory),
+        Err(SessionFault::TooManyPairs(_)) => unreachable!(),
+    }
+}
+
+// The states of a session along edits.
+fn states_of(
+    alloc: Global,
+    session: &mut Session,
+    kinds: &[RowKind],
+    edits: &[RangeEdit],
+) -> Result<Told, NoMemory>
+    requires count { length kinds.now ≡ length session.old.pairs }
+    requires few { length kinds.now ≤ MAX_PAIRS }
+    requires there { All (IsThere session.old.net) edits.now }
+    ensures { IfOk result (λ t. AnswersFrom session.old kinds.now edits.now t.answer t.text.items) }
+{
+    let none = Change {
+        kept: 0,
+        searched: 0,
+    };
+    // The session is right.
+    let _finding = session.finding();
+    let first = note_session(alloc, session, none)?;
+    let notes = run_edits(alloc, session, edits)?;
+    let text = text_of(alloc, kinds, &first, edits, &notes)?;
+    let word = end_word(kinds, last_of(&first, &notes));
+    Ok(Told {
+        text,
+        answer: answer_of(word),
+    })
+}
+
+// The text of all states.
+fn text_of(
+    alloc: Global,
+    kinds: &[RowKind],
+    first: &Note,
+    edits: &[RangeEdit],
+    notes: &[Note],
+) -> Result<Vec<u8>, NoMemory>
+    requires first { IsNoteOf kinds.now first.now }
+    requires each { All (IsNoteOf kinds.now) notes.now }
+    requires last { IsNoteOf kinds.now (last_note first.now notes.now) }
+    requires count { length notes.now ≡ length edits.now }
+    requires few { length kinds.now ≤ MAX_PAIRS }
+    ensures { IfOk result (λ text. text.items ≡ whatif_text kinds.now first.now edits.now notes.now) }
+{
+    let mut text = Vec::new(alloc);
+    add(&mut text, b"itv whatif 1\nstate 0\n")?;
+    add_found(&mut text, kinds, first)?;
+    add_states(&mut text, kinds, edits, notes)?;
+    add_ending(&mut text, end_word(kinds, last_of(first, notes)))?;
+    Ok(text)
+}
