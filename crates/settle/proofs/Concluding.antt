@@ -39,6 +39,7 @@ settled_at net from to claim Plain lines times is_net in_from in_to below proof 
   };
   satisfies = are.satisfies;
   attained = are.attained;
+  near = are.near;
   proof = proof;
 }
 settled_at net from to claim Negated lines times is_net in_from in_to below proof are = record {
@@ -48,21 +49,20 @@ settled_at net from to claim Negated lines times is_net in_from in_to below proo
   };
   satisfies = are.satisfies;
   attained = are.attained;
+  near = are.near;
   proof = proof;
 }
 
 -- a proof of a claim below minus the far line shows that no times satisfy
 pub settled_inconsistent : (net : Net) (from to : EventId) (claim : ℤ) (view : View) (lines : List ProofLine) → IsNet net → from.0 < net.events → to.0 < net.events
-    → claim <ℤ neg_ℤ (pos (far_line net)) → IsProofAs view net from to claim lines → IsSettledInconsistent net from to view lines
+    → claim <ℤ neg_ℤ (pos (far_line net)) → IsProofAs view net from to claim lines → IsSettledInconsistent net from to claim view lines
 settled_inconsistent net from to claim Plain lines is_net in_from in_to low proof = record {
   none = clause_proof_of_nothing net (record { from = from; to = to; claim = claim }) (lines_of lines) is_net in_from in_to low proof;
-  claim = claim;
   low = low;
   proof = proof;
 }
 settled_inconsistent net from to claim Negated lines is_net in_from in_to low proof = record {
   none = negated_proof_of_nothing net (record { from = to; to = from; claim = claim }) (lines_of lines) is_net in_to in_from low proof;
-  claim = claim;
   low = low;
   proof = proof;
 }
@@ -108,7 +108,7 @@ of_pair net race from to most found same_from same_to is =
 pub found_closed : (net : Net) (race : Race) (view : View) (turns budget : ℕ) (answer : Settled) (times : Vec ℤ) (ray : Vec Bool) (lines : Vec ProofLine) → IsNet net
     → IsRacing net race → IsEnding net race (ClosedBy view) → line_count race ≤ turns → answer ≡ Closed race.best.claim.value
     → ((ts : Vec ℤ) → race.best.times ≡ Some ts → times ≡ ts) → lines.items ≡ lines_as view race
-    → turns ≤ budget → IsFound net race.from race.to budget (record { answer = answer; times = times; ray = ray; view = view; lines = lines; turns = turns })
+    → turns ≤ budget → IsFound net race.from race.to budget (record { answer = answer; times = times; ray = ray; claim = race.best.claim.value; view = view; lines = lines; turns = turns })
 found_closed net race view turns budget answer times ray lines is_net racing (over, some, below) few is_answer at_times at_lines within =
     let (ts, is) = some_of race.best.times some in
     let are : AreTimes net race.from race.to race.best.claim.value ts.items =
@@ -118,12 +118,12 @@ found_closed net race view turns budget answer times ray lines is_net racing (ov
     settled_at net race.from race.to race.best.claim.value view lines.items times.items is_net racing.from racing.to below
     (proof_as net race view lines.items racing over at_lines)
     (subst (λ (t : Vec ℤ). AreTimes net race.from race.to race.best.claim.value t.items) (sym same) are) in
-    subst (λ (a : Settled). IsFound net race.from race.to budget (record { answer = a; times = times; ray = ray; view = view; lines = lines; turns = turns })) (sym is_answer)
-    (record { answer = settled; most = within; lines = few_lines race view lines.items turns at_lines few })
+    subst (λ (a : Settled). IsFound net race.from race.to budget (record { answer = a; times = times; ray = ray; claim = race.best.claim.value; view = view; lines = lines; turns = turns })) (sym is_answer)
+    (record { answer = (settled, refl); most = within; lines = few_lines race view lines.items turns at_lines few })
 
 pub found_inconsistent : (net : Net) (race : Race) (view : View) (turns budget : ℕ) (times : Vec ℤ) (ray : Vec Bool) (lines : Vec ProofLine) → IsNet net → IsRacing net race
     → IsEnding net race (InconsistentBy view) → line_count race ≤ turns → lines.items ≡ lines_as view race
-    → turns ≤ budget → IsFound net race.from race.to budget (record { answer = Inconsistent; times = times; ray = ray; view = view; lines = lines; turns = turns })
+    → turns ≤ budget → IsFound net race.from race.to budget (record { answer = Inconsistent; times = times; ray = ray; claim = race.best.claim.value; view = view; lines = lines; turns = turns })
 found_inconsistent net race view turns budget times ray lines is_net racing (over, none) few at_lines within =
     let low : race.best.claim.value <ℤ neg_ℤ (pos (far_line net)) =
     subst (λ (o : Option (Vec ℤ)). IfNone o (race.best.claim.value <ℤ neg_ℤ (pos (far_line net)))) none racing.best.none in
@@ -136,12 +136,12 @@ found_inconsistent net race view turns budget times ray lines is_net racing (ove
 
 pub found_unbounded : (net : Net) (race : Race) (turns budget : ℕ) (times : Vec ℤ) (ray : Vec Bool) (view : View) (lines : Vec ProofLine) → IsRacing net race
     → IsEnding net race (UnboundedBy ray) → ((ts : Vec ℤ) → race.best.times ≡ Some ts → times ≡ ts) → lines.items ≡ []
-    → turns ≤ budget → IsFound net race.from race.to budget (record { answer = Unbounded; times = times; ray = ray; view = view; lines = lines; turns = turns })
+    → turns ≤ budget → IsFound net race.from race.to budget (record { answer = Unbounded; times = times; ray = ray; claim = race.best.claim.value; view = view; lines = lines; turns = turns })
 found_unbounded net race turns budget times ray view lines racing ending at_times none within =
     let (ts, is, raised) = some_and race.best.times _ ending in
     let are : AreTimes net race.from race.to race.best.claim.value ts.items =
     subst (λ (o : Option (Vec ℤ)). IfSome o (λ times. AreTimes net race.from race.to race.best.claim.value times.items)) is racing.best.found in
-    let settled : IsSettledUnbounded net race.from race.to ts.items ray.items = record { satisfies = are.satisfies; raised = raised } in
+    let settled : IsSettledUnbounded net race.from race.to ts.items ray.items = record { satisfies = are.satisfies; near = are.near; raised = raised } in
     record {
       answer = subst (λ (t : Vec ℤ). IsSettledUnbounded net race.from race.to t.items ray.items) (sym (at_times ts is)) settled;
       most = within;

@@ -1,5 +1,5 @@
 -- What is found of a pair of events.
-use Rattle.std.specs.Prelude.{◌≡◌, ◌≤◌, ℕ, ℤ, pos, neg_ℤ, ◌<ℤ◌, Bool, List, length}
+use Rattle.std.specs.Prelude.{◌≡◌, ◌≤◌, ℕ, ℤ, pos, neg_ℤ, ◌<ℤ◌, Bool, List, All, length}
 use Rattle.itv_base.specs.declared.names.EventId.{EventId}
 use Rattle.event_graph.specs.Bounds.{IsGreatest, IsInconsistent, IsRay}
 use Rattle.event_graph.specs.Network.{Net}
@@ -15,31 +15,33 @@ use Rattle.settle.specs.declared.found.Settled.TheVariants.{Closed, Unbounded, I
 use Rattle.settle.specs.declared.line.ProofLine.{ProofLine}
 use Rattle.settle.specs.declared.settler.Settler.{Settler}
 use Rattle.settle.specs.Proofs.{IsProofAs}
+use Rattle.settle.specs.Racing.{IsNear}
 
--- the value is the greatest separation, the times satisfy and attain it, and the lines prove that none exceeds it
+-- the value is the greatest separation, times within the greatest cap satisfy and attain it, and the lines prove that none exceeds it
 pub record IsSettledAt (net : Net) (from to : EventId) (value : ℤ) (view : View) (lines : List ProofLine) (times : List ℤ) : Type 0 where
   pub greatest : IsGreatest net from to value
   pub satisfies : Satisfies times net
   pub attained : separation times from to ≡ value
+  pub near : All IsNear times
   pub proof : IsProofAs view net from to value lines
 
--- the times satisfy, and the events of the ray can be raised from them without end
+-- times within the greatest cap satisfy, and the events of the ray can be raised from them without end
 pub record IsSettledUnbounded (net : Net) (from to : EventId) (times : List ℤ) (ray : List Bool) : Type 0 where
   pub satisfies : Satisfies times net
+  pub near : All IsNear times
   pub raised : IsRay net from to times ray
 
 -- no times satisfy, and the lines prove it: they prove a claim below minus the far line
-pub record IsSettledInconsistent (net : Net) (from to : EventId) (view : View) (lines : List ProofLine) : Type 0 where
+pub record IsSettledInconsistent (net : Net) (from to : EventId) (claim : ℤ) (view : View) (lines : List ProofLine) : Type 0 where
   pub none : IsInconsistent net
-  pub claim : ℤ
   pub low : claim <ℤ neg_ℤ (pos (far_line net))
   pub proof : IsProofAs view net from to claim lines
 
 -- what an answer says of a pair, within so many turns
 abbrev pub Says : Net → EventId → EventId → ℕ → Found → Settled → Type 0
-Says net from to turns found (Closed value) = IsSettledAt net from to value found.view found.lines.items found.times.items
+Says net from to turns found (Closed value) = IsSettledAt net from to value found.view found.lines.items found.times.items × (found.claim ≡ value)
 Says net from to turns found Unbounded = IsSettledUnbounded net from to found.times.items found.ray.items
-Says net from to turns found Inconsistent = IsSettledInconsistent net from to found.view found.lines.items
+Says net from to turns found Inconsistent = IsSettledInconsistent net from to found.claim found.view found.lines.items
 Says net from to turns found Spent = found.turns ≡ turns
 
 -- a settler made for a network

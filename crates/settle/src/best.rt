@@ -3,12 +3,12 @@
 ghost use Rattle.std.specs.Prelude.{◌≡◌, ◌↔◌, ◌<◌, ◌<ℤ◌, IsTrue, All, IfSome, length};
 ghost use Rattle.event_graph.specs.Satisfying.{Satisfies};
 ghost use Rattle.event_graph.specs.Times.{IsTime, separation};
-ghost use Rattle.settle.specs.Racing.{AreTimes};
+ghost use Rattle.settle.specs.Racing.{AreTimes, IsNear};
 
 use clauses::Claim;
 use event_graph::Network;
 use falling::View;
-use itv_base::{EventId, NoMemory};
+use itv_base::{END_LIMIT, EventId, MAX_EVENTS, NoMemory};
 use std::alloc::Global;
 
 /// Times that satisfy a network, in picoseconds, one per event, with the greatest separation of a pair that was found, if any
@@ -18,6 +18,9 @@ pub struct Best {
     pub times: Option<Vec<i64>>,
     pub claim: Claim,
 }
+
+// The greatest cap of a network, in picoseconds.
+const FARTHEST: i64 = 2 * MAX_EVENTS as i64 * (END_LIMIT + 1);
 
 /// The times of a network that the values of a search in a view stand for.
 pub fn times_of(alloc: Global, view: View, values: &Vec<i64>) -> Result<Vec<i64>, NoMemory> {
@@ -42,11 +45,12 @@ pub fn more_by(
     requires from { from.0 < net.now.events }
     requires to { to.0 < net.now.events }
     ensures count { IfSome result (λ _. length times.now.items ≡ net.now.events) }
+    ensures near { IfSome result (λ _. All IsNear times.now.items) }
     ensures times { IfSome result (λ _. All IsTime times.now.items) }
     ensures satisfies { IfSome result (λ more. AreTimes net.now from to more.value times.now.items) }
     ensures more { IfSome result (λ more. claim.value <ℤ more.value) }
 {
-    if times.len() != net.events() as usize || !times.iter().all(|time| is_time(*time)) {
+    if times.len() != net.events() as usize || !times.iter().all(|time| is_near(*time)) {
         return None;
     }
     let more = separation_of(times, from, to);
@@ -56,11 +60,11 @@ pub fn more_by(
     Some(more)
 }
 
-// Whether a number is a time.
-fn is_time(time: i64) -> bool
-    ensures { IsTrue result ↔ IsTime time }
+// Whether a number is within the greatest cap in absolute value.
+fn is_near(time: i64) -> bool
+    ensures near { IsTrue result ↔ IsNear time }
 {
-    -2_305_843_009_213_693_952 < time && time < 2_305_843_009_213_693_952
+    -FARTHEST <= time && time <= FARTHEST
 }
 
 // Whether a claim is less than another.

@@ -25,6 +25,9 @@ pub struct Found {
     pub times: Vec<i64>,
     /// After [`Settled::Unbounded`] a flag for each event, which says whether it can be raised from the times without end.
     pub ray: Vec<bool>,
+    /// What the lines prove that no satisfying separation exceeds, in picoseconds: after [`Settled::Closed`] the number itself, after
+    /// [`Settled::Inconsistent`] one below every separation of times that are near each other.
+    pub claim: i64,
     /// Whether the lines are a proof in the network or in its negation.
     pub view: View,
     /// After [`Settled::Closed`] a proof that no satisfying separation exceeds it, after [`Settled::Inconsistent`] one that no times

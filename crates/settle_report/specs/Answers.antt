@@ -1,0 +1,149 @@
+-- What is found of a network and of its rows.
+use Rattle.std.specs.Prelude.{◌≡◌, ℕ, ℤ, pos, neg_ℤ, ◌<ℤ◌, Bool, true, false, List, [], All, IsTrue, IsSomeAnd}
+use Rattle.itv_base.specs.Range.{Ends}
+use Rattle.itv_base.specs.declared.names.EventId.{EventId}
+use Rattle.itv_base.specs.declared.row_kind.RowKind.{RowKind}
+use Rattle.itv_base.specs.declared.row_kind.RowKind.TheVariants as kinds
+use Rattle.event_graph.specs.Bounds.{IsGreatest, IsInconsistent, IsLeast, IsRay}
+use Rattle.event_graph.specs.Limits.{IsPrintedTime}
+use Rattle.event_graph.specs.Network.{Net}
+use Rattle.event_graph.specs.Satisfying.{Satisfies}
+use Rattle.event_graph.specs.Times.{separation, time_of}
+use Rattle.falling.specs.Cap.{far_line}
+use Rattle.settle.specs.Proofs.{IsProofAs}
+use Rattle.requirements.specs.Verdicts.{verdict_of}
+use Rattle.requirements.specs.declared.bound.Bound.{Bound}
+use Rattle.requirements.specs.declared.bound.Bound.TheVariants as bounds
+use Rattle.requirements.specs.declared.verdict.Verdict.{Verdict}
+use Rattle.requirements.specs.declared.verdict.Verdict.TheVariants as verdicts
+use Rattle.slack_report.specs.declared.words.Which.{Which}
+use Rattle.slack_report.specs.declared.words.Which.TheVariants.{Max, Min}
+use Rattle.drawn.specs.Drawn.{AreTimes}
+use Rattle.drawn.specs.declared.row.Row.{Row}
+use Rattle.settle_report.specs.declared.finding.Finding.{Finding}
+use Rattle.settle_report.specs.declared.finding.Finding.TheVariants.{Consistent, Inconsistent, Spent}
+use Rattle.settle_report.specs.declared.proof.Proof.{Proof}
+use Rattle.settle_report.specs.declared.bound.SettledBound.{SettledBound}
+use Rattle.settle_report.specs.declared.bound.SettledBound.TheVariants as settled
+use Rattle.settle_report.specs.declared.row.RowFound.{RowFound}
+
+-- where proofs are wanted, the lines prove that no separation of the pair exceeds the claim
+abbrev pub Proves : Bool → Net → EventId → EventId → ℤ → Proof → Type 0
+Proves cert net from to claim proof = (proof.claim ≡ claim) × (IsTrue cert → IsProofAs proof.view net from to claim proof.lines.items)
+
+-- ---- the finding
+
+-- the proof of the finding is of event 0 and itself
+abbrev pub first_event : EventId
+first_event = record { 0 = 0 }
+
+-- the printed times satisfy, with event 0 at 0
+pub record AreFirstTimes (net : Net) (times : List ℤ) : Type 0 where
+  pub satisfied : Satisfies times net
+  pub at_zero : time_of times first_event ≡ pos 0
+  pub printed : All IsPrintedTime times
+
+-- no times satisfy, and where proofs are wanted the lines prove a claim below minus the far line
+pub record IsRefuted (cert : Bool) (net : Net) (proof : Proof) : Type 0 where
+  pub none : IsInconsistent net
+  pub low : proof.claim <ℤ neg_ℤ (pos (far_line net))
+  pub proves : Proves cert net first_event first_event proof.claim proof
+
+-- of a finding that was spent nothing is known
+abbrev pub IsFinding : Bool → Net → Finding → Type 0
+IsFinding cert net (Consistent times) = AreFirstTimes net times.items
+IsFinding cert net (Inconsistent proof) = IsRefuted cert net proof
+IsFinding cert net Spent = Unit {0}
+
+-- ---- a bound
+
+-- the number is the greatest or the least separation of a row
+abbrev pub IsExtreme : Which → Net → Row → ℤ → Type 0
+IsExtreme Max net row value = IsGreatest net row.from row.to value
+IsExtreme Min net row value = IsLeast net row.from row.to value
+
+-- where proofs are wanted the lines prove that no separation of the pair exceeds the greatest one, or that none of the reversed pair exceeds minus
+-- the least one
+abbrev pub ProvesExtreme : Bool → Which → Net → Row → ℤ → Proof → Type 0
+ProvesExtreme cert Max net row value proof = Proves cert net row.from row.to value proof
+ProvesExtreme cert Min net row value proof = Proves cert net row.to row.from (neg_ℤ value) proof
+
+-- the set can be raised by any number: for a greatest separation with the to-event, and for a least one with the from-event
+abbrev pub CanRise : Which → Net → Row → List ℤ → List Bool → Type 0
+CanRise Max net row times set = IsRay net row.from row.to times set
+CanRise Min net row times set = IsRay net row.to row.from times set
+
+-- the number is the bound, the printed times satisfy and attain it with the from-event at 0, and the lines prove it
+pub record IsNumber (cert : Bool) (net : Net) (which : Which) (row : Row) (value : ℤ) (times : List ℤ) (proof : Proof) : Type 0 where
+  pub extreme : IsExtreme which net row value
+  pub times : AreTimes net row times
+  pub printed : All IsPrintedTime times
+  pub attained : separation times row.from row.to ≡ value
+  pub proves : ProvesExtreme cert which net row value proof
+
+-- the printed times satisfy with the from-event at 0, and the set can be raised from them
+pub record IsEndless (net : Net) (which : Which) (row : Row) (times : List ℤ) (set : List Bool) : Type 0 where
+  pub times : AreTimes net row times
+  pub printed : All IsPrintedTime times
+  pub raised : CanRise which net row times set
+
+-- of a bound that was spent nothing is known
+abbrev pub IsBound : Bool → Net → Which → Row → SettledBound → Type 0
+IsBound cert net which row (settled.Closed value times proof) = IsNumber cert net which row value times.items proof
+IsBound cert net which row (settled.Unbounded times ray) = IsEndless net which row times.items ray.items
+IsBound cert net which row settled.Spent = Unit {0}
+
+-- the bound in a table of verdicts and slacks; a spent one is one of which nothing is known
+abbrev pub bound_of : SettledBound → Bound
+bound_of (settled.Closed value times proof) = bounds.Closed value
+bound_of (settled.Unbounded times ray) = bounds.Unbounded
+bound_of settled.Spent = bounds.Within None None
+
+-- ---- a row
+
+abbrev pub verdict_in : Ends → RowFound → Verdict
+verdict_in range found = verdict_of range (bound_of found.least) (bound_of found.greatest)
+
+-- the times break the end that a verdict names
+abbrev pub Breaks : Row → Ends → Verdict → List ℤ → Type 0
+Breaks row range verdicts.FailHigh times = IsSomeAnd range.high (λ high. high <ℤ separation times row.from row.to)
+Breaks row range verdicts.FailLow times = IsSomeAnd range.low (λ low. separation times row.from row.to <ℤ low)
+Breaks row range verdicts.Pass times = ⊥
+Breaks row range verdicts.Undecided times = ⊥
+
+-- the printed times satisfy with the from-event at 0, and break the end that a verdict names
+pub record AreBreaking (net : Net) (row : Row) (range : Ends) (word : Verdict) (times : List ℤ) : Type 0 where
+  pub times : AreTimes net row times
+  pub printed : All IsPrintedTime times
+  pub breaks : Breaks row range word times
+
+-- behind a verdict that is a fail stand times that break the requirement
+abbrev pub IsPast : Net → Row → Ends → Verdict → List ℤ → Type 0
+IsPast net row range verdicts.FailHigh past = AreBreaking net row range verdicts.FailHigh past
+IsPast net row range verdicts.FailLow past = AreBreaking net row range verdicts.FailLow past
+IsPast net row range verdicts.Pass past = past ≡ []
+IsPast net row range verdicts.Undecided past = past ≡ []
+
+-- of a row that only asks nothing is broken
+abbrev pub IsPastOf : Net → Row → RowKind → RowFound → Type 0
+IsPastOf net row kinds.Ask found = found.past.items ≡ []
+IsPastOf net row (kinds.Req range) found = IsPast net row range (verdict_in range found) found.past.items
+
+-- what is found of a row: both of its bounds, and times that break it
+pub record IsRowFound (cert : Bool) (net : Net) (row : Row) (found : RowFound) : Type 0 where
+  pub greatest : IsBound cert net Max row found.greatest
+  pub least : IsBound cert net Min row found.least
+  pub past : IsPastOf net row row.kind found
+
+-- what is found of each row, in order
+abbrev pub AreRowsFound : Bool → Net → List Row → List RowFound → Type 0
+AreRowsFound cert net [] [] = Unit {0}
+AreRowsFound cert net [] (found ∷ others) = ⊥
+AreRowsFound cert net (row ∷ rows) [] = ⊥
+AreRowsFound cert net (row ∷ rows) (found ∷ others) = IsRowFound cert net row found × AreRowsFound cert net rows others
+
+-- behind a consistent finding what is found of each row, and behind another nothing
+abbrev pub AreFound : Bool → Net → List Row → Finding → List RowFound → Type 0
+AreFound cert net rows (Consistent times) found = AreRowsFound cert net rows found
+AreFound cert net rows (Inconsistent proof) found = found ≡ []
+AreFound cert net rows Spent found = found ≡ []

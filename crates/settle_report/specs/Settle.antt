@@ -1,0 +1,23 @@
+-- What job settle answers and writes.
+use Rattle.std.specs.Prelude.{◌≡◌, ℕ, Bool, List}
+use Rattle.drawn.specs.Drawn.{Drawn}
+use Rattle.jobs.specs.Ending.{answer_of}
+use Rattle.jobs.specs.declared.answer.Answer.{Answer}
+use Rattle.settle_report.specs.declared.finding.Finding.{Finding}
+use Rattle.settle_report.specs.declared.row.RowFound.{RowFound}
+use Rattle.settle_report.specs.Answers.{AreFound, IsFinding}
+use Rattle.settle_report.specs.Text.{ending_of, settle_text}
+
+-- The text tells what is found of the network and of each row, all of which is right, with proofs where they are wanted; the answer is by the word at
+-- its end.
+pub record AnswersSettle (drawn : Drawn) (cert : Bool) (answer : Answer) (text : List ℕ) : Type 0 where
+  pub finding : Finding
+  pub found : List RowFound
+  pub is_finding : IsFinding cert drawn.net finding
+  pub are_found : AreFound cert drawn.net drawn.rows finding found
+  pub is_text : text ≡ settle_text drawn cert finding found
+  pub is_answer : answer ≡ answer_of (ending_of drawn.rows finding found)
+
+-- What may have been begun: all is found before anything is put, so it is a front of a whole text.
+abbrev pub BeginsSettle : Drawn → Bool → List ℕ → Type 0
+BeginsSettle drawn cert text = (answer : Answer) × AnswersSettle drawn cert answer text

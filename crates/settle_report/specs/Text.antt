@@ -1,0 +1,99 @@
+-- The text of job settle.
+use Rattle.std.specs.Prelude.{◌+◌, ℕ, ℤ, Bool, true, false, if◌then◌else◌, List, [], ◌∷◌, ◌++◌, length, codes}
+use Rattle.itv_base.specs.Range.{Ends}
+use Rattle.itv_base.specs.declared.row_kind.RowKind.{RowKind}
+use Rattle.itv_base.specs.declared.row_kind.RowKind.TheVariants as kinds
+use Rattle.line_words.specs.Lines.{ended, line_of}
+use Rattle.requirements.specs.Slacks.{slack_of}
+use Rattle.requirements.specs.declared.bound.Bound.TheVariants as bounds
+use Rattle.slack_report.specs.declared.words.EndWord.{EndWord}
+use Rattle.slack_report.specs.declared.words.EndWord.TheVariants as endings
+use Rattle.slack_report.specs.declared.words.FindingWord.TheVariants as findings
+use Rattle.slack_report.specs.declared.words.Which.{Which}
+use Rattle.slack_report.specs.declared.words.Which.TheVariants.{Max, Min}
+use Rattle.slack_report.specs.Entry as line
+use Rattle.slack_report.specs.Text.{entry_text, report_text, which_word}
+use Rattle.right_report.specs.Right.At.{Course, course_of, end_word, is_fail, with_bounds, with_verdict}
+use Rattle.drawn.specs.Drawn.{Drawn, name_of}
+use Rattle.drawn.specs.declared.row.Row.{Row}
+use Rattle.jobs.specs.Events.{event_lines}
+use Rattle.settle.specs.Proofs.{lines_of}
+use Rattle.settle_lines.specs.Text.{proof_text}
+use Rattle.settle_report.specs.declared.finding.Finding.{Finding}
+use Rattle.settle_report.specs.declared.finding.Finding.TheVariants.{Consistent, Inconsistent, Spent}
+use Rattle.settle_report.specs.declared.proof.Proof.{Proof}
+use Rattle.settle_report.specs.declared.bound.SettledBound.{SettledBound}
+use Rattle.settle_report.specs.declared.bound.SettledBound.TheVariants as settled
+use Rattle.settle_report.specs.declared.row.RowFound.{RowFound}
+use Rattle.settle_report.specs.Answers.{bound_of, verdict_in}
+
+-- the heading, and the events by their names
+abbrev pub front_text : Drawn → List ℕ
+front_text drawn = ended (codes "itv settle 1") ++ report_text (event_lines drawn.names)
+
+-- a proof, where proofs are wanted
+abbrev pub shown_text : Bool → Proof → List ℕ
+shown_text true proof = proof_text proof.view proof.claim (lines_of proof.lines.items)
+shown_text false proof = []
+
+abbrev pub finding_text : Bool → Finding → List ℕ
+finding_text cert (Consistent times) = entry_text (line.finding findings.Consistent) ++ entry_text (line.times times.items)
+finding_text cert (Inconsistent proof) = shown_text cert proof ++ entry_text (line.finding findings.Inconsistent)
+finding_text cert Spent = ended (line_of (codes "finding" ∷ codes "spent" ∷ []))
+
+-- a bound: a number with its proof and times, or that there is none with times and the events that can be raised from them, or that it was spent
+abbrev pub bound_text : Bool → Which → SettledBound → List ℕ
+bound_text cert which (settled.Closed value times proof) = shown_text cert proof ++ (entry_text (line.bound which (bounds.Closed value)) ++ entry_text (line.times times.items))
+bound_text cert which (settled.Unbounded times ray) = entry_text (line.bound which bounds.Unbounded) ++ (entry_text (line.times times.items) ++ entry_text (line.raise ray.items))
+bound_text cert which settled.Spent = ended (line_of (which_word which ∷ codes "spent" ∷ []))
+
+-- the verdict on a requirement, times that break it if it is a fail, and the slack
+abbrev pub verdict_text : Ends → RowFound → List ℕ
+verdict_text range found =
+    entry_text (line.verdict (verdict_in range found))
+    ++ ((if is_fail (verdict_in range found) then entry_text (line.times found.past.items) else [])
+    ++ entry_text (line.slack (slack_of range (bound_of found.least) (bound_of found.greatest))))
+
+-- a row that only asks has none
+abbrev pub judged_text : RowKind → RowFound → List ℕ
+judged_text kinds.Ask found = []
+judged_text (kinds.Req range) found = verdict_text range found
+
+-- a row of a number
+abbrev pub row_text : Drawn → Bool → ℕ → Row → RowFound → List ℕ
+row_text drawn cert number row found =
+    entry_text (line.row number row.kind (name_of drawn row.from) (name_of drawn row.to))
+    ++ (bound_text cert Max found.greatest ++ (bound_text cert Min found.least ++ judged_text row.kind found))
+
+-- rows, the first of which has a number
+abbrev pub rows_text : Drawn → Bool → ℕ → List Row → List RowFound → List ℕ
+rows_text drawn cert number [] found = []
+rows_text drawn cert number (row ∷ rows) [] = []
+rows_text drawn cert number (row ∷ rows) (found ∷ others) = row_text drawn cert number row found ++ rows_text drawn cert (number + 1) rows others
+
+-- how many rows there are, and each of them; only behind a consistent finding
+abbrev pub behind_text : Drawn → Bool → Finding → List RowFound → List ℕ
+behind_text drawn cert (Consistent times) found = entry_text (line.rows (length drawn.rows)) ++ rows_text drawn cert 0 drawn.rows found
+behind_text drawn cert (Inconsistent proof) found = []
+behind_text drawn cert Spent found = []
+
+-- what the rows so far and one more come to
+abbrev pub with_row : Course → RowKind → RowFound → Course
+with_row course kinds.Ask found = with_bounds course (bound_of found.least) (bound_of found.greatest)
+with_row course (kinds.Req range) found = with_verdict (with_bounds course (bound_of found.least) (bound_of found.greatest)) (verdict_in range found)
+
+abbrev pub with_rows : Course → List Row → List RowFound → Course
+with_rows course [] found = course
+with_rows course (row ∷ rows) [] = course
+with_rows course (row ∷ rows) (found ∷ others) = with_rows (with_row course row.kind found) rows others
+
+-- the word at the end, as a report of these bounds has it
+abbrev pub ending_of : List Row → Finding → List RowFound → EndWord
+ending_of rows (Consistent times) found = end_word (with_rows (course_of findings.Consistent) rows found)
+ending_of rows (Inconsistent proof) found = endings.Inconsistent
+ending_of rows Spent found = endings.Undecided
+
+-- the whole text
+abbrev pub settle_text : Drawn → Bool → Finding → List RowFound → List ℕ
+settle_text drawn cert finding found =
+    front_text drawn ++ (finding_text cert finding ++ (behind_text drawn cert finding found ++ entry_text (line.ending (ending_of drawn.rows finding found))))
