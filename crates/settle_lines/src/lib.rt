@@ -1,0 +1,3 @@
+//! Lines of proofs by clauses as texts, both ways.
+//! The contract: a line has one text, `write_clause_line` writes it, and `read_clause_line` takes exactly these texts.
+#![tactic(auto)]

@@ -1,0 +1,14 @@
+//! Job settle: from a drawn network and a number of turns to its exact bounds, whatever its choices.
+//! The contract of the crate: `write_settle` writes what is found of the network and of each of its rows, with proofs where they are
+//! wanted; where a put failed, a front of such a text.
+#![tactic(auto)]
+
+mod bound;
+mod finding;
+mod proof;
+mod row;
+
+pub use bound::SettledBound;
+pub use finding::Finding;
+pub use proof::Proof;
+pub use row::RowFound;
