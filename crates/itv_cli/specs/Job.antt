@@ -12,7 +12,7 @@ use Rattle.reading.specs.declared.place.Place.TheVariants.{Design, Edits, Report
 use Rattle.reading.specs.declared.refusal.Refusal.TheVariants as refusals
 use Rattle.reading.specs.Design.{design_at}
 use Rattle.reading.specs.Opening.{Opening, gives, refuses, ◌>>=◌, at, file_at}
-use Rattle.words.specs.Task.{Task, bounds, fall, redraw, matrix, check, generated, whatif}
+use Rattle.words.specs.Task.{Task, bounds, fall, settle, redraw, matrix, check, generated, whatif}
 use Rattle.bounds_report.specs.Reports.{BeginsReport}
 use Rattle.fall_report.specs.Fall.{AnswersFall, BeginsFall}
 use Rattle.falling.specs.View.{view_of}
@@ -20,6 +20,7 @@ use Rattle.falling.specs.declared.fault.Mixed.{Mixed}
 use Rattle.falling.specs.declared.view.View.{View}
 use Rattle.matrix_report.specs.Matrix.{AnswersMatrix, BeginsMatrix}
 use Rattle.redraw_report.specs.Redraw.{AnswersRedraw, BeginsRedraw}
+use Rattle.settle_report.specs.Settle.{AnswersSettle, BeginsSettle}
 use Rattle.report_check.specs.Check.{AnswersCheck, BeginsCheck}
 use Rattle.summary_report.specs.Summary.{AnswersSummary, BeginsSummary}
 use Rattle.edits.specs.EditsFile.{edits_of}
@@ -67,6 +68,9 @@ opening (bounds design budget cert) = do
 opening (fall design budget cert) = do
   drawn ← design_at design
   fall_at budget cert drawn
+opening (settle design budget cert) = do
+  drawn ← design_at design
+  gives (ready.Settle drawn budget cert)
 opening (redraw design budget) = do
   drawn ← design_at design
   gives (ready.Redraw drawn budget)
@@ -94,6 +98,7 @@ made_for _ = None
 abbrev pub Answers : Ready → Answer → List ℕ → Type 0
 Answers (ready.Bounds drawn budget cert) answer text = AnswersBounds drawn budget cert answer text
 Answers (ready.Fall drawn view budget cert) answer text = AnswersFall drawn budget cert answer text
+Answers (ready.Settle drawn budget cert) answer text = AnswersSettle drawn cert answer text
 Answers (ready.Redraw drawn budget) answer text = AnswersRedraw drawn budget answer text × DecidesWithin drawn budget answer
 Answers (ready.Matrix drawn) answer text = AnswersMatrix drawn answer text
 Answers (ready.Check drawn report) answer text = AnswersCheck drawn report answer text
@@ -104,6 +109,7 @@ Answers (ready.Whatif drawn edits budget) answer text = AnswersWhatif drawn budg
 abbrev pub Begins : Ready → List ℕ → Type 0
 Begins (ready.Bounds drawn budget cert) text = BeginsReport drawn budget cert text
 Begins (ready.Fall drawn view budget cert) text = BeginsFall drawn budget cert text
+Begins (ready.Settle drawn budget cert) text = BeginsSettle drawn cert text
 Begins (ready.Redraw drawn budget) text = BeginsRedraw drawn budget text
 Begins (ready.Matrix drawn) text = BeginsMatrix drawn text
 Begins (ready.Check drawn report) text = BeginsCheck drawn report text

@@ -17,6 +17,7 @@ use jobs::{Answer, Unanswered, answer_of};
 use matrix_report::write_matrix;
 use redraw_report::write_redraw;
 use report_check::answer_check;
+use settle_report::write_settle;
 use std::alloc::Global;
 use summary_report::write_summary;
 use whatif_report::write_whatif;
@@ -38,6 +39,11 @@ pub fn answer<K: Sink>(alloc: Global, given: &Ready, sink: &mut K) -> Result<Ans
             budget,
             cert,
         } => write_fall(alloc, drawn, *view, *budget, *cert, sink),
+        Ready::Settle {
+            drawn,
+            budget,
+            cert,
+        } => write_settle(alloc, drawn, turns_of(*budget), *cert, sink),
         Ready::Redraw { drawn, budget } => answer_redraw(alloc, drawn, *budget, sink),
         Ready::Matrix { drawn } => write_matrix(alloc, drawn, sink),
         Ready::Check { drawn, report } => answer_check(alloc, drawn, report.as_slice(), sink),
@@ -70,6 +76,11 @@ fn answer_bounds<K: Sink>(
     let _events = drawn.network().events();
     let summary = write_bounds(alloc, drawn, budget, cert, sink)?;
     Ok(answer_of(summary.end))
+}
+
+// How many turns a search of job settle may take: a thousand for each unit of the budget.
+fn turns_of(budget: u64) -> u64 {
+    budget.saturating_mul(1000)
 }
 
 // Job redraw: the drawing of a counterexample.

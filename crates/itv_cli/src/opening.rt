@@ -39,6 +39,11 @@ pub fn open<H: Shelf>(alloc: Global, task: Task<'_>, shelf: &mut H) -> Result<Re
             budget,
             cert,
         } => open_fall(alloc, design, budget, cert, shelf),
+        Task::Settle {
+            design,
+            budget,
+            cert,
+        } => open_settle(alloc, design, budget, cert, shelf),
         Task::Redraw { design, budget } => open_redraw(alloc, design, budget, shelf),
         Task::Matrix { design } => open_matrix(alloc, design, shelf),
         Task::Check { design, report } => open_check(alloc, design, report, shelf),
@@ -105,6 +110,26 @@ fn for_fall(drawn: DrawnNetwork, budget: u64, cert: bool) -> Result<Ready, Stop>
             Refusal::Mixed(late, early),
         )),
     }
+}
+
+// What job settle reads.
+fn open_settle<H: Shelf>(
+    alloc: Global,
+    design: &str,
+    budget: u64,
+    cert: bool,
+    shelf: &mut H,
+) -> Result<Ready, Stop>
+    ensures opens { Opens (λ given. given) (H.told shelf.old) (H.told shelf.new)
+        (opening (said.settle design.now budget cert)) result }
+    ensures allowed { IfOk result IsAllowed }
+{
+    let drawn = open_design(alloc, design, shelf)?;
+    Ok(Ready::Settle {
+        drawn,
+        budget,
+        cert,
+    })
 }
 
 // What job redraw reads.

@@ -22,6 +22,13 @@ pub enum Ready {
         budget: u64,
         cert: bool,
     },
+    /// To bound the rows of a drawn network whatever its choices: the turns that each search may take, in thousands, and whether
+    /// proofs are written.
+    Settle {
+        drawn: DrawnNetwork,
+        budget: u64,
+        cert: bool,
+    },
     /// To draw a counterexample of a drawn network: the cases that each search may close.
     Redraw {
         drawn: DrawnNetwork,

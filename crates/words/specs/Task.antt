@@ -13,12 +13,13 @@ use Rattle.clap.specs.declared.error.kind.ErrorKind.{ErrorKind}
 use Rattle.clap.specs.declared.error.kind.ErrorKind.TheVariants.{DisplayHelp}
 use Rattle.words.specs.Command.{command}
 
--- a job with what it needs: the design's name, the budget of each search and whether proofs are wanted, for two jobs; the design's name
+-- a job with what it needs: the design's name, the budget of each search and whether proofs are wanted, for three jobs; the design's name
 -- and the budget; the design's name; the names of the design and of the report; the size of the generated design and the budget; the names
 -- of the design and of the edits, and the budget of each search
 pub data Task : Type 0 where
   bounds : Text → ℕ → Bool → Task
   fall : Text → ℕ → Bool → Task
+  settle : Text → ℕ → Bool → Task
   redraw : Text → ℕ → Task
   matrix : Text → Task
   check : Text → Text → Task
@@ -56,6 +57,9 @@ bounds_of rows = searching bounds rows
 abbrev pub fall_of : List Row → Option Task
 fall_of rows = searching fall rows
 
+abbrev pub settle_of : List Row → Option Task
+settle_of rows = searching settle rows
+
 abbrev pub redraw_of : List Row → Option Task
 redraw_of rows = searching (λ design budget proofs. redraw design budget) rows
 
@@ -82,7 +86,8 @@ task_named rows name =
     else (if bytes_eq name (codes "fall") then fall_of rows
     else (if bytes_eq name (codes "redraw") then redraw_of rows
     else (if bytes_eq name (codes "whatif") then whatif_of rows
-    else None))))))
+    else (if bytes_eq name (codes "settle") then settle_of rows
+    else None)))))))
 
 abbrev pub task_of : List Row → Option Task
 task_of rows = option_and_then (task_named rows) (first_of (codes "job") rows)
@@ -122,6 +127,7 @@ pub record IsSize (size : ℕ) : Type 0 where
 abbrev pub IsWithinLimits : Task → Type 0
 IsWithinLimits (bounds design budget proofs) = IsBudget budget
 IsWithinLimits (fall design budget proofs) = IsBudget budget
+IsWithinLimits (settle design budget proofs) = IsBudget budget
 IsWithinLimits (redraw design budget) = IsBudget budget
 IsWithinLimits (matrix design) = Unit {0}
 IsWithinLimits (check design report) = Unit {0}

@@ -8,6 +8,7 @@ use Rattle.words.specs.declared.task.Task.TheVariants as wanted
 abbrev pub task_view : Task → said.Task
 task_view (wanted.Bounds design budget cert) = said.bounds design.now budget cert
 task_view (wanted.Fall design budget cert) = said.fall design.now budget cert
+task_view (wanted.Settle design budget cert) = said.settle design.now budget cert
 task_view (wanted.Redraw design budget) = said.redraw design.now budget
 task_view (wanted.Matrix design) = said.matrix design.now
 task_view (wanted.Check design report) = said.check design.now report.now

@@ -21,6 +21,7 @@ Jobs:
   check   Checks each claim of the report FILE against DESIGN
   self    Bounds the rows of a generated design of size N, and sums up
   fall    Bounds the separation of each row of DESIGN without cases, where all choices are latest or all are earliest
+  settle  Bounds the separation of each row of DESIGN exactly, whatever its choices
   redraw  Draws the first requirement of DESIGN that fails, with times that break it, as a timing diagram
   whatif  Bounds the separation of each row of DESIGN, and again behind each edit of FILE
 
@@ -69,7 +70,7 @@ fn job_option<'a>(alloc: Global) -> Arg<'a>
         alloc,
         "job",
         "JOB",
-        "What to do: bounds, matrix, check, self, fall, redraw or whatif",
+        "What to do: bounds, matrix, check, self, fall, settle, redraw or whatif",
     )
     .default_value("bounds")
 }
@@ -113,7 +114,7 @@ pub fn command<'a>(alloc: Global) -> Result<Command<'a>, AllocError>
             alloc,
             "budget",
             MAX_BUDGET,
-            "Cases that each search may close, or lines of each derivation [default: 100000]",
+            "Cases that each search may close, lines of each derivation, or thousands of turns [default: 100000]",
         ))?
         .arg(cert_flag(alloc))?
         .arg(text_option(alloc, "report", "FILE", "The report to check"))?

@@ -17,6 +17,13 @@ pub enum Task<'a> {
         budget: u64,
         cert: bool,
     },
+    /// To bound the rows of a design whatever its choices: the name of its file, the turns that each search may take, in
+    /// thousands, and whether proofs are written.
+    Settle {
+        design: &'a str,
+        budget: u64,
+        cert: bool,
+    },
     /// To draw a counterexample of a design: the name of its file, and the cases that each search may close.
     Redraw {
         design: &'a str,

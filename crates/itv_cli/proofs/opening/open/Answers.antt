@@ -1,6 +1,6 @@
 use Rattle.std.proofs.Common.{refl}
 use Rattle.design_gen.specs.Files.{design_files}
-use Rattle.words.specs.Task.{bounds, fall, redraw, matrix, check, generated, whatif}
+use Rattle.words.specs.Task.{bounds, fall, settle, redraw, matrix, check, generated, whatif}
 use Rattle.itv_cli.proofs.Fetching.{opens_made, opens_shelf}
 use Rattle.itv_cli.proofs.opening.open.Goals as goal
 
@@ -13,6 +13,11 @@ pub returns-in-Fall-clause-opens : goal.returns-in-Fall-clause-opens
 returns-in-Fall-clause-opens g c =
     rw c.in-Fall.is
     (opens_shelf (g.H.Shelf.told c.args.shelf.now) (g.H.Shelf.told c.open_fall.new.shelf) (fall c.in-Fall.design.now c.in-Fall.budget c.in-Fall.cert) c.open_fall.result refl c.open_fall.ensures.opens)
+
+pub returns-in-Settle-clause-opens : goal.returns-in-Settle-clause-opens
+returns-in-Settle-clause-opens g c =
+    rw c.in-Settle.is
+    (opens_shelf (g.H.Shelf.told c.args.shelf.now) (g.H.Shelf.told c.open_settle.new.shelf) (settle c.in-Settle.design.now c.in-Settle.budget c.in-Settle.cert) c.open_settle.result refl c.open_settle.ensures.opens)
 
 pub returns-in-Redraw-clause-opens : goal.returns-in-Redraw-clause-opens
 returns-in-Redraw-clause-opens g c =
