@@ -1,12 +1,9 @@
 -- What the lines of a search that is over show.
-use Rattle.std.proofs.Common.{◌≡◌, ◌<◌, ◌≤◌, ◌+◌, ℕ, ℤ, pos, neg_ℤ, ◌-ℤ◌, ◌<ℤ◌, Bool, true, false, List, [], length, Option, Some, None, IsSome, IfSome, IfNone, sym, refl, subst, arith}
+use Rattle.std.proofs.Common.{◌≡◌, ◌<◌, ◌≤◌, ℕ, ℤ, pos, neg_ℤ, ◌-ℤ◌, ◌<ℤ◌, Bool, true, false, List, [], length, Option, Some, None, IsSome, IfSome, IfNone, sym, refl, subst, arith}
 use Rattle.std.proofs.lemmas.Int.{ints}
 use Rattle.std.specs.Global.{Vec}
 use Rattle.itv_base.specs.declared.names.EventId.{EventId}
-use Rattle.event_graph.specs.Bounds.{IsGreatest, IsInconsistent}
 use Rattle.event_graph.specs.Network.{IsNet, Net}
-use Rattle.event_graph.specs.Satisfying.{Satisfies}
-use Rattle.event_graph.specs.Times.{separation}
 use Rattle.falling.specs.declared.view.View.{View}
 use Rattle.falling.specs.declared.view.View.TheVariants.{Plain, Negated}
 use Rattle.falling.specs.Cap.{far_line}
@@ -108,7 +105,7 @@ of_pair net race from to most found same_from same_to is =
 pub found_closed : (net : Net) (race : Race) (view : View) (turns budget : ℕ) (answer : Settled) (times : Vec ℤ) (ray : Vec Bool) (lines : Vec ProofLine) → IsNet net
     → IsRacing net race → IsEnding net race (ClosedBy view) → line_count race ≤ turns → answer ≡ Closed race.best.claim.value
     → ((ts : Vec ℤ) → race.best.times ≡ Some ts → times ≡ ts) → lines.items ≡ lines_as view race
-    → turns ≤ budget → IsFound net race.from race.to budget (record { answer = answer; times = times; ray = ray; claim = race.best.claim.value; view = view; lines = lines; turns = turns })
+    → turns ≤ budget → IsFound net race.from race.to budget (record { answer = answer; times = times; ray = ray; claim = race.best.claim; view = view; lines = lines; turns = turns })
 found_closed net race view turns budget answer times ray lines is_net racing (over, some, below) few is_answer at_times at_lines within =
     let (ts, is) = some_of race.best.times some in
     let are : AreTimes net race.from race.to race.best.claim.value ts.items =
@@ -118,12 +115,12 @@ found_closed net race view turns budget answer times ray lines is_net racing (ov
     settled_at net race.from race.to race.best.claim.value view lines.items times.items is_net racing.from racing.to below
     (proof_as net race view lines.items racing over at_lines)
     (subst (λ (t : Vec ℤ). AreTimes net race.from race.to race.best.claim.value t.items) (sym same) are) in
-    subst (λ (a : Settled). IsFound net race.from race.to budget (record { answer = a; times = times; ray = ray; claim = race.best.claim.value; view = view; lines = lines; turns = turns })) (sym is_answer)
+    subst (λ (a : Settled). IsFound net race.from race.to budget (record { answer = a; times = times; ray = ray; claim = race.best.claim; view = view; lines = lines; turns = turns })) (sym is_answer)
     (record { answer = (settled, refl); most = within; lines = few_lines race view lines.items turns at_lines few })
 
 pub found_inconsistent : (net : Net) (race : Race) (view : View) (turns budget : ℕ) (times : Vec ℤ) (ray : Vec Bool) (lines : Vec ProofLine) → IsNet net → IsRacing net race
     → IsEnding net race (InconsistentBy view) → line_count race ≤ turns → lines.items ≡ lines_as view race
-    → turns ≤ budget → IsFound net race.from race.to budget (record { answer = Inconsistent; times = times; ray = ray; claim = race.best.claim.value; view = view; lines = lines; turns = turns })
+    → turns ≤ budget → IsFound net race.from race.to budget (record { answer = Inconsistent; times = times; ray = ray; claim = race.best.claim; view = view; lines = lines; turns = turns })
 found_inconsistent net race view turns budget times ray lines is_net racing (over, none) few at_lines within =
     let low : race.best.claim.value <ℤ neg_ℤ (pos (far_line net)) =
     subst (λ (o : Option (Vec ℤ)). IfNone o (race.best.claim.value <ℤ neg_ℤ (pos (far_line net)))) none racing.best.none in
@@ -136,7 +133,7 @@ found_inconsistent net race view turns budget times ray lines is_net racing (ove
 
 pub found_unbounded : (net : Net) (race : Race) (turns budget : ℕ) (times : Vec ℤ) (ray : Vec Bool) (view : View) (lines : Vec ProofLine) → IsRacing net race
     → IsEnding net race (UnboundedBy ray) → ((ts : Vec ℤ) → race.best.times ≡ Some ts → times ≡ ts) → lines.items ≡ []
-    → turns ≤ budget → IsFound net race.from race.to budget (record { answer = Unbounded; times = times; ray = ray; claim = race.best.claim.value; view = view; lines = lines; turns = turns })
+    → turns ≤ budget → IsFound net race.from race.to budget (record { answer = Unbounded; times = times; ray = ray; claim = race.best.claim; view = view; lines = lines; turns = turns })
 found_unbounded net race turns budget times ray view lines racing ending at_times none within =
     let (ts, is, raised) = some_and race.best.times _ ending in
     let are : AreTimes net race.from race.to race.best.claim.value ts.items =

@@ -1,10 +1,10 @@
 -- Stored lines that lead to where a checker is.
-use Rattle.std.proofs.Common.{◌≡◌, ◌<◌, ℤ, ◌≤ℤ◌, List, [], ◌∷◌, ◌++◌, sym, refl, subst}
+use Rattle.std.proofs.Common.{◌≡◌, ◌<◌, ℤ, ◌≤ℤ◌, List, [], ◌∷◌, ◌++◌, sym, subst}
 use Rattle.std.proofs.lemmas.List.{map-append}
 use Rattle.itv_base.specs.declared.names.EventId.{EventId}
 use Rattle.event_graph.specs.Network.{Net}
 use Rattle.falling.specs.Course.{AreLimits}
-use Rattle.clauses.specs.Checking.{Checking, IsChecking, TakesLine}
+use Rattle.clauses.specs.Checking.{Checking, TakesLine}
 use Rattle.clauses.specs.Laws.{claiming}
 use Rattle.clauses.specs.Lines.{ClauseLine, Goal, Leads, State, starting}
 use Rattle.clauses.proofs.Checked.{leads_more, raised_keeps_checking, start_is_checking, taken_line_keeps_checking}

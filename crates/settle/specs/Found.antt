@@ -39,9 +39,9 @@ pub record IsSettledInconsistent (net : Net) (from to : EventId) (claim : ℤ) (
 
 -- what an answer says of a pair, within so many turns
 abbrev pub Says : Net → EventId → EventId → ℕ → Found → Settled → Type 0
-Says net from to turns found (Closed value) = IsSettledAt net from to value found.view found.lines.items found.times.items × (found.claim ≡ value)
+Says net from to turns found (Closed value) = IsSettledAt net from to value found.view found.lines.items found.times.items × (found.claim.value ≡ value)
 Says net from to turns found Unbounded = IsSettledUnbounded net from to found.times.items found.ray.items
-Says net from to turns found Inconsistent = IsSettledInconsistent net from to found.claim found.view found.lines.items
+Says net from to turns found Inconsistent = IsSettledInconsistent net from to found.claim.value found.view found.lines.items
 Says net from to turns found Spent = found.turns ≡ turns
 
 -- a settler made for a network

@@ -1,5 +1,5 @@
 -- Lists of lines, and what they prove in a network or in its negation.
-use Rattle.std.specs.Prelude.{ℕ, ℤ, List, length, map}
+use Rattle.std.specs.Prelude.{ℤ, List, map}
 use Rattle.itv_base.specs.declared.names.EventId.{EventId}
 use Rattle.event_graph.specs.Network.{Net}
 use Rattle.falling.specs.declared.view.View.{View}

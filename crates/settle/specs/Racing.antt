@@ -1,5 +1,5 @@
 -- Two searches that share the best times found.
-use Rattle.std.specs.Prelude.{◌≡◌, ◌<◌, ◌+◌, ℕ, ℤ, pos, neg_ℤ, ◌<ℤ◌, ◌≤ℤ◌, All, List, length, Option, Some, None, IsSome, IfSome, IfNone, IsSomeAnd}
+use Rattle.std.specs.Prelude.{◌≡◌, ◌<◌, ◌+◌, ℕ, ℤ, pos, neg_ℤ, ◌<ℤ◌, ◌≤ℤ◌, All, List, length, None, IsSome, IfSome, IfNone, IsSomeAnd}
 use Rattle.itv_base.specs.declared.names.EventId.{EventId}
 use Rattle.event_graph.specs.Bounds.{IsRay}
 use Rattle.event_graph.specs.Network.{Net}
@@ -16,7 +16,7 @@ use Rattle.settle.specs.declared.line.ProofLine.{ProofLine}
 use Rattle.settle.specs.declared.race.Ending.{Ending}
 use Rattle.settle.specs.declared.race.Ending.TheVariants.{Closed, Unbounded, Inconsistent}
 use Rattle.settle.specs.declared.race.Race.{Race}
-use Rattle.settle.specs.Proofs.{IsProofAs, IsProving}
+use Rattle.settle.specs.Proofs.{IsProving}
 
 -- a time is within the greatest cap in absolute value, so that another can be taken from it
 abbrev pub IsNear : ℤ → Type 0

@@ -1,6 +1,7 @@
 //! What is found of a pair.
 
 use crate::line::ProofLine;
+use clauses::Claim;
 use falling::View;
 
 /// What is known of the greatest separation of a pair of events.
@@ -27,7 +28,7 @@ pub struct Found {
     pub ray: Vec<bool>,
     /// What the lines prove that no satisfying separation exceeds, in picoseconds: after [`Settled::Closed`] the number itself, after
     /// [`Settled::Inconsistent`] one below every separation of times that are near each other.
-    pub claim: i64,
+    pub claim: Claim,
     /// Whether the lines are a proof in the network or in its negation.
     pub view: View,
     /// After [`Settled::Closed`] a proof that no satisfying separation exceeds it, after [`Settled::Inconsistent`] one that no times

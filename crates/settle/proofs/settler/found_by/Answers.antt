@@ -1,4 +1,4 @@
-use Rattle.std.proofs.Common.{◌∙◌, subst}
+use Rattle.std.proofs.Common.{subst}
 use Rattle.settle.specs.declared.race.Ending.{Ending}
 use Rattle.settle.specs.Racing.{IsEnding}
 use Rattle.settle.proofs.Concluding.{found_closed, found_inconsistent, found_unbounded, handed, of_pair}
