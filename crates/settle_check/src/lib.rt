@@ -1,0 +1,4 @@
+//! Job confirm: whether a text of job settle is right, without any search.
+//! The contract of the crate: a text that is accepted is one of job settle with its proofs, each of which a checker has taken, whoever
+//! wrote it.
+#![tactic(auto)]
