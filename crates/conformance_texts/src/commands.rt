@@ -34,6 +34,7 @@ fn task_line(alloc: Global, task: Task<'_>) -> Result<String, AllocError> {
         Task::Redraw { design, budget } => format!(in alloc; "redraw {design} {budget}"),
         Task::Matrix { design } => format!(in alloc; "matrix {design}"),
         Task::Check { design, report } => format!(in alloc; "check {design} {report}"),
+        Task::Confirm { design, report } => format!(in alloc; "confirm {design} {report}"),
         Task::Generated { size, budget } => format!(in alloc; "self {size} {budget}"),
         Task::Whatif {
             design,
@@ -68,6 +69,8 @@ const TABLE: &[(&[&str], &str)] = &[
     (&["--job", "settle", "x"], "settle x 100000 false"),
     (&["--job=settle", "--cert", "--budget=7", "x"], "settle x 7 true"),
     (&["--job=settle"], "bad words"),
+    (&["--job", "confirm", "--report", "r", "x"], "confirm x r"),
+    (&["--job=confirm", "x"], "bad words"),
     (&["--job", "redraw", "x"], "redraw x 100000"),
     (&["--job=redraw", "--cert", "--budget=7", "x"], "redraw x 7"),
     (&["--job=redraw"], "bad words"),

@@ -12,7 +12,7 @@ use Rattle.reading.specs.declared.place.Place.TheVariants.{Design, Edits, Report
 use Rattle.reading.specs.declared.refusal.Refusal.TheVariants as refusals
 use Rattle.reading.specs.Design.{design_at}
 use Rattle.reading.specs.Opening.{Opening, gives, refuses, ◌>>=◌, at, file_at}
-use Rattle.words.specs.Task.{Task, bounds, fall, settle, redraw, matrix, check, generated, whatif}
+use Rattle.words.specs.Task.{Task, bounds, fall, settle, redraw, matrix, check, confirm, generated, whatif}
 use Rattle.bounds_report.specs.Reports.{BeginsReport}
 use Rattle.fall_report.specs.Fall.{AnswersFall, BeginsFall}
 use Rattle.falling.specs.View.{view_of}
@@ -20,6 +20,7 @@ use Rattle.falling.specs.declared.fault.Mixed.{Mixed}
 use Rattle.falling.specs.declared.view.View.{View}
 use Rattle.matrix_report.specs.Matrix.{AnswersMatrix, BeginsMatrix}
 use Rattle.redraw_report.specs.Redraw.{AnswersRedraw, BeginsRedraw}
+use Rattle.settle_check.specs.Confirm.{AnswersConfirm, BeginsConfirm}
 use Rattle.settle_report.specs.Settle.{AnswersSettle, BeginsSettle}
 use Rattle.report_check.specs.Check.{AnswersCheck, BeginsCheck}
 use Rattle.summary_report.specs.Summary.{AnswersSummary, BeginsSummary}
@@ -81,6 +82,10 @@ opening (check design report) = do
   drawn ← design_at design
   bytes ← file_at Report report REPORT_LIMIT
   gives (ready.Check drawn bytes)
+opening (confirm design report) = do
+  drawn ← design_at design
+  bytes ← file_at Report report REPORT_LIMIT
+  gives (ready.Confirm drawn bytes)
 opening (generated size budget) = do
   drawn ← design_at (codes "bus.json")
   gives (ready.Generated drawn size budget)
@@ -102,6 +107,7 @@ Answers (ready.Settle drawn budget cert) answer text = AnswersSettle drawn cert 
 Answers (ready.Redraw drawn budget) answer text = AnswersRedraw drawn budget answer text × DecidesWithin drawn budget answer
 Answers (ready.Matrix drawn) answer text = AnswersMatrix drawn answer text
 Answers (ready.Check drawn report) answer text = AnswersCheck drawn report answer text
+Answers (ready.Confirm drawn report) answer text = AnswersConfirm drawn report answer text
 Answers (ready.Generated drawn size budget) answer text = AnswersSummary drawn size budget answer text × DecidesWithin drawn budget answer
 Answers (ready.Whatif drawn edits budget) answer text = AnswersWhatif drawn budget edits answer text
 
@@ -113,5 +119,6 @@ Begins (ready.Settle drawn budget cert) text = BeginsSettle drawn cert text
 Begins (ready.Redraw drawn budget) text = BeginsRedraw drawn budget text
 Begins (ready.Matrix drawn) text = BeginsMatrix drawn text
 Begins (ready.Check drawn report) text = BeginsCheck drawn report text
+Begins (ready.Confirm drawn report) text = BeginsConfirm drawn report text
 Begins (ready.Generated drawn size budget) text = BeginsSummary drawn size budget text
 Begins (ready.Whatif drawn edits budget) text = BeginsWhatif drawn budget edits text

@@ -36,6 +36,7 @@ IsAllowed (given.Settle drawn budget cert) = Unit {0}
 IsAllowed (given.Redraw drawn budget) = IsBudget budget × HasForm drawn
 IsAllowed (given.Matrix drawn) = drawn.net.events ≤ MAX_MATRIX_EVENTS
 IsAllowed (given.Check drawn report) = Unit {0}
+IsAllowed (given.Confirm drawn report) = Unit {0}
 IsAllowed (given.Generated drawn size budget) = IsBudget budget
 IsAllowed (given.Whatif drawn edits budget) = (length drawn.rows ≤ MAX_SESSION_ROWS) × IsBudget budget × All (IsThere drawn.net) edits
 

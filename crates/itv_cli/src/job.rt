@@ -17,6 +17,7 @@ use jobs::{Answer, Unanswered, answer_of};
 use matrix_report::write_matrix;
 use redraw_report::write_redraw;
 use report_check::answer_check;
+use settle_check::answer_confirm;
 use settle_report::write_settle;
 use std::alloc::Global;
 use summary_report::write_summary;
@@ -47,6 +48,7 @@ pub fn answer<K: Sink>(alloc: Global, given: &Ready, sink: &mut K) -> Result<Ans
         Ready::Redraw { drawn, budget } => answer_redraw(alloc, drawn, *budget, sink),
         Ready::Matrix { drawn } => write_matrix(alloc, drawn, sink),
         Ready::Check { drawn, report } => answer_check(alloc, drawn, report.as_slice(), sink),
+        Ready::Confirm { drawn, report } => answer_confirm(alloc, drawn, report.as_slice(), sink),
         Ready::Generated {
             drawn,
             size,

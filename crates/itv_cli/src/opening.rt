@@ -47,6 +47,7 @@ pub fn open<H: Shelf>(alloc: Global, task: Task<'_>, shelf: &mut H) -> Result<Re
         Task::Redraw { design, budget } => open_redraw(alloc, design, budget, shelf),
         Task::Matrix { design } => open_matrix(alloc, design, shelf),
         Task::Check { design, report } => open_check(alloc, design, report, shelf),
+        Task::Confirm { design, report } => open_confirm(alloc, design, report, shelf),
         Task::Generated { size, budget } => open_generated(alloc, size, budget),
         Task::Whatif {
             design,
@@ -195,6 +196,22 @@ fn open_check<H: Shelf>(
     let drawn = open_design(alloc, design, shelf)?;
     let report = fetch_file(alloc, Place::Report, report, REPORT_LIMIT, shelf)?;
     Ok(Ready::Check { drawn, report })
+}
+
+// What job confirm reads: the text behind the design.
+fn open_confirm<H: Shelf>(
+    alloc: Global,
+    design: &str,
+    report: &str,
+    shelf: &mut H,
+) -> Result<Ready, Stop>
+    ensures opens { Opens (λ given. given) (H.told shelf.old) (H.told shelf.new)
+        (opening (said.confirm design.now report.now)) result }
+    ensures allowed { IfOk result IsAllowed }
+{
+    let drawn = open_design(alloc, design, shelf)?;
+    let report = fetch_file(alloc, Place::Report, report, REPORT_LIMIT, shelf)?;
+    Ok(Ready::Confirm { drawn, report })
 }
 
 // What job whatif reads: the edits behind the design.

@@ -43,6 +43,11 @@ pub enum Ready {
         drawn: DrawnNetwork,
         report: Listing<u8>,
     },
+    /// To check a text of job settle of a drawn network: the bytes of the text.
+    Confirm {
+        drawn: DrawnNetwork,
+        report: Listing<u8>,
+    },
     /// To bound the rows of the generated design of a size, and sum up: what it draws, the size, and the cases that each search
     /// may close.
     Generated {

@@ -14,7 +14,7 @@ use Rattle.clap.specs.declared.error.kind.ErrorKind.TheVariants.{DisplayHelp}
 use Rattle.words.specs.Command.{command}
 
 -- a job with what it needs: the design's name, the budget of each search and whether proofs are wanted, for three jobs; the design's name
--- and the budget; the design's name; the names of the design and of the report; the size of the generated design and the budget; the names
+-- and the budget; the design's name; the names of the design and of the report, for two jobs; the size of the generated design and the budget; the names
 -- of the design and of the edits, and the budget of each search
 pub data Task : Type 0 where
   bounds : Text → ℕ → Bool → Task
@@ -23,6 +23,7 @@ pub data Task : Type 0 where
   redraw : Text → ℕ → Task
   matrix : Text → Task
   check : Text → Text → Task
+  confirm : Text → Text → Task
   generated : ℕ → ℕ → Task
   whatif : Text → Text → ℕ → Task
 
@@ -69,6 +70,10 @@ matrix_of rows = option_map matrix (first_of (codes "design") rows)
 abbrev pub check_of : List Row → Option Task
 check_of rows = option_and_then (λ design. option_map (check design) (first_of (codes "report") rows)) (first_of (codes "design") rows)
 
+-- the same for a text of job settle
+abbrev pub confirm_of : List Row → Option Task
+confirm_of rows = option_and_then (λ design. option_map (confirm design) (first_of (codes "report") rows)) (first_of (codes "design") rows)
+
 abbrev pub generated_of : List Row → Option Task
 generated_of rows = option_and_then (λ size. option_map (generated size) (budget_of rows)) (size_of rows)
 
@@ -87,7 +92,8 @@ task_named rows name =
     else (if bytes_eq name (codes "redraw") then redraw_of rows
     else (if bytes_eq name (codes "whatif") then whatif_of rows
     else (if bytes_eq name (codes "settle") then settle_of rows
-    else None)))))))
+    else (if bytes_eq name (codes "confirm") then confirm_of rows
+    else None))))))))
 
 abbrev pub task_of : List Row → Option Task
 task_of rows = option_and_then (task_named rows) (first_of (codes "job") rows)
@@ -131,6 +137,7 @@ IsWithinLimits (settle design budget proofs) = IsBudget budget
 IsWithinLimits (redraw design budget) = IsBudget budget
 IsWithinLimits (matrix design) = Unit {0}
 IsWithinLimits (check design report) = Unit {0}
+IsWithinLimits (confirm design report) = Unit {0}
 IsWithinLimits (generated size budget) = IsSize size × IsBudget budget
 IsWithinLimits (whatif design edits budget) = IsBudget budget
 

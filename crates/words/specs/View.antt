@@ -12,6 +12,7 @@ task_view (wanted.Settle design budget cert) = said.settle design.now budget cer
 task_view (wanted.Redraw design budget) = said.redraw design.now budget
 task_view (wanted.Matrix design) = said.matrix design.now
 task_view (wanted.Check design report) = said.check design.now report.now
+task_view (wanted.Confirm design report) = said.confirm design.now report.now
 task_view (wanted.Generated size budget) = said.generated size budget
 task_view (wanted.Whatif design edits budget) = said.whatif design.now edits.now budget
 

@@ -22,6 +22,7 @@ Jobs:
   self    Bounds the rows of a generated design of size N, and sums up
   fall    Bounds the separation of each row of DESIGN without cases, where all choices are latest or all are earliest
   settle  Bounds the separation of each row of DESIGN exactly, whatever its choices
+  confirm Checks each claim of the text FILE of job settle against DESIGN
   redraw  Draws the first requirement of DESIGN that fails, with times that break it, as a timing diagram
   whatif  Bounds the separation of each row of DESIGN, and again behind each edit of FILE
 
@@ -70,7 +71,7 @@ fn job_option<'a>(alloc: Global) -> Arg<'a>
         alloc,
         "job",
         "JOB",
-        "What to do: bounds, matrix, check, self, fall, settle, redraw or whatif",
+        "What to do: bounds, matrix, check, self, fall, settle, confirm, redraw or whatif",
     )
     .default_value("bounds")
 }
@@ -117,7 +118,7 @@ pub fn command<'a>(alloc: Global) -> Result<Command<'a>, AllocError>
             "Cases that each search may close, lines of each derivation, or thousands of turns [default: 100000]",
         ))?
         .arg(cert_flag(alloc))?
-        .arg(text_option(alloc, "report", "FILE", "The report to check"))?
+        .arg(text_option(alloc, "report", "FILE", "The report, or the text of job settle, to check"))?
         .arg(text_option(alloc, "edits", "FILE", "The edits to make"))?
         .arg(number_option(
             alloc,

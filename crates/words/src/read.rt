@@ -5,7 +5,7 @@ ghost use Rattle.clap.specs.Matches.{found_of};
 ghost use Rattle.clap.specs.Values.{kind_of};
 ghost use Rattle.clap.specs.Walk.{first_of, rows_of};
 ghost use Rattle.clap.specs.declared.error.kind.ErrorKind.{ErrorKind};
-ghost use Rattle.words.specs.Task.{KeepsLimits, answer_for, bounds_of, budget_of, check_of, fall_of, generated_of, matrix_of, number_in, redraw_of, refusal_for, settle_of, size_of, taken, task_named, task_of, wants_proofs, whatif_of};
+ghost use Rattle.words.specs.Task.{KeepsLimits, answer_for, bounds_of, budget_of, check_of, confirm_of, fall_of, generated_of, matrix_of, number_in, redraw_of, refusal_for, settle_of, size_of, taken, task_named, task_of, wants_proofs, whatif_of};
 ghost use Rattle.words.specs.View.{answer_view, task_view};
 
 use crate::command::command;
@@ -75,6 +75,8 @@ fn task_named<'a>(matches: &ArgMatches<'a>, name: &str) -> Option<Task<'a>>
         whatif_task(matches)
     } else if name == "settle" {
         settle_task(matches)
+    } else if name == "confirm" {
+        confirm_task(matches)
     } else {
         None
     }
@@ -137,6 +139,14 @@ fn check_task<'a>(matches: &ArgMatches<'a>) -> Option<Task<'a>>
     let design = text_of(matches, "design")?;
     let report = text_of(matches, "report")?;
     Some(Task::Check { design, report })
+}
+
+fn confirm_task<'a>(matches: &ArgMatches<'a>) -> Option<Task<'a>>
+    ensures { option_map task_view result ≡ confirm_of (rows_of (found_of matches.now)) }
+{
+    let design = text_of(matches, "design")?;
+    let report = text_of(matches, "report")?;
+    Some(Task::Confirm { design, report })
 }
 
 fn generated_task<'a>(matches: &ArgMatches<'a>) -> Option<Task<'a>>

@@ -38,6 +38,11 @@ pub enum Task<'a> {
         design: &'a str,
         report: &'a str,
     },
+    /// To check a text of job settle of a design: the names of both files.
+    Confirm {
+        design: &'a str,
+        report: &'a str,
+    },
     /// To bound the rows of the generated design of a size, and sum up: the size, and the cases that each
     /// search may close.
     Generated {

@@ -1,6 +1,6 @@
 use Rattle.std.proofs.Common.{refl}
 use Rattle.design_gen.specs.Files.{design_files}
-use Rattle.words.specs.Task.{bounds, fall, settle, redraw, matrix, check, generated, whatif}
+use Rattle.words.specs.Task.{bounds, fall, settle, redraw, matrix, check, confirm, generated, whatif}
 use Rattle.itv_cli.proofs.Fetching.{opens_made, opens_shelf}
 use Rattle.itv_cli.proofs.opening.open.Goals as goal
 
@@ -31,6 +31,11 @@ pub returns-in-Check-clause-opens : goal.returns-in-Check-clause-opens
 returns-in-Check-clause-opens g c =
     rw c.in-Check.is
     (opens_shelf (g.H.Shelf.told c.args.shelf.now) (g.H.Shelf.told c.open_check.new.shelf) (check c.in-Check.design.now c.in-Check.report.now) c.open_check.result refl c.open_check.ensures.opens)
+
+pub returns-in-Confirm-clause-opens : goal.returns-in-Confirm-clause-opens
+returns-in-Confirm-clause-opens g c =
+    rw c.in-Confirm.is
+    (opens_shelf (g.H.Shelf.told c.args.shelf.now) (g.H.Shelf.told c.open_confirm.new.shelf) (confirm c.in-Confirm.design.now c.in-Confirm.report.now) c.open_confirm.result refl c.open_confirm.ensures.opens)
 
 pub returns-in-Generated-clause-opens : goal.returns-in-Generated-clause-opens
 returns-in-Generated-clause-opens g c =
