@@ -17,6 +17,8 @@ mod redraws;
 #[cfg(test)]
 mod separations;
 #[cfg(test)]
+mod settles;
+#[cfg(test)]
 mod verdicts;
 #[cfg(test)]
 mod whatifs;
