@@ -1,7 +1,7 @@
 // What no row of the whole program reaches: wires, and labels that are written.
 
 ghost use Rattle.std.specs.Prelude.{◌<◌, ◌^◌, length};
-ghost use Rattle.label_grammar.specs.Label.{label_view, IsProper};
+ghost use Rattle.label_grammar.specs.Label.{label_view, version_1, IsProper};
 
 use itv_base::{NoMemory, SinkMem};
 use label_grammar::{
@@ -62,7 +62,7 @@ fn writes_as_far_as_there_is_room<R: Abort + AllocGlobal>(
     text: &str,
     label: &Label<'_>,
 ) -> Result<(), NoMemory>
-    requires proper { IsProper (label_view label.now) }
+    requires proper { IsProper version_1 (label_view label.now) }
     requires short { length text.now < 2 ^ 32 }
 {
     for room in 0..=text.len() {
