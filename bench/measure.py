@@ -1,12 +1,13 @@
 #!/usr/bin/env python3
 """Measures `itv` beside an unproved Rust program of the same rule, and beside z3, cbc and glpsol where they are installed.
 
-    bench/measure.py PATH_OF_THE_BUILT_PROGRAM [searches|falls|bounds|readings|edits|all]
+    bench/measure.py PATH_OF_THE_BUILT_PROGRAM [searches|falls|settles|bounds|readings|edits|all]
 
 Builds bench/peer with the machine's cargo. Each time is the least of three runs of the whole program, in seconds; a run of more
 than 5 seconds is made once. The line of a network is a row of a table of docs/speed.md: its name, the seconds of `itv`, those of the
 Rust program, their ratio, what became of the two answers, and for searches the seconds of the solvers. For falls it has the seconds of
-job bounds, of job fall and of z3, and what both jobs say. That of a design that is read alone has the seconds of job matrix, which
+job bounds, of job fall and of z3, and what both jobs say; for settles those of job settle, of the same search as a plain Rust program, of job bounds
+and of z3, and what job settle says. That of a design that is read alone has the seconds of job matrix, which
 reads and draws it and then refuses it for its number of events, and those of a report without a row. For edits it has the seconds of job
 whatif without an edit and with 100, of one edit beyond reading and the first state, the ratio of that to a run without an edit, and how many
 bounds the edits kept and searched anew."""
@@ -183,6 +184,16 @@ def measure_fall(program, net):
         row([net.name, show(took), show(took_fall)] + solver_cells(net, folder, bounds_told(fallen), SOLVERS[:1]) + [told[0], "the same" if told[0] == told[1] else told[1]])
 
 
+def measure_settle(program, peer, net):
+    with tempfile.TemporaryDirectory() as folder:
+        lay_out(net.files(), folder)
+        took, settled = seconds([program, "--job=settle", "main.json"], folder)
+        took_peer, told = seconds([peer], folder, net.lines().encode())
+        took_search, _ = seconds([program, "main.json"], folder)
+        says = ", ".join(f"`{line}`" for line in bounds_told(settled)) + ("" if bounds_told(settled) == bounds_told(told) else " DIFFERENT")
+        row([net.name, show(took), show(took_peer), show(took_search)] + solver_cells(net, folder, bounds_told(settled), SOLVERS[:1]) + [says])
+
+
 def measure_reading(program, name, files):
     with tempfile.TemporaryDirectory() as folder:
         lay_out(files, folder)
@@ -233,6 +244,12 @@ def main():
         row(["network", "job bounds", "job fall"] + [name for name, *_ in there(SOLVERS[:1])] + ["job bounds says", "job fall says"])
         for net in networks.falls():
             measure_fall(program, net)
+    if which in ("settles", "all"):
+        subprocess.run([os.path.join(HERE, "settle", "port.py")], check=True)
+        subprocess.run(["cargo", "build", "--release", "--offline", "--quiet"], cwd=os.path.join(HERE, "settle"), check=True)
+        row(["network", "job settle", "Rust", "job bounds"] + [name for name, *_ in there(SOLVERS[:1])] + ["job settle says"])
+        for net in networks.settles():
+            measure_settle(program, os.path.join(HERE, "settle", "target", "release", "settle"), net)
     if which in ("bounds", "all"):
         row(["network", "itv", "Rust", "itv / Rust", "bounds"])
         for net in networks.bounds():

@@ -208,6 +208,20 @@ def falls():
     return [latest_pairs(n) for n in (25, 93, 1000)] + [layered(n, ["late"], n) for n in (40, 100, 300, 1000)] + [few_choices(16_000, 16_000)]
 
 
+def settles():
+    """Layers from the first event and from the middle one, of latest events and of both kinds, with three seeds each."""
+    nets = []
+    for events in (40, 100, 300, 1000):
+        for kinds in (["late"], ["late", "early"]):
+            for first in (0, events // 2):
+                for seed in (1, 2, 3):
+                    net = layered(events, kinds, seed)
+                    net.name += f", from {first}, seed {seed}"
+                    net.rows = [(first, events - 1)]
+                    nets.append(net)
+    return nets
+
+
 def bounds():
     nets = [backward_chain(4096, 64), dense_linear(93, 60_000, 4096, 1), dense_linear(4000, 16_000, 64, 2)]
     nets += [chain(events, way, 1) for way in ("upwards", "downwards", "by chance") for events in (4096, MOST_EVENTS)]
