@@ -9,6 +9,8 @@ mod checks;
 #[cfg(test)]
 mod choices;
 #[cfg(test)]
+mod confirms;
+#[cfg(test)]
 mod falls;
 #[cfg(test)]
 mod forged;
