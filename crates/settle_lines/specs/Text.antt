@@ -2,7 +2,6 @@
 use Rattle.std.specs.Prelude.{◌≡◌, ◌<◌, ◌^◌, ℕ, ℤ, Bool, true, false, List, [], ◌∷◌, ◌++◌, map, codes, All}
 use Rattle.std.specs.List.{flat_map}
 use Rattle.itv_base.specs.Numerals.{number_text, signed_text}
-use Rattle.itv_base.specs.declared.names.EventId.{EventId}
 use Rattle.certificate.specs.Text.{IsEdgeName, edge_word}
 use Rattle.line_words.specs.Words.{Word}
 use Rattle.line_words.specs.Lines.{ended, line_of}
