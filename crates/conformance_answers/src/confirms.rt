@@ -34,7 +34,8 @@ const TWO: &str = r#"{"signal":[{"node":"ab"}],"edge":["a->b @lin [0,250]","a->b
 
 // The lines are numbered from 1: 2 counts the events, 5 is the finding, 6 its times, 7 counts the rows, 8 is the row, 9 to 12 stand before
 // `max`, which is 12, 13 its times, 14 to 16 stand before `min`, which is 17, 18 its times, 19 the verdict, 20 its times, 21 the slack.
-const TWO_PROVED: &str = "itv settle 1\nevents 2\nevent 0 U.a@0\nevent 1 U.b@0\nfinding consistent\ntimes 0 250\nrows 1\n\
+const TWO_PROVED: &str =
+    "itv settle 1\nevents 2\nevent 0 U.a@0\nevent 1 U.b@0\nfinding consistent\ntimes 0 250\nrows 1\n\
     row 0 req U.a@0 U.b@0 [0,200]\nview plain\nclaim 250\nfall 1 250 0.0u\nmax 250\ntimes 0 250\nview plain\nclaim 0\nfall 0 0 0.0l\n\
     min 0\ntimes 0 0\nverdict fail high\ntimes 0 250\nslack 0 -50\nend fail\n";
 
@@ -103,10 +104,12 @@ fn forged_lines_are_refused(rt: HostRuntime) -> Result<(), Fail> {
 
 #[test]
 fn what_was_spent_claims_nothing(rt: HostRuntime) -> Result<(), Fail> {
-    let text = "itv settle 1\nevents 2\nevent 0 U.a@0\nevent 1 U.b@0\nfinding consistent\ntimes 0 250\nrows 1\n\
+    let text =
+        "itv settle 1\nevents 2\nevent 0 U.a@0\nevent 1 U.b@0\nfinding consistent\ntimes 0 250\nrows 1\n\
         row 0 req U.a@0 U.b@0 [0,200]\nmax spent\nmin spent\nverdict undecided\nslack * *\nend undecided\n";
     confirms(rt.alloc(), TWO, text, 0)?;
-    let none = "itv settle 1\nevents 2\nevent 0 U.a@0\nevent 1 U.b@0\nfinding spent\nend undecided\n";
+    let none =
+        "itv settle 1\nevents 2\nevent 0 U.a@0\nevent 1 U.b@0\nfinding spent\nend undecided\n";
     confirms(rt.alloc(), TWO, none, 0)
 }
 

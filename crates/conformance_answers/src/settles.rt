@@ -159,7 +159,9 @@ fn other_files_and_words(rt: HostRuntime) -> Result<(), Fail> {
 fn answers_in(alloc: Global, text: &str) -> Result<String, Fail> {
     let mut lines = String::new(alloc);
     for line in text.lines() {
-        for start in ["finding ", "row ", "max ", "min ", "verdict ", "slack ", "end "] {
+        for start in [
+            "finding ", "row ", "max ", "min ", "verdict ", "slack ", "end ",
+        ] {
             if line.starts_with(start) {
                 lines.push_str(format!(in alloc; "{line}\n")?.as_str())?;
             }

@@ -67,7 +67,10 @@ const TABLE: &[(&[&str], &str)] = &[
     ),
     (&["--job=fall"], "bad words"),
     (&["--job", "settle", "x"], "settle x 100000 false"),
-    (&["--job=settle", "--cert", "--budget=7", "x"], "settle x 7 true"),
+    (
+        &["--job=settle", "--cert", "--budget=7", "x"],
+        "settle x 7 true",
+    ),
     (&["--job=settle"], "bad words"),
     (&["--job", "confirm", "--report", "r", "x"], "confirm x r"),
     (&["--job=confirm", "x"], "bad words"),

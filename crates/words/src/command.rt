@@ -118,7 +118,12 @@ pub fn command<'a>(alloc: Global) -> Result<Command<'a>, AllocError>
             "Cases that each search may close, lines of each derivation, or thousands of turns [default: 100000]",
         ))?
         .arg(cert_flag(alloc))?
-        .arg(text_option(alloc, "report", "FILE", "The report, or the text of job settle, to check"))?
+        .arg(text_option(
+            alloc,
+            "report",
+            "FILE",
+            "The report, or the text of job settle, to check",
+        ))?
         .arg(text_option(alloc, "edits", "FILE", "The edits to make"))?
         .arg(number_option(
             alloc,
