@@ -48,7 +48,8 @@ use Rattle.reading.specs.Design.{design_at}
 use Rattle.reading.specs.Opening.{Opening, gives, refuses, fetches, at, file_at, ◌>>=◌, End, Ends, ready, refused, unread, told_end}
 use Rattle.reading.specs.Refusal.{refusal_text}
 use Rattle.reading.proofs.Opens.{told_ready, told_refused}
-use Rattle.words.specs.Task.{Task, bounds, check, fall, generated, matrix, redraw, taken, task, whatif}
+use Rattle.settle_report.specs.Text.{ending_of as settled_ending}
+use Rattle.words.specs.Task.{Task, bounds, check, confirm, fall, generated, matrix, redraw, settle, taken, task, whatif}
 use Rattle.bounds_report.proofs.WrittenLaws.{written_is_right}
 use Rattle.itv_cli.specs.Bounds.{AnswersBounds}
 use Rattle.itv_cli.specs.Job.{Answers, edits_at, edits_in, fall_at, fall_in, made_for, matrix_at, opening, whatif_at}
@@ -233,6 +234,10 @@ refused_redraws files (bounds design budget cert) bytes own h =
 refused_redraws files (fall design budget cert) bytes own h =
     let r = fallen_over files design budget cert answers.DesignRefused bytes h in
     absurd (never_refused r.answers.word r.answers.is_answer)
+refused_redraws files (settle design budget cert) bytes own h =
+    let (drawn, draws, is) = told_then files (design_at design) (λ drawn. given.Settle drawn budget cert) h.given h.reads in
+    let answered : Answers (given.Settle drawn budget cert) answers.DesignRefused bytes = subst (λ g. Answers g answers.DesignRefused bytes) (sym is) h.answers in
+    absurd (never_refused (settled_ending drawn.rows answered.finding answered.found) answered.is_answer)
 refused_redraws files (redraw design budget) bytes own h = (design, budget, refl)
 refused_redraws files (matrix design) bytes own h =
     let (drawn, draws, comes) = told_behind files (design_at design) matrix_at h.given h.reads in
@@ -240,6 +245,10 @@ refused_redraws files (matrix design) bytes own h =
 refused_redraws files (check design report) bytes own h =
     let (drawn, draws, comes) = told_behind files (design_at design) (λ drawn. file_at Report report REPORT_LIMIT >>= (λ bytes. gives (given.Check drawn bytes))) h.given h.reads in
     let (read, fetched, is) = told_then files (file_at Report report REPORT_LIMIT) (λ bytes. given.Check drawn bytes) h.given comes in
+    absurd (subst (λ g. Answers g answers.DesignRefused bytes) (sym is) h.answers)
+refused_redraws files (confirm design report) bytes own h =
+    let (drawn, draws, comes) = told_behind files (design_at design) (λ drawn. file_at Report report REPORT_LIMIT >>= (λ bytes. gives (given.Confirm drawn bytes))) h.given h.reads in
+    let (read, fetched, is) = told_then files (file_at Report report REPORT_LIMIT) (λ bytes. given.Confirm drawn bytes) h.given comes in
     absurd (subst (λ g. Answers g answers.DesignRefused bytes) (sym is) h.answers)
 refused_redraws files (generated size budget) bytes own h = absurd (cc own)
 refused_redraws files (whatif design edits budget) bytes own h =
