@@ -36,14 +36,16 @@ use Rattle.matrix_report.specs.Matrix.{AnswersMatrix, IsMatrixText}
 use Rattle.report_check.specs.Check.{AnswersCheck, refused_text}
 use Rattle.summary_report.specs.Summary.{AnswersSummary}
 use Rattle.itv_cli.specs.Bounds.{AnswersBounds}
-use Rattle.itv_cli.specs.Task.{Task, bounds, check, generated, matrix, taken, task}
+use Rattle.settle_check.specs.Confirm.{AnswersConfirm, IsSettledText}
+use Rattle.settle_report.specs.Settle.{AnswersSettle}
+use Rattle.itv_cli.specs.Task.{Task, bounds, check, confirm, generated, matrix, settle, taken, task}
 use Rattle.itv_cli.specs.Job.{Answers, made_for, matrix_at, opening}
 use Rattle.itv_cli.specs.Run.{Call, CameTo, EndsOver, HasAnswered, Means, outcome_of}
 use Rattle.itv_cli.specs.declared.outcome.Outcome.{Outcome}
 use Rattle.itv_cli.specs.declared.outcome.Outcome.TheVariants as ends
 use Rattle.itv_cli.specs.declared.ready.Ready.{Ready}
 use Rattle.itv_cli.specs.declared.ready.Ready.TheVariants as given
-use Rattle.conformance.specs.Clients.{AsksBounds, AsksCheck, AsksMatrix, Draws, IsReportEnd, IsRightFile, IsSummaryOf, IsWrongFile}
+use Rattle.conformance.specs.Clients.{AsksBounds, AsksCheck, AsksConfirm, AsksMatrix, AsksSettle, Draws, IsReportEnd, IsRightFile, IsSettledFile, IsSummaryOf, IsWrongFile}
 use Rattle.conformance.proofs.Telling.{HasReported, answer_over, came_over, never_refused, reported_over, same_asked, same_ready, told_behind, told_then}
 
 -- ---- what was answered
@@ -197,6 +199,32 @@ module _ (call : Call) (files : Files) (report : List ℕ) (drawn : Drawn) (told
   check_whole result means (inr e) none =
       let (line, wrong, wrote) = check_wrong result means e in
       absurd (none wrong.bytes line wrong.is_file wrong.is_wrong)
+
+-- ---- jobs settle and confirm
+
+module _ (call : Call) (files : Files) (report : List ℕ) (drawn : Drawn) (told : call.shelf_before.files ≡ Some files) (asks : AsksConfirm call.words files report drawn) where
+  pub confirm_right : (result : Outcome) → Means call result → result ≡ ends.AllPass → IsSettledFile files report drawn
+  confirm_right result means e =
+      let m = answered_by call result answers.AllPass (λ same. cc same) means e in
+      let a = answer_over call files (confirm asks.design report) answers.AllPass m.text told m refl (record { words = asks.words; own = refl }) in
+      let (other, draws, more) = told_behind files (design_at asks.design) (λ d. file_at Report report REPORT_LIMIT >>= (λ bytes. gives (given.Confirm d bytes))) a.given a.reads in
+      let (bytes, had, is) = told_then files (file_at Report report REPORT_LIMIT) (λ bytes. given.Confirm other bytes) a.given more in
+      let same : other ≡ drawn = same_ready other drawn (sym draws ∙ asks.draws) in
+      let said : AnswersConfirm drawn bytes answers.AllPass m.text =
+      subst (λ (d : Drawn). AnswersConfirm d bytes answers.AllPass m.text) same (subst (λ g. Answers g answers.AllPass m.text) (sym is) a.answers) in
+      record { bytes = bytes; is_file = file_had files Report report REPORT_LIMIT bytes had; is_settled = said.0 }
+
+module _ (call : Call) (files : Files) (budget : ℕ) (cert : Bool) (drawn : Drawn) (told : call.shelf_before.files ≡ Some files) (asks : AsksSettle call.words files budget cert drawn) where
+  settle_said : (answer : Answer) (m : HasAnswered call answer) → AnswersSettle drawn cert answer m.text
+  settle_said answer m =
+      let a = answer_over call files (settle asks.design budget cert) answer m.text told m refl (record { words = asks.words; own = refl }) in
+      let (other, draws, is) = told_then files (design_at asks.design) (λ d. given.Settle d budget cert) a.given a.reads in
+      let same : other ≡ drawn = same_ready other drawn (sym draws ∙ asks.draws) in
+      subst (λ (d : Drawn). AnswersSettle d cert answer m.text) same (subst (λ g. Answers g answer m.text) (sym is) a.answers)
+
+  pub settle_wrote : (result : Outcome) → Means call result → (end : IsReportEnd result) → (text : List ℕ) × AnswersSettle drawn cert (answer_of end.0) text × (call.sink_after ≡ grown call.sink_before text)
+  settle_wrote result means end =
+      let m = answered_by call result (answer_of end.0) (λ same. never_refused end.0 (sym same)) means end.1 in (m.text, settle_said (answer_of end.0) m, m.wrote)
 
 -- ---- job matrix
 

@@ -19,7 +19,8 @@ use Rattle.reading.specs.declared.refusal.Refusal.{Refusal}
 use Rattle.reading.specs.Design.{design_at}
 use Rattle.reading.specs.Opening.{Comes, ready, refused, told_end, unread}
 use Rattle.reading.specs.Refusal.{refusal_text, unread_text}
-use Rattle.words.specs.Task.{Task, bounds, check, matrix, taken, task}
+use Rattle.settle_check.specs.Confirm.{IsSettledText}
+use Rattle.words.specs.Task.{Task, bounds, check, confirm, matrix, settle, taken, task}
 use Rattle.itv_cli.specs.Job.{Answers, made_for, opening}
 use Rattle.itv_cli.specs.Run.{ToWrite, outcome_of}
 use Rattle.itv_cli.specs.declared.outcome.Outcome.{Outcome}
@@ -100,6 +101,18 @@ pub record AsksCheck (given : List (List ℕ)) (files : Files) (report : List �
   pub words : taken given ≡ task (check design report)
   pub draws : Draws files design drawn
 
+-- the words ask whether a file is a text of job settle of a design, whose files draw a network
+pub record AsksConfirm (given : List (List ℕ)) (files : Files) (report : List ℕ) (drawn : Drawn) : Type 0 where
+  pub design : List ℕ
+  pub words : taken given ≡ task (confirm design report)
+  pub draws : Draws files design drawn
+
+-- the words ask for the bounds of a design whatever its choices, with proofs or without, and its files draw a network
+pub record AsksSettle (given : List (List ℕ)) (files : Files) (budget : ℕ) (cert : Bool) (drawn : Drawn) : Type 0 where
+  pub design : List ℕ
+  pub words : taken given ≡ task (settle design budget cert)
+  pub draws : Draws files design drawn
+
 -- the words ask for the matrix of a design, whose files draw a network
 pub record AsksMatrix (given : List (List ℕ)) (files : Files) (drawn : Drawn) : Type 0 where
   pub design : List ℕ
@@ -111,6 +124,12 @@ pub record IsRightFile (files : Files) (report : List ℕ) (drawn : Drawn) : Typ
   pub bytes : List ℕ
   pub is_file : file_of files report ≡ Some bytes
   pub is_right : IsRightText drawn bytes
+
+-- the file of a name is there, and is a text of job settle with its proofs
+pub record IsSettledFile (files : Files) (report : List ℕ) (drawn : Drawn) : Type 0 where
+  pub bytes : List ℕ
+  pub is_file : file_of files report ≡ Some bytes
+  pub is_settled : IsSettledText drawn bytes
 
 -- the file of a name is there, and this is its one wrong line
 pub record IsWrongFile (files : Files) (report : List ℕ) (drawn : Drawn) (line : ℕ) : Type 0 where

@@ -12,7 +12,9 @@ ghost use Rattle.reading.specs.declared.refusal.Refusal.{Refusal};
 ghost use Rattle.reading.specs.declared.place.Place.{Place};
 ghost use Rattle.reading.specs.Refusal.{refusal_text};
 ghost use Rattle.words.specs.Task.{bounds, generated, redraw, taken, task};
-ghost use Rattle.conformance.specs.Clients.{AsksBounds, AsksCheck, AsksMatrix, HasNoWrong, IsReportEnd, IsRightFile, IsSummaryOf, IsWrongFile, WroteOne};
+ghost use Rattle.settle_report.specs.Settle.{AnswersSettle};
+ghost use Rattle.jobs.specs.Ending.{answer_of};
+ghost use Rattle.conformance.specs.Clients.{AsksBounds, AsksCheck, AsksConfirm, AsksMatrix, AsksSettle, HasNoWrong, IsReportEnd, IsRightFile, IsSettledFile, IsSummaryOf, IsWrongFile, WroteOne};
 
 use itv_base::{NoMemory, ShelfMem, SinkMem, Texts};
 use itv_cli::{Outcome, run};
@@ -50,6 +52,27 @@ pub fn checked_of(alloc: Global, words: &Texts, shelf: &mut ShelfMem, sink: &mut
     ensures whole { (report : List ℕ) (drawn : Drawn) → AsksCheck words.now shelf.old.files report drawn
         → (result ≡ Outcome.AllPass) ⊎ (result ≡ Outcome.CheckRefused) → HasNoWrong shelf.old.files report drawn
         → IsRightFile shelf.old.files report drawn }
+{
+    run(alloc, words, shelf, sink)
+}
+
+/// A run of job settle. With any end of a report it writes what is found of the network and of each row.
+pub fn settled_of(alloc: Global, words: &Texts, shelf: &mut ShelfMem, sink: &mut SinkMem) -> Outcome
+    ensures wrote { (budget : ℕ) (cert : Bool) (drawn : Drawn) → AsksSettle words.now shelf.old.files budget cert drawn
+        → (end : IsReportEnd result) → WroteOne sink.old sink.new (AnswersSettle drawn cert (answer_of end.0)) }
+{
+    run(alloc, words, shelf, sink)
+}
+
+/// A run of job confirm. Where it passes, the file is a text of job settle with its proofs, whoever wrote it.
+pub fn confirmed_of(
+    alloc: Global,
+    words: &Texts,
+    shelf: &mut ShelfMem,
+    sink: &mut SinkMem,
+) -> Outcome
+    ensures right { (report : List ℕ) (drawn : Drawn) → AsksConfirm words.now shelf.old.files report drawn
+        → result ≡ Outcome.AllPass → IsSettledFile shelf.old.files report drawn }
 {
     run(alloc, words, shelf, sink)
 }
