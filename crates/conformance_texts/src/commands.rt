@@ -66,7 +66,10 @@ const TABLE: &[(&[&str], &str)] = &[
     ),
     (&["--job=fall"], "bad words"),
     (&["--job", "settle", "x"], "settle x 100000 false"),
-    (&["--job=settle", "--cert", "--budget=7", "x"], "settle x 7 true"),
+    (
+        &["--job=settle", "--cert", "--budget=7", "x"],
+        "settle x 7 true",
+    ),
     (&["--job=settle"], "bad words"),
     (&["--job", "redraw", "x"], "redraw x 100000"),
     (&["--job=redraw", "--cert", "--budget=7", "x"], "redraw x 7"),
