@@ -1,0 +1,6 @@
+mod Moving
+mod Raising
+mod Judging
+mod Answering
+mod Gathering
+mod Whole
