@@ -10,6 +10,7 @@ use Rattle.event_graph.specs.Times.{IsTime, separation, time_of}
 use Rattle.requirements.specs.Bounds.{HasTimes}
 use Rattle.right_report.specs.Right.At.{Course}
 use Rattle.slack_report.specs.declared.words.Which.{Which}
+use Rattle.slack_report.specs.declared.words.Which.TheVariants.{Max, Min}
 use Rattle.drawn.specs.Drawn.{Drawn, IsRowOf}
 use Rattle.drawn.specs.declared.row.Row.{Row}
 use Rattle.settle_report.specs.declared.bound.SettledBound.{SettledBound}
@@ -49,6 +50,11 @@ pub rows_next : (cert : Bool) (net : Net) (rows : List Row) (found : List RowFou
     → AreRowsFound cert net (take k rows) found → IsRowFound cert net row of_row → AreRowsFound cert net (take (k + 1) rows) (found ++ (of_row ∷ []))
 rows_next cert net rows found k row of_row e are is = rw (add-one, take_next rows k row e) (rows_push cert net (take k rows) found row of_row are is)
 
+pub rows_pushed : (cert : Bool) (net read : Net) (rows : List Row) (found now : List RowFound) (k : ℕ) (row : Row) (of_row : RowFound) → read ≡ net → now ≡ found ++ (of_row ∷ [])
+    → slice_get rows k ≡ Some row → AreRowsFound cert net (take k rows) found → IsRowFound cert read row of_row → AreRowsFound cert net (take (k + 1) rows) now
+rows_pushed cert net read rows found now k row of_row same pushed e are is =
+    subst (AreRowsFound cert net (take (k + 1) rows)) (sym pushed) (rows_next cert net rows found k row of_row e are (subst (λ n. IsRowFound cert n row of_row) same is))
+
 pub rows_count : (cert : Bool) (net : Net) (rows : List Row) (found : List RowFound) → AreRowsFound cert net rows found → length found ≡ length rows
 rows_count cert net [] [] are = refl
 rows_count cert net [] (f ∷ found) are = absurd are
@@ -61,6 +67,13 @@ row_found cert net [] found k row d e are = absurd (cc e)
 row_found cert net (r ∷ rows) [] k row d e are = absurd are
 row_found cert net (r ∷ rows) (f ∷ found) zero row d e are = subst (λ (r : Row). IsRowFound cert net r f) (same_Some r row e) are.0
 row_found cert net (r ∷ rows) (f ∷ found) (suc k) row d e are = row_found cert net rows found k row d e are.1
+
+-- what is found of the row at a place, and that its bounds are times
+pub at_row : (cert : Bool) (net : Net) (rows : List Row) (found : List RowFound) (k : ℕ) (row : Row) (of_row : RowFound) → slice_get rows k ≡ Some row → IsRowOf net row
+    → of_row ≡ get_or found k of_row → AreRowsFound cert net rows found → HasTimes (bound_of of_row.greatest) × HasTimes (bound_of of_row.least)
+at_row cert net rows found k row of_row e is_row is are =
+    let f : IsRowFound cert net row of_row = subst (IsRowFound cert net row) (sym is) (row_found cert net rows found k row of_row e are) in
+    (bound_times cert net Max row of_row.greatest is_row f.greatest, bound_times cert net Min row of_row.least is_row f.least)
 
 -- ---- one more of a list
 

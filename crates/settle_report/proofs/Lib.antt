@@ -4,3 +4,4 @@ mod Judging
 mod Answering
 mod Gathering
 mod Whole
+mod Putting

@@ -66,11 +66,11 @@ end_time end h = (omega (arith, ints, h.0, h.1), omega (arith, ints, h.0, h.1))
 
 -- the separation of a pair one of whose events is at 0
 nearby_pair : (which : Which) (row : Row) (times : List ℤ) → time_of times row.from ≡ pos 0 → IsNearby (time_of times row.to) → IsNearby (separation times (source which row) (target which row))
-nearby_pair Max row times zero near = onward (time_of times row.from) (time_of times row.to) zero near
+nearby_pair Max row times at_zero near = onward (time_of times row.from) (time_of times row.to) at_zero near
   where
     onward : (a b : ℤ) → a ≡ pos 0 → IsNearby b → IsNearby (b -ℤ a)
     onward a b e n = (omega (arith, ints, n.0, n.1, e), omega (arith, ints, n.0, n.1, e))
-nearby_pair Min row times zero near = back (time_of times row.from) (time_of times row.to) zero near
+nearby_pair Min row times at_zero near = back (time_of times row.from) (time_of times row.to) at_zero near
   where
     back : (a b : ℤ) → a ≡ pos 0 → IsNearby b → IsNearby (a -ℤ b)
     back a b e n = (omega (arith, ints, n.0, n.1, e), omega (arith, ints, n.0, n.1, e))

@@ -17,19 +17,8 @@ pub enum SettledBound {
     Spent,
 }
 
-/// Both bounds of a row, as verdicts and slacks are judged by them.
-pub fn both_of(least: &SettledBound, greatest: &SettledBound) -> BothBounds
-    ensures least { result.least ≡ bound_of least.now }
-    ensures greatest { result.greatest ≡ bound_of greatest.now }
-{
-    BothBounds {
-        least: bound_of(least),
-        greatest: bound_of(greatest),
-    }
-}
-
-// The bound as verdicts and slacks are judged by it: of a spent one nothing is known.
-fn bound_of(found: &SettledBound) -> Bound
+/// The bound as it is printed, and as verdicts and slacks are judged by it: of a spent one nothing is known.
+pub fn bound_of(found: &SettledBound) -> Bound
     ensures bound { result ≡ bound_of found.now }
 {
     match found {
@@ -39,5 +28,16 @@ fn bound_of(found: &SettledBound) -> Bound
             limit: None,
             attained: None,
         },
+    }
+}
+
+/// Both bounds of a row, as verdicts and slacks are judged by them.
+pub fn both_of(least: &SettledBound, greatest: &SettledBound) -> BothBounds
+    ensures least { result.least ≡ bound_of least.now }
+    ensures greatest { result.greatest ≡ bound_of greatest.now }
+{
+    BothBounds {
+        least: bound_of(least),
+        greatest: bound_of(greatest),
     }
 }

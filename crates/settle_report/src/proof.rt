@@ -51,10 +51,10 @@ pub fn proof_of(
 }
 
 /// Puts a proof, where proofs are wanted.
-pub fn put_proof<K: Sink>(is_wanted: bool, proof: &Proof, sink: &mut K) -> Result<(), PutFailed>
-    ensures puts { Puts (K.told sink.old) (K.told sink.new) (shown_text is_wanted proof.now) result }
+pub fn put_proof<K: Sink>(cert: bool, proof: &Proof, sink: &mut K) -> Result<(), PutFailed>
+    ensures puts { Puts (K.told sink.old) (K.told sink.new) (shown_text cert proof.now) result }
 {
-    if is_wanted {
+    if cert {
         write_proof(proof.view, proof.claim, &proof.lines, sink)
     } else {
         Ok(())

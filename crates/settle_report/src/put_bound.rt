@@ -3,12 +3,12 @@
 ghost use Rattle.itv_base.specs.Outside.{Puts};
 ghost use Rattle.std.specs.Prelude.{◌++◌, ◌∷◌, [], codes};
 ghost use Rattle.line_words.specs.Lines.{ended, line_of};
-ghost use Rattle.requirements.specs.declared.bound.Bound.TheVariants.{Closed, Unbounded};
-ghost use Rattle.slack_report.specs.Entry.{bound, raise, times as entry_times};
+ghost use Rattle.requirements.specs.declared.bound.Bound.TheVariants.{Unbounded};
+ghost use Rattle.slack_report.specs.Entry.{bound as entry_bound, raise, times as entry_times};
 ghost use Rattle.slack_report.specs.Text.{entry_text, which_word};
 ghost use Rattle.settle_report.specs.Text.{bound_text, finding_text};
 
-use crate::bound::SettledBound;
+use crate::bound::{SettledBound, bound_of};
 use crate::finding::Finding;
 use crate::proof::put_proof;
 use itv_base::{PutFailed, Sink};
@@ -49,26 +49,25 @@ pub fn put_bound<K: Sink>(
     ensures puts { Puts (K.told sink.old) (K.told sink.new) (bound_text cert which found.now) result }
 {
     match found {
-        SettledBound::Closed(value, times, proof) => {
+        SettledBound::Closed(_, times, proof) => {
             put_proof(cert, proof, sink)?;
-            put_number(which, *value, times, buffer, sink)
+            put_number(which, bound_of(found), times, buffer, sink)
         }
         SettledBound::Unbounded(times, ray) => put_unbounded(which, times, ray, buffer, sink),
         SettledBound::Spent => put_spent(which, sink),
     }
 }
 
-// A number, and times that attain it.
+// A bound, and times that attain it.
 fn put_number<K: Sink>(
     which: Which,
-    value: i64,
+    bound: Bound,
     times: &[i64],
     buffer: &mut LineBuffer,
     sink: &mut K,
 ) -> Result<(), PutFailed>
-    ensures puts { Puts (K.told sink.old) (K.told sink.new) (entry_text (bound which (Closed value)) ++ entry_text (entry_times times.now)) result }
+    ensures puts { Puts (K.told sink.old) (K.told sink.new) (entry_text (entry_bound which bound) ++ entry_text (entry_times times.now)) result }
 {
-    let bound = Bound::Closed(value);
     write_item(&Item::Bound { which, bound }, buffer, sink)?;
     write_item(&Item::Times(times), buffer, sink)
 }
@@ -82,7 +81,7 @@ fn put_unbounded<K: Sink>(
     sink: &mut K,
 ) -> Result<(), PutFailed>
     ensures puts { Puts (K.told sink.old) (K.told sink.new)
-        (entry_text (bound which Unbounded) ++ (entry_text (entry_times times.now) ++ entry_text (raise ray.now))) result }
+        (entry_text (entry_bound which Unbounded) ++ (entry_text (entry_times times.now) ++ entry_text (raise ray.now))) result }
 {
     let bound = Bound::Unbounded;
     write_item(&Item::Bound { which, bound }, buffer, sink)?;

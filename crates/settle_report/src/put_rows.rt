@@ -69,8 +69,15 @@ fn put_each<K: Sink>(
 {
     for number in 0..drawn.rows().len() as u32 {
         let row = row_at(drawn, number);
-        let of_row = &found[number as usize];
-        put_found(number, row, drawn, cert, of_row, buffer, sink)?;
+        put_found(
+            number,
+            row,
+            drawn,
+            cert,
+            &found[number as usize],
+            buffer,
+            sink,
+        )?;
     }
     Ok(())
 }

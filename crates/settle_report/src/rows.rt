@@ -51,7 +51,8 @@ fn find_all(
     let mut found = Vec::new(alloc);
     for number in 0..drawn.rows().len() as u32 {
         let row = row_at(drawn, number);
-        found.push(find_row(alloc, row, drawn.network(), settler, wanted)?)?;
+        let of_row = find_row(alloc, row, drawn.network(), settler, wanted)?;
+        found.push(of_row)?;
     }
     Ok(found)
 }
