@@ -1,10 +1,8 @@
 -- What the answer of a search says of a network and of a bound.
-use Rattle.std.proofs.Common.{◌≡◌, ◌<◌, ℕ, ℤ, pos, neg_ℤ, ◌-ℤ◌, Bool, List, [], length, All, refl, sym, subst, ap, ◌∙◌, arith}
-use Rattle.std.specs.Prelude.{IsTrue}
+use Rattle.std.proofs.Common.{◌≡◌, ◌<◌, ℕ, ℤ, neg_ℤ, ◌-ℤ◌, Bool, List, [], length, All, refl, sym, subst, ◌∙◌, arith}
 use Rattle.std.proofs.lemmas.Int.{ints}
 use Rattle.itv_base.specs.declared.names.EventId.{EventId}
 use Rattle.event_graph.specs.Bounds.{IsGreatest, IsRay}
-use Rattle.event_graph.specs.Limits.{IsPrintedTime}
 use Rattle.event_graph.specs.Network.{IsNet, Net}
 use Rattle.event_graph.specs.Satisfying.{Satisfies}
 use Rattle.event_graph.specs.Times.{IsTime, separation, time_of}
@@ -13,15 +11,12 @@ use Rattle.slack_report.specs.declared.words.Which.{Which}
 use Rattle.slack_report.specs.declared.words.Which.TheVariants.{Max, Min}
 use Rattle.drawn.specs.Drawn.{AreTimes, IsRowOf}
 use Rattle.drawn.specs.declared.row.Row.{Row}
-use Rattle.falling.specs.declared.view.View.{View}
 use Rattle.settle.specs.declared.found.Found.{Found}
 use Rattle.settle.specs.declared.found.Settled.{Settled}
 use Rattle.settle.specs.declared.found.Settled.TheVariants.{Closed, Unbounded, Inconsistent}
-use Rattle.settle.specs.declared.line.ProofLine.{ProofLine}
 use Rattle.settle.specs.Found.{IsFound, Says}
 use Rattle.settle.specs.Proofs.{IsProofAs}
 use Rattle.settle.specs.Racing.{IsNear}
-use Rattle.settle_report.specs.declared.finding.Finding.{Finding}
 use Rattle.settle_report.specs.declared.finding.Finding.TheVariants as findings
 use Rattle.settle_report.specs.declared.proof.Proof.{Proof}
 use Rattle.settle_report.specs.Answers.{AreFirstTimes, CanRise, IsEndless, IsExtreme, IsFinding, IsNumber, IsRefuted, Proves, ProvesExtreme, first_event}

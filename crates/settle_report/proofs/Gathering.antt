@@ -1,12 +1,9 @@
 -- Rows one after another: what is found of them, their texts, and what they come to.
-use Rattle.std.proofs.Common.{◌≡◌, ◌<◌, ◌+◌, ◌||◌, ℕ, zero, suc, ℤ, pos, ◌-ℤ◌, Bool, true, false, List, [], ◌∷◌, ◌++◌, length, get_or, take, drop, All, Option, Some, None, slice_get, refl, sym, subst, ap, ◌∙◌, add-one, drop-cons, arith}
+use Rattle.std.proofs.Common.{◌≡◌, ◌<◌, ◌+◌, ℕ, zero, suc, ℤ, pos, ◌-ℤ◌, Bool, List, [], ◌∷◌, ◌++◌, length, get_or, take, drop, Some, slice_get, refl, sym, subst, ap, ◌∙◌, add-one, drop-cons, arith}
 use Rattle.std.proofs.lemmas.Int.{ints}
 use Rattle.std.proofs.lemmas.Option.{same_Some}
-use Rattle.itv_base.specs.declared.names.EventId.{EventId}
-use Rattle.itv_base.specs.declared.row_kind.RowKind.{RowKind}
-use Rattle.event_graph.specs.Limits.{IsPrintedTime}
 use Rattle.event_graph.specs.Network.{Net}
-use Rattle.event_graph.specs.Times.{IsTime, separation, time_of}
+use Rattle.event_graph.specs.Times.{IsTime, time_of}
 use Rattle.requirements.specs.Bounds.{HasTimes}
 use Rattle.right_report.specs.Right.At.{Course}
 use Rattle.slack_report.specs.declared.words.Which.{Which}

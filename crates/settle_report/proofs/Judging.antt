@@ -1,5 +1,5 @@
 -- Which end a verdict says is broken, and times that break it.
-use Rattle.std.proofs.Common.{◌≡◌, ℕ, ℤ, pos, neg_ℤ, ◌-ℤ◌, ◌≤ℤ◌, ◌<ℤ◌, Bool, true, false, ◌&&◌, cond, List, length, All, Option, Some, None, refl, sym, subst, ap, ◌∙◌, arith}
+use Rattle.std.proofs.Common.{◌≡◌, ℤ, neg_ℤ, ◌-ℤ◌, ◌<ℤ◌, Bool, true, false, ◌&&◌, cond, List, Option, Some, None, refl, sym, subst, arith}
 use Rattle.std.specs.Prelude.{IsSomeAnd, int_lt}
 use Rattle.std.proofs.lemmas.Int.{ints}
 use Rattle.itv_base.specs.Range.{Ends}
@@ -14,7 +14,7 @@ use Rattle.drawn.specs.declared.row.Row.{Row}
 use Rattle.settle_report.specs.declared.bound.SettledBound.{SettledBound}
 use Rattle.settle_report.specs.declared.bound.SettledBound.TheVariants as settled
 use Rattle.settle_report.specs.declared.proof.Proof.{Proof}
-use Rattle.settle_report.specs.Answers.{AreBreaking, Breaks, IsNumber, IsPast, bound_of}
+use Rattle.settle_report.specs.Answers.{AreBreaking, Breaks, IsNumber, bound_of}
 use Rattle.settle_report.specs.Step.{ArePast, IsBeyond, shown_by, source, target}
 
 -- ---- which end is broken

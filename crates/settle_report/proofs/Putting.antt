@@ -1,5 +1,5 @@
 -- Texts of several pieces.
-use Rattle.std.proofs.Common.{◌≡◌, ℕ, ℤ, Bool, List, [], ◌++◌, length, subst, ap, refl, ◌∙◌}
+use Rattle.std.proofs.Common.{◌≡◌, ℕ, ℤ, Bool, List, [], ◌++◌, subst, refl}
 use Rattle.std.specs.Bool.{⊤}
 use Rattle.std.specs.Prelude.{Result, if◌then◌else◌}
 use Rattle.itv_base.specs.Outside.{CutShort, Puts, SinkTold, grown}
@@ -39,8 +39,8 @@ put_three old m n new a b c whole r e put more last = puts_same old new _ whole 
 
 pub put_four : {E : Type 0} (old m n o new : SinkTold) (a b c d whole : List ℕ) (r : Result ⊤ E) → a ++ (b ++ (c ++ d)) ≡ whole → m ≡ grown old a → n ≡ grown m b → o ≡ grown n c
     → Puts o new d r → Puts old new whole r
-put_four old m n o new a b c d whole r e put more then last =
-    puts_same old new _ whole r e (puts_then old m new a (b ++ (c ++ d)) r put (puts_then m n new b (c ++ d) r more (puts_then n o new c d r then last)))
+put_four old m n o new a b c d whole r e put more third last =
+    puts_same old new _ whole r e (puts_then old m new a (b ++ (c ++ d)) r put (puts_then m n new b (c ++ d) r more (puts_then n o new c d r third last)))
 
 -- ---- the texts
 

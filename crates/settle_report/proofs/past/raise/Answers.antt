@@ -1,5 +1,5 @@
 use Rattle.requirements.proofs.Rising.{read_time}
-use Rattle.settle_report.proofs.Raising.{end_time, in_new, new_times, raise_done, raises}
+use Rattle.settle_report.proofs.Raising.{end_time, new_times, raise_done, raises}
 use Rattle.settle_report.proofs.past.raise.Goals as goal
 
 pub move_all-requires-clause-times : goal.move_all-requires-clause-times

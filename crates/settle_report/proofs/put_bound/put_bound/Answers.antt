@@ -1,4 +1,4 @@
-use Rattle.std.proofs.Common.{◌++◌, ap, ◌∙◌}
+use Rattle.std.proofs.Common.{ap, ◌∙◌}
 use Rattle.settle_report.specs.Answers.{bound_of}
 use Rattle.itv_base.proofs.Written.{puts_then}
 use Rattle.settle_report.proofs.put_bound.put_bound.Goals as goal
