@@ -212,13 +212,18 @@ def constraint_of(report, name):
     return int(re.search(r"^split (\d+)$", behind, flags=re.M).group(1))
 
 
-def measure_edits(program, name, files, parts):
-    """Job whatif on a bus, with an edit of each of some slaves' ranges in turn, 100 in all."""
+# The ranges of a slave's causes: the first one decides its greatest separation.
+EDITED = ((2000, 9000), (3000, 7000))
+
+
+def measure_edits(program, name, files, parts, cause):
+    """Job whatif on a bus, with an edit of the range of a cause of each of some slaves in turn, 100 in all."""
     with tempfile.TemporaryDirectory() as folder:
         lay_out(files, folder)
         report = subprocess.run([program, "--cert", "main.json"], cwd=folder, capture_output=True, text=True).stdout
         numbers = [constraint_of(report, f"{part}.a@0") for part in parts]
-        lines = [f"set {numbers[k % len(numbers)]}.1 [3000,{7000 + 10 * (k + 1)}]\n" for k in range(100)]
+        low, high = EDITED[cause]
+        lines = [f"set {numbers[k % len(numbers)]}.{cause} [{low},{high + 10 * (k + 1)}]\n" for k in range(100)]
         lay_out({"none": "", "edits": "".join(lines)}, folder)
         whatif = [program, "--job", "whatif", "main.json", "--edits"]
         alone, first = seconds(whatif + ["none"], folder)
@@ -261,7 +266,9 @@ def main():
     if which in ("edits", "all"):
         row(["design", "no edit", "100 edits", "an edit", "of a run without", "kept", "searched"])
         for size, asked in ((16, 16), (64, 31)):
-            measure_edits(program, f"bus, size {size}, {asked} slaves asked", networks.bus_asked(size, asked), [f"S{k}" for k in range(asked)])
+            for cause, kind in enumerate(("that decides", "that does not decide")):
+                name = f"bus, size {size}, {asked} slaves asked, a range {kind}"
+                measure_edits(program, name, networks.bus_asked(size, asked), [f"S{k}" for k in range(asked)], cause)
 
 
 if __name__ == "__main__":
