@@ -1,5 +1,5 @@
 -- What is found of a network and of its rows.
-use Rattle.std.specs.Prelude.{◌≡◌, ℕ, ℤ, pos, neg_ℤ, ◌<ℤ◌, Bool, true, false, List, [], All, IsTrue, IsSomeAnd}
+use Rattle.std.specs.Prelude.{◌≡◌, ℤ, pos, neg_ℤ, ◌<ℤ◌, Bool, List, [], ◌∷◌, All, None, IsTrue, IsSomeAnd}
 use Rattle.itv_base.specs.Range.{Ends}
 use Rattle.itv_base.specs.declared.names.EventId.{EventId}
 use Rattle.itv_base.specs.declared.row_kind.RowKind.{RowKind}
@@ -76,14 +76,14 @@ CanRise Min net row times set = IsRay net row.to row.from times set
 -- the number is the bound, the printed times satisfy and attain it with the from-event at 0, and the lines prove it
 pub record IsNumber (cert : Bool) (net : Net) (which : Which) (row : Row) (value : ℤ) (times : List ℤ) (proof : Proof) : Type 0 where
   pub extreme : IsExtreme which net row value
-  pub times : AreTimes net row times
+  pub are_times : AreTimes net row times
   pub printed : All IsPrintedTime times
   pub attained : separation times row.from row.to ≡ value
   pub proves : ProvesExtreme cert which net row value proof
 
 -- the printed times satisfy with the from-event at 0, and the set can be raised from them
 pub record IsEndless (net : Net) (which : Which) (row : Row) (times : List ℤ) (set : List Bool) : Type 0 where
-  pub times : AreTimes net row times
+  pub are_times : AreTimes net row times
   pub printed : All IsPrintedTime times
   pub raised : CanRise which net row times set
 
@@ -113,7 +113,7 @@ Breaks row range verdicts.Undecided times = ⊥
 
 -- the printed times satisfy with the from-event at 0, and break the end that a verdict names
 pub record AreBreaking (net : Net) (row : Row) (range : Ends) (word : Verdict) (times : List ℤ) : Type 0 where
-  pub times : AreTimes net row times
+  pub are_times : AreTimes net row times
   pub printed : All IsPrintedTime times
   pub breaks : Breaks row range word times
 

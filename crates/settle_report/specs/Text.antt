@@ -1,5 +1,5 @@
 -- The text of job settle.
-use Rattle.std.specs.Prelude.{◌+◌, ℕ, ℤ, Bool, true, false, if◌then◌else◌, List, [], ◌∷◌, ◌++◌, length, codes}
+use Rattle.std.specs.Prelude.{◌+◌, ℕ, Bool, true, false, if◌then◌else◌, List, [], ◌∷◌, ◌++◌, length, codes}
 use Rattle.itv_base.specs.Range.{Ends}
 use Rattle.itv_base.specs.declared.row_kind.RowKind.{RowKind}
 use Rattle.itv_base.specs.declared.row_kind.RowKind.TheVariants as kinds

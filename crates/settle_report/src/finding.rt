@@ -1,6 +1,16 @@
 //! What is found of a network.
 
-use crate::proof::Proof;
+ghost use Rattle.std.specs.Prelude.{◌<◌, ℕ, IfOk};
+ghost use Rattle.settle.specs.Found.{IsFound, IsMadeFor};
+ghost use Rattle.settle_report.specs.Answers.{IsFinding, first_event};
+
+use crate::proof::{Proof, proof_of};
+use crate::times::moved;
+use crate::wanted::Wanted;
+use event_graph::Network;
+use itv_base::{EventId, NoMemory};
+use settle::{Found, Settled, Settler};
+use std::alloc::Global;
 
 /// What is found of a network.
 #[derive(Debug, Drop)]
@@ -11,4 +21,49 @@ pub enum Finding {
     Inconsistent(Proof),
     /// The turns were spent before that was known.
     Spent,
+}
+
+/// Looks for times that satisfy a network. The times of no events satisfy a network without events.
+pub fn find(
+    alloc: Global,
+    net: &Network,
+    settler: &Settler,
+    wanted: Wanted,
+) -> Result<Finding, NoMemory>
+    requires made { IsMadeFor net.now settler.now }
+    ensures finding { IfOk result (IsFinding wanted.cert net.now) }
+{
+    if net.events() == 0 {
+        return Ok(Finding::Consistent(Vec::new(alloc)));
+    }
+    let first = EventId(0);
+    let found = settler.greatest(alloc, net, first, first, wanted.turns)?;
+    Ok(finding_of(alloc, net, found, wanted.cert))
+}
+
+// What is found of a network with events by a search between event 0 and itself.
+fn finding_of(alloc: Global, net: &Network, found: Found, cert: bool) -> Finding
+    requires events { 0 < net.now.events }
+    requires found { (turns : ℕ) × IsFound net.now first_event first_event turns found }
+    ensures finding { IsFinding cert net.now result }
+{
+    // The network is within its limits.
+    let _events = net.events();
+    let Found {
+        answer,
+        times,
+        ray: _,
+        claim,
+        view,
+        lines,
+        turns: _,
+    } = found;
+    match answer {
+        Settled::Closed(_) => Finding::Consistent(moved(times, EventId(0))),
+        Settled::Inconsistent => {
+            Finding::Inconsistent(proof_of(alloc, view, claim, lines, cert))
+        }
+        Settled::Spent => Finding::Spent,
+        Settled::Unbounded => unreachable!(),
+    }
 }

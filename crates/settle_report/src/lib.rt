@@ -4,11 +4,22 @@
 #![tactic(auto)]
 
 mod bound;
+mod bounding;
+mod ending;
 mod finding;
+mod pair;
+mod past;
 mod proof;
+mod put_bound;
+mod put_rows;
 mod row;
+mod rows;
+mod times;
+mod wanted;
+mod write;
 
 pub use bound::SettledBound;
 pub use finding::Finding;
 pub use proof::Proof;
 pub use row::RowFound;
+pub use write::write_settle;

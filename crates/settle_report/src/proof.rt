@@ -1,7 +1,19 @@
 //! Proofs that are printed.
 
+ghost use Rattle.std.specs.Prelude.{ℤ};
+ghost use Rattle.itv_base.specs.Outside.{Puts};
+ghost use Rattle.itv_base.specs.declared.names.EventId.{EventId};
+ghost use Rattle.event_graph.specs.Network.{Net};
+ghost use Rattle.settle.specs.Proofs.{IsProofAs};
+ghost use Rattle.settle_report.specs.Answers.{Proves};
+ghost use Rattle.settle_report.specs.Text.{shown_text};
+
+use clauses::Claim;
 use falling::View;
+use itv_base::{PutFailed, Sink};
 use settle::ProofLine;
+use settle_lines::write_proof;
+use std::alloc::Global;
 
 /// What lines prove: that no satisfying separation of a pair exceeds the claim, in picoseconds.
 #[derive(Debug, Drop)]
@@ -11,4 +23,40 @@ pub struct Proof {
     pub claim: i64,
     /// Empty where no proofs are wanted.
     pub lines: Vec<ProofLine>,
+}
+
+/// The proof of a claim by lines of a view. Where no proofs are wanted the lines are let go.
+pub fn proof_of(
+    alloc: Global,
+    view: View,
+    claim: Claim,
+    lines: Vec<ProofLine>,
+    is_wanted: bool,
+) -> Proof
+    ensures proves { (net : Net) (from to : EventId) → IsProofAs view net from to claim.value lines.items → Proves is_wanted net from to claim.value result }
+{
+    if is_wanted {
+        Proof {
+            view,
+            claim: claim.value,
+            lines,
+        }
+    } else {
+        Proof {
+            view,
+            claim: claim.value,
+            lines: Vec::new(alloc),
+        }
+    }
+}
+
+/// Puts a proof, where proofs are wanted.
+pub fn put_proof<K: Sink>(cert: bool, proof: &Proof, sink: &mut K) -> Result<(), PutFailed>
+    ensures puts { Puts (K.told sink.old) (K.told sink.new) (shown_text cert proof.now) result }
+{
+    if cert {
+        write_proof(proof.view, proof.claim, &proof.lines, sink)
+    } else {
+        Ok(())
+    }
 }

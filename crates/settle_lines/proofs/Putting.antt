@@ -1,0 +1,82 @@
+-- A line of a proof as a writer puts it, piece by piece.
+use Rattle.std.proofs.Common.{◌≡◌, ℕ, suc, ◌+◌, ◌<◌, ℤ, List, [], ◌∷◌, ◌++◌, length, get_or, drop, codes, Result, refl, sym, subst, ap, append_assoc, add-one, drop-cons}
+use Rattle.std.specs.List.{flat_map}
+use Rattle.std.specs.Bool.{⊤}
+use Rattle.itv_base.specs.Numerals.{number_text, signed_text}
+use Rattle.itv_base.specs.Outside.{CutShort, Puts, SinkTold, grown}
+use Rattle.itv_base.specs.declared.names.EventId.{EventId}
+use Rattle.itv_base.proofs.Written.{cut_more, cut_then, puts_same, puts_then}
+use Rattle.line_words.specs.Words.{Word}
+use Rattle.line_words.specs.Lines.{ended, line_of, spaced}
+use Rattle.line_words.proofs.Printing.{join_spaced}
+use Rattle.falling.specs.declared.view.View.{View}
+use Rattle.clauses.specs.declared.basis.Basis.{Basis}
+use Rattle.clauses.specs.declared.basis.Step.{Step}
+use Rattle.clauses.specs.declared.literal.Literal.{Literal}
+use Rattle.clauses.specs.Lines.{ClauseLine, Fall, Know, Loop}
+use Rattle.settle.specs.declared.line.ProofLine.{ProofLine}
+use Rattle.settle.specs.Proofs.{lines_of, line_of as stored_line_of}
+use Rattle.settle_lines.specs.Text.{basis_word, claim_text, clause_line_text, clause_lines_text, literal_word, proof_text, step_words, view_text}
+
+-- ---- texts of three pieces
+
+-- three pieces make the whole text
+pub record Parts (a b c whole : List ℕ) : Type 0 where
+  pub join : a ++ (b ++ c) ≡ whole
+
+module _ {a b c whole : List ℕ} (parts : Parts a b c whole) where
+  -- a front of the first piece is put
+  pub first_cut : (old new : SinkTold) → CutShort old new a → CutShort old new whole
+  first_cut old new cut = subst (CutShort old new) parts.join (cut_more old new a (b ++ c) cut)
+
+  -- the first piece is put, and a front of the second
+  pub second_cut : (old first_put new : SinkTold) → first_put ≡ grown old a → CutShort first_put new b → CutShort old new whole
+  second_cut old first_put new p cut = subst (CutShort old new) parts.join (cut_then old first_put new a (b ++ c) p (cut_more first_put new b c cut))
+
+  -- two pieces are put, and the third or a front of it
+  pub third_puts : {E : Type 0} (old first_put second_put new : SinkTold) (r : Result ⊤ E) → first_put ≡ grown old a → second_put ≡ grown first_put b
+      → Puts second_put new c r → Puts old new whole r
+  third_puts old first_put second_put new r p q last =
+      puts_same old new (a ++ (b ++ c)) whole r parts.join (puts_then old first_put new a (b ++ c) r p (puts_then first_put second_put new b c r q last))
+
+-- ---- lines by their pieces
+
+pub fall_parts : (event : EventId) (value : ℤ) (basis : Basis)
+    → Parts (codes "fall" ++ spaced (number_text event.0)) (spaced (signed_text value)) (ended (spaced (basis_word basis))) (clause_line_text (Fall event value basis))
+fall_parts event value basis = record { join = four_words (codes "fall") (number_text event.0) (signed_text value) (basis_word basis) }
+  where
+    four_words : (a b c d : Word) → (a ++ spaced b) ++ (spaced c ++ ended (spaced d)) ≡ ended (line_of (a ∷ b ∷ c ∷ d ∷ []))
+    four_words a b c d = simp append_assoc
+
+pub know_parts : (l : Literal) (basis : Basis) → Parts (codes "know") (spaced (literal_word l)) (ended (spaced (basis_word basis))) (clause_line_text (Know l basis))
+know_parts l basis = record { join = three_words (codes "know") (literal_word l) (basis_word basis) }
+  where
+    three_words : (a b c : Word) → a ++ (spaced b ++ ended (spaced c)) ≡ ended (line_of (a ∷ b ∷ c ∷ []))
+    three_words a b c = simp append_assoc
+
+pub loop_parts : (event : EventId) (steps : List Step)
+    → Parts (codes "loop" ++ spaced (number_text event.0)) (flat_map spaced (step_words steps)) (10 ∷ []) (clause_line_text (Loop event steps))
+loop_parts event steps = record { join = many_words (codes "loop") (number_text event.0) (step_words steps) }
+  where
+    many_words : (a b : Word) (words : List Word) → (a ++ spaced b) ++ (flat_map spaced words ++ 10 ∷ []) ≡ ended (line_of (a ∷ b ∷ words))
+    many_words a b words = rw (join_spaced a (b ∷ words)) (simp append_assoc)
+
+-- the claim that was passed on is the one that was given
+pub proof_parts : (view : View) (claim passed : ℤ) (lines : List ClauseLine) → passed ≡ claim
+    → Parts (view_text view) (claim_text passed) (clause_lines_text lines) (proof_text view claim lines)
+proof_parts view claim passed lines e = record { join = ap (λ z. view_text view ++ (claim_text z ++ clause_lines_text lines)) e }
+
+-- ---- lists by their first element and the others
+
+-- the steps from one on
+pub steps_more : (steps : List Step) (i : ℕ) (d : Step) → i < length steps
+    → flat_map spaced (step_words (drop i steps))
+    ≡ (spaced (basis_word (get_or steps i d).basis) ++ spaced (number_text (get_or steps i d).through)) ++ flat_map spaced (step_words (drop (i + 1) steps))
+steps_more steps i d h =
+    let s = get_or steps i d in
+    rw (add-one, drop-cons steps i d h) (sym (append_assoc (spaced (basis_word s.basis)) (spaced (number_text s.through)) (flat_map spaced (step_words (drop (suc i) steps)))))
+
+-- the lines from one on
+pub lines_more : (lines : List ProofLine) (i : ℕ) (d line : ProofLine) → i < length lines → line ≡ get_or lines i d
+    → clause_lines_text (lines_of (drop i lines)) ≡ clause_line_text (stored_line_of line) ++ clause_lines_text (lines_of (drop (i + 1) lines))
+lines_more lines i d line h e = rw (e, add-one, drop-cons lines i d h) refl

@@ -1,0 +1,14 @@
+//! Laws on the definitions that the contracts of this crate cite. The function does nothing.
+
+ghost use Rattle.std.specs.Prelude.{◌≡◌, ℕ, ℤ, List};
+ghost use Rattle.clauses.specs.Lines.{ClauseLine};
+ghost use Rattle.falling.specs.declared.view.View.{View};
+ghost use Rattle.line_words.specs.Lines.{ended};
+ghost use Rattle.settle_lines.specs.Text.{SpellsClause, claim_text, view_text};
+
+/// A text is that of one line of a proof at most, and of none where it is one of the two lines that stand before a proof.
+pub fn clause_texts_differ()
+    ensures lines { (text : List ℕ) → (a b : ClauseLine) → SpellsClause text a → SpellsClause text b → a ≡ b }
+    ensures views { (text : List ℕ) → (line : ClauseLine) → (view : View) → SpellsClause text line → ended text ≡ view_text view → ⊥ }
+    ensures claims { (text : List ℕ) → (line : ClauseLine) → (claim : ℤ) → SpellsClause text line → ended text ≡ claim_text claim → ⊥ }
+{}

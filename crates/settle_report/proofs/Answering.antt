@@ -1,0 +1,177 @@
+-- What the answer of a search says of a network and of a bound.
+use Rattle.std.proofs.Common.{◌≡◌, ◌<◌, ℕ, ℤ, neg_ℤ, ◌-ℤ◌, Bool, List, [], length, All, refl, sym, subst, ◌∙◌, arith}
+use Rattle.std.proofs.lemmas.Int.{ints}
+use Rattle.itv_base.specs.declared.names.EventId.{EventId}
+use Rattle.event_graph.specs.Bounds.{IsGreatest, IsRay}
+use Rattle.event_graph.specs.Network.{IsNet, Net}
+use Rattle.event_graph.specs.Satisfying.{Satisfies}
+use Rattle.event_graph.specs.Times.{IsTime, separation, time_of}
+use Rattle.event_graph.proofs.Reversing.{least_is_reversed_greatest}
+use Rattle.slack_report.specs.declared.words.Which.{Which}
+use Rattle.slack_report.specs.declared.words.Which.TheVariants.{Max, Min}
+use Rattle.drawn.specs.Drawn.{AreTimes, IsRowOf}
+use Rattle.drawn.specs.declared.row.Row.{Row}
+use Rattle.settle.specs.declared.found.Found.{Found}
+use Rattle.settle.specs.declared.found.Settled.{Settled}
+use Rattle.settle.specs.declared.found.Settled.TheVariants.{Closed, Unbounded, Inconsistent}
+use Rattle.settle.specs.Found.{IsFound, Says}
+use Rattle.settle.specs.Proofs.{IsProofAs}
+use Rattle.settle.specs.Racing.{IsNear}
+use Rattle.settle_report.specs.declared.finding.Finding.TheVariants as findings
+use Rattle.settle_report.specs.declared.proof.Proof.{Proof}
+use Rattle.settle_report.specs.Answers.{AreFirstTimes, CanRise, IsEndless, IsExtreme, IsFinding, IsNumber, IsRefuted, Proves, ProvesExtreme, first_event}
+use Rattle.settle_report.specs.Step.{IsNearby, moved, shown_by, source, target}
+use Rattle.settle_report.proofs.Moving.{nearby-moved, nearby_times, ray-moved, satisfies-moved, separation-moved, separation_near, zero-moved}
+
+says : {net : Net} {from to : EventId} {turns : ℕ} (found : Found) (answer : Settled) → found.answer ≡ answer → IsFound net from to turns found → Says net from to turns found answer
+says {net} {from} {to} {turns} found answer is f = subst (Says net from to turns found) is f.answer
+
+-- ---- the finding
+
+no_ray : (net : Net) (event : EventId) (times : List ℤ) (ray : List Bool) → IsRay net event event times ray → ⊥
+no_ray net event times ray r = cc (r.holds, r.lacks)
+
+none_within : (i : ℕ) → i < 0 → ⊥
+none_within i within = omega arith
+
+below_none : {k n : ℕ} → k < n → n ≡ 0 → ⊥
+below_none h e = omega arith
+
+-- the times of no events satisfy a network without events
+pub first_empty : (net : Net) → IsNet net → net.events ≡ 0 → AreFirstTimes net []
+first_empty net is_net none = record {
+  satisfied = record { count = sym none; each = λ k d within. absurd (below_none (is_net.constraints k d within).target none) };
+  at_zero = refl;
+  printed = λ i d within. absurd (none_within i within);
+}
+
+module _ (net : Net) (turns : ℕ) (found : Found) (is_net : IsNet net) (some : 0 < net.events) (f : IsFound net first_event first_event turns found) where
+  -- the times that were found satisfy, with event 0 at 0 when they are moved
+  pub first_times : (value : ℤ) → found.answer ≡ Closed value → AreFirstTimes net (moved first_event found.times.items)
+  first_times value is =
+      let a = (says found (Closed value) is f).0 in
+      let within : 0 < length found.times.items = subst (λ n. 0 < n) (sym a.satisfies.count) some in record {
+        satisfied = satisfies-moved net first_event found.times.items is_net a.satisfies;
+        at_zero = zero-moved first_event found.times.items within;
+        printed = nearby_times (moved first_event found.times.items) (nearby-moved first_event found.times.items within a.near);
+      }
+
+  pub not_unbounded : found.answer ≡ Unbounded → ⊥
+  not_unbounded is = no_ray net first_event found.times.items found.ray.items (says found Unbounded is f).raised
+
+  -- no times satisfy, as the lines prove where they are wanted
+  pub refuted : (cert : Bool) (proof : Proof) → found.answer ≡ Inconsistent
+      → ((net : Net) (from to : EventId) → IsProofAs found.view net from to found.claim.value found.lines.items → Proves cert net from to found.claim.value proof)
+      → IsRefuted cert net proof
+  refuted cert proof is proves =
+      let a = says found Inconsistent is f in
+      let p : Proves cert net first_event first_event found.claim.value proof = proves net first_event first_event a.proof in record {
+        none = a.none;
+        low = rw p.0 a.low;
+        proves = (refl, λ wanted. rw p.0 (p.1 wanted));
+      }
+
+-- a consistent finding has times that satisfy
+pub some_times : (cert : Bool) (net : Net) (times : _) → IsFinding cert net (findings.Consistent times) → (some : List ℤ) × Satisfies some net
+some_times cert net times f = (times.items, f.satisfied)
+
+-- ---- a bound
+
+neg_twice : (value : ℤ) → neg_ℤ (neg_ℤ value) ≡ value
+neg_twice value = omega (arith, ints)
+
+extreme_of : (net : Net) (which : Which) (row : Row) (value : ℤ) → IsGreatest net (source which row) (target which row) value → IsExtreme which net row (shown_by which value)
+extreme_of net Max row value greatest = greatest
+extreme_of net Min row value greatest =
+    (least_is_reversed_greatest net row.from row.to (neg_ℤ value)).1 (subst (IsGreatest net row.to row.from) (sym (neg_twice value)) greatest)
+
+back : (a b value : ℤ) → (a -ℤ b) ≡ value → (b -ℤ a) ≡ neg_ℤ value
+back a b value e = omega (arith, ints)
+
+attained_by : (which : Which) (row : Row) (times : List ℤ) (value : ℤ) → separation times (source which row) (target which row) ≡ value → separation times row.from row.to ≡ shown_by which value
+attained_by Max row times value e = e
+attained_by Min row times value e = back (time_of times row.from) (time_of times row.to) value e
+
+proves_by : (cert : Bool) (net : Net) (which : Which) (row : Row) (value : ℤ) (proof : Proof) → Proves cert net (source which row) (target which row) value proof
+    → ProvesExtreme cert which net row (shown_by which value) proof
+proves_by cert net Max row value proof p = p
+proves_by cert net Min row value proof p = subst (λ z. Proves cert net row.to row.from z proof) (sym (neg_twice value)) p
+
+can_rise : (net : Net) (which : Which) (row : Row) (times : List ℤ) (ray : List Bool) → IsNet net → IsRay net (source which row) (target which row) times ray
+    → CanRise which net row (moved row.from times) ray
+can_rise net Max row times ray is_net shown = ray-moved net row.from row.from row.to times ray is_net shown
+can_rise net Min row times ray is_net shown = ray-moved net row.from row.to row.from times ray is_net shown
+
+-- the searched pair is there where the events of the row are
+pub in_source : (which : Which) (row : Row) (events : ℕ) → row.from.0 < events → row.to.0 < events → (source which row).0 < events
+in_source Max row events in_from in_to = in_from
+in_source Min row events in_from in_to = in_to
+
+pub in_target : (which : Which) (row : Row) (events : ℕ) → row.from.0 < events → row.to.0 < events → (target which row).0 < events
+in_target Max row events in_from in_to = in_to
+in_target Min row events in_from in_to = in_from
+
+module _ (net : Net) (which : Which) (row : Row) (turns : ℕ) (found : Found) (is_net : IsNet net) (is_row : IsRowOf net row) (f : IsFound net (source which row) (target which row) turns found) where
+  in_times : {times : List ℤ} (event : EventId) → Satisfies times net → event.0 < net.events → event.0 < length times
+  in_times event satisfies within = subst (λ n. event.0 < n) (sym satisfies.count) within
+
+  times_are : (times : List ℤ) → Satisfies times net → AreTimes net row (moved row.from times)
+  times_are times satisfies = record { satisfied = satisfies-moved net row.from times is_net satisfies; at_zero = zero-moved row.from times (in_times row.from satisfies is_row.0) }
+
+  -- the times that were found, where there are some
+  pub closed_near : (value : ℤ) → found.answer ≡ Closed value → All IsNear found.times.items × (row.from.0 < length found.times.items)
+  closed_near value is = let a = (says found (Closed value) is f).0 in (a.near, in_times row.from a.satisfies is_row.0)
+
+  pub unbounded_near : found.answer ≡ Unbounded → All IsNear found.times.items × (row.from.0 < length found.times.items)
+  unbounded_near is = let a = says found Unbounded is f in (a.near, in_times row.from a.satisfies is_row.0)
+
+  pub value_time : (value : ℤ) → found.answer ≡ Closed value → IsTime value
+  value_time value is =
+      let a = (says found (Closed value) is f).0 in
+      separation_near (source which row) (target which row) found.times.items value (in_times (source which row) a.satisfies (in_source which row net.events is_row.0 is_row.1))
+      (in_times (target which row) a.satisfies (in_target which row net.events is_row.0 is_row.1)) a.near a.attained
+
+  moved_nearby : All IsNear found.times.items × (row.from.0 < length found.times.items) → All IsNearby (moved row.from found.times.items)
+  moved_nearby near = nearby-moved row.from found.times.items near.1 near.0
+
+  is_number : (cert : Bool) (value : ℤ) (proof : Proof) → found.answer ≡ Closed value
+      → ((net : Net) (from to : EventId) → IsProofAs found.view net from to found.claim.value found.lines.items → Proves cert net from to found.claim.value proof)
+      → IsNumber cert net which row (shown_by which value) (moved row.from found.times.items) proof
+  is_number cert value proof is proves =
+      let both = says found (Closed value) is f in
+      let a = both.0 in
+      let times : List ℤ = found.times.items in
+      let lines : IsProofAs found.view net (source which row) (target which row) found.claim.value found.lines.items =
+      subst (λ z. IsProofAs found.view net (source which row) (target which row) z found.lines.items) (sym both.1) a.proof in record {
+        extreme = extreme_of net which row value a.greatest;
+        are_times = times_are times a.satisfies;
+        printed = nearby_times (moved row.from times) (moved_nearby (closed_near value is));
+        attained = separation-moved row.from row.from row.to times (in_times row.from a.satisfies is_row.0) (in_times row.to a.satisfies is_row.1) ∙ attained_by which row times value a.attained;
+        proves = proves_by cert net which row value proof
+            (subst (λ z. Proves cert net (source which row) (target which row) z proof) both.1 (proves net (source which row) (target which row) lines));
+      }
+
+  -- the same of what is stored
+  pub number_shown : (cert : Bool) (value shown : ℤ) (times : List ℤ) (proof : Proof) → found.answer ≡ Closed value
+      → ((net : Net) (from to : EventId) → IsProofAs found.view net from to found.claim.value found.lines.items → Proves cert net from to found.claim.value proof)
+      → shown ≡ shown_by which value → times ≡ moved row.from found.times.items → IsNumber cert net which row shown times proof × All IsNearby times
+  number_shown cert value shown times proof is proves e t = (
+    subst (λ z. IsNumber cert net which row z times proof) (sym e)
+        (subst (λ (ts : List ℤ). IsNumber cert net which row (shown_by which value) ts proof) (sym t) (is_number cert value proof is proves)),
+    subst (All IsNearby) (sym t) (moved_nearby (closed_near value is)),
+  )
+
+  is_endless : found.answer ≡ Unbounded → IsEndless net which row (moved row.from found.times.items) found.ray.items
+  is_endless is =
+      let a = says found Unbounded is f in record {
+        are_times = times_are found.times.items a.satisfies;
+        printed = nearby_times (moved row.from found.times.items) (moved_nearby (unbounded_near is));
+        raised = can_rise net which row found.times.items found.ray.items is_net a.raised;
+      }
+
+  pub endless_shown : (times : List ℤ) → found.answer ≡ Unbounded → times ≡ moved row.from found.times.items → IsEndless net which row times found.ray.items × All IsNearby times
+  endless_shown times is t =
+      (subst (λ (ts : List ℤ). IsEndless net which row ts found.ray.items) (sym t) (is_endless is), subst (All IsNearby) (sym t) (moved_nearby (unbounded_near is)))
+
+  pub not_inconsistent : ((times : List ℤ) × Satisfies times net) → found.answer ≡ Inconsistent → ⊥
+  not_inconsistent some is = (says found Inconsistent is f).none some.0 some.1

@@ -1,0 +1,7 @@
+mod Moving
+mod Raising
+mod Judging
+mod Answering
+mod Gathering
+mod Whole
+mod Putting

@@ -1,0 +1,7 @@
+use Rattle.std.proofs.Common.{◌≡◌, neg_ℤ}
+use Rattle.settle_report.proofs.Moving.{shifted_front}
+use Rattle.settle_report.proofs.times.move_all.Given as goal
+
+-- the first times are moved
+abbrev pub invariant-loop-event : goal.invariant-loop-event
+invariant-loop-event l = l.times ≡ shifted_front l.event l.fn.times (neg_ℤ l.at)

@@ -1,0 +1,58 @@
+-- What the steps of job settle promise one another.
+use Rattle.std.specs.Prelude.{◌*◌, ℤ, pos, neg_ℤ, ◌≤ℤ◌, ◌<ℤ◌, Bool, List, All}
+use Rattle.itv_base.specs.declared.names.EventId.{EventId}
+use Rattle.event_graph.specs.Limits.{IsPrintedTime}
+use Rattle.event_graph.specs.Network.{Net}
+use Rattle.event_graph.specs.Times.{separation, shifted, time_of}
+use Rattle.falling.specs.Cap.{cap_limit}
+use Rattle.slack_report.specs.declared.words.Which.{Which}
+use Rattle.slack_report.specs.declared.words.Which.TheVariants.{Max, Min}
+use Rattle.drawn.specs.Drawn.{AreTimes}
+use Rattle.drawn.specs.declared.row.Row.{Row}
+use Rattle.settle_report.specs.declared.bound.SettledBound.{SettledBound}
+use Rattle.settle_report.specs.declared.bound.SettledBound.TheVariants as settled
+use Rattle.settle_report.specs.Answers.{IsBound}
+
+-- times with that of an event taken from all
+abbrev pub moved : EventId → List ℤ → List ℤ
+moved origin times = shifted times (neg_ℤ (time_of times origin))
+
+-- the pair whose greatest separation is searched for a bound of a row: for a least bound the reversed one
+abbrev pub source : Which → Row → EventId
+source Max row = row.from
+source Min row = row.to
+
+abbrev pub target : Which → Row → EventId
+target Max row = row.to
+target Min row = row.from
+
+-- the bound, by the greatest separation of the searched pair
+abbrev pub shown_by : Which → ℤ → ℤ
+shown_by Max value = value
+shown_by Min value = neg_ℤ value
+
+-- a time is within twice the greatest cap in absolute value, as one near time less another is
+abbrev pub IsNearby : ℤ → Type 0
+IsNearby time = (neg_ℤ (pos (2 * cap_limit)) ≤ℤ time) × (time ≤ℤ pos (2 * cap_limit))
+
+-- the times of a bound are nearby
+abbrev pub HasNearby : SettledBound → Type 0
+HasNearby (settled.Closed value times proof) = All IsNearby times.items
+HasNearby (settled.Unbounded times ray) = All IsNearby times.items
+HasNearby settled.Spent = Unit {0}
+
+-- a bound that was found, with its proof or without, and its times are nearby
+abbrev pub IsFoundBound : Net → Which → Row → SettledBound → Type 0
+IsFoundBound net which row value = ((cert : Bool) × IsBound cert net which row value) × HasNearby value
+
+-- some separation of the searched pair exceeds a limit, by what was found of its bound
+abbrev pub IsBeyond : Which → SettledBound → ℤ → Type 0
+IsBeyond which (settled.Closed value times proof) limit = limit <ℤ shown_by which value
+IsBeyond which (settled.Unbounded times ray) limit = Unit {0}
+IsBeyond which settled.Spent limit = ⊥
+
+-- the printed times satisfy with the from-event at 0, and their separation of the searched pair exceeds a limit
+pub record ArePast (net : Net) (which : Which) (row : Row) (limit : ℤ) (times : List ℤ) : Type 0 where
+  pub are_times : AreTimes net row times
+  pub printed : All IsPrintedTime times
+  pub past : limit <ℤ separation times (source which row) (target which row)

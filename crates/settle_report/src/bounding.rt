@@ -1,0 +1,92 @@
+//! Finding one bound of a row.
+
+ghost use Rattle.std.specs.Prelude.{◌≡◌, ℕ, ℤ, List, IfOk};
+ghost use Rattle.event_graph.specs.Satisfying.{Satisfies};
+ghost use Rattle.event_graph.specs.Times.{IsTime};
+ghost use Rattle.drawn.specs.Drawn.{IsRowOf};
+ghost use Rattle.settle.specs.Found.{IsFound, IsMadeFor};
+ghost use Rattle.settle_report.specs.Answers.{IsBound};
+ghost use Rattle.settle_report.specs.Step.{HasNearby, shown_by, source, target};
+
+use crate::bound::SettledBound;
+use crate::pair::{source, target};
+use crate::proof::proof_of;
+use crate::times::moved;
+use crate::wanted::Wanted;
+use drawn::Row;
+use event_graph::Network;
+use itv_base::NoMemory;
+use settle::{Found, Settled, Settler};
+use slack_report::Which;
+use std::alloc::Global;
+
+/// Searches for a bound of a row of a network that some times satisfy.
+pub fn find_bound(
+    alloc: Global,
+    which: Which,
+    row: &Row,
+    net: &Network,
+    settler: &Settler,
+    wanted: Wanted,
+) -> Result<SettledBound, NoMemory>
+    requires made { IsMadeFor net.now settler.now }
+    requires consistent { (times : List ℤ) × Satisfies times net.now }
+    requires row { IsRowOf net.now row.now }
+    ensures bound { IfOk result (IsBound wanted.cert net.now which row.now) }
+    ensures nearby { IfOk result HasNearby }
+{
+    let from = source(which, row);
+    let to = target(which, row);
+    let found = settler.greatest(alloc, net, from, to, wanted.turns)?;
+    Ok(bound_by(alloc, which, row, net, found, wanted.cert))
+}
+
+// The bound of a row, by what was found of the searched pair.
+fn bound_by(
+    alloc: Global,
+    which: Which,
+    row: &Row,
+    net: &Network,
+    found: Found,
+    cert: bool,
+) -> SettledBound
+    requires consistent { (times : List ℤ) × Satisfies times net.now }
+    requires row { IsRowOf net.now row.now }
+    requires found { (turns : ℕ) × IsFound net.now (source which row.now) (target which row.now) turns found }
+    ensures bound { IsBound cert net.now which row.now result }
+    ensures nearby { HasNearby result }
+{
+    // The network is within its limits.
+    let _events = net.events();
+    let Found {
+        answer,
+        times,
+        ray,
+        claim,
+        view,
+        lines,
+        turns: _,
+    } = found;
+    match answer {
+        Settled::Closed(value) => SettledBound::Closed(
+            shown_by(which, value),
+            moved(times, row.from),
+            proof_of(alloc, view, claim, lines, cert),
+        ),
+        Settled::Unbounded => SettledBound::Unbounded(moved(times, row.from), ray),
+        Settled::Spent => SettledBound::Spent,
+        Settled::Inconsistent => unreachable!(),
+    }
+}
+
+// The number of a bound, by the greatest separation of the searched pair.
+fn shown_by(which: Which, value: i64) -> i64
+    requires value { IsTime value }
+    ensures shown { result ≡ shown_by which value }
+    ensures within { IsTime result }
+{
+    match which {
+        Which::Max => value,
+        Which::Min => -value,
+    }
+}

@@ -1,0 +1,95 @@
+//! The word at the end.
+
+ghost use Rattle.std.specs.Prelude.{◌≡◌, ◌||◌, Bool};
+ghost use Rattle.slack_report.specs.declared.words.FindingWord.{FindingWord};
+ghost use Rattle.right_report.specs.Right.At.{course_of, end_word, is_within};
+ghost use Rattle.settle_report.specs.Answers.{AreFound, AreRowsFound, bound_of};
+ghost use Rattle.settle_report.specs.Text.{ending_of, with_row, with_rows};
+
+use crate::bound::both_of;
+use crate::finding::Finding;
+use crate::row::{RowFound, is_fail};
+use drawn::DrawnNetwork;
+use itv_base::RowKind;
+use jobs::row_at;
+use requirements::{Bound, judge};
+use slack_report::EndWord;
+
+/// The word at the end, by what was found of the network and of each row.
+pub fn ending_of(drawn: &DrawnNetwork, finding: &Finding, found: &[RowFound]) -> EndWord
+    requires found { (cert : Bool) × AreFound cert drawn.now.net drawn.now.rows finding.now found.now }
+    ensures word { result ≡ ending_of drawn.now.rows finding.now found.now }
+{
+    match finding {
+        Finding::Consistent(_) => word_of(marks_of(drawn, found)),
+        Finding::Inconsistent(_) => EndWord::Inconsistent,
+        Finding::Spent => EndWord::Undecided,
+    }
+}
+
+// What rows come to: whether some requirement is broken, and whether some bound was spent.
+#[derive(Clone, Copy, Debug)]
+struct Marks {
+    fails: bool,
+    within: bool,
+}
+
+// What all rows come to.
+fn marks_of(drawn: &DrawnNetwork, found: &[RowFound]) -> Marks
+    requires found { (cert : Bool) × AreRowsFound cert drawn.now.net drawn.now.rows found.now }
+    ensures marks { with_rows (course_of FindingWord.Consistent) drawn.now.rows found.now
+        ≡ record { found = FindingWord.Consistent; fails = result.fails; within = result.within } }
+{
+    let mut marks = Marks {
+        fails: false,
+        within: false,
+    };
+    for number in 0..drawn.rows().len() as u32 {
+        let row = row_at(drawn, number);
+        marks = marked(marks, row.kind, &found[number as usize]);
+    }
+    marks
+}
+
+// What the rows so far and one more come to.
+fn marked(marks: Marks, kind: RowKind, found: &RowFound) -> Marks
+    ensures marks { with_row (record { found = FindingWord.Consistent; fails = marks.fails; within = marks.within }) kind found.now
+        ≡ record { found = FindingWord.Consistent; fails = result.fails; within = result.within } }
+{
+    let both = both_of(&found.least, &found.greatest);
+    let within = either(is_within(both.least), is_within(both.greatest));
+    let fails = match kind {
+        RowKind::Ask => false,
+        RowKind::Req(range) => is_fail(judge(range, &both)),
+    };
+    Marks {
+        fails: either(marks.fails, fails),
+        within: either(marks.within, within),
+    }
+}
+
+fn either(first: bool, second: bool) -> bool
+    ensures { result ≡ (first || second) }
+{
+    first || second
+}
+
+// Whether a search left a bound open.
+fn is_within(bound: Bound) -> bool
+    ensures { result ≡ is_within bound }
+{
+    matches!(bound, Bound::Within { .. })
+}
+
+// The word behind a consistent finding, by what the rows come to.
+fn word_of(marks: Marks) -> EndWord
+    ensures word { result ≡ end_word (record { found = FindingWord.Consistent; fails = marks.fails; within = marks.within }) }
+{
+    if marks.fails {
+        EndWord::Fail
+    } else if marks.within {
+        EndWord::Undecided
+    } else {
+        EndWord::Pass
+    }
+}

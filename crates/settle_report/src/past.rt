@@ -1,0 +1,152 @@
+//! Times that break a requirement.
+
+ghost use Rattle.std.specs.Prelude.{◌≡◌, neg_ℤ, All, Some, IfOk};
+ghost use Rattle.itv_base.specs.Range.{IsEnd};
+ghost use Rattle.event_graph.specs.Bounds.{IsRay};
+ghost use Rattle.event_graph.specs.Limits.{IsPrintedTime};
+ghost use Rattle.event_graph.specs.Network.{IsNet};
+ghost use Rattle.drawn.specs.Drawn.{AreTimes, IsRowOf};
+ghost use Rattle.requirements.specs.Verdicts.{verdict_of};
+ghost use Rattle.settle_report.specs.Answers.{IsEndless, IsPast, IsPastOf, bound_of};
+ghost use Rattle.settle_report.specs.Step.{ArePast, IsBeyond, IsFoundBound, IsNearby};
+
+use crate::bound::{SettledBound, both_of};
+use crate::pair::{source, target};
+use crate::times::move_all;
+use drawn::Row;
+use event_graph::Network;
+use itv_base::{NoMemory, Range, RowKind};
+use requirements::{Verdict, judge, raise_past};
+use slack_report::Which;
+use std::alloc::Global;
+
+/// Times that break what is required of a row, where its bounds say that some do, and else none.
+pub fn past_of(
+    alloc: Global,
+    row: &Row,
+    net: &Network,
+    least: &SettledBound,
+    greatest: &SettledBound,
+) -> Result<Vec<i64>, NoMemory>
+    requires row { IsRowOf net.now row.now }
+    requires least { IsFoundBound net.now Which.Min row.now least.now }
+    requires greatest { IsFoundBound net.now Which.Max row.now greatest.now }
+    ensures past { IfOk result (λ past. IsPastOf net.now row.now row.now.kind (record { greatest = greatest.now; least = least.now; past = past })) }
+{
+    match row.kind {
+        RowKind::Ask => Ok(Vec::new(alloc)),
+        RowKind::Req(range) => past_range(alloc, range, row, net, least, greatest),
+    }
+}
+
+// The same for a range.
+fn past_range(
+    alloc: Global,
+    range: Range,
+    row: &Row,
+    net: &Network,
+    least: &SettledBound,
+    greatest: &SettledBound,
+) -> Result<Vec<i64>, NoMemory>
+    requires row { IsRowOf net.now row.now }
+    requires least { IsFoundBound net.now Which.Min row.now least.now }
+    requires greatest { IsFoundBound net.now Which.Max row.now greatest.now }
+    ensures past { IfOk result (λ past. IsPast net.now row.now range (verdict_of range (bound_of least.now) (bound_of greatest.now)) past.items) }
+{
+    match judge(range, &both_of(least, greatest)) {
+        Verdict::FailHigh => {
+            let limit = broken_high(range, least, greatest);
+            past_limit(alloc, Which::Max, limit, row, net, greatest)
+        }
+        Verdict::FailLow => {
+            let limit = broken_low(range, least, greatest);
+            past_limit(alloc, Which::Min, limit, row, net, least)
+        }
+        Verdict::Pass | Verdict::Undecided => Ok(Vec::new(alloc)),
+    }
+}
+
+// The high end of a range that the greatest bound breaks.
+fn broken_high(range: Range, least: &SettledBound, greatest: &SettledBound) -> i64
+    requires word { verdict_of range (bound_of least.now) (bound_of greatest.now) ≡ Verdict.FailHigh }
+    ensures end { range.high ≡ Some result }
+    ensures limit { IsEnd (Some result) }
+    ensures beyond { IsBeyond Which.Max greatest.now result }
+{
+    match range.high() {
+        Some(high) => high,
+        None => unreachable!(),
+    }
+}
+
+// Minus the low end of a range that the least bound breaks.
+fn broken_low(range: Range, least: &SettledBound, greatest: &SettledBound) -> i64
+    requires word { verdict_of range (bound_of least.now) (bound_of greatest.now) ≡ Verdict.FailLow }
+    ensures end { range.low ≡ Some (neg_ℤ result) }
+    ensures limit { IsEnd (Some result) }
+    ensures beyond { IsBeyond Which.Min least.now result }
+{
+    match range.low() {
+        Some(low) => negated(low),
+        None => unreachable!(),
+    }
+}
+
+// Minus an end of a range.
+fn negated(end: i64) -> i64
+    requires end { IsEnd (Some end) }
+    ensures value { result ≡ neg_ℤ end }
+    ensures end { IsEnd (Some result) }
+{
+    -end
+}
+
+// Times past a limit of the searched pair of a bound, which some separation exceeds.
+fn past_limit(
+    alloc: Global,
+    which: Which,
+    limit: i64,
+    row: &Row,
+    net: &Network,
+    found: &SettledBound,
+) -> Result<Vec<i64>, NoMemory>
+    requires limit { IsEnd (Some limit) }
+    requires row { IsRowOf net.now row.now }
+    requires bound { IsFoundBound net.now which row.now found.now }
+    requires beyond { IsBeyond which found.now limit }
+    ensures past { IfOk result (λ past. ArePast net.now which row.now limit past.items) }
+{
+    // The network is within its limits.
+    let _events = net.events();
+    match found {
+        SettledBound::Closed(_, times, _) => copy_of(alloc, times),
+        SettledBound::Unbounded(times, ray) => {
+            let mut past = copy_of(alloc, times)?;
+            raise(&mut past, ray, which, limit, row, net);
+            Ok(past)
+        }
+        SettledBound::Spent => unreachable!(),
+    }
+}
+
+// A copy of times.
+fn copy_of(alloc: Global, times: &[i64]) -> Result<Vec<i64>, NoMemory>
+    ensures same { IfOk result (λ copy. copy.items ≡ times.now) }
+{
+    let mut copy = Vec::new(alloc);
+    copy.extend_from_slice(times)?;
+    Ok(copy)
+}
+
+// Raises the set of events until the separation of the searched pair is past a limit, and takes the from-event back to 0.
+fn raise(times: &mut [i64], set: &[bool], which: Which, limit: i64, row: &Row, net: &Network)
+    requires net { IsNet net.now }
+    requires limit { IsEnd (Some limit) }
+    requires row { IsRowOf net.now row.now }
+    requires endless { IsEndless net.now which row.now times.old set.now }
+    requires nearby { All IsNearby times.old }
+    ensures past { ArePast net.now which row.now limit times.new }
+{
+    raise_past(times, set, source(which, row), target(which, row), limit);
+    move_all(times, row.from);
+}

@@ -1,0 +1,81 @@
+//! Finding what is asked of all rows.
+
+ghost use Rattle.std.specs.Prelude.{ℤ, List, IfOk};
+ghost use Rattle.event_graph.specs.Satisfying.{Satisfies};
+ghost use Rattle.drawn.specs.Drawn.{IsRowOf};
+ghost use Rattle.settle.specs.Found.{IsMadeFor};
+ghost use Rattle.settle_report.specs.Answers.{AreFound, AreRowsFound, IsFinding, IsRowFound};
+
+use crate::bounding::find_bound;
+use crate::finding::Finding;
+use crate::past::past_of;
+use crate::row::RowFound;
+use crate::wanted::Wanted;
+use drawn::{DrawnNetwork, Row};
+use event_graph::Network;
+use itv_base::NoMemory;
+use jobs::row_at;
+use settle::Settler;
+use slack_report::Which;
+use std::alloc::Global;
+
+/// What is found of each row behind a finding: behind one that is not consistent nothing.
+pub fn find_rows(
+    alloc: Global,
+    drawn: &DrawnNetwork,
+    finding: &Finding,
+    settler: &Settler,
+    wanted: Wanted,
+) -> Result<Vec<RowFound>, NoMemory>
+    requires made { IsMadeFor drawn.now.net settler.now }
+    requires finding { IsFinding wanted.cert drawn.now.net finding.now }
+    ensures found { IfOk result (λ found. AreFound wanted.cert drawn.now.net drawn.now.rows finding.now found.items) }
+{
+    match finding {
+        Finding::Consistent(_) => find_all(alloc, drawn, settler, wanted),
+        Finding::Inconsistent(_) | Finding::Spent => Ok(Vec::new(alloc)),
+    }
+}
+
+// What is found of each row of a network that some times satisfy.
+fn find_all(
+    alloc: Global,
+    drawn: &DrawnNetwork,
+    settler: &Settler,
+    wanted: Wanted,
+) -> Result<Vec<RowFound>, NoMemory>
+    requires made { IsMadeFor drawn.now.net settler.now }
+    requires consistent { (times : List ℤ) × Satisfies times drawn.now.net }
+    ensures found { IfOk result (λ found. AreRowsFound wanted.cert drawn.now.net drawn.now.rows found.items) }
+{
+    let mut found = Vec::new(alloc);
+    for number in 0..drawn.rows().len() as u32 {
+        let row = row_at(drawn, number);
+        let of_row = find_row(alloc, row, drawn.network(), settler, wanted)?;
+        found.push(of_row)?;
+    }
+    Ok(found)
+}
+
+// What is found of a row.
+fn find_row(
+    alloc: Global,
+    row: &Row,
+    net: &Network,
+    settler: &Settler,
+    wanted: Wanted,
+) -> Result<RowFound, NoMemory>
+    requires made { IsMadeFor net.now settler.now }
+    requires consistent { (times : List ℤ) × Satisfies times net.now }
+    requires row { IsRowOf net.now row.now }
+    ensures found { IfOk result (IsRowFound wanted.cert net.now row.now) }
+{
+    let greatest = find_bound(alloc, Which::Max, row, net, settler, wanted)?;
+    let least = find_bound(alloc, Which::Min, row, net, settler, wanted)?;
+    let past = past_of(alloc, row, net, &least, &greatest)?;
+    Ok(RowFound {
+        greatest,
+        least,
+        past,
+    })
+}

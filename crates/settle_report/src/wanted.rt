@@ -1,0 +1,8 @@
+//! What is wanted of each search.
+
+/// How many turns each search may take, and whether its proof is printed.
+#[derive(Clone, Copy, Debug, PartialEq, Eq)]
+pub struct Wanted {
+    pub turns: u64,
+    pub cert: bool,
+}
