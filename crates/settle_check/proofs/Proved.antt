@@ -38,7 +38,7 @@ extreme Min net row value times satisfied attained most = record {
   least = λ others h. above (time_of others row.from) (time_of others row.to) value (most others h);
 }
 
-proves_extreme : (which : Which) (net : Net) (row : Row) (value : ℤ) (proof : Proof) → proof.claim.value ≡ claim_of which value
+proves_extreme : (which : Which) (net : Net) (row : Row) (value : ℤ) (proof : Proof) → proof.claim ≡ claim_of which value
     → IsProofAs proof.view net (pair_of which row).from (pair_of which row).to (claim_of which value) proof.lines.items → ProvesExtreme true which net row value proof
 proves_extreme Max net row value proof claimed proves = (claimed, λ wanted. proves)
 proves_extreme Min net row value proof claimed proves = (claimed, λ wanted. proves)
@@ -53,8 +53,8 @@ in_to Min net row within = within.0
 
 -- a proof and times that attain its claim show a bound
 pub is_number : (net : Net) (which : Which) (row : Row) (value : ℤ) (times : List ℤ) (proof : Proof) → IsNet net → IsRowOf net row → AreRowTimes net row times
-    → separation times row.from row.to ≡ value → proof.claim.value ≡ claim_of which value → proof.claim.value <ℤ pos (far_line net)
-    → IsProofAs proof.view net (pair_of which row).from (pair_of which row).to proof.claim.value proof.lines.items → IsNumber true net which row value times proof
+    → separation times row.from row.to ≡ value → proof.claim ≡ claim_of which value → proof.claim <ℤ pos (far_line net)
+    → IsProofAs proof.view net (pair_of which row).from (pair_of which row).to proof.claim proof.lines.items → IsNumber true net which row value times proof
 is_number net which row value times proof is_net within printed attained claimed near proves =
     let led : IsProofAs proof.view net (pair_of which row).from (pair_of which row).to (claim_of which value) proof.lines.items =
     subst (λ (claim : ℤ). IsProofAs proof.view net (pair_of which row).from (pair_of which row).to claim proof.lines.items) claimed proves in record {
@@ -73,10 +73,10 @@ nothing Plain net event claim lines is_net within low proof = clause_proof_of_no
 nothing Negated net event claim lines is_net within low proof = negated_proof_of_nothing net (record { from = event; to = event; claim = claim }) (lines_of lines) is_net within within low proof
 
 -- a proof of a claim below minus the far line shows that no times satisfy
-pub is_refuted : (net : Net) (proof : Proof) → IsNet net → 0 < net.events → proof.claim.value <ℤ neg_ℤ (pos (far_line net))
-    → IsProofAs proof.view net first_event first_event proof.claim.value proof.lines.items → IsRefuted true net proof
+pub is_refuted : (net : Net) (proof : Proof) → IsNet net → 0 < net.events → proof.claim <ℤ neg_ℤ (pos (far_line net))
+    → IsProofAs proof.view net first_event first_event proof.claim proof.lines.items → IsRefuted true net proof
 is_refuted net proof is_net some low proves = record {
-  none = nothing proof.view net first_event proof.claim.value proof.lines.items is_net some low proves;
+  none = nothing proof.view net first_event proof.claim proof.lines.items is_net some low proves;
   low = low;
   proves = (refl, λ wanted. proves);
 }

@@ -16,7 +16,6 @@ use crate::reader::Reader;
 use crate::stop::Stop;
 use crate::times::{attain, can_rise, row_times_next};
 use crate::views::Views;
-use clauses::Claim;
 use drawn::Row;
 use event_graph::Network;
 use settle_report::{Proof, SettledBound};
@@ -112,20 +111,20 @@ fn number_next(
 }
 
 // Whether a claim is what is said of the greatest separation of the pair of a bound.
-fn is_claimed(which: Which, value: i64, claim: Claim) -> bool
-    ensures claimed { IsTrue result → claim.value ≡ claim_of which value }
+fn is_claimed(which: Which, value: i64, claim: i64) -> bool
+    ensures claimed { IsTrue result → claim ≡ claim_of which value }
 {
     match which {
-        Which::Max => claim.value == value,
-        Which::Min => value.checked_neg() == Some(claim.value),
+        Which::Max => claim == value,
+        Which::Min => value.checked_neg() == Some(claim),
     }
 }
 
 // Whether a claim is one that a proof bounds the separation by.
-fn is_near(views: &Views, claim: Claim) -> bool
-    ensures near { (net : Net) → AreViewsOf net views.now → IsTrue result → claim.value <ℤ pos (far_line net) }
+fn is_near(views: &Views, claim: i64) -> bool
+    ensures near { (net : Net) → AreViewsOf net views.now → IsTrue result → claim <ℤ pos (far_line net) }
 {
-    claim.value < views.limits.far
+    claim < views.limits.far
 }
 
 // A number that is proved and attained.
@@ -140,9 +139,9 @@ fn number_of(
     requires row { IsRowOf net.now row.now }
     requires times { AreRowTimes net.now row.now times.items }
     requires attained { separation times.items row.now.from row.now.to ≡ value }
-    requires claim { proof.claim.value ≡ claim_of which value }
-    requires near { proof.claim.value <ℤ pos (far_line net.now) }
-    requires proof { let pair = pair_of which row.now in IsProofAs proof.view net.now pair.from pair.to proof.claim.value proof.lines.items }
+    requires claim { proof.claim ≡ claim_of which value }
+    requires near { proof.claim <ℤ pos (far_line net.now) }
+    requires proof { let pair = pair_of which row.now in IsProofAs proof.view net.now pair.from pair.to proof.claim proof.lines.items }
     ensures bound { IsBound true net.now which row.now result }
     ensures times { HasTimes (bound_of result) }
 {

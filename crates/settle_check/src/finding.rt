@@ -13,7 +13,6 @@ use crate::reader::Reader;
 use crate::stop::Stop;
 use crate::times::{are_printed, time_of};
 use crate::views::Views;
-use clauses::Claim;
 use event_graph::Network;
 use itv_base::EventId;
 use settle_report::{Finding, Proof};
@@ -86,17 +85,17 @@ fn refuted_next(
 }
 
 // Whether a claim is one that no times can meet.
-fn is_low(views: &Views, claim: Claim) -> bool
-    ensures low { (net : Net) → AreViewsOf net views.now → IsTrue result → claim.value <ℤ neg_ℤ (pos (far_line net)) }
+fn is_low(views: &Views, claim: i64) -> bool
+    ensures low { (net : Net) → AreViewsOf net views.now → IsTrue result → claim <ℤ neg_ℤ (pos (far_line net)) }
 {
-    claim.value < views.limits.lowest
+    claim < views.limits.lowest
 }
 
 // That no times satisfy, as a proof shows.
 fn refuted_by(net: &Network, proof: Proof) -> Finding
     requires some { 0 < net.now.events }
-    requires low { proof.claim.value <ℤ neg_ℤ (pos (far_line net.now)) }
-    requires proof { IsProofAs proof.view net.now first_event first_event proof.claim.value proof.lines.items }
+    requires low { proof.claim <ℤ neg_ℤ (pos (far_line net.now)) }
+    requires proof { IsProofAs proof.view net.now first_event first_event proof.claim proof.lines.items }
     ensures finding { IsFinding true net.now result }
 {
     // The network is within its limits.

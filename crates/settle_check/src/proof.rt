@@ -27,14 +27,18 @@ pub fn proof_next(
 ) -> Result<Proof, Stop>
     requires views { AreViewsOf net.now views.now }
     requires pair { IsPairOf net.now pair }
-    ensures proof { IfOk result (λ proof. IsProofAs proof.view net.now pair.from pair.to proof.claim.value proof.lines.items) }
+    ensures proof { IfOk result (λ proof. IsProofAs proof.view net.now pair.from pair.to proof.claim proof.lines.items) }
 {
     let view = reader.view()?;
     reader.pass();
-    let claim = reader.claim(alloc)?;
+    let claim = reader.claim()?;
     reader.pass();
     let lines = lines_as(alloc, view, net, views, pair, claim, reader)?;
-    Ok(Proof { view, claim, lines })
+    Ok(Proof {
+        view,
+        claim: claim.value,
+        lines,
+    })
 }
 
 // The lines of a proof in a view of a network.

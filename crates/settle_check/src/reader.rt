@@ -1,11 +1,13 @@
 //! Reading the lines of a text, one after another.
 
 use crate::stop::Stop;
+use certificate::LineFault;
 use clauses::Claim;
 use falling::View;
 use itv_base::NoMemory;
 use line_words::{behind_word, long_in, only_word, short_in, split_words};
 use settle::ProofLine;
+use settle_lines::{read_claim, read_clause_line, read_view};
 use slack_report::Which;
 use std::alloc::Global;
 
@@ -61,18 +63,16 @@ impl<'a> Reader<'a> {
 
     /// The view of a proof.
     pub fn view(&self) -> Result<View, Stop> {
-        match cut_line(self.rest) {
-            Some((b"view plain", _)) => Ok(View::Plain),
-            Some((b"view negated", _)) => Ok(View::Negated),
-            _ => Err(self.refused()),
+        match view_in(self.rest) {
+            Some(view) => Ok(view),
+            None => Err(self.refused()),
         }
     }
 
     /// The claim of a proof, in picoseconds.
-    pub fn claim(&self, alloc: Global) -> Result<Claim, Stop> {
-        let words = self.words(alloc)?;
-        match number_behind(&words, "claim") {
-            Some(value) => Ok(Claim { value }),
+    pub fn claim(&self) -> Result<Claim, Stop> {
+        match claim_in(self.rest) {
+            Some(claim) => Ok(claim),
             None => Err(self.refused()),
         }
     }
@@ -128,9 +128,25 @@ fn text_line(bytes: &[u8]) -> Option<&str> {
     str::from_utf8(line).ok()
 }
 
-// The line of a proof that has a text.
+// The line of a proof that a text is, if it is one.
 fn clause_in(alloc: Global, line: &[u8]) -> Result<Option<ProofLine>, NoMemory> {
-    Ok(None)
+    match read_clause_line(alloc, line) {
+        Ok(line) => Ok(Some(line)),
+        Err(LineFault::BadLine) => Ok(None),
+        Err(LineFault::NoMemory) => Err(NoMemory),
+    }
+}
+
+// The view that the first line of a text is.
+fn view_in(text: &[u8]) -> Option<View> {
+    let (line, _) = cut_line(text)?;
+    read_view(line)
+}
+
+// The claim that the first line of a text is.
+fn claim_in(text: &[u8]) -> Option<Claim> {
+    let (line, _) = cut_line(text)?;
+    read_claim(line)
 }
 
 fn which_word(which: Which) -> &'static str {
