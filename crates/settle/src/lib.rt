@@ -26,3 +26,4 @@ mod taking;
 pub use found::{Found, Settled};
 pub use line::ProofLine;
 pub use settler::Settler;
+pub use taking::take_line;

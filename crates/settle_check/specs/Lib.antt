@@ -1,1 +1,2 @@
 pub mod Confirm
+pub mod Step

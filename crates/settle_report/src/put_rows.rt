@@ -12,7 +12,7 @@ ghost use Rattle.settle_report.specs.Text.{behind_text, judged_text, row_text, r
 
 use crate::bound::both_of;
 use crate::finding::Finding;
-use crate::put_bound::put_bound;
+use crate::put_bounds::put_bound;
 use crate::row::{RowFound, is_fail};
 use drawn::{DrawnNetwork, Row};
 use itv_base::{PutFailed, Range, RowKind, Sink};
@@ -103,8 +103,8 @@ fn put_found<K: Sink>(
     put_judged(row.kind, found, buffer, sink)
 }
 
-// The verdict on a requirement; an ask has none.
-fn put_judged<K: Sink>(
+/// Puts the verdict on a requirement, with times that break it if it is a fail and the slack; an ask has none.
+pub fn put_judged<K: Sink>(
     kind: RowKind,
     found: &RowFound,
     buffer: &mut LineBuffer,

@@ -9,7 +9,7 @@ ghost use Rattle.settle_report.specs.Text.{ending_of, front_text, settle_text};
 
 use crate::ending::ending_of;
 use crate::finding::{Finding, find};
-use crate::put_bound::put_finding;
+use crate::put_bounds::put_finding;
 use crate::put_rows::put_behind;
 use crate::row::RowFound;
 use crate::rows::find_rows;
@@ -98,8 +98,8 @@ fn put_text<K: Sink>(
     write_item(&Item::End(word), buffer, sink)
 }
 
-// The heading and the events.
-fn put_front<K: Sink>(
+/// Puts the heading and the events.
+pub fn put_front<K: Sink>(
     drawn: &DrawnNetwork,
     buffer: &mut LineBuffer,
     sink: &mut K,

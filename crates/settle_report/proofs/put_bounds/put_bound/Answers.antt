@@ -1,7 +1,7 @@
 use Rattle.std.proofs.Common.{ap, ◌∙◌}
 use Rattle.settle_report.specs.Answers.{bound_of}
 use Rattle.itv_base.proofs.Written.{puts_then}
-use Rattle.settle_report.proofs.put_bound.put_bound.Goals as goal
+use Rattle.settle_report.proofs.put_bounds.put_bound.Goals as goal
 
 pub returns-in_ok-put_proof-in-Closed : goal.returns-in_ok-put_proof-in-Closed
 returns-in_ok-put_proof-in-Closed g c = record {

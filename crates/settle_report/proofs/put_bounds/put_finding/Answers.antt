@@ -1,5 +1,5 @@
 use Rattle.itv_base.proofs.Written.{puts_then}
-use Rattle.settle_report.proofs.put_bound.put_finding.Goals as goal
+use Rattle.settle_report.proofs.put_bounds.put_finding.Goals as goal
 
 pub returns-in_ok-write_item-in-Consistent : goal.returns-in_ok-write_item-in-Consistent
 returns-in_ok-write_item-in-Consistent g c = record {

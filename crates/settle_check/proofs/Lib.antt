@@ -1,0 +1,4 @@
+mod Proved
+mod Passing
+mod Reading
+mod Settled

@@ -1,0 +1,20 @@
+-- Places of a text, one behind another.
+use Rattle.std.proofs.Common.{◌≡◌, ◌≤◌, ◌<◌, ◌+◌, ℕ, suc, List, [], ◌∷◌, ◌++◌, length, take, Some, slice_get, refl, sym, subst, ap, ◌∙◌, append_assoc, add-one}
+use Rattle.itv_base.specs.declared.names.EventId.{EventId}
+use Rattle.settle_check.specs.Step.{IsBehind}
+
+pub append_none : (xs : List ℕ) → xs ++ [] ≡ xs
+append_none [] = refl
+append_none (x ∷ xs) = ap (λ ys. x ∷ ys) (append_none xs)
+
+-- a piece and another behind it
+pub behind_then : (text : List ℕ) (place middle behind : ℕ) (first second : List ℕ) → IsBehind text place first middle → IsBehind text middle second behind
+    → IsBehind text place (first ++ second) behind
+behind_then text place middle behind first second a b = record {
+  within = b.within;
+  same = b.same ∙ (ap (λ front. front ++ second) a.same ∙ append_assoc (take place text) first second);
+}
+
+-- nothing
+pub behind_none : (text : List ℕ) (place : ℕ) → place ≤ length text → IsBehind text place [] place
+behind_none text place within = record { within = within; same = sym (append_none (take place text)) }

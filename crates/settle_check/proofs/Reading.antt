@@ -1,0 +1,72 @@
+-- Rows that were read, one behind another.
+use Rattle.std.proofs.Common.{◌≡◌, ◌<◌, ◌+◌, ℕ, true, List, [], ◌∷◌, ◌++◌, length, take, Some, slice_get, sym, subst, ap, ◌∙◌, append_assoc, inl, inr, arith}
+use Rattle.std.proofs.lemmas.List.{length-take-le, take_more}
+use Rattle.std.proofs.lemmas.Option.{get_or_from_slice_get, slice_get_cases, slice_get_within}
+use Rattle.event_graph.specs.Network.{Net}
+use Rattle.drawn.specs.Drawn.{Drawn}
+use Rattle.drawn.specs.declared.row.Row.{Row}
+use Rattle.settle_report.specs.declared.row.RowFound.{RowFound}
+use Rattle.settle_report.specs.Answers.{AreRowsFound, IsRowFound}
+use Rattle.settle_report.specs.Text.{row_text, rows_text}
+use Rattle.settle_check.specs.Step.{IsBehind}
+use Rattle.settle_check.proofs.Passing.{append_none, behind_then}
+
+rows_push : (net : Net) (rows : List Row) (found : List RowFound) (row : Row) (of_row : RowFound) → AreRowsFound true net rows found → IsRowFound true net row of_row
+    → AreRowsFound true net (rows ++ row ∷ []) (found ++ of_row ∷ [])
+rows_push net [] [] row of_row are is = (is, tt)
+rows_push net [] (f ∷ found) row of_row are is = absurd are
+rows_push net (r ∷ rows) [] row of_row are is = absurd are
+rows_push net (r ∷ rows) (f ∷ found) row of_row are is = (are.0, rows_push net rows found row of_row are.1 is)
+
+text_push : (drawn : Drawn) (net : Net) (number last : ℕ) (rows : List Row) (found : List RowFound) (row : Row) (of_row : RowFound) → AreRowsFound true net rows found → last ≡ number + length rows
+    → rows_text drawn true number (rows ++ row ∷ []) (found ++ of_row ∷ []) ≡ rows_text drawn true number rows found ++ row_text drawn true last row of_row
+text_push drawn net number last [] [] row of_row are is =
+    let same : last ≡ number = omega arith in
+    append_none (row_text drawn true number row of_row) ∙ ap (λ n. row_text drawn true n row of_row) (sym same)
+text_push drawn net number last [] (f ∷ found) row of_row are is = absurd are
+text_push drawn net number last (r ∷ rows) [] row of_row are is = absurd are
+text_push drawn net number last (r ∷ rows) (f ∷ found) row of_row are is =
+    ap (λ text. row_text drawn true number r f ++ text) (text_push drawn net (number + 1) last rows found row of_row are.1 (omega arith))
+    ∙ sym (append_assoc (row_text drawn true number r f) (rows_text drawn true (number + 1) rows found) (row_text drawn true last row of_row))
+
+take_next : (rows : List Row) (k : ℕ) (row : Row) → slice_get rows k ≡ Some row → take (k + 1) rows ≡ take k rows ++ row ∷ []
+take_next rows k row at = take_more rows k row (slice_get_within rows k row at) ∙ ap (λ y. take k rows ++ y ∷ []) (get_or_from_slice_get rows k row row at)
+
+-- the rows so far, and the place behind them
+pub record AreRead (drawn : Drawn) (text : List ℕ) (start number : ℕ) (found : List RowFound) (place : ℕ) : Type 0 where
+  pub are_found : AreRowsFound true drawn.net (take number drawn.rows) found
+  pub behind : IsBehind text start (rows_text drawn true 0 (take number drawn.rows) found) place
+
+-- and one more
+pub read_next : (drawn : Drawn) (text : List ℕ) (start number : ℕ) (found : List RowFound) (place next : ℕ) (row : Row) (of_row : RowFound) → slice_get drawn.rows number ≡ Some row
+    → AreRead drawn text start number found place → IsRowFound true drawn.net row of_row → IsBehind text place (row_text drawn true number row of_row) next
+    → AreRead drawn text start (number + 1) (found ++ of_row ∷ []) next
+read_next drawn text start number found place next row of_row at read is behind =
+    let within : number < length drawn.rows = slice_get_within drawn.rows number row at in
+    let front : length (take number drawn.rows) ≡ number = length-take-le number drawn.rows (omega (arith, within)) in
+    let last : number ≡ 0 + length (take number drawn.rows) = omega (arith, front) in
+    let more : take (number + 1) drawn.rows ≡ take number drawn.rows ++ row ∷ [] = take_next drawn.rows number row at in record {
+      are_found = subst (λ (rows : List Row). AreRowsFound true drawn.net rows (found ++ of_row ∷ [])) (sym more)
+          (rows_push drawn.net (take number drawn.rows) found row of_row read.are_found is);
+      behind = subst (λ (rows : List Row). IsBehind text start (rows_text drawn true 0 rows (found ++ of_row ∷ [])) next) (sym more)
+          (subst (λ (piece : List ℕ). IsBehind text start piece next)
+          (sym (text_push drawn drawn.net 0 number (take number drawn.rows) found row of_row read.are_found last))
+          (behind_then text start place next (rows_text drawn true 0 (take number drawn.rows) found) (row_text drawn true number row of_row) read.behind behind));
+    }
+
+row_there : (rows : List Row) (k : ℕ) → k < length rows → (row : Row) × (slice_get rows k ≡ Some row)
+row_there rows k within = elim (slice_get_cases rows k).1 [
+  | inl (row, inside, at, same) ↦ (row, at)
+  | inr (past, none) ↦ absurd (omega (arith, within, past))
+]
+
+-- the row of a number, whichever it is
+pub read_row : (drawn : Drawn) (text : List ℕ) (start number : ℕ) (found after : List RowFound) (place next : ℕ) (of_row : RowFound) → number < length drawn.rows
+    → AreRead drawn text start number found place
+    → ((row : Row) → slice_get drawn.rows number ≡ Some row → IsRowFound true drawn.net row of_row)
+    → ((row : Row) → slice_get drawn.rows number ≡ Some row → IsBehind text place (row_text drawn true number row of_row) next)
+    → after ≡ found ++ of_row ∷ [] → AreRead drawn text start (number + 1) after next
+read_row drawn text start number found after place next of_row within read is behind pushed =
+    let (row, at) = row_there drawn.rows number within in
+    subst (λ (rows : List RowFound). AreRead drawn text start (number + 1) rows next) (sym pushed)
+    (read_next drawn text start number found place next row of_row at read (is row at) (behind row at))

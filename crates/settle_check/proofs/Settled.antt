@@ -1,0 +1,51 @@
+-- A row and a whole text, part by part.
+use Rattle.std.proofs.Common.{◌≡◌, ◌≤◌, ℕ, true, List, ◌++◌, length, take, Some, slice_get, sym, subst, ◌∙◌}
+use Rattle.std.proofs.lemmas.List.{take_all}
+use Rattle.std.proofs.lemmas.Option.{same_Some}
+use Rattle.event_graph.specs.Network.{Net}
+use Rattle.slack_report.specs.declared.words.Which.TheVariants.{Max, Min}
+use Rattle.slack_report.specs.Entry as line
+use Rattle.slack_report.specs.Text.{entry_text}
+use Rattle.drawn.specs.Drawn.{Drawn, name_of}
+use Rattle.drawn.specs.declared.row.Row.{Row}
+use Rattle.settle_report.specs.declared.finding.Finding.{Finding}
+use Rattle.settle_report.specs.declared.row.RowFound.{RowFound}
+use Rattle.settle_report.specs.Answers.{AreFound, IsBound, IsFinding, IsPastOf, IsRowFound}
+use Rattle.settle_report.specs.Text.{behind_text, bound_text, ending_of, finding_text, front_text, judged_text, row_text}
+use Rattle.settle_check.specs.Confirm.{IsSettledText}
+use Rattle.settle_check.specs.Step.{IsBehind}
+use Rattle.settle_check.proofs.Passing.{behind_then}
+
+-- the row of a number is the one that was found there
+row_same : (rows : List Row) (number : ℕ) (at row : Row) → slice_get rows number ≡ Some at → slice_get rows number ≡ Some row → at ≡ row
+row_same rows number at row is other = same_Some at row (sym is ∙ other)
+
+pub row_is_found : (net : Net) (rows : List Row) (number : ℕ) (at : Row) (found : RowFound) → slice_get rows number ≡ Some at → IsBound true net Max at found.greatest
+    → IsBound true net Min at found.least → IsPastOf net at at.kind found → (row : Row) → slice_get rows number ≡ Some row → IsRowFound true net row found
+row_is_found net rows number at found is greatest least past row other =
+    subst (λ (r : Row). IsRowFound true net r found) (row_same rows number at row is other) (record { greatest = greatest; least = least; past = past })
+
+module _ (drawn : Drawn) (text : List ℕ) where
+  -- the parts of a row stand one behind another
+  pub behind_parts : (number place line_end max_end min_end behind : ℕ) (at : Row) (found : RowFound) → slice_get drawn.rows number ≡ Some at
+      → IsBehind text place (entry_text (line.row number at.kind (name_of drawn at.from) (name_of drawn at.to))) line_end
+      → IsBehind text line_end (bound_text true Max found.greatest) max_end → IsBehind text max_end (bound_text true Min found.least) min_end
+      → IsBehind text min_end (judged_text at.kind found) behind
+      → (row : Row) → slice_get drawn.rows number ≡ Some row → IsBehind text place (row_text drawn true number row found) behind
+  behind_parts number place line_end max_end min_end behind at found is a b c d row other =
+      subst (λ (r : Row). IsBehind text place (row_text drawn true number r found) behind) (row_same drawn.rows number at row is other)
+      (behind_then text place line_end behind _ _ a (behind_then text line_end max_end behind _ _ b (behind_then text max_end min_end behind _ _ c d)))
+
+  -- and so do those of a whole text
+  pub settled_text : (finding : Finding) (found : List RowFound) (front_end finding_end rows_end behind : ℕ) → IsFinding true drawn.net finding
+      → AreFound true drawn.net drawn.rows finding found → IsBehind text 0 (front_text drawn) front_end → IsBehind text front_end (finding_text true finding) finding_end
+      → IsBehind text finding_end (behind_text drawn true finding found) rows_end
+      → IsBehind text rows_end (entry_text (line.ending (ending_of drawn.rows finding found))) behind → length text ≤ behind → IsSettledText drawn text
+  settled_text finding found front_end finding_end rows_end behind is_finding are_found a b c d whole =
+      let all = behind_then text 0 front_end behind _ _ a (behind_then text front_end finding_end behind _ _ b (behind_then text finding_end rows_end behind _ _ c d)) in record {
+        finding = finding;
+        found = found;
+        is_finding = is_finding;
+        are_found = are_found;
+        is_text = sym (take_all behind text whole) ∙ all.same;
+      }

@@ -1,0 +1,7 @@
+use Rattle.std.proofs.Common.{refl}
+use Rattle.jobs.specs.declared.answer.Answer.TheVariants.{CheckRefused}
+use Rattle.settle_check.specs.Confirm.{refused_text}
+use Rattle.settle_check.proofs.answer.refuse.Goals as goal
+
+pub returns-in-Err : goal.returns-in-Err
+returns-in-Err g c = record { works = λ drawn text. (refused_text c.args.line, (CheckRefused, (c.args.line, c.requires.line, refl)), c.in-Err.ensures.puts) }

@@ -1,0 +1,65 @@
+-- What the steps of a check promise one another.
+use Rattle.std.specs.Prelude.{◌≡◌, ◌≤◌, ◌<◌, ◌++◌, ℕ, ℤ, pos, neg_ℤ, ◌<ℤ◌, Bool, true, List, All, Some, length, take}
+use Rattle.itv_base.specs.Outside.{SinkTold}
+use Rattle.itv_base.specs.declared.names.EventId.{EventId}
+use Rattle.event_graph.specs.Limits.{IsPrintedTime}
+use Rattle.event_graph.specs.Network.{Net}
+use Rattle.event_graph.specs.Satisfying.{Satisfies}
+use Rattle.falling.specs.Course.{AreLimits}
+use Rattle.falling.specs.Kinds.{negated}
+use Rattle.slack_report.specs.declared.words.Which.{Which}
+use Rattle.slack_report.specs.declared.words.Which.TheVariants.{Max, Min}
+use Rattle.drawn.specs.Drawn.{AreTimes}
+use Rattle.drawn.specs.declared.row.Row.{Row}
+use Rattle.settle_check.specs.declared.draft.Draft.{Draft}
+use Rattle.settle_check.specs.declared.pair.Pair.{Pair}
+use Rattle.settle_check.specs.declared.views.Views.{Views}
+
+-- ---- the text that is compared
+
+-- what a draft tells as a sink
+abbrev pub draft_told : Draft → SinkTold
+draft_told draft = record { written = Some draft.bytes.items; faults = draft.faults }
+
+-- a text has a piece at a place, and a place is that behind it
+pub record IsBehind (text : List ℕ) (place : ℕ) (piece : List ℕ) (behind : ℕ) : Type 0 where
+  pub within : behind ≤ length text
+  pub same : take behind text ≡ take place text ++ piece
+
+-- ---- the network
+
+-- the negation of a network, and its limits
+pub record AreViewsOf (net : Net) (views : Views) : Type 0 where
+  pub negation_is : views.negation ≡ negated net
+  pub limits_are : AreLimits net views.limits
+
+-- times that can be printed and satisfy
+pub record ArePrinted (net : Net) (times : List ℤ) : Type 0 where
+  pub satisfied : Satisfies times net
+  pub printed : All IsPrintedTime times
+
+-- times that can be printed with a row
+pub record AreRowTimes (net : Net) (row : Row) (times : List ℤ) : Type 0 where
+  pub are_times : AreTimes net row times
+  pub printed : All IsPrintedTime times
+
+-- ---- pairs of events
+
+-- the events of a pair are there
+pub record IsPairOf (net : Net) (pair : Pair) : Type 0 where
+  pub from_in : pair.from.0 < net.events
+  pub to_in : pair.to.0 < net.events
+
+-- the pair whose greatest separation a proof of a bound is about: for a least bound the reversed one
+abbrev pub pair_of : Which → Row → Pair
+pair_of Max row = record { from = row.from; to = row.to }
+pair_of Min row = record { from = row.to; to = row.from }
+
+-- the pair turned round
+abbrev pub turned : Pair → Pair
+turned pair = record { from = pair.to; to = pair.from }
+
+-- the greatest separation of that pair, by the bound
+abbrev pub claim_of : Which → ℤ → ℤ
+claim_of Max value = value
+claim_of Min value = neg_ℤ value

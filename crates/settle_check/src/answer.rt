@@ -1,0 +1,73 @@
+//! The line that tells what becomes of a text.
+
+ghost use Rattle.std.specs.Prelude.{◌≡◌, ◌≤◌, ℕ, List};
+ghost use Rattle.itv_base.specs.Outside.{Puts};
+ghost use Rattle.jobs.specs.Works.{Works};
+ghost use Rattle.drawn.specs.Drawn.{Drawn};
+ghost use Rattle.settle_check.specs.Confirm.{AnswersConfirm, BeginsConfirm, IsSettledText, accepted_text, refused_text};
+
+use crate::confirm::confirm_text;
+use crate::stop::Stop;
+use drawn::DrawnNetwork;
+use itoa::Buffer;
+use itv_base::{PutFailed, Sink, number_text, put_all};
+use jobs::{Answer, Unanswered};
+use std::alloc::Global;
+
+/// Checks a text of job settle with its proofs against a drawn network, and writes whether it is accepted, or the first line, from 1,
+/// that is refused. All memory is taken before the put.
+pub fn answer_confirm<K: Sink>(
+    alloc: Global,
+    drawn: &DrawnNetwork,
+    text: &[u8],
+    sink: &mut K,
+) -> Result<Answer, Unanswered>
+    ensures works { Works (AnswersConfirm drawn.now text.now) (BeginsConfirm drawn.now text.now)
+        (K.told sink.old) (K.told sink.new) result }
+{
+    match confirm_text(alloc, drawn, text) {
+        Ok(()) => accept(sink),
+        Err(Stop::Refused { left }) => refuse(line_at(text, left), sink),
+        Err(Stop::NoMemory) => Err(Unanswered::NoMemory),
+    }
+}
+
+// Writes that a text is accepted.
+fn accept<K: Sink>(sink: &mut K) -> Result<Answer, Unanswered>
+    ensures works { (drawn : Drawn) (text : List ℕ) → IsSettledText drawn text
+        → Works (AnswersConfirm drawn text) (BeginsConfirm drawn text) (K.told sink.old) (K.told sink.new) result }
+{
+    match sink.put(b"report accepted\n") {
+        Ok(()) => Ok(Answer::AllPass),
+        Err(PutFailed) => Err(Unanswered::PutFailed),
+    }
+}
+
+// Writes that a line is refused.
+fn refuse<K: Sink>(line: u64, sink: &mut K) -> Result<Answer, Unanswered>
+    requires line { 1 ≤ line }
+    ensures works { (drawn : Drawn) (text : List ℕ)
+        → Works (AnswersConfirm drawn text) (BeginsConfirm drawn text) (K.told sink.old) (K.told sink.new) result }
+{
+    match put_refused(line, sink) {
+        Ok(()) => Ok(Answer::CheckRefused),
+        Err(PutFailed) => Err(Unanswered::PutFailed),
+    }
+}
+
+fn put_refused<K: Sink>(line: u64, sink: &mut K) -> Result<(), PutFailed>
+    ensures puts { Puts (K.told sink.old) (K.told sink.new) (refused_text line) result }
+{
+    let mut digits = Buffer::new();
+    let number = number_text(line, &mut digits).as_bytes();
+    put_all(sink, &[b"report refused at line ", number, b"\n"])
+}
+
+// The number of the line, from 1, in which so many bytes are left of a text.
+fn line_at(text: &[u8], left: usize) -> u64
+    ensures line { 1 ≤ result }
+{
+    let front = text.len().saturating_sub(left);
+    let ends = text[..front].iter().filter(|b| **b == b'\n').count();
+    1 + ends as u64
+}

@@ -1,0 +1,151 @@
+//! Checking a bound of a row.
+
+ghost use Rattle.std.specs.Prelude.{◌≡◌, ◌<ℤ◌, pos, true, IfOk, IsTrue};
+ghost use Rattle.event_graph.specs.Network.{Net};
+ghost use Rattle.event_graph.specs.Times.{separation};
+ghost use Rattle.requirements.specs.Bounds.{HasTimes};
+ghost use Rattle.drawn.specs.Drawn.{IsRowOf};
+ghost use Rattle.falling.specs.Cap.{far_line};
+ghost use Rattle.settle.specs.Proofs.{IsProofAs};
+ghost use Rattle.settle_report.specs.Answers.{IsBound, bound_of};
+ghost use Rattle.settle_check.specs.Step.{AreRowTimes, AreViewsOf, claim_of, pair_of};
+
+use crate::pair::Pair;
+use crate::proof::proof_next;
+use crate::reader::Reader;
+use crate::stop::Stop;
+use crate::times::{attain, can_rise, row_times_next};
+use crate::views::Views;
+use drawn::Row;
+use event_graph::Network;
+use settle_report::{Proof, SettledBound};
+use slack_report::Which;
+use std::alloc::Global;
+
+/// The bound of a row that stands next: a number with its proof and times, or that there is none with times and a ray, or that it was
+/// spent. The first line at which it does not hold is refused.
+pub fn bound_next(
+    alloc: Global,
+    which: Which,
+    row: &Row,
+    net: &Network,
+    views: &Views,
+    reader: &mut Reader<'_>,
+) -> Result<SettledBound, Stop>
+    requires views { AreViewsOf net.now views.now }
+    requires row { IsRowOf net.now row.now }
+    ensures bound { IfOk result (IsBound true net.now which row.now) }
+    ensures times { IfOk result (λ found. HasTimes (bound_of found)) }
+{
+    if reader.passes(spent_line(which)) {
+        return Ok(SettledBound::Spent);
+    }
+    if reader.passes(unbounded_line(which)) {
+        return endless_next(alloc, which, row, net, reader);
+    }
+    number_next(alloc, which, row, net, views, reader)
+}
+
+fn spent_line(which: Which) -> &'static [u8] {
+    match which {
+        Which::Max => b"max spent",
+        Which::Min => b"min spent",
+    }
+}
+
+fn unbounded_line(which: Which) -> &'static [u8] {
+    match which {
+        Which::Max => b"max unbounded",
+        Which::Min => b"min unbounded",
+    }
+}
+
+// Times, and a set that can be raised from them without end.
+fn endless_next(
+    alloc: Global,
+    which: Which,
+    row: &Row,
+    net: &Network,
+    reader: &mut Reader<'_>,
+) -> Result<SettledBound, Stop>
+    requires row { IsRowOf net.now row.now }
+    ensures bound { IfOk result (IsBound true net.now which row.now) }
+    ensures times { IfOk result (λ found. HasTimes (bound_of found)) }
+{
+    let times = row_times_next(alloc, net, row, reader)?;
+    reader.pass();
+    let set = reader.raised(alloc, net.events())?;
+    if !can_rise(net, which, row, &times, &set) {
+        return Err(reader.refused());
+    }
+    reader.pass();
+    Ok(SettledBound::Unbounded(times, set))
+}
+
+// A number that a proof bounds, and times that attain it.
+fn number_next(
+    alloc: Global,
+    which: Which,
+    row: &Row,
+    net: &Network,
+    views: &Views,
+    reader: &mut Reader<'_>,
+) -> Result<SettledBound, Stop>
+    requires views { AreViewsOf net.now views.now }
+    requires row { IsRowOf net.now row.now }
+    ensures bound { IfOk result (IsBound true net.now which row.now) }
+    ensures times { IfOk result (λ found. HasTimes (bound_of found)) }
+{
+    let proof = proof_next(alloc, net, views, Pair::of(which, row), reader)?;
+    let value = reader.number(alloc, which)?;
+    if !is_claimed(which, value, proof.claim) || !is_near(views, proof.claim) {
+        return Err(reader.refused());
+    }
+    reader.pass();
+    let times = row_times_next(alloc, net, row, reader)?;
+    if !attain(row, value, &times) {
+        return Err(reader.refused());
+    }
+    reader.pass();
+    Ok(number_of(net, which, row, value, times, proof))
+}
+
+// Whether a claim is what is said of the greatest separation of the pair of a bound.
+fn is_claimed(which: Which, value: i64, claim: i64) -> bool
+    ensures claimed { IsTrue result → claim ≡ claim_of which value }
+{
+    match which {
+        Which::Max => claim == value,
+        Which::Min => value.checked_neg() == Some(claim),
+    }
+}
+
+// Whether a claim is one that a proof bounds the separation by.
+fn is_near(views: &Views, claim: i64) -> bool
+    ensures near { (net : Net) → AreViewsOf net views.now → IsTrue result → claim <ℤ pos (far_line net) }
+{
+    claim < views.limits.far
+}
+
+// A number that is proved and attained.
+fn number_of(
+    net: &Network,
+    which: Which,
+    row: &Row,
+    value: i64,
+    times: Vec<i64>,
+    proof: Proof,
+) -> SettledBound
+    requires row { IsRowOf net.now row.now }
+    requires times { AreRowTimes net.now row.now times.items }
+    requires attained { separation times.items row.now.from row.now.to ≡ value }
+    requires claim { proof.claim ≡ claim_of which value }
+    requires near { proof.claim <ℤ pos (far_line net.now) }
+    requires proof { let pair = pair_of which row.now in IsProofAs proof.view net.now pair.from pair.to proof.claim proof.lines.items }
+    ensures bound { IsBound true net.now which row.now result }
+    ensures times { HasTimes (bound_of result) }
+{
+    // The network is within its limits.
+    let _events = net.events();
+    SettledBound::Closed(value, times, proof)
+}

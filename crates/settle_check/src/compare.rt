@@ -1,0 +1,165 @@
+//! Writing the parts of a text again, each from what was read of it, and comparing them.
+
+ghost use Rattle.std.specs.Prelude.{◌≡◌, ◌<◌, ◌≤◌, true, Some, IfOk, length, slice_get};
+ghost use Rattle.itv_base.specs.Outside.{Puts};
+ghost use Rattle.requirements.specs.Bounds.{HasTimes};
+ghost use Rattle.slack_report.specs.Entry.{ending, row, rows};
+ghost use Rattle.slack_report.specs.Text.{entry_text};
+ghost use Rattle.drawn.specs.Drawn.{IsRowOf, name_of};
+ghost use Rattle.settle_report.specs.Answers.{AreFound, bound_of};
+ghost use Rattle.settle_report.specs.Text.{bound_text, ending_of, finding_text, front_text, judged_text};
+ghost use Rattle.settle_check.specs.Step.{IsBehind};
+
+use crate::draft::Draft;
+use crate::stop::Stop;
+use drawn::{DrawnNetwork, Row};
+use itv_base::{PutFailed, RowKind, Sink};
+use jobs::put_row;
+use line_words::LineBuffer;
+use settle_report::{
+    Finding, RowFound, SettledBound, ending_of, put_bound, put_finding, put_front, put_judged,
+};
+use slack_report::{EndWord, Item, Which, write_item};
+use std::alloc::Global;
+
+/// The place behind the heading and the events.
+pub fn behind_front(
+    alloc: Global,
+    drawn: &DrawnNetwork,
+    text: &[u8],
+    buffer: &mut LineBuffer,
+) -> Result<usize, Stop>
+    ensures behind { IfOk result (IsBehind text.now 0 (front_text drawn.now)) }
+{
+    let mut draft = Draft::new(alloc);
+    put_front(drawn, buffer, &mut draft)?;
+    draft.place_behind(text, 0)
+}
+
+/// The place behind a finding.
+pub fn behind_finding(
+    alloc: Global,
+    finding: &Finding,
+    text: &[u8],
+    place: usize,
+    buffer: &mut LineBuffer,
+) -> Result<usize, Stop>
+    requires place { place ≤ length text.now }
+    ensures behind { IfOk result (IsBehind text.now place (finding_text true finding.now)) }
+{
+    let mut draft = Draft::new(alloc);
+    put_finding(true, finding, buffer, &mut draft)?;
+    draft.place_behind(text, place)
+}
+
+/// The place behind the number of rows.
+pub fn behind_count(
+    alloc: Global,
+    drawn: &DrawnNetwork,
+    text: &[u8],
+    place: usize,
+    buffer: &mut LineBuffer,
+) -> Result<usize, Stop>
+    requires place { place ≤ length text.now }
+    ensures behind { IfOk result (IsBehind text.now place (entry_text (rows (length drawn.now.rows)))) }
+{
+    let mut draft = Draft::new(alloc);
+    put_count(drawn, buffer, &mut draft)?;
+    draft.place_behind(text, place)
+}
+
+fn put_count<K: Sink>(
+    drawn: &DrawnNetwork,
+    buffer: &mut LineBuffer,
+    sink: &mut K,
+) -> Result<(), PutFailed>
+    ensures puts { Puts (K.told sink.old) (K.told sink.new) (entry_text (rows (length drawn.now.rows))) result }
+{
+    let count = drawn.rows().len() as u32;
+    write_item(&Item::Rows { count }, buffer, sink)
+}
+
+/// The place behind the line of a row.
+pub fn behind_row(
+    alloc: Global,
+    drawn: &DrawnNetwork,
+    number: u32,
+    asked: &Row,
+    text: &[u8],
+    place: usize,
+    buffer: &mut LineBuffer,
+) -> Result<usize, Stop>
+    requires place { place ≤ length text.now }
+    requires row { IsRowOf drawn.now.net asked.now }
+    ensures behind { IfOk result (IsBehind text.now place
+        (entry_text (row number asked.now.kind (name_of drawn.now asked.now.from) (name_of drawn.now asked.now.to)))) }
+{
+    let mut draft = Draft::new(alloc);
+    put_row(number, asked, drawn, buffer, &mut draft)?;
+    draft.place_behind(text, place)
+}
+
+/// The place behind a bound.
+pub fn behind_bound(
+    alloc: Global,
+    which: Which,
+    found: &SettledBound,
+    text: &[u8],
+    place: usize,
+    buffer: &mut LineBuffer,
+) -> Result<usize, Stop>
+    requires place { place ≤ length text.now }
+    ensures behind { IfOk result (IsBehind text.now place (bound_text true which found.now)) }
+{
+    let mut draft = Draft::new(alloc);
+    put_bound(true, which, found, buffer, &mut draft)?;
+    draft.place_behind(text, place)
+}
+
+/// The place behind the verdict on a requirement, with its times and its slack. A row that only asks has none.
+pub fn behind_judged(
+    alloc: Global,
+    kind: RowKind,
+    found: &RowFound,
+    text: &[u8],
+    place: usize,
+    buffer: &mut LineBuffer,
+) -> Result<usize, Stop>
+    requires place { place ≤ length text.now }
+    requires greatest { HasTimes (bound_of found.now.greatest) }
+    requires least { HasTimes (bound_of found.now.least) }
+    ensures behind { IfOk result (IsBehind text.now place (judged_text kind found.now)) }
+{
+    let mut draft = Draft::new(alloc);
+    put_judged(kind, found, buffer, &mut draft)?;
+    draft.place_behind(text, place)
+}
+
+/// The place behind the word at the end.
+pub fn behind_ending(
+    alloc: Global,
+    drawn: &DrawnNetwork,
+    finding: &Finding,
+    found: &[RowFound],
+    text: &[u8],
+    place: usize,
+    buffer: &mut LineBuffer,
+) -> Result<usize, Stop>
+    requires place { place ≤ length text.now }
+    requires found { AreFound true drawn.now.net drawn.now.rows finding.now found.now }
+    ensures behind { IfOk result (IsBehind text.now place (entry_text (ending (ending_of drawn.now.rows finding.now found.now)))) }
+{
+    let mut draft = Draft::new(alloc);
+    put_ending(ending_of(drawn, finding, found), buffer, &mut draft)?;
+    draft.place_behind(text, place)
+}
+
+fn put_ending<K: Sink>(
+    word: EndWord,
+    buffer: &mut LineBuffer,
+    sink: &mut K,
+) -> Result<(), PutFailed>
+    ensures puts { Puts (K.told sink.old) (K.told sink.new) (entry_text (ending word)) result }
+{
+    write_item(&Item::End(word), buffer, sink)
+}

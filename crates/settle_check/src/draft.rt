@@ -1,0 +1,72 @@
+//! A part of a text, written again.
+
+ghost use Rattle.std.specs.Prelude.{◌≡◌, ◌≤◌, [], Some, IfOk, length, take};
+ghost use Rattle.itv_base.specs.Outside.{Puts};
+ghost use Rattle.settle_check.specs.Step.{IsBehind, draft_told};
+
+use crate::stop::Stop;
+use itv_base::{PutFailed, Sink};
+use std::alloc::Global;
+
+/// Bytes that are gathered in memory, as a sink takes them. A put fails only where memory is not found.
+#[derive(Drop)]
+pub struct Draft {
+    bytes: Vec<u8>,
+    faults: u64,
+}
+
+impl Draft {
+    /// Nothing gathered.
+    pub fn new(alloc: Global) -> Draft
+        ensures empty { draft_told result ≡ record { written = Some []; faults = 0 } }
+    {
+        Draft {
+            bytes: Vec::new(alloc),
+            faults: 0,
+        }
+    }
+
+    /// The place behind what was gathered, where a text has it at a place. Where the text differs, the line of the first byte that
+    /// does is refused.
+    pub fn place_behind(&self, text: &[u8], place: usize) -> Result<usize, Stop>
+        requires place { place ≤ length text.now }
+        ensures behind { IfOk result (IsBehind text.now place self.now.bytes.items) }
+    {
+        let same = same_len(&text[place..], &self.bytes);
+        if same < self.bytes.len() {
+            return Err(Stop::Refused {
+                left: text.len() - place - same,
+            });
+        }
+        Ok(place + same)
+    }
+}
+
+impl Sink for Draft {
+    ghost told = { draft_told };
+
+    fn put(&mut self, piece: &[u8]) -> Result<(), PutFailed> {
+        match self.bytes.extend_from_slice(piece) {
+            Ok(()) => Ok(()),
+            Err(_) => {
+                self.faults = self.faults.saturating_add(1);
+                Err(PutFailed)
+            }
+        }
+    }
+}
+
+// With how many bytes two texts begin alike.
+fn same_len(text: &[u8], other: &[u8]) -> usize
+    ensures text { result ≤ length text.now }
+    ensures other { result ≤ length other.now }
+    ensures same { take result text.now ≡ take result other.now }
+{
+    let most = text.len().min(other.len());
+    for place in 0..most {
+        if text[place] != other[place] {
+            return place;
+        }
+    }
+    most
+}

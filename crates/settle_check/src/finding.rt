@@ -1,0 +1,104 @@
+//! Checking the finding.
+
+ghost use Rattle.std.specs.Prelude.{◌<◌, ◌<ℤ◌, neg_ℤ, pos, true, IfOk, IsTrue};
+ghost use Rattle.event_graph.specs.Network.{Net};
+ghost use Rattle.falling.specs.Cap.{far_line};
+ghost use Rattle.settle.specs.Proofs.{IsProofAs};
+ghost use Rattle.settle_report.specs.Answers.{AreFirstTimes, IsFinding, first_event};
+ghost use Rattle.settle_check.specs.Step.{AreViewsOf};
+
+use crate::pair::Pair;
+use crate::proof::proof_next;
+use crate::reader::Reader;
+use crate::stop::Stop;
+use crate::times::{are_printed, time_of};
+use crate::views::Views;
+use event_graph::Network;
+use itv_base::EventId;
+use settle_report::{Finding, Proof};
+use std::alloc::Global;
+
+// The proof that no times satisfy is of this event and itself.
+const FIRST: EventId = EventId(0);
+
+/// The finding that stands next: with times that satisfy, or with the proof that none do, or that it was spent. The first line at which
+/// it does not hold is refused.
+pub fn finding_next(
+    alloc: Global,
+    net: &Network,
+    views: &Views,
+    reader: &mut Reader<'_>,
+) -> Result<Finding, Stop>
+    requires views { AreViewsOf net.now views.now }
+    ensures finding { IfOk result (IsFinding true net.now) }
+{
+    if reader.passes(b"finding spent") {
+        return Ok(Finding::Spent);
+    }
+    if reader.passes(b"finding consistent") {
+        return consistent_next(alloc, net, reader);
+    }
+    refuted_next(alloc, net, views, reader)
+}
+
+// Times that satisfy, with event 0 at 0.
+fn consistent_next(alloc: Global, net: &Network, reader: &mut Reader<'_>) -> Result<Finding, Stop>
+    ensures finding { IfOk result (IsFinding true net.now) }
+{
+    let times = reader.times(alloc)?;
+    if !are_first(net, &times) {
+        return Err(reader.refused());
+    }
+    reader.pass();
+    Ok(Finding::Consistent(times))
+}
+
+// Whether times can be printed and satisfy, with event 0 at 0.
+fn are_first(net: &Network, times: &[i64]) -> bool
+    ensures first { IsTrue result → AreFirstTimes net.now times.now }
+{
+    are_printed(net, times) && time_of(times, FIRST) == 0
+}
+
+// A proof that no times satisfy. Without events there is none.
+fn refuted_next(
+    alloc: Global,
+    net: &Network,
+    views: &Views,
+    reader: &mut Reader<'_>,
+) -> Result<Finding, Stop>
+    requires views { AreViewsOf net.now views.now }
+    ensures finding { IfOk result (IsFinding true net.now) }
+{
+    if net.events() == 0 {
+        return Err(reader.refused());
+    }
+    let pair = Pair {
+        from: FIRST,
+        to: FIRST,
+    };
+    let proof = proof_next(alloc, net, views, pair, reader)?;
+    if !is_low(views, proof.claim) || !reader.passes(b"finding inconsistent") {
+        return Err(reader.refused());
+    }
+    Ok(refuted_by(net, proof))
+}
+
+// Whether a claim is one that no times can meet.
+fn is_low(views: &Views, claim: i64) -> bool
+    ensures low { (net : Net) → AreViewsOf net views.now → IsTrue result → claim <ℤ neg_ℤ (pos (far_line net)) }
+{
+    claim < views.limits.lowest
+}
+
+// That no times satisfy, as a proof shows.
+fn refuted_by(net: &Network, proof: Proof) -> Finding
+    requires some { 0 < net.now.events }
+    requires low { proof.claim <ℤ neg_ℤ (pos (far_line net.now)) }
+    requires proof { IsProofAs proof.view net.now first_event first_event proof.claim proof.lines.items }
+    ensures finding { IsFinding true net.now result }
+{
+    // The network is within its limits.
+    let _events = net.events();
+    Finding::Inconsistent(proof)
+}

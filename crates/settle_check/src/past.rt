@@ -1,0 +1,67 @@
+//! Checking the times behind a verdict.
+
+ghost use Rattle.std.specs.Prelude.{◌≡◌, IfOk};
+ghost use Rattle.settle_report.specs.Answers.{IsPast, IsPastOf};
+ghost use Rattle.settle_report.specs.declared.row.RowFound.{RowFound};
+
+use crate::reader::Reader;
+use crate::stop::Stop;
+use crate::times::{break_end, row_times_next};
+use drawn::Row;
+use event_graph::Network;
+use itv_base::{Range, RowKind};
+use requirements::{Verdict, judge};
+use settle_report::{SettledBound, both_of, is_fail};
+use std::alloc::Global;
+
+/// The times that stand next with a row of these bounds: such as break its requirement, where the verdict is a fail, or else none. The
+/// first line at which they do not hold is refused.
+pub fn past_next(
+    alloc: Global,
+    net: &Network,
+    row: &Row,
+    greatest: &SettledBound,
+    least: &SettledBound,
+    reader: &mut Reader<'_>,
+) -> Result<Vec<i64>, Stop>
+    ensures past { IfOk result (λ past. (of_row : RowFound) → of_row ≡ record { greatest = greatest.now; least = least.now; past = past } → IsPastOf net.now row.now row.now.kind of_row) }
+{
+    match row.kind {
+        RowKind::Ask => Ok(Vec::new(alloc)),
+        RowKind::Req(range) => {
+            let word = judge(range, &both_of(least, greatest));
+            broken_next(alloc, net, row, range, word, reader)
+        }
+    }
+}
+
+// Times behind a verdict that is a fail, or else none.
+fn broken_next(
+    alloc: Global,
+    net: &Network,
+    row: &Row,
+    range: Range,
+    word: Verdict,
+    reader: &mut Reader<'_>,
+) -> Result<Vec<i64>, Stop>
+    ensures past { IfOk result (λ past. IsPast net.now row.now range word past.items) }
+{
+    if !is_fail(word) {
+        return Ok(Vec::new(alloc));
+    }
+    if !reader.passes(fail_line(word)) {
+        return Err(reader.refused());
+    }
+    let times = row_times_next(alloc, net, row, reader)?;
+    if !break_end(row, range, word, &times) {
+        return Err(reader.refused());
+    }
+    Ok(times)
+}
+
+fn fail_line(word: Verdict) -> &'static [u8] {
+    match word {
+        Verdict::FailLow => b"verdict fail low",
+        _ => b"verdict fail high",
+    }
+}

@@ -1,0 +1,203 @@
+//! Reading the lines of a text, one after another.
+
+use crate::stop::Stop;
+use certificate::LineFault;
+use clauses::Claim;
+use falling::View;
+use itv_base::NoMemory;
+use line_words::{behind_word, long_in, only_word, short_in, split_words};
+use settle::ProofLine;
+use settle_lines::{read_claim, read_clause_line, read_view};
+use slack_report::Which;
+use std::alloc::Global;
+
+/// What is left of a text from a line on. What it reads is a line as it could have been written; whether it was is seen when it is
+/// written again.
+#[derive(Debug, Drop)]
+pub struct Reader<'a> {
+    rest: &'a [u8],
+}
+
+impl<'a> Reader<'a> {
+    /// From a place of a text on.
+    pub fn new(text: &'a [u8], place: usize) -> Reader<'a> {
+        Reader {
+            rest: text.get(place..).unwrap_or(b""),
+        }
+    }
+
+    /// How many bytes are left, which are at least as many as lines.
+    pub fn left(&self) -> usize {
+        self.rest.len()
+    }
+
+    /// The refusal of the line that stands next, or of the end where there is none.
+    pub fn refused(&self) -> Stop {
+        Stop::Refused { left: self.left() }
+    }
+
+    /// Goes behind the line that stands next.
+    pub fn pass(&mut self) {
+        self.rest = match cut_line(self.rest) {
+            Some((_, behind)) => behind,
+            None => b"",
+        };
+    }
+
+    /// Whether this line stands next. Goes behind it where it does.
+    pub fn passes(&mut self, line: &[u8]) -> bool {
+        let is_next = cut_line(self.rest).is_some_and(|(next, _)| next == line);
+        if is_next {
+            self.pass();
+        }
+        is_next
+    }
+
+    /// The line that stands next as one of a proof, if it is one.
+    pub fn clause(&self, alloc: Global) -> Result<Option<ProofLine>, NoMemory> {
+        match cut_line(self.rest) {
+            Some((line, _)) => clause_in(alloc, line),
+            None => Ok(None),
+        }
+    }
+
+    /// The view of a proof.
+    pub fn view(&self) -> Result<View, Stop> {
+        match view_in(self.rest) {
+            Some(view) => Ok(view),
+            None => Err(self.refused()),
+        }
+    }
+
+    /// The claim of a proof, in picoseconds.
+    pub fn claim(&self) -> Result<Claim, Stop> {
+        match claim_in(self.rest) {
+            Some(claim) => Ok(claim),
+            None => Err(self.refused()),
+        }
+    }
+
+    /// The number of a bound, in picoseconds.
+    pub fn number(&self, alloc: Global, which: Which) -> Result<i64, Stop> {
+        let words = self.words(alloc)?;
+        match number_behind(&words, which_word(which)) {
+            Some(value) => Ok(value),
+            None => Err(self.refused()),
+        }
+    }
+
+    /// Times, in picoseconds.
+    pub fn times(&self, alloc: Global) -> Result<Vec<i64>, Stop> {
+        let words = self.words(alloc)?;
+        match times_in(alloc, &words)? {
+            Some(times) => Ok(times),
+            None => Err(self.refused()),
+        }
+    }
+
+    /// For each of so many events whether it is of the set that can be raised.
+    pub fn raised(&self, alloc: Global, events: u32) -> Result<Vec<bool>, Stop> {
+        let words = self.words(alloc)?;
+        match raised_in(alloc, events, &words)? {
+            Some(set) => Ok(set),
+            None => Err(self.refused()),
+        }
+    }
+
+    // The words of the line that stands next.
+    fn words(&self, alloc: Global) -> Result<Vec<&'a str>, Stop> {
+        match text_line(self.rest) {
+            Some(line) => Ok(split_words(alloc, line)?),
+            None => Err(self.refused()),
+        }
+    }
+}
+
+// The first line of a text without its end, and the text behind it.
+fn cut_line(text: &[u8]) -> Option<(&[u8], &[u8])> {
+    let len = text.iter().take_while(|b| **b != b'\n').count();
+    if len == text.len() {
+        return None;
+    }
+    Some((&text[..len], &text[len + 1..]))
+}
+
+// The first line of bytes that need be no text.
+fn text_line(bytes: &[u8]) -> Option<&str> {
+    let (line, _) = cut_line(bytes)?;
+    str::from_utf8(line).ok()
+}
+
+// The line of a proof that a text is, if it is one.
+fn clause_in(alloc: Global, line: &[u8]) -> Result<Option<ProofLine>, NoMemory> {
+    match read_clause_line(alloc, line) {
+        Ok(line) => Ok(Some(line)),
+        Err(LineFault::BadLine) => Ok(None),
+        Err(LineFault::NoMemory) => Err(NoMemory),
+    }
+}
+
+// The view that the first line of a text is.
+fn view_in(text: &[u8]) -> Option<View> {
+    let (line, _) = cut_line(text)?;
+    read_view(line)
+}
+
+// The claim that the first line of a text is.
+fn claim_in(text: &[u8]) -> Option<Claim> {
+    let (line, _) = cut_line(text)?;
+    read_claim(line)
+}
+
+fn which_word(which: Which) -> &'static str {
+    match which {
+        Which::Max => "max",
+        Which::Min => "min",
+    }
+}
+
+// The number behind a word, where both are all.
+fn number_behind(words: &[&str], key: &str) -> Option<i64> {
+    long_in(only_word(behind_word(words, key)?)?)
+}
+
+// The numbers behind the word for times.
+fn times_in(alloc: Global, words: &[&str]) -> Result<Option<Vec<i64>>, NoMemory> {
+    match behind_word(words, "times") {
+        Some(words) => numbers_in(alloc, words),
+        None => Ok(None),
+    }
+}
+
+fn numbers_in(alloc: Global, words: &[&str]) -> Result<Option<Vec<i64>>, NoMemory> {
+    let mut numbers = Vec::new(alloc);
+    for word in words {
+        let Some(number) = long_in(word) else {
+            return Ok(None);
+        };
+        numbers.push(number)?;
+    }
+    Ok(Some(numbers))
+}
+
+// The events behind the word for a set, which are among so many.
+fn raised_in(alloc: Global, events: u32, words: &[&str]) -> Result<Option<Vec<bool>>, NoMemory> {
+    match behind_word(words, "raise") {
+        Some(words) => flags_in(alloc, events, words),
+        None => Ok(None),
+    }
+}
+
+fn flags_in(alloc: Global, events: u32, words: &[&str]) -> Result<Option<Vec<bool>>, NoMemory> {
+    let mut set = vec![in alloc; false; events as usize]?;
+    for word in words {
+        let Some(event) = short_in(word) else {
+            return Ok(None);
+        };
+        match set.get_mut(event as usize) {
+            Some(is_in) => *is_in = true,
+            None => return Ok(None),
+        }
+    }
+    Ok(Some(set))
+}
