@@ -25,7 +25,15 @@ pub fn confirm_text(alloc: Global, drawn: &DrawnNetwork, text: &[u8]) -> Result<
     let finding = finding_next(alloc, net, &views, &mut Reader::new(text, place))?;
     let place = behind_finding(alloc, &finding, text, place, &mut buffer)?;
     let rows = rows_behind(alloc, drawn, &finding, &views, text, place, &mut buffer)?;
-    let place = behind_ending(alloc, drawn, &finding, &rows.found, text, rows.place, &mut buffer)?;
+    let place = behind_ending(
+        alloc,
+        drawn,
+        &finding,
+        &rows.found,
+        text,
+        rows.place,
+        &mut buffer,
+    )?;
     if place < text.len() {
         return Err(Stop::Refused {
             left: text.len() - place,

@@ -104,11 +104,32 @@ fn row_next(
     let row = row_at(drawn, number);
     let net = drawn.network();
     let place = behind_row(alloc, drawn, number, row, text, place, buffer)?;
-    let greatest = bound_next(alloc, Which::Max, row, net, views, &mut Reader::new(text, place))?;
+    let greatest = bound_next(
+        alloc,
+        Which::Max,
+        row,
+        net,
+        views,
+        &mut Reader::new(text, place),
+    )?;
     let place = behind_bound(alloc, Which::Max, &greatest, text, place, buffer)?;
-    let least = bound_next(alloc, Which::Min, row, net, views, &mut Reader::new(text, place))?;
+    let least = bound_next(
+        alloc,
+        Which::Min,
+        row,
+        net,
+        views,
+        &mut Reader::new(text, place),
+    )?;
     let place = behind_bound(alloc, Which::Min, &least, text, place, buffer)?;
-    let past = past_next(alloc, net, row, &greatest, &least, &mut Reader::new(text, place))?;
+    let past = past_next(
+        alloc,
+        net,
+        row,
+        &greatest,
+        &least,
+        &mut Reader::new(text, place),
+    )?;
     let found = RowFound {
         greatest,
         least,
