@@ -1,6 +1,5 @@
 -- Places of a text, one behind another.
-use Rattle.std.proofs.Common.{◌≡◌, ◌≤◌, ◌<◌, ◌+◌, ℕ, suc, List, [], ◌∷◌, ◌++◌, length, take, Some, slice_get, refl, sym, subst, ap, ◌∙◌, append_assoc, add-one}
-use Rattle.itv_base.specs.declared.names.EventId.{EventId}
+use Rattle.std.proofs.Common.{◌≡◌, ◌≤◌, ℕ, List, [], ◌∷◌, ◌++◌, length, take, refl, sym, ap, ◌∙◌, append_assoc}
 use Rattle.settle_check.specs.Step.{IsBehind}
 
 pub append_none : (xs : List ℕ) → xs ++ [] ≡ xs

@@ -1,4 +1,4 @@
-use Rattle.std.proofs.Common.{of_z, to_z, w64}
+use Rattle.std.proofs.Common.{w64}
 use Rattle.std.proofs.lemmas.Int.{to_z-of_z}
 use Rattle.settle_check.proofs.Proved.{is_number}
 use Rattle.settle_check.proofs.bound.number_of.Goals as goal
