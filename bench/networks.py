@@ -208,8 +208,27 @@ def falls():
     return [latest_pairs(n) for n in (25, 93, 1000)] + [layered(n, ["late"], n) for n in (40, 100, 300, 1000)] + [few_choices(16_000, 16_000)]
 
 
+def formula(variables, seed):
+    """Variables that are 0 or 1, and clauses of three: a latest rule where not all are 0, an earliest one where not all are 1."""
+    rng = random.Random(seed)
+    clauses = round(4.2 * variables)
+    net = Network(f"clauses over {variables} variables, seed {seed}", 1 + variables + clauses)
+    for variable in range(1, variables + 1):
+        net.lin(0, variable, 0, 1)
+    for event in range(1 + variables, net.events):
+        picked = rng.sample(range(1, variables + 1), 3)
+        if rng.random() < 0.5:
+            net.lin(0, event, 1, 1)
+            net.late(event, [(variable, None, 0) for variable in picked])
+        else:
+            net.lin(0, event, 0, 0)
+            net.early(event, [(variable, 0, None) for variable in picked])
+    net.rows = [(0, 1)]
+    return net
+
+
 def settles():
-    """Layers from the first event and from the middle one, of latest events and of both kinds, with three seeds each."""
+    """Layers from the first event and from the middle one, of latest events and of both kinds, with three seeds each, and formulas."""
     nets = []
     for events in (40, 100, 300, 1000):
         for kinds in (["late"], ["late", "early"]):
@@ -219,7 +238,7 @@ def settles():
                     net.name += f", from {first}, seed {seed}"
                     net.rows = [(first, events - 1)]
                     nets.append(net)
-    return nets
+    return nets + [formula(variables, seed) for variables in (20, 40, 60) for seed in (1, 2)]
 
 
 def bounds():
