@@ -125,11 +125,17 @@ const WIDEST: &str =
     r#"{"signal":[{"node":"a"},{"node":"b"}],"edge":["a->b @lin [0,*]","a->b @req [0,10000000000000]"]}"#;
 
 // The other jobs, and lines of a few words.
-const JOBS: [Run<'static>; 16] = [
+const JOBS: [Run<'static>; 18] = [
     (&[("s", LATEST)], &["--job=matrix", "s"], AllPass),
     (&[("s", CIRCLE)], &["--job=matrix", "s"], Inconsistent),
     (&[("s", LATEST)], &["--job=fall", "--cert", "s"], AllPass),
     (&[("s", OPEN_ABOVE)], &["--job=fall", "s"], AllPass),
+    (&[("s", LATEST)], &["--job=settle", "--cert", "s"], AllPass),
+    (
+        &[("s", FIRST), ("r", FIRST_PROVED)],
+        &["--job=confirm", "--report=r", "s"],
+        CheckRefused,
+    ),
     (&[("s", MISSED)], &["--job=redraw", "s"], SomeFail),
     (&[("s", MET)], &["--job=redraw", "s"], AllPass),
     (&[("s", CIRCLE)], &["--job=redraw", "s"], Inconsistent),
@@ -191,7 +197,7 @@ fn fail_each_put(rt: &impl Abort, alloc: Global, entry: Run<'_>) -> Result<(), F
     let text = whole_text(rt, alloc, entry)?;
     let mut before = 0;
     for call in 0..1_000 {
-        let mut sink = SinkMem::new(alloc, 2_000)?;
+        let mut sink = SinkMem::new(alloc, 4_000)?;
         sink.fail_call(call);
         let length = front_of(rt, alloc, entry, &mut sink, text.as_str())?;
         assert!(rt; before <= length && (call > 0 || length == 0));
