@@ -1,0 +1,33 @@
+-- The network of a drawn one without the constraints that keep the order of a lane.
+use Rattle.std.specs.Prelude.{ℤ, Bool, true, false, if◌then◌else◌, List, [], ◌∷◌}
+use Rattle.std.specs.List.{list_any}
+use Rattle.event_graph.specs.Network.{Constraint, Net}
+use Rattle.event_graph.specs.Satisfying.{Satisfies}
+use Rattle.origin.specs.declared.origin.Origin.{Origin}
+use Rattle.origin.specs.declared.origin.Origin.TheVariants.{Lane, Edge, Pin, Wire}
+use Rattle.drawn.specs.Drawn.{Drawn}
+
+-- the order of a lane draws it
+abbrev pub is_lane : Origin → Bool
+is_lane (Lane number) = true
+is_lane (Edge number) = false
+is_lane (Pin net pin) = false
+is_lane (Wire number) = false
+
+-- a constraint whose causes have these origins keeps the order of a lane
+abbrev pub keeps_order : List Origin → Bool
+keeps_order origins = list_any is_lane origins
+
+-- the constraints that don't, of some and the origins of their causes
+abbrev pub constraints_apart : List Constraint → List (List Origin) → List Constraint
+constraints_apart [] origins = []
+constraints_apart (c ∷ others) [] = c ∷ others
+constraints_apart (c ∷ others) (drew ∷ origins) = if keeps_order drew then constraints_apart others origins else c ∷ constraints_apart others origins
+
+-- the network apart from the order of lanes: its events, and the constraints that don't keep such an order
+abbrev pub net_apart : Drawn → Net
+net_apart drawn = record { events = drawn.net.events; constraints = constraints_apart drawn.net.constraints drawn.origins }
+
+-- times that satisfy the drawn network satisfy it
+abbrev pub ApartIsWider : Type 0
+ApartIsWider = (drawn : Drawn) (times : List ℤ) → Satisfies times drawn.net → Satisfies times (net_apart drawn)
