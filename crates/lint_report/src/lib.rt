@@ -1,0 +1,7 @@
+//! Job lint: what of a design may say something else than was meant.
+//! The contract of the crate: `write_lint` writes just the warnings of the definitions; where a put failed, a front of such a text.
+#![tactic(auto)]
+
+mod write;
+
+pub use write::write_lint;

@@ -1,0 +1,41 @@
+//! What may say something else than was meant.
+
+use compose::DesignMark;
+use origin::Origin;
+
+/// What draws something: an edge or a lane of the sheet of a part, by the number of the part from 0; or a pin of a net or an edge of the
+/// netlist, and then the part is not looked at.
+#[derive(Clone, Copy, Debug, PartialEq, Eq)]
+pub struct Spot {
+    pub part: u32,
+    pub origin: Origin,
+}
+
+/// What may say something else than was meant.
+#[derive(Clone, Copy, Debug, PartialEq, Eq)]
+pub enum Warning {
+    /// The design asks nothing: it has no question and no requirement.
+    Rows,
+    /// The text of an edge is a comment, and has a sign of a label.
+    Comment(Spot),
+    /// The note of an edge begins with a unit of time or with a bracket.
+    Note(Spot),
+    /// Two linear rules from different marks hold one mark from above.
+    Both(Spot, Spot),
+    /// A latest or earliest rule has one cause.
+    Single(Spot),
+    /// A rule or a row is in no cycle.
+    Never(Spot),
+    /// A mark follows two drivers: the pins by which it does.
+    Drivers {
+        mark: DesignMark,
+        first: Origin,
+        other: Origin,
+    },
+    /// A mark follows a driver by a pin, and an edge of its sheet holds it from above.
+    Own {
+        mark: DesignMark,
+        pin: Origin,
+        edge: Origin,
+    },
+}
