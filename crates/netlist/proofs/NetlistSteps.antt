@@ -2,7 +2,8 @@
 use Rattle.std.proofs.Common.{◌≡◌, ℕ, Bool, false, true, [], List, length, Option, Some, None, Ok, Err, refl}
 use Rattle.std.specs.Prelude.{codes, nat_le}
 use Rattle.serde_json.specs.Data.{Data}
-use Rattle.serde_json.specs.Find.{get}
+use Rattle.std.specs.List.{filter_map}
+use Rattle.serde_json.specs.Find.{as_str, get}
 use Rattle.itv_base.specs.declared.limits.TheConstants.{MAX_PARTS, MAX_SHEET_NAMES}
 use Rattle.netlist.specs.declared.fault.NetlistFault.{NetlistFault}
 use Rattle.netlist.specs.declared.fault.NetlistFault.TheVariants.{PartsNotList, TooManyParts, TooManySheets, NetsNotList, EdgesNotList}
@@ -11,7 +12,7 @@ use Rattle.netlist.specs.declared.wire.Wire.{Wire}
 use Rattle.netlist.specs.Contents.{JoinedPins}
 use Rattle.netlist.specs.Fault.{is_memory}
 use Rattle.json_tree.specs.Words.{list_at}
-use Rattle.netlist.specs.Netlist.{cycles_of, list_if, parts_of, nets_of, wires_of, netlist_of, sheet_names, with_part, with_net, with_wire, version_of}
+use Rattle.netlist.specs.Netlist.{cycles_of, edges_of, list_if, parts_of, nets_of, wires_of, netlist_of, sheet_names, with_part, with_net, with_wire, version_of}
 use Rattle.itv_base.specs.Reading.{walk, Unless, HasFault}
 use Rattle.itv_base.proofs.Faults.{HasFault-first}
 
@@ -65,6 +66,14 @@ module _ (tree : Data) where
   unfolding wires_of
   wires-are listed is = rw is refl
 
+  pub edges-fault : (fault : NetlistFault) → list_if (get (codes "edges") tree) EdgesNotList ≡ Err fault → HasFault is_memory (edges_of tree) fault
+  unfolding edges_of
+  edges-fault fault is = rw is (holds_unless (is_memory fault) refl)
+
+  pub edges-are : (listed : List Data) → list_if (get (codes "edges") tree) EdgesNotList ≡ Ok listed → edges_of tree ≡ Ok (filter_map as_str listed)
+  unfolding edges_of
+  edges-are listed is = rw is refl
+
   -- ---- the whole
 
   pub version-fault : (fault : NetlistFault) → HasFault is_memory (version_of tree) fault → HasFault is_memory (netlist_of tree) fault
@@ -91,7 +100,12 @@ module _ (tree : Data) where
           unfolding netlist_of
           all_wires-fault fault h = rw (told, counted, are, joined) (HasFault-first is_memory (wires_of tree) _ fault h)
 
-          pub netlist-ok : (wires : List (Option Wire)) → wires_of tree ≡ Ok wires
-              → netlist_of tree ≡ Ok (record { version = version; cycles = cycles; parts = parts; nets = nets; wires = wires })
-          unfolding netlist_of
-          netlist-ok wires is = rw (told, counted, are, joined, is) refl
+          module _ (wires : List (Option Wire)) (wired : wires_of tree ≡ Ok wires) where
+            pub all_edges-fault : (fault : NetlistFault) → HasFault is_memory (edges_of tree) fault → HasFault is_memory (netlist_of tree) fault
+            unfolding netlist_of
+            all_edges-fault fault h = rw (told, counted, are, joined, wired) (HasFault-first is_memory (edges_of tree) _ fault h)
+
+            pub netlist-ok : (edges : List (List ℕ)) → edges_of tree ≡ Ok edges
+                → netlist_of tree ≡ Ok (record { version = version; cycles = cycles; parts = parts; nets = nets; wires = wires; edges = edges })
+            unfolding netlist_of
+            netlist-ok edges is = rw (told, counted, are, joined, wired, is) refl

@@ -24,7 +24,7 @@ use Rattle.netlist.specs.declared.pin.PinText.{PinText}
 use Rattle.netlist.specs.declared.wire.Wire.{Wire}
 use Rattle.netlist.specs.Contents.{Contents, JoinedPins}
 use Rattle.json_tree.specs.Words.{list_at, whole_at}
-use Rattle.netlist.specs.Netlist.{cycles_from, cycles_of, delay_of, demand, is_part, labelled, list_if, net_of, netlist_of, nets_of, part_of, parts_of, pins_of, range_of, seen_wire, sheet_names, unless_empty, version_of, wire_at, wires_of, with_net, with_part, with_wire}
+use Rattle.netlist.specs.Netlist.{cycles_from, cycles_of, delay_of, demand, edges_of, is_part, labelled, list_if, net_of, netlist_of, nets_of, part_of, parts_of, pins_of, range_of, seen_wire, sheet_names, unless_empty, version_of, wire_at, wires_of, with_net, with_part, with_wire}
 use Rattle.itv_base.specs.Reading.{walk}
 use Rattle.itv_base.proofs.Ranges.{is_range}
 use Rattle.itv_base.proofs.Faults.{IfOk-bind, IfOk-walk}
@@ -165,7 +165,8 @@ read_whole tree =
     (λ cycles count. IfOk-bind AreFew IsNetlist (parts_of version tree) _ (parts_whole version tree)
     (λ parts few. IfOk-bind (All IsWholeNet) IsNetlist (nets_of tree) _ (nets_whole tree)
     (λ nets joined. IfOk-bind (All IsWholeIfAny) IsNetlist (wires_of tree) _ (wires_whole tree)
-    (λ wires are. record { some = count.0; few = count.1; few_parts = few.count; few_sheets = few.sheets; whole_nets = joined; whole_wires = are })))))
+    (λ wires are. IfOk-bind (λ _. Unit {0}) IsNetlist (edges_of tree) _ (IfOk-any (edges_of tree))
+    (λ edges _. record { some = count.0; few = count.1; few_parts = few.count; few_sheets = few.sheets; whole_nets = joined; whole_wires = are }))))))
 
 -- the netlist of a tree is whole
 pub netlist_whole : (tree : Data) (netlist : Contents) → netlist_of tree ≡ Ok netlist → IsNetlist netlist

@@ -10,10 +10,12 @@ pub record JoinedPins : Type 0 where
   pub pins : List PinText
   pub delay : Ends
 
--- the version, the number of cycles, and the parts, nets and wires in order; a wire that is a comment is none
+-- The version, the number of cycles, and the parts, nets and wires in order; a wire that is a comment is none. The edges are the texts
+-- of the wires in order, as they are written, comments among them.
 pub record Contents : Type 0 where
   pub version : ℕ
   pub cycles : ℕ
   pub parts : List Part
   pub nets : List JoinedPins
   pub wires : List (Option Wire)
+  pub edges : List (List ℕ)

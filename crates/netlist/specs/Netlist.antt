@@ -1,6 +1,6 @@
 -- The netlist of a tree, or its first fault. Parts, nets and wires are numbered from 0.
 use Rattle.std.specs.Prelude.{ℕ, ◌==◌, ◌&&◌, ◌||◌, nat_le, ℤ, pos, negsuc, Bool, true, false, if◌then◌else◌, List, [], ◌∷◌, ◌++◌, length, codes, Option, Some, None, ok_or, option_map, option_and_then, Result, Ok, Err, ⊤}
-use Rattle.std.specs.List.{list_any, before_first, after_first}
+use Rattle.std.specs.List.{filter_map, list_any, before_first, after_first}
 use Rattle.std.specs.Str.{bytes_eq}
 use Rattle.serde_json.specs.Data.{Data}
 use Rattle.serde_json.specs.Find.{get, as_object, as_str}
@@ -188,6 +188,12 @@ wires_of tree = do
   listed ← list_if (get (codes "edges") tree) EdgesNotList
   walk with_wire 0 [] listed
 
+-- the texts of the wires as they are written, comments among them
+unfoldable pub edges_of : Data → Result (List (List ℕ)) NetlistFault
+edges_of tree = do
+  listed ← list_if (get (codes "edges") tree) EdgesNotList
+  Ok (filter_map as_str listed)
+
 -- ---- the whole
 
 -- The netlist of a tree, or its first fault. No other key of the tree, of a part or of a net is read.
@@ -198,8 +204,16 @@ netlist_of tree = do
   parts ← parts_of version tree
   nets ← nets_of tree
   wires ← wires_of tree
-  Ok (record { version = version; cycles = cycles; parts = parts; nets = nets; wires = wires })
+  edges ← edges_of tree
+  Ok (record { version = version; cycles = cycles; parts = parts; nets = nets; wires = wires; edges = edges })
 
 -- the netlist that the sheet of a name stands for: one part in one cycle, of version 1
 abbrev pub lone_netlist : List ℕ → Contents
-lone_netlist sheet = record { version = 1; cycles = 1; parts = record { name = codes "U"; sheet = sheet; grade = None } ∷ []; nets = []; wires = [] }
+lone_netlist sheet = record {
+  version = 1;
+  cycles = 1;
+  parts = record { name = codes "U"; sheet = sheet; grade = None } ∷ [];
+  nets = [];
+  wires = [];
+  edges = [];
+}

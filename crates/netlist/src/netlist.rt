@@ -11,7 +11,7 @@ use itv_base::{NoMemory, Text, Texts};
 use std::alloc::Global;
 use std::marker::Model;
 
-/// The version, the number of cycles, and the parts, nets and wires of a netlist.
+/// The version, the number of cycles, and the parts, nets and wires of a netlist, and the texts of its wires.
 #[derive(Debug, Drop)]
 pub struct Netlist {
     pub(crate) version: u32,
@@ -20,6 +20,7 @@ pub struct Netlist {
     pub(crate) sheet_names: Texts,
     pub(crate) nets: Nets,
     pub(crate) wires: Wires,
+    pub(crate) edges: Texts,
 }
 
 impl Model for Netlist {
@@ -30,9 +31,9 @@ impl Model for Netlist {
 
     ghost Value = { Contents };
 
-    ghost view = { λ n. record { version = n.version; cycles = n.cycles; parts = n.parts; nets = n.nets; wires = n.wires } };
+    ghost view = { λ n. record { version = n.version; cycles = n.cycles; parts = n.parts; nets = n.nets; wires = n.wires; edges = n.edges } };
 
-    ghost invariant = { λ n. IsNetlist (record { version = n.version; cycles = n.cycles; parts = n.parts; nets = n.nets; wires = n.wires })
+    ghost invariant = { λ n. IsNetlist (record { version = n.version; cycles = n.cycles; parts = n.parts; nets = n.nets; wires = n.wires; edges = n.edges })
         × (n.sheet_names ≡ names_of n.parts) };
 }
 
@@ -56,6 +57,7 @@ impl Netlist {
             sheet_names,
             nets: Nets::new(alloc),
             wires: Wires::new(alloc),
+            edges: Texts::new(alloc)?,
         })
     }
 
@@ -101,5 +103,12 @@ impl Netlist {
         ensures wires { result.now ≡ self.now.wires }
     {
         &self.wires
+    }
+
+    /// The texts of the wires in order, as they are written, comments among them.
+    pub fn edges(&self) -> &Texts
+        ensures edges { result.now ≡ self.now.edges }
+    {
+        &self.edges
     }
 }

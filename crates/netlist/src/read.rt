@@ -3,7 +3,7 @@
 ghost use Rattle.std.specs.Prelude.{◌≡◌, ◌≤◌, OnOk, IfOk, length};
 ghost use Rattle.serde_json.specs.View.{view};
 ghost use Rattle.netlist.specs.Fault.{is_memory};
-ghost use Rattle.netlist.specs.Netlist.{netlist_of, nets_of, parts_of, sheet_names, wires_of};
+ghost use Rattle.netlist.specs.Netlist.{edges_of, netlist_of, nets_of, parts_of, sheet_names, wires_of};
 ghost use Rattle.itv_base.specs.Reading.{Gives};
 
 use crate::cycles::{read_cycles, read_version};
@@ -13,7 +13,7 @@ use crate::nets::read_nets;
 use crate::part::Parts;
 use crate::parts::read_parts;
 use crate::sheet_names::names_of_sheets;
-use crate::tree::list_if;
+use crate::tree::{list_if, texts_of};
 use crate::wires::read_wires;
 use crate::{Nets, Wires};
 use itv_base::{MAX_PARTS, MAX_SHEET_NAMES, Texts};
@@ -38,6 +38,7 @@ pub fn read_netlist(alloc: Global, tree: &Value) -> Result<Netlist, NetlistFault
     let NamedParts { parts, sheet_names } = parts_of(alloc, version, tree)?;
     let nets = nets_of(alloc, tree)?;
     let wires = wires_of(alloc, tree)?;
+    let edges = edges_of(alloc, tree)?;
     Ok(Netlist {
         version,
         cycles,
@@ -45,6 +46,7 @@ pub fn read_netlist(alloc: Global, tree: &Value) -> Result<Netlist, NetlistFault
         sheet_names,
         nets,
         wires,
+        edges,
     })
 }
 
@@ -89,4 +91,13 @@ fn wires_of(alloc: Global, tree: &Value) -> Result<Wires, NetlistFault>
 {
     let list = list_if(tree, "edges", NetlistFault::EdgesNotList)?;
     read_wires(alloc, list)
+}
+
+// The texts of the wires of a tree, none where it has no such key, or the fault of what stands there.
+fn edges_of(alloc: Global, tree: &Value) -> Result<Texts, NetlistFault>
+    ensures { Gives is_memory (λ edges. edges) result (edges_of (view tree.now)) }
+{
+    let list = list_if(tree, "edges", NetlistFault::EdgesNotList)?;
+    let texts = texts_of(alloc, list)?;
+    Ok(texts)
 }

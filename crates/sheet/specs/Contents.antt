@@ -1,14 +1,15 @@
 -- What a sheet holds.
-use Rattle.std.specs.Prelude.{List}
+use Rattle.std.specs.Prelude.{ℕ, List}
 use Rattle.sheet.specs.declared.mark.Mark.{Mark}
 use Rattle.sheet.specs.declared.pin.Pin.{Pin}
 use Rattle.sheet.specs.declared.row.SheetRow.{SheetRow}
 use Rattle.sheet.specs.Rule.{SheetRule}
 
--- the marks lane by lane and then by place, the pins, the rules in the order of their constraints, and the rows in the order
--- of their edges
+-- the marks lane by lane and then by place, the pins, the rules in the order of their constraints, the rows in the order of their
+-- edges, and the texts of the edges in order, as they are written, comments among them
 pub record Contents : Type 0 where
   pub marks : List Mark
   pub pins : List Pin
   pub rules : List SheetRule
   pub rows : List SheetRow
+  pub edges : List (List ℕ)

@@ -1,4 +1,5 @@
-//! One sheet of a part: the marks on its lanes, its pins, the rules between its marks, and the separations that it asks for.
+//! One sheet of a part: the marks on its lanes, its pins, the rules between its marks, the separations that it asks for, and the
+//! texts of its edges.
 //! A mark is named by its number on the sheet, lane by lane and then by place.
 //! The one contract: `read_sheet` gives the sheet of the drawing, or its first fault exactly where it has one.
 #![tactic(auto)]
@@ -18,6 +19,7 @@ mod row;
 mod rows;
 mod rule;
 mod sheet;
+mod texts;
 
 pub use fault::SheetFault;
 pub use grades::{Grade, Grades, GradesFault, Parameter, Parameters, read_grades};
@@ -30,3 +32,4 @@ pub use row::{SheetRow, SheetRows};
 pub use rows::push_row;
 pub use rule::{Rule, Rules, Source, Sources};
 pub use sheet::Sheet;
+pub use texts::copied;

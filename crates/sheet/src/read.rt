@@ -17,6 +17,7 @@ use crate::lanes::{LaneMarks, read_marks};
 use crate::order::push_lane_orders;
 use crate::pins::read_pins;
 use crate::sheet::Sheet;
+use crate::texts::copied;
 use grades::{Grade, Grades};
 use std::alloc::Global;
 use wavejson::Diagram;
@@ -87,10 +88,12 @@ fn read_with(alloc: Global, labels: Labels<'_>, diagram: &Diagram) -> Result<She
         diagram.edges(),
         rules,
     )?;
+    let edges = copied(alloc, diagram.edges())?;
     Ok(Sheet {
         marks,
         pins,
         rules,
         rows,
+        edges,
     })
 }

@@ -7,15 +7,17 @@ use crate::mark::Marks;
 use crate::pin::Pins;
 use crate::row::SheetRows;
 use crate::rule::Rules;
+use itv_base::Texts;
 use std::marker::Model;
 
-/// The marks, pins, rules and rows of a sheet.
+/// The marks, pins, rules and rows of a sheet, and the texts of its edges.
 #[derive(Debug, Drop)]
 pub struct Sheet {
     pub(crate) marks: Marks,
     pub(crate) pins: Pins,
     pub(crate) rules: Rules,
     pub(crate) rows: SheetRows,
+    pub(crate) edges: Texts,
 }
 
 impl Model for Sheet {
@@ -24,9 +26,9 @@ impl Model for Sheet {
 
     ghost Value = { Contents };
 
-    ghost view = { λ s. record { marks = s.marks; pins = s.pins; rules = s.rules; rows = s.rows } };
+    ghost view = { λ s. record { marks = s.marks; pins = s.pins; rules = s.rules; rows = s.rows; edges = s.edges } };
 
-    ghost invariant = { λ s. IsWhole (record { marks = s.marks; pins = s.pins; rules = s.rules; rows = s.rows }) };
+    ghost invariant = { λ s. IsWhole (record { marks = s.marks; pins = s.pins; rules = s.rules; rows = s.rows; edges = s.edges }) };
 }
 
 impl Sheet {
@@ -57,5 +59,12 @@ impl Sheet {
         ensures rows { result.now ≡ self.now.rows }
     {
         &self.rows
+    }
+
+    /// The texts of the edges of the drawing in order, as they are written, comments among them.
+    pub fn edges(&self) -> &Texts
+        ensures edges { result.now ≡ self.now.edges }
+    {
+        &self.edges
     }
 }

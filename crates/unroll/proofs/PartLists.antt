@@ -9,6 +9,7 @@ use Rattle.std.proofs.lemmas.Option.{get_or_from_slice_get, slice_get_within}
 use Rattle.sheet.specs.Contents.{Contents}
 use Rattle.sheet.specs.declared.rule.Source.{Source}
 use Rattle.sheet.specs.Rule.{SheetRule}
+use Rattle.sheet.proofs.Lists.{take_get}
 use Rattle.sheet.specs.declared.row.SheetRow.{SheetRow}
 use Rattle.compose.specs.declared.mark.DesignMark.{DesignMark}
 use Rattle.compose.specs.Design.{IsMarkOf}
@@ -17,10 +18,6 @@ use Rattle.unroll.specs.Cycle.{part_rows, part_rules, row_behind, rule_behind, s
 use Rattle.unroll.specs.Cycles.{row_exists, rule_exists}
 use Rattle.unroll.specs.Step.Firsts.{firsts_of}
 use Rattle.unroll.specs.Step.Kept.{kept_rows, kept_rules}
-
--- a front with the next element
-pub take_get : {X : Type 0} (xs : List X) (i : ℕ) (x : X) → slice_get xs i ≡ Some x → take (i + 1) xs ≡ take i xs ++ x ∷ []
-take_get xs i x read = take_more xs i x (slice_get_within xs i x read) ∙ ap (λ y. take i xs ++ y ∷ []) (get_or_from_slice_get xs i x x read)
 
 pub take_length : {X : Type 0} (xs : List X) (i : ℕ) (x : X) → slice_get xs i ≡ Some x → length (take i xs) ≡ i
 take_length xs i x read =

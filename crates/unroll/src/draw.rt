@@ -12,7 +12,7 @@ use crate::asked::rows_of;
 use crate::counted::{Counted, first_passed};
 use crate::counts::Counts;
 use crate::fault::UnrollFault;
-use crate::names::{copied, labels_of};
+use crate::names::labels_of;
 use crate::network::network_of;
 use crate::numbered::Numbered;
 use crate::origins::origins_of;
@@ -21,6 +21,7 @@ use crate::rules::rules_of;
 use compose::Design;
 use drawn::DrawnNetwork;
 use itv_base::NoMemory;
+use sheet::copied;
 use std::alloc::Global;
 
 /// What a design draws, cycle by cycle: its events, its constraints and its rows; or the first limit that this passes, with how

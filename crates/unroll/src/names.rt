@@ -6,7 +6,7 @@ ghost use Rattle.unroll.specs.Step.Labels.{label_of, labels_from};
 
 use compose::Design;
 use drawn::EventLabel;
-use itv_base::{NoMemory, Texts};
+use itv_base::NoMemory;
 use sheet::Mark;
 use std::alloc::Global;
 
@@ -56,15 +56,4 @@ fn push_marks(
         })?;
     }
     Ok(())
-}
-
-/// A copy of texts.
-pub fn copied(alloc: Global, texts: &Texts) -> Result<Texts, NoMemory>
-    ensures { IfOk result (λ copy. copy ≡ texts.now) }
-{
-    let mut copy = Texts::new(alloc)?;
-    for k in 0..texts.len() {
-        copy.push(alloc, texts.get(k).as_text())?;
-    }
-    Ok(copy)
 }

@@ -1,6 +1,6 @@
 use Rattle.std.proofs.lemmas.Result.{err_from_is_err_and}
 use Rattle.serde_json.specs.View.{view}
-use Rattle.netlist.proofs.NetlistSteps.{version-fault, cycles-fault, all_parts-fault, all_nets-fault, all_wires-fault, netlist-ok}
+use Rattle.netlist.proofs.NetlistSteps.{version-fault, cycles-fault, all_parts-fault, all_nets-fault, all_wires-fault, all_edges-fault, netlist-ok}
 use Rattle.netlist.proofs.WholeNetlists.{netlist_whole}
 use Rattle.netlist.proofs.read.read_netlist.Goals as goal
 
@@ -29,9 +29,15 @@ returns-in_err-wires c =
     let p = err_from_is_err_and c.from_residual-in_err-wires.result c.from_residual-in_err-wires.ensures.1 in
     rw (p.1, p.2) (record { answer = all_wires-fault (view c.args.tree.now) _ c.in_ok-version.ensures _ c.in_ok-cycles.ensures _ c.in_ok-parts.ensures.parts _ c.in_ok-nets.ensures c.in_err-wires.field-0.0 c.in_err-wires.ensures })
 
+pub returns-in_err-edges : goal.returns-in_err-edges
+returns-in_err-edges c =
+    let p = err_from_is_err_and c.from_residual-in_err-edges.result c.from_residual-in_err-edges.ensures.1 in
+    rw (p.1, p.2)
+    (record { answer = all_edges-fault (view c.args.tree.now) _ c.in_ok-version.ensures _ c.in_ok-cycles.ensures _ c.in_ok-parts.ensures.parts _ c.in_ok-nets.ensures _ c.in_ok-wires.ensures c.in_err-edges.field-0.0 c.in_err-edges.ensures })
+
 pub invariant_of-result : goal.invariant_of-result
 invariant_of-result c =
-    (netlist_whole (view c.args.tree.now) _ (netlist-ok (view c.args.tree.now) _ c.in_ok-version.ensures _ c.in_ok-cycles.ensures _ c.in_ok-parts.ensures.parts _ c.in_ok-nets.ensures _ c.in_ok-wires.ensures), c.in_ok-parts.ensures.names)
+    (netlist_whole (view c.args.tree.now) _ (netlist-ok (view c.args.tree.now) _ c.in_ok-version.ensures _ c.in_ok-cycles.ensures _ c.in_ok-parts.ensures.parts _ c.in_ok-nets.ensures _ c.in_ok-wires.ensures _ c.in_ok-edges.ensures), c.in_ok-parts.ensures.names)
 
 pub returns : goal.returns
-returns c = record { answer = netlist-ok (view c.args.tree.now) _ c.in_ok-version.ensures _ c.in_ok-cycles.ensures _ c.in_ok-parts.ensures.parts _ c.in_ok-nets.ensures _ c.in_ok-wires.ensures }
+returns c = record { answer = netlist-ok (view c.args.tree.now) _ c.in_ok-version.ensures _ c.in_ok-cycles.ensures _ c.in_ok-parts.ensures.parts _ c.in_ok-nets.ensures _ c.in_ok-wires.ensures _ c.in_ok-edges.ensures }

@@ -28,7 +28,7 @@ of-requires c =
     let d = c.args.design.now in
     let rules : c.deref.result.now ≡ kept_rules d.cycles (rules_of d) = c.deref.ensures.value ∙ (rw c.in_ok-numbered.ensures at c.in_ok-rules.ensures) in
     let asked : c.deref-3.result.now ≡ kept_rows d.cycles (rows_of d) = c.deref-3.ensures.value ∙ (rw c.in_ok-numbered.ensures at c.in_ok-asked.ensures) in
-    let parts : c.in_ok-parts.parts ≡ d.parts = c.in_ok-parts.ensures ∙ c.parts.ensures.parts in
+    let parts : c.in_ok-parts.parts ≡ d.parts = c.in_ok-parts.ensures.copy ∙ c.parts.ensures.parts in
     let drew : c.in_ok-origins.origins ≡ origins_of c.deref.result.now c.cycles-cycles.result =
     c.in_ok-origins.ensures ∙ ap (λ rules. origins_of rules c.cycles-cycles.result) (c.deref-2.ensures.value ∙ sym c.deref.ensures.value) in
     let made = made_by d c.args.marks c.cycles-cycles.result c.deref.result.now c.deref-3.result.now c.in_ok-network.network c.in_ok-origins.origins c.in_ok-parts.parts c.in_ok-labels.labels.items c.in_ok-rows.rows
@@ -40,7 +40,7 @@ returns c =
     let d = c.args.design.now in
     let rules : c.deref.result.now ≡ kept_rules d.cycles (rules_of d) = c.deref.ensures.value ∙ (rw c.in_ok-numbered.ensures at c.in_ok-rules.ensures) in
     let asked : c.deref-3.result.now ≡ kept_rows d.cycles (rows_of d) = c.deref-3.ensures.value ∙ (rw c.in_ok-numbered.ensures at c.in_ok-asked.ensures) in
-    let parts : c.in_ok-parts.parts ≡ d.parts = c.in_ok-parts.ensures ∙ c.parts.ensures.parts in
+    let parts : c.in_ok-parts.parts ≡ d.parts = c.in_ok-parts.ensures.copy ∙ c.parts.ensures.parts in
     let drew : c.in_ok-origins.origins ≡ origins_of c.deref.result.now c.cycles-cycles.result =
     c.in_ok-origins.ensures ∙ ap (λ rules. origins_of rules c.cycles-cycles.result) (c.deref-2.ensures.value ∙ sym c.deref.ensures.value) in
     let made = made_by d c.args.marks c.cycles-cycles.result c.deref.result.now c.deref-3.result.now c.in_ok-network.network c.in_ok-origins.origins c.in_ok-parts.parts c.in_ok-labels.labels.items c.in_ok-rows.rows

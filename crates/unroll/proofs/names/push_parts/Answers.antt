@@ -1,6 +1,7 @@
 use Rattle.std.proofs.Common.{take}
 use Rattle.unroll.proofs.NameLists.{labels_kept}
-use Rattle.unroll.proofs.PartLists.{take_get, take_length}
+use Rattle.sheet.proofs.Lists.{take_get}
+use Rattle.unroll.proofs.PartLists.{take_length}
 use Rattle.unroll.proofs.names.push_parts.Goals as goal
 
 pub loop-part-preserved : goal.loop-part-preserved

@@ -1,7 +1,8 @@
 use Rattle.std.proofs.Common.{◌≤◌, length, take, ap, ◌∙◌, arith}
 use Rattle.std.proofs.lemmas.List.{take_all}
 use Rattle.unroll.specs.Step.Firsts.{firsts_of}
-use Rattle.unroll.proofs.PartLists.{firsts_kept, mark_count_push, take_get}
+use Rattle.sheet.proofs.Lists.{take_get}
+use Rattle.unroll.proofs.PartLists.{firsts_kept, mark_count_push}
 use Rattle.unroll.proofs.numbered.firsts_of.Goals as goal
 
 pub overflow_cast-parts : goal.overflow_cast-parts
