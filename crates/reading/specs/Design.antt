@@ -1,8 +1,6 @@
--- The reading of a design: its file, and the files of its sheets.
+-- The reading of a design: its file, and the files of its sheets, which make a plan; and what the plan draws.
 use Rattle.std.specs.Prelude.{ℕ, ◌==◌, ◌&&◌, Bool, if◌then◌else◌, List, [], Option, Some, None, is_some, is_none, ok_or, codes}
-use Rattle.std.specs.List.{filter_map}
 use Rattle.std.specs.Str.{bytes_eq, is_utf8}
-use Rattle.std.specs.Map.{lookup}
 use Rattle.indexmap.specs.IndexMap.{insert_entry}
 use Rattle.serde_json.specs.Data.{Data}
 use Rattle.serde_json.specs.Read.{read}
@@ -20,6 +18,7 @@ use Rattle.netlist.specs.Netlist.{netlist_of, lone_netlist, sheet_names}
 use Rattle.compose.specs.Compose.{composed_on}
 use Rattle.compose.specs.Sheets.{key_of, same_key}
 use Rattle.compose.specs.declared.sheet_key.SheetKey.{SheetKey}
+use Rattle.plan.specs.Plan.{NamedSheets, Planned, sheet_among, sheets_on}
 use Rattle.drawn.specs.Drawn.{Drawn}
 use Rattle.unroll.specs.Limits.{unrolled}
 use Rattle.reading.specs.declared.place.Place.{Place}
@@ -44,20 +43,9 @@ tree_in place name = do
 
 -- ---- sheets by their names and speed grades
 
-abbrev pub NamedSheets : Type 0
-NamedSheets = List (SheetKey × sheet.Contents)
-
 -- with one more sheet
 abbrev pub with_sheet : NamedSheets → SheetKey → sheet.Contents → NamedSheets
 with_sheet sheets key sheet = insert_entry same_key sheets key sheet
-
--- the sheet of a key
-abbrev pub sheet_among : NamedSheets → SheetKey → Option sheet.Contents
-sheet_among sheets key = lookup (same_key key) sheets
-
--- the sheets that parts are drawn on
-abbrev pub sheets_on : NamedSheets → List Part → List sheet.Contents
-sheets_on sheets parts = filter_map (λ part. sheet_among sheets (key_of part)) parts
 
 -- ---- the sheets of files
 
@@ -95,13 +83,7 @@ sheets_in netlist number sheets name = do
 abbrev pub sheets_of_files : Contents → List (List ℕ) → Opening NamedSheets
 sheets_of_files netlist names = each (sheets_in netlist) 1 [] names
 
--- ---- designs
-
--- What a netlist and its sheets draw. The faults of joins come before the limits.
-unfoldable pub drawn_at : Contents → NamedSheets → Opening Drawn
-drawn_at netlist sheets = do
-  design ← at Design Joins (composed_on netlist (sheets_on sheets netlist.parts))
-  at Design Limits (unrolled design)
+-- ---- plans
 
 -- the key of a sheet without a grade
 abbrev pub plain_key : List ℕ → SheetKey
@@ -113,25 +95,43 @@ plain_sheet_at place tree = do
   drawing ← at place Diagram (diagram_of tree)
   at place Sheet (sheet_of plain drawing)
 
--- what a lone sheet draws, as the one part of a netlist
-abbrev pub lone_at : List ℕ → Data → Opening Drawn
+-- a lone sheet as the one part of a netlist
+abbrev pub lone_plan : List ℕ → sheet.Contents → Planned
+lone_plan name sheet = record { netlist = lone_netlist name; sheets = with_sheet [] (plain_key name) sheet }
+
+-- the plan of a lone sheet
+abbrev pub lone_at : List ℕ → Data → Opening Planned
 lone_at name tree = do
   sheet ← plain_sheet_at (File 0) tree
-  drawn_at (lone_netlist name) (with_sheet [] (plain_key name) sheet)
+  gives (lone_plan name sheet)
 
--- What a netlist draws: the sheets that it names are fetched in the order in which they are first mentioned, as files 1, 2 and so on.
-abbrev pub netlist_at : Data → Opening Drawn
+-- The plan of a netlist: the sheets that it names are fetched in the order in which they are first mentioned, as files 1, 2 and so on.
+abbrev pub netlist_at : Data → Opening Planned
 netlist_at tree = do
   netlist ← at (File 0) Netlist (netlist_of tree)
   sheets ← sheets_of_files netlist (sheet_names netlist.parts)
-  drawn_at netlist sheets
+  gives (record { netlist = netlist; sheets = sheets })
 
 -- An object without the key `itv` is a lone sheet. Any other tree is a netlist, or refused as one.
-abbrev pub tree_drawn : List ℕ → Data → Opening Drawn
-tree_drawn name tree = if is_some (as_object tree) && is_none (get (codes "itv") tree) then lone_at name tree else netlist_at tree
+abbrev pub tree_planned : List ℕ → Data → Opening Planned
+tree_planned name tree = if is_some (as_object tree) && is_none (get (codes "itv") tree) then lone_at name tree else netlist_at tree
+
+-- the plan of the design of a file
+abbrev pub plan_at : List ℕ → Opening Planned
+plan_at name = do
+  tree ← tree_in (File 0) name
+  tree_planned name tree
+
+-- ---- designs
+
+-- What a netlist and its sheets draw. The faults of joins come before the limits.
+unfoldable pub drawn_at : Contents → NamedSheets → Opening Drawn
+drawn_at netlist sheets = do
+  design ← at Design Joins (composed_on netlist (sheets_on sheets netlist.parts))
+  at Design Limits (unrolled design)
 
 -- what the design of a file draws
 abbrev pub design_at : List ℕ → Opening Drawn
 design_at name = do
-  tree ← tree_in (File 0) name
-  tree_drawn name tree
+  plan ← plan_at name
+  drawn_at plan.netlist plan.sheets

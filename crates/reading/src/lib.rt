@@ -1,19 +1,22 @@
 //! Reads a design from its files: places, refusals and their lines, and the reading itself, which asks for files as it goes.
 //! A design file is a netlist, whose sheets are fetched in the order of first mention, or a lone sheet.
-//! The one contract: `open_design` gives what the design draws, or the first refusal with its place, or the file that failed.
+//! The one contract: `open_plan` gives the plan of the design, its netlist and its sheets, and `open_design` what the design draws, or the
+//! first refusal with its place, or the file that failed.
 #![tactic(auto)]
 
 mod design;
 mod file;
 mod place;
+mod plan;
 mod put;
 mod refusal;
 mod sheets;
 mod stop;
 
-pub use design::open_design;
+pub use design::{draw_plan, open_design};
 pub use file::fetch_file;
 pub use place::Place;
+pub use plan::open_plan;
 pub use put::{put_refusal, put_unread};
 pub use refusal::Refusal;
 pub use stop::{Stop, edits_stop};

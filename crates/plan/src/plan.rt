@@ -1,0 +1,138 @@
+//! A plan.
+
+ghost use Rattle.std.specs.Prelude.{◌≡◌, ◌<◌, [], Some, IfOk, IfSome, length, option_and_then, slice_get};
+ghost use Rattle.std.specs.Option.{option_copied, option_map_or};
+ghost use Rattle.compose.specs.Nets.{part_named};
+ghost use Rattle.compose.specs.Sheets.{key_of};
+ghost use Rattle.netlist.specs.declared.part.Part.{Part as PartSeen};
+ghost use Rattle.plan.specs.Notes.{edge_named, part_note, plan_note, wire_note};
+ghost use Rattle.plan.specs.Plan.{IsPlan, sheet_among};
+
+use crate::label_note::{edge_note, wire_note};
+use crate::places::places_of;
+use compose::Sheets;
+use itv_base::{NoMemory, Texts};
+use netlist::{Netlist, Part};
+use notes::Notes;
+use origin::Origin;
+use sheet::Sheet;
+use std::alloc::Global;
+use std::marker::Model;
+
+/// What was read of a design: its netlist, and the sheets of its parts.
+#[derive(Debug, Drop)]
+pub struct Plan {
+    netlist: Netlist,
+    sheets: Sheets,
+    // Where the sheet of each part stands among the sheets, part by part.
+    places: Vec<usize>,
+}
+
+impl Model for Plan {
+    ghost use Rattle.plan.specs.Plan.{IsPlan, Planned};
+    ghost use Rattle.plan.specs.Step.{ArePlaces};
+
+    ghost Value = { Planned };
+
+    ghost view = { λ p. record { netlist = p.netlist; sheets = p.sheets.entries } };
+
+    ghost invariant = { λ p. IsPlan (record { netlist = p.netlist; sheets = p.sheets.entries })
+        × ArePlaces p.sheets.entries p.netlist.parts p.places.items };
+}
+
+impl Plan {
+    /// The plan of a netlist and of sheets, among which each part has its own.
+    pub fn of(alloc: Global, netlist: Netlist, sheets: Sheets) -> Result<Plan, NoMemory>
+        requires sheets { IsPlan (record { netlist = netlist; sheets = sheets.entries }) }
+        ensures plan { IfOk result (λ plan. plan ≡ record { netlist = netlist; sheets = sheets.entries }) }
+    {
+        let places = places_of(alloc, netlist.parts().as_slice(), &sheets)?;
+        Ok(Plan {
+            netlist,
+            sheets,
+            places,
+        })
+    }
+
+    /// The netlist.
+    pub fn netlist(&self) -> &Netlist
+        ensures netlist { result.now ≡ self.now.netlist }
+        ensures plan { IsPlan self.now }
+    {
+        &self.netlist
+    }
+
+    /// The sheets by their names and speed grades, in the order in which they were read.
+    pub fn sheets(&self) -> &Sheets
+        ensures sheets { result.now.entries ≡ self.now.sheets }
+    {
+        &self.sheets
+    }
+
+    // The note of an edge of the sheet of a part, by the name of the part.
+    fn part_note(&self, name: &str, n: u64) -> &str
+        ensures { result.now ≡ part_note self.now name.now n }
+    {
+        match self.edge_named(name, n) {
+            Some(edge) => edge_note(self.netlist.version(), edge),
+            None => "",
+        }
+    }
+
+    // The text of an edge of the sheet of a part, if it is there.
+    fn edge_named(&self, name: &str, n: u64) -> Option<&str>
+        ensures { option_copied result ≡ edge_named self.now name.now n }
+    {
+        match part_named(self.netlist.parts().as_slice(), name) {
+            Some(part) => text_at(self.sheet_of(part).edges(), n),
+            None => None,
+        }
+    }
+
+    // The sheet of the part of a number.
+    fn sheet_of(&self, part: usize) -> &Sheet
+        requires { part < length self.now.netlist.parts }
+        ensures { option_and_then (λ (p : PartSeen). sheet_among self.now.sheets (key_of p)) (slice_get self.now.netlist.parts part) ≡ Some result.now }
+    {
+        match self.sheets.get_index(self.places[part]) {
+            Some((_, sheet)) => sheet,
+            None => unreachable!(),
+        }
+    }
+}
+
+// The number of the first part with a name.
+fn part_named(parts: &[Part], name: &str) -> Option<usize>
+    ensures within { IfSome result (λ part. part < length parts.now) }
+    ensures found { result ≡ part_named parts.now name.now }
+{
+    parts.iter().position(|part| name == part.name.as_text())
+}
+
+// The text of a number, if it is there.
+fn text_at(texts: &Texts, n: u64) -> Option<&str>
+    ensures { option_copied result ≡ slice_get texts.now n }
+{
+    if n < texts.len() {
+        Some(texts.get(n).as_text())
+    } else {
+        None
+    }
+}
+
+impl Notes for Plan {
+    ghost use Rattle.plan.specs.Notes.{plan_note};
+
+    ghost noted = { plan_note };
+
+    fn note(&self, part: &str, origin: Origin) -> &str {
+        match origin {
+            Origin::Edge(n) => self.part_note(part, n),
+            Origin::Wire(n) => match text_at(self.netlist.edges(), n) {
+                Some(wire) => wire_note(wire),
+                None => "",
+            },
+            Origin::Lane(_) | Origin::Pin { .. } => "",
+        }
+    }
+}
