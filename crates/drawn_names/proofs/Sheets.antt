@@ -21,7 +21,8 @@ use Rattle.compose.specs.Sheets.{key_of, same_key}
 use Rattle.compose.specs.declared.sheet_key.SheetKey.{SheetKey}
 use Rattle.sheet.specs.Whole.{IsWhole}
 use Rattle.indexmap.specs.IndexMap.{insert_entry}
-use Rattle.reading.specs.Design.{NamedSheets, sheet_among, sheets_on, with_sheet}
+use Rattle.plan.specs.Plan.{NamedSheets, sheet_among, sheets_on}
+use Rattle.reading.specs.Design.{with_sheet}
 use Rattle.std.proofs.lemmas.Bool.{eq-eqb}
 use Rattle.drawn_names.proofs.Apart.{AreApart, keys_apart}
 use Rattle.drawn_names.proofs.Steps.{result_then, unless_gave, unless_none}
