@@ -1,8 +1,8 @@
 -- The names of the events of designs.
-use Rattle.std.proofs.Common.{◌≡◌, ◌<◌, ◌≤◌, ◌+◌, ℕ, zero, suc, Bool, true, false, if◌then◌else◌, List, [], ◌∷◌, ◌++◌, length, map, cond, nat_lt, All, Option, Some, None, Result, Ok, Err, refl, sym, ap, ◌∙◌, subst, arith, rules}
+use Rattle.std.proofs.Common.{◌≡◌, ◌<◌, ◌≤◌, ℕ, Bool, true, false, if◌then◌else◌, List, [], ◌∷◌, length, map, cond, nat_lt, All, Option, Some, None, Result, Ok, refl, ap, subst, arith, rules}
 use Rattle.std.specs.Prelude.{IfSome, IsTrue, ◌==◌, ◌&&◌, is_some, is_none, codes}
 use Rattle.std.proofs.lemmas.Result.{IfOk-at_ok}
-use Rattle.std.proofs.lemmas.List.Elements.{All-append, All-cons, All-head, All-map, All-nil, All-tail, All-weaker}
+use Rattle.std.proofs.lemmas.List.Elements.{All-append, All-head, All-map, All-nil, All-tail, All-weaker}
 use Rattle.serde_json.specs.Data.{Data}
 use Rattle.serde_json.specs.Find.{as_object, get}
 use Rattle.wavejson.specs.Drawing.{Drawing, diagram_of}
@@ -16,7 +16,7 @@ use Rattle.itv_base.specs.declared.limits.TheConstants.{MAX_CONSTRAINTS, MAX_CYC
 use Rattle.sheet.specs.Contents as sheet
 use Rattle.sheet.specs.declared.mark.Mark.{Mark}
 use Rattle.netlist.specs.Contents.{Contents}
-use Rattle.netlist.specs.Netlist.{lone_netlist, netlist_of, sheet_names}
+use Rattle.netlist.specs.Netlist.{netlist_of, sheet_names}
 use Rattle.compose.specs.declared.fault.JoinFault.{JoinFault}
 use Rattle.netlist.specs.declared.part.Part.{Part}
 use Rattle.compose.specs.Sheets.{key_of}
