@@ -1,5 +1,5 @@
 -- Each constraint has an origin for each of its causes.
-use Rattle.std.proofs.Common.{◌≡◌, ℕ, zero, suc, Bool, true, false, cond, List, [], ◌∷◌, ◌++◌, length, map, Some, None, refl, sym, ◌∙◌}
+use Rattle.std.proofs.Common.{◌≡◌, ℕ, zero, suc, Bool, true, false, cond, List, [], ◌∷◌, length, map, Some, None, refl, sym, ◌∙◌}
 use Rattle.std.specs.List.{cons_option, filter_map}
 use Rattle.std.proofs.lemmas.List.{length-map, map-append}
 use Rattle.origin.specs.declared.origin.Origin.{Origin}
@@ -7,7 +7,7 @@ use Rattle.event_graph.specs.Network.{Constraint}
 use Rattle.sheet.specs.declared.rule.Source.{Source}
 use Rattle.sheet.specs.Rule.{SheetRule}
 use Rattle.drawn.specs.Drawn.{OriginsFit}
-use Rattle.unroll.specs.Cycles.{cause_in, constraint_in, constraints_of, event_in, in_cycles, origins_in, origins_of, rule_exists}
+use Rattle.unroll.specs.Cycles.{cause_in, constraint_in, constraints_of, event_in, origins_in, origins_of, rule_exists}
 
 -- how many causes a constraint has
 abbrev cause_count : Constraint → ℕ
