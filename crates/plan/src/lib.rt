@@ -8,4 +8,5 @@ mod label_note;
 mod places;
 mod plan;
 
+pub use label_note::{edge_note, wire_note};
 pub use plan::Plan;

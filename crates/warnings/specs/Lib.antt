@@ -1,1 +1,6 @@
+pub use Rattle.plan.specs.Notes
+pub use Rattle.plan.specs.Plan
+pub use Rattle.compose.specs.Compose
+pub use Rattle.compose.specs.Joins
 pub mod Warnings
+pub mod Step

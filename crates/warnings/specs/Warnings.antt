@@ -1,7 +1,7 @@
 -- What of a design may say something else than was meant. Parts, edges, lanes, nets and pins are numbered from 0, and a rule is told by its
 -- first cause.
-use Rattle.std.specs.Prelude.{ℕ, ◌+◌, ◌-◌, ◌==◌, ◌&&◌, ◌||◌, nat_le, Bool, true, false, not, if◌then◌else◌, List, [], ◌∷◌, ◌++◌, length, is_empty, filter, find, codes, Option, Some, None, is_some, option_map, unwrap_or, slice_get}
-use Rattle.std.specs.List.{before_first, filter_map, list_any, starts_with}
+use Rattle.std.specs.Prelude.{ℕ, ◌+◌, ◌-◌, ◌==◌, ◌&&◌, ◌||◌, nat_le, Bool, true, false, not, if◌then◌else◌, List, [], ◌∷◌, ◌++◌, length, map, find, codes, Option, Some, None, is_some, option_map, unwrap_or, slice_get, slice_index}
+use Rattle.std.specs.List.{before_first, flat_map, list_any}
 use Rattle.std.specs.Option.{option_to_list}
 use Rattle.std.specs.Str.{bytes_eq}
 use Rattle.itv_base.specs.Cuts.{is_space}
@@ -35,6 +35,11 @@ abbrev pub each_from : {X : Type 0} → (ℕ → X → List Warning) → ℕ →
 each_from gives number [] = []
 each_from gives number (x ∷ xs) = gives number x ++ each_from gives (number + 1) xs
 
+-- what each element of a list gives, with those before it, where these stand before
+abbrev pub each_behind : {X : Type 0} → (List X → X → List Warning) → List X → List X → List Warning
+each_behind gives before [] = []
+each_behind gives before (x ∷ xs) = gives before x ++ each_behind gives (before ++ x ∷ []) xs
+
 -- one warning, where it is given
 abbrev pub warned : Bool → Warning → List Warning
 warned true warning = warning ∷ []
@@ -50,7 +55,7 @@ netlist_part = 0
 -- ---- rows
 
 abbrev pub row_warnings : Composed → List Warning
-row_warnings d = warned (is_empty (rows_of d)) Rows
+row_warnings d = warned (length (rows_of d) == 0) Rows
 
 -- ---- comments with a sign of a label
 
@@ -88,12 +93,12 @@ small byte = if nat_le 65 byte && nat_le byte 90 then byte + 32 else byte
 
 -- a unit of time in any letters
 abbrev pub is_unit : List ℕ → Bool
-is_unit word = list_any (bytes_eq (filter_map (λ byte. Some (small byte)) word))
+is_unit word = list_any (bytes_eq (map small word))
     (codes "fs" ∷ codes "ps" ∷ codes "ns" ∷ codes "us" ∷ codes "ms" ∷ codes "s" ∷ [])
 
 -- the first word is a unit of time, or the first byte an opening bracket
 abbrev pub is_misplaced : List ℕ → Bool
-is_misplaced note = is_unit (before_first is_space note) || starts_with note (codes "[")
+is_misplaced note = is_unit (before_first is_space note) || slice_index note 0 == 91
 
 abbrev pub edge_note_warning : ℕ → ℕ → ℕ → List ℕ → List Warning
 edge_note_warning version part n text = warned (is_misplaced (edge_note version text)) (Note (spot part (drawn.Edge n)))
@@ -146,23 +151,28 @@ abbrev pub of_two : ℕ → SheetRule → Option SheetRule → List Warning
 of_two part rule None = []
 of_two part rule (Some earlier) = option_to_list (option_map (λ origin. Both (spot part origin) (spot part (unwrap_or (drawn_by rule) origin))) (drawn_by earlier))
 
--- each rule that meets an earlier one, with the first such one, where these rules stand before
-abbrev pub both_behind : ℕ → List SheetRule → List SheetRule → List Warning
-both_behind part before [] = []
-both_behind part before (rule ∷ rules) = of_two part rule (find (meet rule) before) ++ both_behind part (before ++ rule ∷ []) rules
+-- a rule that meets one of those before it, with the first such one
+abbrev pub rule_both : ℕ → List SheetRule → SheetRule → List Warning
+rule_both part before rule = of_two part rule (find (meet rule) before)
+
+abbrev pub both_in : ℕ → List SheetRule → List Warning
+both_in part rules = each_behind (rule_both part) [] rules
 
 abbrev pub sheet_both : ℕ → Contents → List Warning
-sheet_both part sheet = both_behind part [] sheet.rules
+sheet_both part sheet = both_in part sheet.rules
 
 abbrev pub both_warnings : Composed → List Warning
-both_warnings d = each_from sheet_both 0 d.sheets ++ both_behind netlist_part [] d.rules
+both_warnings d = each_from sheet_both 0 d.sheets ++ both_in netlist_part d.rules
 
 -- a latest or earliest rule of one cause
 abbrev pub is_single : SheetRule → Bool
 is_single rule = not (is_linear rule.kind) && length rule.causes == 1
 
+abbrev pub rule_single : ℕ → SheetRule → List Warning
+rule_single part rule = if is_single rule then of_rule part Single rule else []
+
 abbrev pub single_in : ℕ → List SheetRule → List Warning
-single_in part rules = each_from (λ _. of_rule part Single) 0 (filter is_single rules)
+single_in part rules = flat_map (rule_single part) rules
 
 abbrev pub sheet_single : ℕ → Contents → List Warning
 sheet_single part sheet = single_in part sheet.rules
@@ -172,11 +182,17 @@ single_warnings d = each_from sheet_single 0 d.sheets ++ single_in netlist_part 
 
 -- ---- rules and rows that are in no cycle: their shifts reach before the first cycle even from the last one
 
+abbrev pub rule_never : ℕ → ℕ → SheetRule → List Warning
+rule_never last part rule = if rule_exists last rule then [] else of_rule part Never rule
+
 abbrev pub never_rules : ℕ → ℕ → List SheetRule → List Warning
-never_rules last part rules = each_from (λ _. of_rule part Never) 0 (filter (λ rule. not (rule_exists last rule)) rules)
+never_rules last part rules = flat_map (rule_never last part) rules
+
+abbrev pub row_never : ℕ → ℕ → SheetRow → List Warning
+row_never last part row = warned (not (row_exists last row)) (Never (spot part row.origin))
 
 abbrev pub never_rows : ℕ → ℕ → List SheetRow → List Warning
-never_rows last part rows = each_from (λ _ (row : SheetRow). Never (spot part row.origin) ∷ []) 0 (filter (λ row. not (row_exists last row)) rows)
+never_rows last part rows = flat_map (row_never last part) rows
 
 abbrev pub sheet_never : ℕ → ℕ → Contents → List Warning
 sheet_never last part sheet = never_rules last part sheet.rules ++ never_rows last part sheet.rows
@@ -193,13 +209,16 @@ abbrev pub two_drivers : Join → Option Join → List Warning
 two_drivers join None = []
 two_drivers join (Some earlier) = Drivers join.to earlier.origin join.origin ∷ []
 
--- each join into a mark that an earlier one goes into, with the first such one, where these joins stand before
-abbrev pub drivers_behind : List Join → List Join → List Warning
-drivers_behind before [] = []
-drivers_behind before (join ∷ joins) = two_drivers join (find (λ earlier. is_at earlier.to join.to) before) ++ drivers_behind (before ++ join ∷ []) joins
+-- a join goes into a mark
+abbrev pub is_into : DesignMark → Join → Bool
+is_into mark join = is_at join.to mark
+
+-- a join into a mark that one of those before it goes into, with the first such one
+abbrev pub join_drivers : List Join → Join → List Warning
+join_drivers before join = two_drivers join (find (is_into join.to) before)
 
 abbrev pub driver_warnings : Composed → List Warning
-driver_warnings d = drivers_behind [] d.joins
+driver_warnings d = each_behind join_drivers [] d.joins
 
 -- the rule holds this mark of its sheet from above; the order of a lane does not
 abbrev pub holds : ℕ → SheetRule → Bool
@@ -213,8 +232,11 @@ own_by join (Some rule) = option_to_list (option_map (Own join.to join.origin) (
 abbrev pub own_rule : List Contents → DesignMark → Option SheetRule
 own_rule sheets mark = find (holds mark.mark) (unwrap_or (option_map (λ (sheet : Contents). sheet.rules) (slice_get sheets mark.part)) [])
 
+abbrev pub own_join : List Contents → Join → List Warning
+own_join sheets join = own_by join (own_rule sheets join.to)
+
 abbrev pub own_warnings : Composed → List Warning
-own_warnings d = each_from (λ _ (join : Join). own_by join (own_rule d.sheets join.to)) 0 d.joins
+own_warnings d = flat_map (own_join d.sheets) d.joins
 
 -- ---- all of them
 

@@ -1,10 +1,18 @@
 //! All warnings of a design.
 
-ghost use Rattle.std.specs.Prelude.{◌≡◌, IfOk, Ok};
+ghost use Rattle.std.specs.Prelude.{◌≡◌, ◌++◌, IfOk, Ok, OnOk};
 ghost use Rattle.compose.specs.Compose.{composed_on};
 ghost use Rattle.plan.specs.Plan.{sheets_on};
-ghost use Rattle.warnings.specs.Warnings.{warnings_of};
+ghost use Rattle.warnings.specs.Warnings.{both_warnings, comment_warnings, driver_warnings, never_warnings, note_warnings, own_warnings, row_warnings, single_warnings, warnings_of};
 
+use crate::asked::push_asked;
+use crate::both::push_both;
+use crate::comments::push_comments;
+use crate::drivers::push_drivers;
+use crate::misplaced::push_notes;
+use crate::never::push_never;
+use crate::own::push_own;
+use crate::single::push_single;
 use crate::warning::Warning;
 use compose::Design;
 use itv_base::NoMemory;
@@ -13,12 +21,36 @@ use std::alloc::Global;
 
 /// The warnings of a design and of the plan that it was composed of, in their order.
 pub fn warnings_of(
-    _alloc: Global,
+    alloc: Global,
     plan: &Plan,
     design: &Design<'_>,
 ) -> Result<Vec<Warning>, NoMemory>
     requires design { composed_on plan.now.netlist (sheets_on plan.now.sheets plan.now.netlist.parts) ≡ Ok design.now }
     ensures warnings { IfOk result (λ warnings. warnings.items ≡ warnings_of plan.now design.now) }
 {
-    Err(NoMemory)
+    let mut warnings = Vec::new(alloc);
+    push_asked(&mut warnings, design)?;
+    push_comments(&mut warnings, plan, design)?;
+    push_notes(&mut warnings, plan, design)?;
+    push_rules(&mut warnings, design)?;
+    push_joins(&mut warnings, design)?;
+    Ok(warnings)
+}
+
+// Those of rules and rows.
+fn push_rules(warnings: &mut Vec<Warning>, design: &Design<'_>) -> Result<(), NoMemory>
+    ensures pushed { OnOk result (warnings.new.items ≡ warnings.old.items
+        ++ (both_warnings design.now ++ (single_warnings design.now ++ never_warnings design.now))) }
+{
+    push_both(warnings, design)?;
+    push_single(warnings, design)?;
+    push_never(warnings, design)
+}
+
+// Those of marks that follow drivers.
+fn push_joins(warnings: &mut Vec<Warning>, design: &Design<'_>) -> Result<(), NoMemory>
+    ensures pushed { OnOk result (warnings.new.items ≡ warnings.old.items ++ (driver_warnings design.now ++ own_warnings design.now)) }
+{
+    push_drivers(warnings, design)?;
+    push_own(warnings, design)
 }

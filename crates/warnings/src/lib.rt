@@ -3,6 +3,17 @@
 #![tactic(auto)]
 
 mod all;
+mod asked;
+mod both;
+mod comments;
+mod drivers;
+mod misplaced;
+mod never;
+mod own;
+mod pins;
+mod push;
+mod rule;
+mod single;
 mod warning;
 
 pub use all::warnings_of;

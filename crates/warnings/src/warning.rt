@@ -1,5 +1,9 @@
 //! What may say something else than was meant.
 
+ghost use Rattle.std.specs.Prelude.{◌≡◌};
+ghost use Rattle.origin.specs.declared.origin.Origin.TheVariants.{Wire};
+ghost use Rattle.warnings.specs.Warnings.{netlist_part, spot};
+
 use compose::DesignMark;
 use origin::Origin;
 
@@ -9,6 +13,18 @@ use origin::Origin;
 pub struct Spot {
     pub part: u32,
     pub origin: Origin,
+}
+
+impl Spot {
+    /// An edge of the netlist, by its number from 0.
+    pub(crate) fn wire(n: u64) -> Spot
+        ensures { result ≡ spot netlist_part (Wire n) }
+    {
+        Spot {
+            part: 0,
+            origin: Origin::Wire(n),
+        }
+    }
 }
 
 /// What may say something else than was meant.

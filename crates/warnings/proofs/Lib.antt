@@ -1,0 +1,3 @@
+pub mod EachLists
+pub mod RowLists
+pub mod PinLists

@@ -1,0 +1,6 @@
+use Rattle.std.proofs.Common.{◌≡◌, ◌++◌, [], take}
+use Rattle.warnings.specs.Warnings.{each_behind, rule_both}
+use Rattle.warnings.proofs.both.push_rules.Given as goal
+
+abbrev pub invariant-loop-n : goal.invariant-loop-n
+invariant-loop-n l = l.warnings.items ≡ l.initial.warnings.items ++ each_behind (rule_both l.part) [] (take l.n l.rules)

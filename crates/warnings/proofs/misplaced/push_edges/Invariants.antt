@@ -1,0 +1,6 @@
+use Rattle.std.proofs.Common.{◌≡◌, ◌++◌, take}
+use Rattle.warnings.specs.Warnings.{each_from, edge_note_warning}
+use Rattle.warnings.proofs.misplaced.push_edges.Given as goal
+
+abbrev pub invariant-loop-n : goal.invariant-loop-n
+invariant-loop-n l = l.warnings.items ≡ l.initial.warnings.items ++ each_from (edge_note_warning l.version l.part) 0 (take l.n l.edges)

@@ -1,0 +1,6 @@
+use Rattle.std.proofs.Common.{◌≡◌, ◌++◌, take}
+use Rattle.warnings.specs.Warnings.{each_from, wire_note_warning}
+use Rattle.warnings.proofs.misplaced.push_wires.Given as goal
+
+abbrev pub invariant-loop-n : goal.invariant-loop-n
+invariant-loop-n l = l.warnings.items ≡ l.initial.warnings.items ++ each_from wire_note_warning 0 (take l.n l.edges)

@@ -1,0 +1,106 @@
+//! Edges that are comments, and have a sign of a label.
+
+ghost use Rattle.std.specs.Prelude.{◌≡◌, ◌++◌, OnOk};
+ghost use Rattle.std.specs.List.{list_any};
+ghost use Rattle.label_grammar.specs.Edge.{edge_of};
+ghost use Rattle.label_grammar.specs.Wire.{wire_of};
+ghost use Rattle.warnings.specs.Warnings.{comment_warnings, each_from, edge_comment, is_edge_comment, is_sign, is_wire_comment, netlist_part, sheet_comments, wire_comment};
+
+use crate::asked::part_count;
+use crate::push::push_where;
+use crate::warning::{Spot, Warning};
+use compose::Design;
+use itv_base::{NoMemory, Texts};
+use label_grammar::{EdgeText, WireText, read_edge, read_wire};
+use origin::Origin;
+use plan::Plan;
+
+/// Puts the warnings of comments at the end: those of the sheets, and then those of the netlist.
+pub fn push_comments(
+    warnings: &mut Vec<Warning>,
+    plan: &Plan,
+    design: &Design<'_>,
+) -> Result<(), NoMemory>
+    ensures pushed { OnOk result (warnings.new.items ≡ warnings.old.items ++ comment_warnings plan.now design.now) }
+{
+    push_sheets(warnings, design)?;
+    push_wires(warnings, plan.netlist().edges())
+}
+
+// Those of the sheets.
+fn push_sheets(warnings: &mut Vec<Warning>, design: &Design<'_>) -> Result<(), NoMemory>
+    ensures pushed { OnOk result (warnings.new.items ≡ warnings.old.items ++ each_from sheet_comments 0 design.now.sheets) }
+{
+    for part in 0..part_count(design) {
+        push_edges(warnings, part, design.sheet_of(part).edges())?;
+    }
+    Ok(())
+}
+
+// Those of the edges of the sheet of a part.
+fn push_edges(warnings: &mut Vec<Warning>, part: u32, edges: &Texts) -> Result<(), NoMemory>
+    ensures pushed { OnOk result (warnings.new.items ≡ warnings.old.items ++ each_from (edge_comment part) 0 edges.now) }
+{
+    for n in 0..edges.len() {
+        push_edge(warnings, part, n, edges.get(n).as_text())?;
+    }
+    Ok(())
+}
+
+// That of an edge, if it has one.
+fn push_edge(warnings: &mut Vec<Warning>, part: u32, n: u64, text: &str) -> Result<(), NoMemory>
+    ensures pushed { OnOk result (warnings.new.items ≡ warnings.old.items ++ edge_comment part n text.now) }
+{
+    let given = is_edge_comment(text) && has_sign(text.as_bytes());
+    let origin = Origin::Edge(n);
+    push_where(given, Warning::Comment(Spot { part, origin }), warnings)
+}
+
+// Those of the edges of the netlist.
+fn push_wires(warnings: &mut Vec<Warning>, edges: &Texts) -> Result<(), NoMemory>
+    ensures pushed { OnOk result (warnings.new.items ≡ warnings.old.items ++ each_from wire_comment 0 edges.now) }
+{
+    for n in 0..edges.len() {
+        push_wire(warnings, n, edges.get(n).as_text())?;
+    }
+    Ok(())
+}
+
+// That of an edge of the netlist, if it has one.
+fn push_wire(warnings: &mut Vec<Warning>, n: u64, text: &str) -> Result<(), NoMemory>
+    ensures pushed { OnOk result (warnings.new.items ≡ warnings.old.items ++ wire_comment n text.now) }
+{
+    let given = is_wire_comment(text) && has_sign(text.as_bytes());
+    push_where(given, Warning::Comment(Spot::wire(n)), warnings)
+}
+
+fn is_edge_comment(text: &str) -> bool
+    ensures { result ≡ is_edge_comment (edge_of text.now) }
+{
+    match read_edge(text) {
+        EdgeText::Comment => true,
+        EdgeText::Timing { .. } | EdgeText::Malformed => false,
+    }
+}
+
+fn is_wire_comment(text: &str) -> bool
+    ensures { result ≡ is_wire_comment (wire_of text.now) }
+{
+    match read_wire(text) {
+        WireText::Comment => true,
+        WireText::Timing { .. } | WireText::Malformed => false,
+    }
+}
+
+// Whether a text has `@` or an opening bracket.
+fn has_sign(text: &[u8]) -> bool
+    ensures { result ≡ list_any is_sign text.now }
+{
+    text.iter().any(|byte| is_sign(*byte))
+}
+
+fn is_sign(byte: u8) -> bool
+    ensures { result ≡ is_sign byte }
+{
+    byte == b'@' || byte == b'['
+}

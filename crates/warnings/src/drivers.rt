@@ -1,0 +1,57 @@
+//! Marks that follow two drivers.
+
+ghost use Rattle.std.specs.Prelude.{◌≡◌, ◌++◌, OnOk};
+ghost use Rattle.compose.specs.Joins.{joins_of_pins, pin_joins};
+ghost use Rattle.warnings.specs.Step.{IsPinOf, drivers_by};
+ghost use Rattle.warnings.specs.Warnings.{driver_warnings, each_behind, join_drivers};
+
+use crate::pins::{drew_into, driven_mark};
+use crate::warning::Warning;
+use compose::{Design, DesignMark, PinJoins};
+use itv_base::NoMemory;
+use origin::Origin;
+
+/// Puts the warnings of marks that follow two drivers at the end.
+pub fn push_drivers(warnings: &mut Vec<Warning>, design: &Design<'_>) -> Result<(), NoMemory>
+    ensures pushed { OnOk result (warnings.new.items ≡ warnings.old.items ++ driver_warnings design.now) }
+{
+    // The joins go into marks of the design.
+    let _cycles = design.cycles();
+    let pins = design.joins().pins();
+    for n in 0..pins.len() {
+        push_pin(warnings, &pins[n], &pins[..n], design)?;
+    }
+    Ok(())
+}
+
+// Those of the marks of a pin, behind other pins.
+fn push_pin(
+    warnings: &mut Vec<Warning>,
+    pin: &PinJoins,
+    before: &[PinJoins],
+    design: &Design<'_>,
+) -> Result<(), NoMemory>
+    requires pin { IsPinOf design.now pin.now }
+    ensures pushed { OnOk result (warnings.new.items ≡ warnings.old.items ++ each_behind join_drivers (joins_of_pins before.now) (pin_joins pin.now)) }
+{
+    for k in 0..pin.marks {
+        let mark = driven_mark(pin, k, design);
+        push_mark(warnings, mark, drew_into(mark, before), pin.origin)?;
+    }
+    Ok(())
+}
+
+// That of a mark, by what draws the first join into it, if there is one, and another.
+fn push_mark(
+    warnings: &mut Vec<Warning>,
+    mark: DesignMark,
+    first: Option<Origin>,
+    other: Origin,
+) -> Result<(), NoMemory>
+    ensures pushed { OnOk result (warnings.new.items ≡ warnings.old.items ++ drivers_by mark other first) }
+{
+    if let Some(first) = first {
+        warnings.push(Warning::Drivers { mark, first, other })?;
+    }
+    Ok(())
+}

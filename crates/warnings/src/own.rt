@@ -1,0 +1,79 @@
+//! Marks that follow a driver, and that an edge of their sheet holds from above.
+
+ghost use Rattle.std.specs.Prelude.{◌≡◌, ◌<◌, ◌++◌, OnOk, find};
+ghost use Rattle.std.specs.List.{flat_map};
+ghost use Rattle.std.specs.Option.{option_copied};
+ghost use Rattle.compose.specs.Joins.{join_at, pin_joins};
+ghost use Rattle.warnings.specs.Step.{IsPinOf};
+ghost use Rattle.warnings.specs.Warnings.{holds, own_join, own_warnings};
+
+use crate::pins::driven_mark;
+use crate::rule::{drawn_by, holds_above};
+use crate::warning::Warning;
+use compose::{Design, PinJoins};
+use itv_base::NoMemory;
+use sheet::Rule;
+
+/// Puts the warnings of marks with a driver and an edge of their own at the end.
+pub fn push_own(warnings: &mut Vec<Warning>, design: &Design<'_>) -> Result<(), NoMemory>
+    ensures pushed { OnOk result (warnings.new.items ≡ warnings.old.items ++ own_warnings design.now) }
+{
+    // The joins go into marks of the design.
+    let _cycles = design.cycles();
+    for pin in design.joins().pins() {
+        push_pin(warnings, pin, design)?;
+    }
+    Ok(())
+}
+
+// Those of the marks of a pin.
+fn push_pin(
+    warnings: &mut Vec<Warning>,
+    pin: &PinJoins,
+    design: &Design<'_>,
+) -> Result<(), NoMemory>
+    requires pin { IsPinOf design.now pin.now }
+    ensures pushed { OnOk result (warnings.new.items ≡ warnings.old.items ++ flat_map (own_join design.now.sheets) (pin_joins pin.now)) }
+{
+    for k in 0..pin.marks {
+        push_mark(warnings, pin, k, design)?;
+    }
+    Ok(())
+}
+
+// That of mark k of a pin, if it has one.
+fn push_mark(
+    warnings: &mut Vec<Warning>,
+    pin: &PinJoins,
+    k: u32,
+    design: &Design<'_>,
+) -> Result<(), NoMemory>
+    requires pin { IsPinOf design.now pin.now }
+    requires there { k < pin.now.marks }
+    ensures pushed { OnOk result (warnings.new.items ≡ warnings.old.items ++ own_join design.now.sheets (join_at pin.now k)) }
+{
+    let mark = driven_mark(pin, k, design);
+    let rules = design.sheet_of(mark.part).rules().as_slice();
+    let Some(rule) = first_holding(mark.mark, rules) else {
+        return Ok(());
+    };
+    let Some(edge) = drawn_by(rule) else {
+        return Ok(());
+    };
+    let pin = pin.origin;
+    warnings.push(Warning::Own { mark, pin, edge })?;
+    Ok(())
+}
+
+// The first of some rules that holds a mark from above.
+fn first_holding(mark: u32, rules: &[Rule]) -> Option<&Rule>
+    ensures { option_copied result ≡ find (holds mark) rules.now }
+{
+    rules.iter().find(|rule| holds(mark, rule))
+}
+
+fn holds(mark: u32, rule: &Rule) -> bool
+    ensures { result ≡ holds mark rule.now }
+{
+    rule.target() == mark && holds_above(rule)
+}
