@@ -17,7 +17,8 @@ use Rattle.reading.specs.declared.place.Place.{Place}
 use Rattle.reading.specs.declared.place.Place.TheVariants as places
 use Rattle.reading.specs.declared.refusal.Refusal.{Refusal}
 use Rattle.reading.specs.declared.refusal.Refusal.TheVariants as refusals
-use Rattle.reading.specs.Design.{NamedSheets, design_at, drawn_at, grades_in, is_unread, lone_at, netlist_at, plain_key, plain_sheet_at, sheets_at, sheets_in, sheets_of_files, sheets_on, tree_at, tree_drawn, tree_in, with_part, with_sheet}
+use Rattle.plan.specs.Plan.{NamedSheets, sheets_on}
+use Rattle.reading.specs.Design.{design_at, drawn_at, grades_in, is_unread, lone_at, netlist_at, plain_key, plain_sheet_at, plan_at, sheets_at, sheets_in, sheets_of_files, tree_at, tree_planned, tree_in, with_part, with_sheet}
 use Rattle.compose.specs.Compose.{composed_on}
 use Rattle.compose.specs.Sheets.{key_of}
 use Rattle.grades.specs.Grades.{grades_of}
@@ -128,19 +129,21 @@ module _ (files : Files) (short : (name : List ℕ) → IfSome (file_of files na
       (λ drawing. fits_at place refusals.Sheet (sheet_of plain drawing) (λ fault e. cc e))
 
   fits_lone : (name : List ℕ) (tree : Data) → Fits (told_end files (lone_at name tree))
-  fits_lone name tree =
-      fits_then (plain_sheet_at (places.File 0) tree) _ (fits_plain (places.File 0) tree) (λ sheet. fits_drawn (lone_netlist name) (with_sheet [] (plain_key name) sheet))
+  fits_lone name tree = fits_then (plain_sheet_at (places.File 0) tree) _ (fits_plain (places.File 0) tree) (λ sheet. tt)
 
   fits_netlist : (tree : Data) → Fits (told_end files (netlist_at tree))
   fits_netlist tree =
       fits_then (at (places.File 0) refusals.Netlist (netlist_of tree)) _ (fits_at (places.File 0) refusals.Netlist (netlist_of tree) (λ fault e. cc e))
-      (λ netlist. fits_then (sheets_of_files netlist (sheet_names netlist.parts)) (drawn_at netlist)
-      (fits_each (sheets_in netlist) 1 [] (sheet_names netlist.parts) (λ k sheets name. fits_sheets netlist k sheets name)) (λ sheets. fits_drawn netlist sheets))
+      (λ netlist. fits_then (sheets_of_files netlist (sheet_names netlist.parts)) _
+      (fits_each (sheets_in netlist) 1 [] (sheet_names netlist.parts) (λ k sheets name. fits_sheets netlist k sheets name)) (λ sheets. tt))
+
+  fits_plan : (name : List ℕ) → Fits (told_end files (plan_at name))
+  fits_plan name =
+      fits_then (tree_in (places.File 0) name) (tree_planned name) (fits_tree (places.File 0) name)
+      (λ tree. fits_if (is_some (as_object tree) && is_none (get (codes "itv") tree)) (lone_at name tree) (netlist_at tree) (fits_lone name tree) (fits_netlist tree))
 
   fits_design : (name : List ℕ) → Fits (told_end files (design_at name))
-  fits_design name =
-      fits_then (tree_in (places.File 0) name) (tree_drawn name) (fits_tree (places.File 0) name)
-      (λ tree. fits_if (is_some (as_object tree) && is_none (get (codes "itv") tree)) (lone_at name tree) (netlist_at tree) (fits_lone name tree) (fits_netlist tree))
+  fits_design name = fits_then (plan_at name) (λ plan. drawn_at plan.netlist plan.sheets) (fits_plan name) (λ plan. fits_drawn plan.netlist plan.sheets)
 
 -- job self refuses no design for what it found
 refused_made : (call : Call) (size budget : ℕ) → taken call.words ≡ task (generated size budget) → HasAnswered call answers.DesignRefused → ⊥

@@ -1,8 +1,8 @@
 -- The names of the events of designs.
-use Rattle.std.proofs.Common.{◌≡◌, ◌<◌, ◌≤◌, ◌+◌, ℕ, zero, suc, Bool, true, false, if◌then◌else◌, List, [], ◌∷◌, ◌++◌, length, map, cond, nat_lt, All, Option, Some, None, Result, Ok, Err, refl, sym, ap, ◌∙◌, subst, arith, rules}
+use Rattle.std.proofs.Common.{◌≡◌, ◌<◌, ◌≤◌, ℕ, Bool, true, false, if◌then◌else◌, List, [], ◌∷◌, length, map, cond, nat_lt, All, Option, Some, None, Result, Ok, refl, ap, subst, arith, rules}
 use Rattle.std.specs.Prelude.{IfSome, IsTrue, ◌==◌, ◌&&◌, is_some, is_none, codes}
 use Rattle.std.proofs.lemmas.Result.{IfOk-at_ok}
-use Rattle.std.proofs.lemmas.List.Elements.{All-append, All-cons, All-head, All-map, All-nil, All-tail, All-weaker}
+use Rattle.std.proofs.lemmas.List.Elements.{All-append, All-head, All-map, All-nil, All-tail, All-weaker}
 use Rattle.serde_json.specs.Data.{Data}
 use Rattle.serde_json.specs.Find.{as_object, get}
 use Rattle.wavejson.specs.Drawing.{Drawing, diagram_of}
@@ -16,7 +16,7 @@ use Rattle.itv_base.specs.declared.limits.TheConstants.{MAX_CONSTRAINTS, MAX_CYC
 use Rattle.sheet.specs.Contents as sheet
 use Rattle.sheet.specs.declared.mark.Mark.{Mark}
 use Rattle.netlist.specs.Contents.{Contents}
-use Rattle.netlist.specs.Netlist.{lone_netlist, netlist_of, sheet_names}
+use Rattle.netlist.specs.Netlist.{netlist_of, sheet_names}
 use Rattle.compose.specs.declared.fault.JoinFault.{JoinFault}
 use Rattle.netlist.specs.declared.part.Part.{Part}
 use Rattle.compose.specs.Sheets.{key_of}
@@ -39,7 +39,8 @@ use Rattle.reading.specs.declared.place.Place.TheVariants.{Design, File}
 use Rattle.reading.specs.declared.refusal.Refusal.TheVariants.{Diagram, Grades, Joins, Limits, Netlist, Sheet}
 use Rattle.reading.specs.Opening.{Comes, at, each, gives, ready}
 use Rattle.reading.specs.Opening as openings
-use Rattle.reading.specs.Design.{NamedSheets, design_at, drawn_at, grades_in, is_unread, lone_at, netlist_at, plain_key, plain_sheet_at, sheets_at, sheets_in, sheets_of_files, sheets_on, tree_in, with_part, with_sheet}
+use Rattle.plan.specs.Plan.{NamedSheets, Planned, sheets_on}
+use Rattle.reading.specs.Design.{design_at, drawn_at, grades_in, is_unread, lone_at, lone_plan, netlist_at, plan_at, plain_key, plain_sheet_at, sheets_at, sheets_in, sheets_of_files, tree_in, with_part, with_sheet}
 use Rattle.reading.proofs.Opens.{at_gave, each_keeps, gave, opening_then}
 use Rattle.drawn_names.specs.Law.{DrawnNamesDiffer, DrawnNamesHaveForm, DrawnRangesHaveForm, DrawnRowsAreFew}
 use Rattle.drawn_names.proofs.Apart.{AreApart, Every, MarksApart, apart_at, cycles_apart}
@@ -166,27 +167,39 @@ sheets_in_hold shelf netlist number sheets more name marked comes =
     let (grades, told, last) = opening_then shelf (grades_in netlist.version (File number) tree) (λ grades. each (with_part (File number) name grades drawing) 0 sheets netlist.parts) more rest in
     each_keeps AreMarked shelf (with_part (File number) name grades drawing) (with_part_holds shelf (File number) name grades drawing (grades_in_hold shelf netlist.version (File number) tree grades told)) 0 sheets more netlist.parts marked last
 
-lone_at_holds : (shelf : ShelfTold) (name : List ℕ) (tree : Data) (drawn : Drawn) → Comes shelf (lone_at name tree) (ready drawn) → IsDrawnFrom drawn
-lone_at_holds shelf name tree drawn comes =
-    let (found, first, rest) = opening_then shelf (plain_sheet_at (File 0) tree) _ drawn comes in
-    drawn_at_holds shelf (lone_netlist name) (with_sheet [] (plain_key name) found) drawn (lone_holds name)
-    (with_sheet_holds [] (plain_key name) found (All-nil HoldsMarks) (plain_sheet_holds shelf (File 0) tree found first)) rest
+-- the netlist is named, and its sheets have marks
+record IsNamedPlan (plan : Planned) : Type 0 where
+  netlist : IsNamedNetlist plan.netlist
+  sheets : AreMarked plan.sheets
 
-netlist_at_holds : (shelf : ShelfTold) (tree : Data) (drawn : Drawn) → Comes shelf (netlist_at tree) (ready drawn) → IsDrawnFrom drawn
-netlist_at_holds shelf tree drawn comes =
-    let (netlist, first, rest) = opening_then shelf (at (File 0) (λ why. Netlist why) (netlist_of tree)) _ drawn comes in
-    let (sheets, fetched, last) = opening_then shelf (sheets_of_files netlist (sheet_names netlist.parts)) _ drawn rest in
+lone_at_holds : (shelf : ShelfTold) (name : List ℕ) (tree : Data) (plan : Planned) → Comes shelf (lone_at name tree) (ready plan) → IsNamedPlan plan
+lone_at_holds shelf name tree plan comes =
+    let (found, first, rest) = opening_then shelf (plain_sheet_at (File 0) tree) _ plan comes in
+    subst IsNamedPlan (gave shelf (lone_plan name found) plan rest)
+    (record { netlist = lone_holds name; sheets = with_sheet_holds [] (plain_key name) found (All-nil HoldsMarks) (plain_sheet_holds shelf (File 0) tree found first) })
+
+netlist_at_holds : (shelf : ShelfTold) (tree : Data) (plan : Planned) → Comes shelf (netlist_at tree) (ready plan) → IsNamedPlan plan
+netlist_at_holds shelf tree plan comes =
+    let (netlist, first, rest) = opening_then shelf (at (File 0) (λ why. Netlist why) (netlist_of tree)) _ plan comes in
+    let (sheets, fetched, last) = opening_then shelf (sheets_of_files netlist (sheet_names netlist.parts)) _ plan rest in
     let read : netlist_of tree ≡ Ok netlist = at_gave shelf (File 0) (λ why. Netlist why) _ netlist first in
-    drawn_at_holds shelf netlist sheets drawn (netlist_holds tree netlist read) (each_keeps AreMarked shelf (sheets_in netlist) (sheets_in_hold shelf netlist) 1 [] sheets (sheet_names netlist.parts) (All-nil HoldsMarks) fetched) last
+    subst IsNamedPlan (gave shelf (record { netlist = netlist; sheets = sheets }) plan last)
+    (record { netlist = netlist_holds tree netlist read; sheets = each_keeps AreMarked shelf (sheets_in netlist) (sheets_in_hold shelf netlist) 1 [] sheets (sheet_names netlist.parts) (All-nil HoldsMarks) fetched })
 
-either_holds : (shelf : ShelfTold) (b : Bool) (name : List ℕ) (tree : Data) (drawn : Drawn) → Comes shelf (if b then lone_at name tree else netlist_at tree) (ready drawn) → IsDrawnFrom drawn
-either_holds shelf true name tree drawn comes = lone_at_holds shelf name tree drawn comes
-either_holds shelf false name tree drawn comes = netlist_at_holds shelf tree drawn comes
+either_holds : (shelf : ShelfTold) (b : Bool) (name : List ℕ) (tree : Data) (plan : Planned) → Comes shelf (if b then lone_at name tree else netlist_at tree) (ready plan) → IsNamedPlan plan
+either_holds shelf true name tree plan comes = lone_at_holds shelf name tree plan comes
+either_holds shelf false name tree plan comes = netlist_at_holds shelf tree plan comes
+
+plan_from : (shelf : ShelfTold) (name : List ℕ) (plan : Planned) → Comes shelf (plan_at name) (ready plan) → IsNamedPlan plan
+plan_from shelf name plan comes =
+    let (tree, first, rest) = opening_then shelf (tree_in (File 0) name) _ plan comes in
+    either_holds shelf (is_some (as_object tree) && is_none (get (codes "itv") tree)) name tree plan rest
 
 drawn_from : (shelf : ShelfTold) (name : List ℕ) (drawn : Drawn) → Comes shelf (design_at name) (ready drawn) → IsDrawnFrom drawn
 drawn_from shelf name drawn comes =
-    let (tree, first, rest) = opening_then shelf (tree_in (File 0) name) _ drawn comes in
-    either_holds shelf (is_some (as_object tree) && is_none (get (codes "itv") tree)) name tree drawn rest
+    let (plan, first, rest) = opening_then shelf (plan_at name) (λ plan. drawn_at plan.netlist plan.sheets) drawn comes in
+    let named = plan_from shelf name plan first in
+    drawn_at_holds shelf plan.netlist plan.sheets drawn named.netlist named.sheets rest
 
 each_apart : (sheets : List sheet.Contents) → All HasMarks sheets → Every MarksApart sheets
 each_apart [] all = tt

@@ -1,12 +1,11 @@
 -- The parts and the cycles of netlists.
-use Rattle.std.proofs.Common.{◌≡◌, ◌≤◌, ◌<◌, ◌&&◌, ℕ, ℤ, pos, negsuc, Bool, true, false, nat_le, if◌then◌else◌, List, [], ◌∷◌, ◌++◌, length, All, Option, Some, None, option_and_then, Result, Ok, Err, ok_or, refl, sym, ap, ◌∙◌, subst, arith, rules, map}
+use Rattle.std.proofs.Common.{◌≡◌, ◌≤◌, ℕ, Bool, true, false, nat_le, if◌then◌else◌, List, [], ◌∷◌, ◌++◌, length, All, Option, Some, None, Ok, Err, ok_or, refl, sym, subst, arith, map}
 use Rattle.std.specs.Prelude.{IsTrue, codes}
 use Rattle.std.specs.Str.{bytes_eq}
 use Rattle.std.proofs.lemmas.List.{map-append}
 use Rattle.std.proofs.lemmas.Slice.Eq.{bytes_eq-Decides}
 use Rattle.std.proofs.lemmas.List.Elements.{All-nil, All-push, All-cons}
 use Rattle.serde_json.specs.Data.{Data}
-use Rattle.serde_json.specs.Find.{as_object}
 use Rattle.itv_base.specs.Characters.{is_name}
 use Rattle.itv_base.specs.Reading.{walk}
 use Rattle.itv_base.specs.declared.limits.TheConstants.{MAX_CYCLES, MAX_PARTS, MAX_SHEET_NAMES}
@@ -16,7 +15,7 @@ use Rattle.netlist.specs.Contents.{Contents}
 use Rattle.netlist.specs.declared.fault.NetlistFault.TheVariants.{PartsNotList, TooManyParts, DoublePart, TooManySheets}
 use Rattle.netlist.specs.declared.fault.NetlistFault.TheVariants.{Part as PartFault}
 use Rattle.json_tree.specs.Words.{list_at, text_at}
-use Rattle.netlist.specs.Netlist.{cycles_of, demand, grade_of, is_part, netlist_of, nets_of, part_by, part_of, parts_of, sheet_names, version_of, wires_of, with_part, lone_netlist}
+use Rattle.netlist.specs.Netlist.{cycles_of, demand, edges_of, grade_of, is_part, netlist_of, nets_of, part_by, part_of, parts_of, sheet_names, version_of, wires_of, with_part, lone_netlist}
 use Rattle.netlist.proofs.WholeNetlists.{netlist_whole}
 use Rattle.drawn_names.proofs.Apart.{AllOther, AreApart, apart_append, none_met}
 use Rattle.drawn_names.proofs.Rows.{IsWholeIf}
@@ -106,8 +105,9 @@ netlist_holds tree netlist is =
     let (cycles, is_cycles, rest) = result_then (cycles_of tree) _ netlist first in
     let (parts, are_parts, more) = result_then (parts_of version tree) _ netlist rest in
     let (nets, are_nets, others) = result_then (nets_of tree) _ netlist more in
-    let (wires, are_wires, last) = result_then (wires_of tree) _ netlist others in
-    let same : record { version = version; cycles = cycles; parts = parts; nets = nets; wires = wires } ≡ netlist = cc last in
+    let (wires, are_wires, texts) = result_then (wires_of tree) _ netlist others in
+    let (edges, are_edges, last) = result_then (edges_of tree) _ netlist texts in
+    let same : record { version = version; cycles = cycles; parts = parts; nets = nets; wires = wires; edges = edges } ≡ netlist = cc last in
     let whole = netlist_whole tree netlist is in
     record { cycles = whole.few; parts = subst (λ (n : Contents). AreNamed n.parts) same (parts_hold version tree parts are_parts); wires = whole.whole_wires }
 

@@ -1,8 +1,7 @@
 -- The marks of sheets.
-use Rattle.std.proofs.Common.{◌≡◌, ◌+◌, ℕ, Bool, true, false, if◌then◌else◌, List, [], ◌∷◌, ◌++◌, map, cond, All, Option, Some, None, Result, Ok, Err, refl, sym, ap, ◌∙◌, subst, nat_eq, position}
+use Rattle.std.proofs.Common.{◌≡◌, ℕ, Bool, true, false, if◌then◌else◌, List, [], ◌∷◌, map, cond, All, Option, Some, None, Result, Ok, refl, ap, subst, nat_eq, position}
 use Rattle.std.specs.Prelude.{IsTrue, IfSome}
 use Rattle.std.specs.List.{cons_option, filter_map, flat_map, enumerate_from}
-use Rattle.std.specs.Map.{lookup}
 use Rattle.std.proofs.lemmas.List.Elements.{All-append, All-cons, All-head, All-nil, All-tail, All-weaker}
 use Rattle.itv_base.specs.Characters.{is_mark}
 use Rattle.wavejson.specs.Drawing.{Drawing}
@@ -20,8 +19,8 @@ use Rattle.sheet.specs.Sheet.{grade_named, read_marks, read_pins, sheet_at, shee
 use Rattle.compose.specs.Sheets.{key_of, same_key}
 use Rattle.compose.specs.declared.sheet_key.SheetKey.{SheetKey}
 use Rattle.sheet.specs.Whole.{IsWhole}
-use Rattle.indexmap.specs.IndexMap.{insert_entry}
-use Rattle.reading.specs.Design.{NamedSheets, sheet_among, sheets_on, with_sheet}
+use Rattle.plan.specs.Plan.{NamedSheets, sheet_among, sheets_on}
+use Rattle.reading.specs.Design.{with_sheet}
 use Rattle.std.proofs.lemmas.Bool.{eq-eqb}
 use Rattle.drawn_names.proofs.Apart.{AreApart, keys_apart}
 use Rattle.drawn_names.proofs.Steps.{result_then, unless_gave, unless_none}

@@ -1,5 +1,5 @@
 -- What one step and then another gave.
-use Rattle.std.proofs.Common.{◌≡◌, ◌+◌, ℕ, zero, suc, Bool, true, false, if◌then◌else◌, List, [], ◌∷◌, Option, Some, None, Result, Ok, Err, ok_or, refl, sym, ap, ◌∙◌, subst, inl, inr}
+use Rattle.std.proofs.Common.{◌≡◌, ◌+◌, ℕ, List, [], ◌∷◌, Option, Some, None, Result, Ok, Err, ok_or, refl, ap, subst}
 use Rattle.itv_base.specs.Reading.{unless, walk}
 use Rattle.itv_base.specs.Reading as results
 

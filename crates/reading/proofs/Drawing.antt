@@ -1,17 +1,19 @@
--- What netlists and their sheets draw, step by step.
+-- The plans of designs, and what they draw, step by step.
 use Rattle.std.proofs.Common.{◌≡◌, ℕ, ◌&&◌, true, false, List, [], is_some, Result, Ok, Err, IsErrAnd, codes, refl, subst}
 use Rattle.std.specs.Prelude.{is_none}
 use Rattle.serde_json.specs.Data.{Data}
 use Rattle.serde_json.specs.Find.{get, as_object}
 use Rattle.itv_base.specs.Outside.{ShelfTold}
 use Rattle.itv_base.specs.Reading.{HasFault}
+use Rattle.sheet.specs.Contents.{Contents as SheetContents}
 use Rattle.netlist.specs.Contents.{Contents}
-use Rattle.netlist.specs.Netlist.{netlist_of, sheet_names}
+use Rattle.netlist.specs.Netlist.{lone_netlist, netlist_of, sheet_names}
 use Rattle.compose.specs.declared.fault.JoinFault.{JoinFault}
 use Rattle.compose.specs.Fault.{is_memory as is_join_memory}
 use Rattle.compose.specs.Design.{Composed}
 use Rattle.compose.specs.Compose.{composed}
 use Rattle.compose.specs.Sheets.{SheetMap}
+use Rattle.compose.specs.declared.sheet_key.SheetKey.{SheetKey}
 use Rattle.unroll.specs.declared.fault.UnrollFault.{UnrollFault}
 use Rattle.unroll.specs.Fault.{is_memory as is_limit_memory}
 use Rattle.drawn.specs.Drawn.{Drawn}
@@ -19,8 +21,9 @@ use Rattle.unroll.specs.Limits.{unrolled}
 use Rattle.reading.specs.declared.place.Place.TheVariants.{File, Design}
 use Rattle.reading.specs.declared.refusal.Refusal.TheVariants.{Netlist, Joins, Limits}
 use Rattle.reading.specs.declared.stop.Stop.{Stop}
-use Rattle.reading.specs.Opening.{◌>>=◌, at, Comes, ready}
-use Rattle.reading.specs.Design.{NamedSheets, drawn_at, lone_at, netlist_at, sheets_of_files, tree_drawn}
+use Rattle.reading.specs.Opening.{◌>>=◌, at, gives, Comes, ready}
+use Rattle.plan.specs.Plan.{NamedSheets, Planned}
+use Rattle.reading.specs.Design.{drawn_at, lone_at, lone_plan, netlist_at, plain_key, sheets_of_files, tree_planned, with_sheet}
 use Rattle.reading.specs.Step.{Opens, stop_of}
 use Rattle.reading.proofs.Opens.{at_ok, at_err, comes_then, opens_stop, opens_then, opens_up}
 
@@ -51,31 +54,46 @@ module _ (told : ShelfTold) (netlist : Contents) (sheets : SheetMap) where
 pub drawn_same : (told : ShelfTold) (n m : Contents) (es fs : NamedSheets) (r : Result Drawn Stop) → n ≡ m → es ≡ fs → Opens (λ (d : Drawn). d) told told (drawn_at n es) r → Opens (λ (d : Drawn). d) told told (drawn_at m fs) r
 drawn_same told n m es fs r e f h = subst (λ x. Opens (λ (d : Drawn). d) told told (drawn_at m x) r) f (subst (λ x. Opens (λ (d : Drawn). d) told told (drawn_at x es) r) e h)
 
+-- ---- lone sheets
+
+-- the one sheet that was put in
+pub sheet_put : (name : List ℕ) (key : SheetKey) (sheet : SheetContents) (before sheets : NamedSheets) → key ≡ plain_key name → before ≡ [] → sheets ≡ with_sheet before key sheet
+    → sheets ≡ with_sheet [] (plain_key name) sheet
+sheet_put name key sheet before sheets named none put = rw (put, none, named) refl
+
+-- the plan of a netlist and of sheets that are those of a lone sheet
+pub lone_same : (name : List ℕ) (sheet : SheetContents) (netlist : Contents) (sheets : NamedSheets) → netlist ≡ lone_netlist name → sheets ≡ with_sheet [] (plain_key name) sheet
+    → record { netlist = netlist; sheets = sheets } ≡ lone_plan name sheet
+lone_same name sheet netlist sheets is has = rw (is, has) refl
+
 -- ---- netlists
 
-module _ (old new : ShelfTold) (tree : Data) (netlist : Contents) (is : netlist_of tree ≡ Ok netlist) (r : Result Drawn Stop) where
+module _ (old new : ShelfTold) (tree : Data) (netlist : Contents) (is : netlist_of tree ≡ Ok netlist) (r : Result Planned Stop) where
+  abbrev planned : NamedSheets → Planned
+  planned sheets = record { netlist = netlist; sheets = sheets }
+
   -- the netlist was read, and its sheets are
-  netlist_read : Opens (λ (d : Drawn). d) old new (sheets_of_files netlist (sheet_names netlist.parts) >>= (λ sheets. drawn_at netlist sheets)) r → Opens (λ (d : Drawn). d) old new (netlist_at tree) r
+  netlist_read : Opens (λ (p : Planned). p) old new (sheets_of_files netlist (sheet_names netlist.parts) >>= (λ sheets. gives (planned sheets))) r → Opens (λ (p : Planned). p) old new (netlist_at tree) r
   netlist_read h =
-      opens_then (λ (n : Contents). n) (λ (d : Drawn). d) (at (File 0) Netlist (netlist_of tree)) (λ n. sheets_of_files n (sheet_names n.parts) >>= (λ sheets. drawn_at n sheets)) old old new netlist r
+      opens_then (λ (n : Contents). n) (λ (p : Planned). p) (at (File 0) Netlist (netlist_of tree)) (λ n. sheets_of_files n (sheet_names n.parts) >>= (λ sheets. gives (record { netlist = n; sheets = sheets }))) old old new netlist r
       (at_ok old (File 0) Netlist (netlist_of tree) netlist is, refl) h
 
   -- they can't be read
-  pub netlist_up : (s : Stop) → IsErrAnd r (λ e. e ≡ s) → Opens (λ (m : SheetMap). m.entries) old new (sheets_of_files netlist (sheet_names netlist.parts)) (Err s) → Opens (λ (d : Drawn). d) old new (netlist_at tree) r
+  pub netlist_up : (s : Stop) → IsErrAnd r (λ e. e ≡ s) → Opens (λ (m : SheetMap). m.entries) old new (sheets_of_files netlist (sheet_names netlist.parts)) (Err s) → Opens (λ (p : Planned). p) old new (netlist_at tree) r
   netlist_up s err h =
-      netlist_read (opens_up (λ (m : SheetMap). m.entries) (λ (d : Drawn). d) (sheets_of_files netlist (sheet_names netlist.parts)) (λ sheets. drawn_at netlist sheets) old new s r err h)
+      netlist_read (opens_up (λ (m : SheetMap). m.entries) (λ (p : Planned). p) (sheets_of_files netlist (sheet_names netlist.parts)) (λ sheets. gives (planned sheets)) old new s r err h)
 
-  -- they are read, and the design is drawn
+  -- they are read, and the plan is made of them
   pub netlist_on : (sheets : SheetMap) → Opens (λ (m : SheetMap). m.entries) old new (sheets_of_files netlist (sheet_names netlist.parts)) (Ok sheets)
-      → Opens (λ (d : Drawn). d) new new (drawn_at netlist sheets.entries) r → Opens (λ (d : Drawn). d) old new (netlist_at tree) r
-  netlist_on sheets h drawn =
-      netlist_read (opens_then (λ (m : SheetMap). m.entries) (λ (d : Drawn). d) (sheets_of_files netlist (sheet_names netlist.parts)) (λ sheets. drawn_at netlist sheets) old new new sheets r h drawn)
+      → Opens (λ (p : Planned). p) new new (gives (planned sheets.entries)) r → Opens (λ (p : Planned). p) old new (netlist_at tree) r
+  netlist_on sheets h made =
+      netlist_read (opens_then (λ (m : SheetMap). m.entries) (λ (p : Planned). p) (sheets_of_files netlist (sheet_names netlist.parts)) (λ sheets. gives (planned sheets)) old new new sheets r h made)
 
 -- ---- trees
 
-module _ (old new : ShelfTold) (name : List ℕ) (tree : Data) (r : Result Drawn Stop) where
-  pub lone_on : (is_some (as_object tree) && is_none (get (codes "itv") tree)) ≡ true → Opens (λ (d : Drawn). d) old new (lone_at name tree) r → Opens (λ (d : Drawn). d) old new (tree_drawn name tree) r
+module _ (old new : ShelfTold) (name : List ℕ) (tree : Data) (r : Result Planned Stop) where
+  pub lone_on : (is_some (as_object tree) && is_none (get (codes "itv") tree)) ≡ true → Opens (λ (p : Planned). p) old new (lone_at name tree) r → Opens (λ (p : Planned). p) old new (tree_planned name tree) r
   lone_on e h = rw e h
 
-  pub netlist_tree_on : (is_some (as_object tree) && is_none (get (codes "itv") tree)) ≡ false → Opens (λ (d : Drawn). d) old new (netlist_at tree) r → Opens (λ (d : Drawn). d) old new (tree_drawn name tree) r
+  pub netlist_tree_on : (is_some (as_object tree) && is_none (get (codes "itv") tree)) ≡ false → Opens (λ (p : Planned). p) old new (netlist_at tree) r → Opens (λ (p : Planned). p) old new (tree_planned name tree) r
   netlist_tree_on e h = rw e h

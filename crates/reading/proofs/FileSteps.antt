@@ -22,7 +22,8 @@ use Rattle.reading.specs.declared.place.Place.TheVariants.{File}
 use Rattle.reading.specs.declared.refusal.Refusal.TheVariants.{Diagram, Grades, Sheet}
 use Rattle.reading.specs.declared.stop.Stop.{Stop}
 use Rattle.reading.specs.Opening.{Opening, gives, at, each, ready, ◌>>=◌}
-use Rattle.reading.specs.Design.{NamedSheets, grades_in, is_unread, sheet_among, sheets_at, with_part, with_sheet}
+use Rattle.plan.specs.Plan.{NamedSheets, sheet_among}
+use Rattle.reading.specs.Design.{grades_in, is_unread, sheets_at, with_part, with_sheet}
 use Rattle.reading.specs.Step.{Opens, stop_of}
 use Rattle.reading.proofs.Opens.{at_ok, at_err, opens_stop, opens_then, opens_up}
 

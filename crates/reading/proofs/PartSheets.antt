@@ -1,11 +1,9 @@
 -- Each part has its sheet among those that were read.
-use Rattle.std.proofs.Common.{◌≡◌, ℕ, ◌+◌, ◌==◌, ◌&&◌, Bool, true, false, cond, if◌then◌else◌, List, [], ◌∷◌, All, get_or, Option, Some, None, IsSome, refl, sym, ap, ◌∙◌, subst}
+use Rattle.std.proofs.Common.{◌≡◌, ℕ, ◌&&◌, Bool, true, false, cond, if◌then◌else◌, List, [], ◌∷◌, All, Option, Some, None, IsSome, refl, sym, subst}
 use Rattle.std.specs.Prelude.{is_none}
-use Rattle.std.specs.Map.{lookup}
 use Rattle.std.specs.Str.{bytes_eq}
 use Rattle.std.proofs.lemmas.List.Elements.{All-cons, All-nil, All-weaker}
 use Rattle.std.proofs.lemmas.Slice.Eq.{bytes_eq-Decides}
-use Rattle.serde_json.specs.Data.{Data}
 use Rattle.itv_base.specs.Outside.{ShelfTold}
 use Rattle.wavejson.specs.Drawing.{Drawing, diagram_of}
 use Rattle.grades.specs.declared.grade.Grade.{Grade}
@@ -22,7 +20,8 @@ use Rattle.reading.specs.declared.place.Place.{Place}
 use Rattle.reading.specs.declared.place.Place.TheVariants.{File}
 use Rattle.reading.specs.declared.refusal.Refusal.TheVariants.{Diagram, Sheet}
 use Rattle.reading.specs.Opening.{gives, at, each, Comes, ready, ◌>>=◌}
-use Rattle.reading.specs.Design.{NamedSheets, grades_in, is_unread, plain_key, sheet_among, sheets_at, sheets_in, sheets_of_files, tree_in, with_part, with_sheet}
+use Rattle.plan.specs.Plan.{NamedSheets, sheet_among}
+use Rattle.reading.specs.Design.{grades_in, is_unread, plain_key, sheets_at, sheets_in, sheets_of_files, tree_in, with_part, with_sheet}
 use Rattle.reading.proofs.Opens.{gave, opening_then, each_keeps, each_brings}
 
 -- the sheet of a key is among the sheets

@@ -4,7 +4,7 @@ ghost use Rattle.reading.specs.Design.{design_at, drawn_at};
 ghost use Rattle.reading.specs.Step.{Opens, Reads};
 
 use crate::place::Place;
-use crate::plan::open_plan;
+use crate::planning::open_plan;
 use crate::stop::{Stop, join_stop, limit_stop};
 use compose::compose;
 use drawn::DrawnNetwork;

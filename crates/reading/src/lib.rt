@@ -7,7 +7,7 @@
 mod design;
 mod file;
 mod place;
-mod plan;
+mod planning;
 mod put;
 mod refusal;
 mod sheets;
@@ -16,7 +16,7 @@ mod stop;
 pub use design::{draw_plan, open_design};
 pub use file::fetch_file;
 pub use place::Place;
-pub use plan::open_plan;
+pub use planning::open_plan;
 pub use put::{put_refusal, put_unread};
 pub use refusal::Refusal;
 pub use stop::{Stop, edits_stop};

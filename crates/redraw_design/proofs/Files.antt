@@ -14,7 +14,7 @@ use Rattle.compose.proofs.Keys.{same_key_itself}
 use Rattle.netlist.specs.Netlist.{lone_netlist}
 use Rattle.drawn.specs.Drawn.{Drawn}
 use Rattle.unroll.specs.Drawn.{drawn_of}
-use Rattle.reading.specs.Design.{design_at, drawn_at, plain_key, tree_at, tree_drawn, with_sheet}
+use Rattle.reading.specs.Design.{design_at, drawn_at, plain_key, tree_at, tree_planned, with_sheet}
 use Rattle.reading.specs.declared.place.Place.TheVariants.{File}
 use Rattle.reading.specs.Opening.{Opening, gives, ◌>>=◌, ready, told_end, unread, within_limit}
 use Rattle.redraw.specs.declared.stand.Stand.{Stand}
@@ -25,6 +25,10 @@ use Rattle.redraw_read.proofs.Sheets.{IsDrawable, sheet_drawn, sheet_is}
 use Rattle.redraw_read.proofs.Tree.{diagram_is, sketch_tree}
 
 -- ---- the tree
+
+-- what a tree draws
+abbrev pub tree_drawn : List ℕ → Data → Opening Drawn
+tree_drawn file tree = tree_planned file tree >>= (λ plan. drawn_at plan.netlist plan.sheets)
 
 -- what a drawn sheet draws
 sheet_gives : (name : EventId → Name) (from to : EventId) (ends : Ends) (ss : List Stand) (file : List ℕ) → IsDrawable name from to ends ss
@@ -46,7 +50,7 @@ not_long limit n h = search rules
 
 -- the reading behind the bytes of the file
 abbrev next_of : List ℕ → List ℕ → Opening Drawn
-next_of file bytes = (within_limit (File 0) FILE_LIMIT bytes >>= (λ bytes. tree_at (File 0) bytes)) >>= (λ tree. tree_drawn file tree)
+next_of file bytes = ((within_limit (File 0) FILE_LIMIT bytes >>= (λ bytes. tree_at (File 0) bytes)) >>= (λ tree. tree_planned file tree)) >>= (λ plan. drawn_at plan.netlist plan.sheets)
 
 bytes_give : (files : Files) (file bytes : List ℕ) (tree : Data) (drawn : Drawn) → length bytes ≤ FILE_LIMIT → is_utf8 bytes ≡ true → read bytes ≡ Some tree
     → tree_drawn file tree ≡ gives drawn → told_end files (next_of file bytes) ≡ ready drawn

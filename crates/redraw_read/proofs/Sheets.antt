@@ -24,6 +24,7 @@ sheet_drawn name from to ends ss = record {
   pins = pins_from name 0 ss;
   rules = orders_from 0 ss ++ map lin_rule (read_from 0 (links_by ss));
   rows = (record { kind = asked.Req ends; from = number_in ss from; to = number_in ss to; shift = 0; origin = Edge (length ss - 1) }) ∷ [];
+  edges = (sketch_of name from to ends ss).edges;
 }
 
 -- what holds of where drawn events stand, for their drawing to be read

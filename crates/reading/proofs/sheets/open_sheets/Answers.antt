@@ -1,9 +1,8 @@
 use Rattle.std.specs.Prelude.{⊤}
-use Rattle.std.proofs.Common.{◌∙◌, ◌+◌, ap, sym, subst, Some, Result, arith}
+use Rattle.std.proofs.Common.{◌∙◌, ◌+◌, ap, sym, Some, arith}
 use Rattle.itv_base.proofs.Lists.{drop-read}
 use Rattle.compose.specs.Sheets.{SheetMap}
 use Rattle.reading.specs.Design.{sheets_in, sheets_of_files}
-use Rattle.reading.specs.Step.{Opens}
 use Rattle.reading.proofs.Opens.{each_end, each_next, each_stop}
 use Rattle.reading.proofs.sheets.open_sheets.Goals as goal
 

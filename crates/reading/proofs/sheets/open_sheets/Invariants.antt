@@ -1,4 +1,4 @@
-use Rattle.std.proofs.Common.{◌+◌, [], drop}
+use Rattle.std.proofs.Common.{◌+◌, drop}
 use Rattle.reading.specs.Design.{sheets_in, sheets_of_files}
 use Rattle.reading.specs.Opening.{each}
 use Rattle.reading.proofs.Opens.{Resumes}

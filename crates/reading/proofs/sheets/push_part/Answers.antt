@@ -1,6 +1,7 @@
 use Rattle.std.specs.Prelude.{⊤}
 use Rattle.std.proofs.Common.{◌∙◌, ap, is_some, refl, sym}
-use Rattle.reading.specs.Design.{sheet_among, with_sheet}
+use Rattle.plan.specs.Plan.{sheet_among}
+use Rattle.reading.specs.Design.{with_sheet}
 use Rattle.reading.proofs.FileSteps.{part_known, part_other, part_put, part_stop}
 use Rattle.reading.proofs.sheets.push_part.Goals as goal
 

@@ -1,6 +1,5 @@
 use Rattle.std.specs.Prelude.{⊤}
-use Rattle.sheet.specs.Contents.{Contents}
-use Rattle.reading.specs.Design.{NamedSheets, with_part}
+use Rattle.reading.specs.Design.{with_part}
 use Rattle.reading.specs.Opening.{each}
 use Rattle.reading.proofs.Opens.{each_end, each_next, each_stop, next_item, resumes_all}
 use Rattle.reading.proofs.sheets.push_parts.Goals as goal

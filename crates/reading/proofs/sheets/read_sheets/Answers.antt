@@ -1,6 +1,5 @@
 use Rattle.std.specs.Prelude.{⊤}
 use Rattle.serde_json.specs.View.{view}
-use Rattle.reading.specs.Opening.{each}
 use Rattle.reading.proofs.FileSteps.{diagram_refused, grades_up, parts_on}
 use Rattle.reading.proofs.sheets.read_sheets.Goals as goal
 
