@@ -12,6 +12,7 @@ use Rattle.netlist.specs.declared.wire.Wire.{Wire}
 use Rattle.netlist.specs.Contents.{JoinedPins}
 use Rattle.netlist.specs.Fault.{is_memory}
 use Rattle.json_tree.specs.Words.{list_at}
+use Rattle.near_keys.specs.NearKeys.{near_in_netlist}
 use Rattle.netlist.specs.Netlist.{cycles_of, edges_of, list_if, parts_of, nets_of, wires_of, netlist_of, sheet_names, with_part, with_net, with_wire, version_of}
 use Rattle.itv_base.specs.Reading.{walk, Unless, HasFault}
 use Rattle.itv_base.proofs.Faults.{HasFault-first}
@@ -105,7 +106,7 @@ module _ (tree : Data) where
             unfolding netlist_of
             all_edges-fault fault h = rw (told, counted, are, joined, wired) (HasFault-first is_memory (edges_of tree) _ fault h)
 
-            pub netlist-ok : (edges : List (List ℕ)) → edges_of tree ≡ Ok edges
-                → netlist_of tree ≡ Ok (record { version = version; cycles = cycles; parts = parts; nets = nets; wires = wires; edges = edges })
+            pub netlist-ok : (edges : List (List ℕ)) → edges_of tree ≡ Ok edges → (near : List (List ℕ)) → near ≡ near_in_netlist tree
+                → netlist_of tree ≡ Ok (record { version = version; cycles = cycles; parts = parts; nets = nets; wires = wires; edges = edges; near = near })
             unfolding netlist_of
-            netlist-ok edges is = rw (told, counted, are, joined, wired, is) refl
+            netlist-ok edges is near same = rw (told, counted, are, joined, wired, is, same) refl

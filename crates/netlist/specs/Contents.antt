@@ -11,7 +11,8 @@ pub record JoinedPins : Type 0 where
   pub delay : Ends
 
 -- The version, the number of cycles, and the parts, nets and wires in order; a wire that is a comment is none. The edges are the texts
--- of the wires in order, as they are written, comments among them.
+-- of the wires in order, as they are written, comments among them. The near keys are those of the tree, of its parts and of its nets
+-- that are passed over and nearly are keys which are read.
 pub record Contents : Type 0 where
   pub version : ℕ
   pub cycles : ℕ
@@ -19,3 +20,4 @@ pub record Contents : Type 0 where
   pub nets : List JoinedPins
   pub wires : List (Option Wire)
   pub edges : List (List ℕ)
+  pub near : List (List ℕ)

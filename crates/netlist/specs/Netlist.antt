@@ -4,6 +4,7 @@ use Rattle.std.specs.List.{filter_map, list_any, before_first, after_first}
 use Rattle.std.specs.Str.{bytes_eq}
 use Rattle.serde_json.specs.Data.{Data}
 use Rattle.serde_json.specs.Find.{get, as_object, as_str}
+use Rattle.near_keys.specs.NearKeys.{near_in_netlist}
 use Rattle.json_tree.specs.Words.{all_of, ends_by, list_at, list_of, name_of, text_at, whole_at}
 use Rattle.itv_base.specs.Range.{Ends, has_wide, is_reversed}
 use Rattle.itv_base.specs.declared.range.RangeFault.TheVariants.{TooWide, EmptyRange}
@@ -196,7 +197,8 @@ edges_of tree = do
 
 -- ---- the whole
 
--- The netlist of a tree, or its first fault. No other key of the tree, of a part or of a net is read.
+-- The netlist of a tree, or its first fault. No other key of the tree, of a part or of a net is read, and of those only the near ones
+-- are told.
 unfoldable pub netlist_of : Data → Result Contents NetlistFault
 netlist_of tree = do
   version ← version_of tree
@@ -205,9 +207,9 @@ netlist_of tree = do
   nets ← nets_of tree
   wires ← wires_of tree
   edges ← edges_of tree
-  Ok (record { version = version; cycles = cycles; parts = parts; nets = nets; wires = wires; edges = edges })
+  Ok (record { version = version; cycles = cycles; parts = parts; nets = nets; wires = wires; edges = edges; near = near_in_netlist tree })
 
--- the netlist that the sheet of a name stands for: one part in one cycle, of version 1
+-- the netlist that the sheet of a name stands for: one part in one cycle, of version 1; it has no keys
 abbrev pub lone_netlist : List ℕ → Contents
 lone_netlist sheet = record {
   version = 1;
@@ -216,4 +218,5 @@ lone_netlist sheet = record {
   nets = [];
   wires = [];
   edges = [];
+  near = [];
 }

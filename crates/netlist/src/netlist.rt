@@ -11,7 +11,7 @@ use itv_base::{NoMemory, Text, Texts};
 use std::alloc::Global;
 use std::marker::Model;
 
-/// The version, the number of cycles, and the parts, nets and wires of a netlist, and the texts of its wires.
+/// The version, the number of cycles, and the parts, nets and wires of a netlist, the texts of its wires, and its near keys.
 #[derive(Debug, Drop)]
 pub struct Netlist {
     pub(crate) version: u32,
@@ -21,6 +21,7 @@ pub struct Netlist {
     pub(crate) nets: Nets,
     pub(crate) wires: Wires,
     pub(crate) edges: Texts,
+    pub(crate) near: Texts,
 }
 
 impl Model for Netlist {
@@ -31,9 +32,9 @@ impl Model for Netlist {
 
     ghost Value = { Contents };
 
-    ghost view = { λ n. record { version = n.version; cycles = n.cycles; parts = n.parts; nets = n.nets; wires = n.wires; edges = n.edges } };
+    ghost view = { λ n. record { version = n.version; cycles = n.cycles; parts = n.parts; nets = n.nets; wires = n.wires; edges = n.edges; near = n.near } };
 
-    ghost invariant = { λ n. IsNetlist (record { version = n.version; cycles = n.cycles; parts = n.parts; nets = n.nets; wires = n.wires; edges = n.edges })
+    ghost invariant = { λ n. IsNetlist (record { version = n.version; cycles = n.cycles; parts = n.parts; nets = n.nets; wires = n.wires; edges = n.edges; near = n.near })
         × (n.sheet_names ≡ names_of n.parts) };
 }
 
@@ -58,6 +59,7 @@ impl Netlist {
             nets: Nets::new(alloc),
             wires: Wires::new(alloc),
             edges: Texts::new(alloc)?,
+            near: Texts::new(alloc)?,
         })
     }
 
@@ -110,5 +112,13 @@ impl Netlist {
         ensures edges { result.now ≡ self.now.edges }
     {
         &self.edges
+    }
+
+    /// The keys of the tree that are passed over and nearly are keys which are read: its own, and then those of its parts and of its
+    /// nets in order. A lone netlist has none.
+    pub fn near(&self) -> &Texts
+        ensures near { result.now ≡ self.now.near }
+    {
+        &self.near
     }
 }

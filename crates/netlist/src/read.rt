@@ -18,6 +18,7 @@ use crate::wires::read_wires;
 use crate::{Nets, Wires};
 use itv_base::{MAX_PARTS, MAX_SHEET_NAMES, Texts};
 use json_tree::list_at;
+use near_keys::near_in_netlist;
 use serde_json::Value;
 use std::alloc::Global;
 
@@ -27,7 +28,8 @@ use std::alloc::Global;
 /// with a `name` and a `sheet`, and in version 2 with a `grade` or none. `nets` may be missing; it is a list of objects, each with `pins`, a list of texts as `U1.ADDR`, and with a
 /// `delay` of two ends in picoseconds (null is open), which is 0 where it is missing. `edges` may be missing; it is a list of
 /// wires as `U1.a U2.b @lin [0,250]`, and a text without two spaces or without a label that begins with `@` is a comment.
-/// Every other key is passed over unread, in version 1 the `grade` of a part too.
+/// Every other key is passed over unread, in version 1 the `grade` of a part too. Of these keys those are kept that nearly are known:
+/// [`near_in_netlist`] says which.
 ///
 /// `NoMemory` may come in place of a netlist or a fault. After any fault no netlist was made.
 pub fn read_netlist(alloc: Global, tree: &Value) -> Result<Netlist, NetlistFault>
@@ -39,6 +41,7 @@ pub fn read_netlist(alloc: Global, tree: &Value) -> Result<Netlist, NetlistFault
     let nets = nets_of(alloc, tree)?;
     let wires = wires_of(alloc, tree)?;
     let edges = edges_of(alloc, tree)?;
+    let near = near_in_netlist(alloc, tree)?;
     Ok(Netlist {
         version,
         cycles,
@@ -47,6 +50,7 @@ pub fn read_netlist(alloc: Global, tree: &Value) -> Result<Netlist, NetlistFault
         nets,
         wires,
         edges,
+        near,
     })
 }
 

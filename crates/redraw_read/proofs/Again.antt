@@ -23,7 +23,7 @@ use Rattle.redraw.proofs.Ordered.{Every, every_drawn, every_in_order, every_stan
 use Rattle.redraw.proofs.Rows.{redrawn_is}
 use Rattle.redraw_read.proofs.Sheets.{IsDrawable, sheet_drawn, sheet_is}
 use Rattle.redraw_read.proofs.Short.{sketch_short}
-use Rattle.redraw_read.proofs.Tree.{diagram_is, drawn_lane, lone_tree, reads_tree, sketch_tree}
+use Rattle.redraw_read.proofs.Tree.{diagram_is, drawn_lane, lone_tree, near_drawn, reads_tree, sketch_tree}
 use Rattle.redraw_read.proofs.Visible.{sketch_plain, sketch_utf8, sketch_visible}
 
 -- ---- names
@@ -88,7 +88,11 @@ pair_read drawn from to ends xs count named range pair =
       tree = sketch_tree (sketch_of (name_of drawn) from to ends (stands_of xs));
       reads = reads_tree (sketch_of (name_of drawn) from to ends (stands_of xs)) (sketch_plain (sketch_of (name_of drawn) from to ends (stands_of xs)) visible);
       lone = lone_tree (sketch_of (name_of drawn) from to ends (stands_of xs));
-      drawing = record { lanes = map drawn_lane (sketch_of (name_of drawn) from to ends (stands_of xs)).lanes; edges = (sketch_of (name_of drawn) from to ends (stands_of xs)).edges };
+      drawing = record {
+        lanes = map drawn_lane (sketch_of (name_of drawn) from to ends (stands_of xs)).lanes;
+        edges = (sketch_of (name_of drawn) from to ends (stands_of xs)).edges;
+        near = near_drawn (sketch_of (name_of drawn) from to ends (stands_of xs));
+      };
       draws = diagram_is (sketch_of (name_of drawn) from to ends (stands_of xs)) (each_long (name_of drawn) (stands_of xs));
       sheet = sheet_drawn (name_of drawn) from to ends (stands_of xs);
       is_sheet = sheet_is (name_of drawn) from to ends (stands_of xs) pair.drawable;

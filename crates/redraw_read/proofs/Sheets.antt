@@ -16,7 +16,7 @@ use Rattle.redraw_read.proofs.Linked.{IsSound, demand_link, edges_linked, edges_
 use Rattle.redraw_read.proofs.Marks.{IsFew, marks_from, text_lane}
 use Rattle.redraw.proofs.Ordered.{AreNumbered, Every}
 use Rattle.redraw_read.proofs.Read.{lane_names, marks_read, orders_are, orders_from, pins_from, pins_read}
-use Rattle.redraw_read.proofs.Tree.{drawn_lane}
+use Rattle.redraw_read.proofs.Tree.{drawn_lane, near_drawn}
 
 abbrev pub sheet_drawn : (EventId → Name) → EventId → EventId → Ends → List Stand → Contents
 sheet_drawn name from to ends ss = record {
@@ -25,6 +25,7 @@ sheet_drawn name from to ends ss = record {
   rules = orders_from 0 ss ++ map lin_rule (read_from 0 (links_by ss));
   rows = (record { kind = asked.Req ends; from = number_in ss from; to = number_in ss to; shift = 0; origin = Edge (length ss - 1) }) ∷ [];
   edges = (sketch_of name from to ends ss).edges;
+  near = near_drawn (sketch_of name from to ends ss);
 }
 
 -- what holds of where drawn events stand, for their drawing to be read
@@ -41,7 +42,7 @@ lanes_same name [] = refl
 lanes_same name (s ∷ ss) = ap (λ l. text_lane name s ∷ l) (lanes_same name ss)
 
 pub sheet_is : (name : EventId → Name) (from to : EventId) (ends : Ends) (ss : List Stand) → IsDrawable name from to ends ss
-    → sheet_of plain (record { lanes = map drawn_lane (sketch_of name from to ends ss).lanes; edges = (sketch_of name from to ends ss).edges }) ≡ Ok (sheet_drawn name from to ends ss)
+    → sheet_of plain (record { lanes = map drawn_lane (sketch_of name from to ends ss).lanes; edges = (sketch_of name from to ends ss).edges; near = near_drawn (sketch_of name from to ends ss) }) ≡ Ok (sheet_drawn name from to ends ss)
 unfolding sheet_of
 sheet_is name from to ends ss h =
     rw (

@@ -4,6 +4,7 @@ use Rattle.std.specs.List.{position_or_len}
 use Rattle.serde_json.specs.Data.{Data, Items, array, item, member, no_items, no_members, object, string}
 use Rattle.serde_json.specs.Find.{as_str, get}
 use Rattle.serde_json.specs.Read.{of_items, of_json, read}
+use Rattle.near_keys.specs.NearKeys.{near_in_sheet}
 use Rattle.wavejson.specs.declared.lane_text.LaneText.{LaneText}
 use Rattle.wavejson.specs.Drawing.{diagram_of, elements, is_no_string, lane_of, lanes_in, texts_of, unless_empty}
 use Rattle.redraw.specs.Drawing.{Lane, Sketch}
@@ -83,6 +84,11 @@ texts_are (text ∷ texts) = ap (λ l. text ∷ l) (texts_are texts)
 edges_are : (texts : List (List ℕ)) → texts_of (elements (texts_tree texts)) ≡ Ok texts
 edges_are texts = rw (no_position is_no_string (elements (texts_tree texts)) (none_wrong texts), texts_are texts) refl
 
+-- the keys of its tree that nearly are known
+unfoldable pub near_drawn : Sketch → List (List ℕ)
+near_drawn sketch = near_in_sheet (sketch_tree sketch)
+
 pub diagram_is : (sketch : Sketch) → Every (λ (lane : Lane). 0 < length lane.name) sketch.lanes
-    → diagram_of (sketch_tree sketch) ≡ Ok (record { lanes = map drawn_lane sketch.lanes; edges = sketch.edges })
+    → diagram_of (sketch_tree sketch) ≡ Ok (record { lanes = map drawn_lane sketch.lanes; edges = sketch.edges; near = near_drawn sketch })
+unfolding near_drawn
 diagram_is sketch h = rw (edges_are sketch.edges, lanes_are sketch.lanes h) refl

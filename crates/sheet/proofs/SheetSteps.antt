@@ -16,20 +16,20 @@ use Rattle.sheet.specs.Sheet.{grade_named, read_marks, read_pins, sheet_at, shee
 use Rattle.sheet.specs.Step.{rules_and_rows}
 use Rattle.itv_base.proofs.Faults.{HasFault-on, HasFault-first}
 
-module _ (marks : List Mark) (pins : List Pin) (front : List SheetRule) (texts : List (List ℕ)) where
+module _ (marks : List Mark) (pins : List Pin) (front : List SheetRule) (texts near : List (List ℕ)) where
   abbrev contents : List Link → Contents
-  contents links = record { marks = marks; pins = pins; rules = front ++ link_rules links; rows = link_rows links; edges = texts }
+  contents links = record { marks = marks; pins = pins; rules = front ++ link_rules links; rows = link_rows links; edges = texts; near = near }
 
   same_fault : (read : Result (List Link) SheetFault) (fault : SheetFault) → rules_and_rows front read ≡ Err fault → (read >>= (λ links. Ok (contents links))) ≡ Err fault
   same_fault (Ok links) fault e = cc
   same_fault (Err d) fault e = cc
 
   same_contents : (read : Result (List Link) SheetFault) (edges : EdgeRules) → rules_and_rows front read ≡ Ok edges
-      → (read >>= (λ links. Ok (contents links))) ≡ Ok (record { marks = marks; pins = pins; rules = edges.rules; rows = edges.rows; edges = texts })
+      → (read >>= (λ links. Ok (contents links))) ≡ Ok (record { marks = marks; pins = pins; rules = edges.rules; rows = edges.rows; edges = texts; near = near })
   same_contents (Err d) edges e = cc
   same_contents (Ok links) edges e =
       let same : record { rules = front ++ link_rules links; rows = link_rows links } ≡ edges = cc in
-      ap (λ (r : EdgeRules). Ok (record { marks = marks; pins = pins; rules = r.rules; rows = r.rows; edges = texts })) same
+      ap (λ (r : EdgeRules). Ok (record { marks = marks; pins = pins; rules = r.rules; rows = r.rows; edges = texts; near = near })) same
 
 module _ (labels : Labels) (drawing : Drawing) where
   pub marks-fault : (fault : SheetFault) → HasFault is_memory (read_marks drawing.lanes) fault → HasFault is_memory (sheet_of labels drawing) fault
@@ -45,12 +45,12 @@ module _ (labels : Labels) (drawing : Drawing) where
       pub edges-fault : (fault : SheetFault) → HasFault is_memory (rules_and_rows (order_rules drawing.lanes) (links_of labels marks drawing.edges)) fault → HasFault is_memory (sheet_of labels drawing) fault
       unfolding sheet_of
       edges-fault fault h =
-          rw (read, named) (HasFault-on is_memory _ _ fault (same_fault marks pins (order_rules drawing.lanes) drawing.edges (links_of labels marks drawing.edges)) h)
+          rw (read, named) (HasFault-on is_memory _ _ fault (same_fault marks pins (order_rules drawing.lanes) drawing.edges drawing.near (links_of labels marks drawing.edges)) h)
 
-      pub sheet-ok : (edges : EdgeRules) (texts : List (List ℕ)) → texts ≡ drawing.edges → rules_and_rows (order_rules drawing.lanes) (links_of labels marks drawing.edges) ≡ Ok edges
-          → sheet_of labels drawing ≡ Ok (record { marks = marks; pins = pins; rules = edges.rules; rows = edges.rows; edges = texts })
+      pub sheet-ok : (edges : EdgeRules) (texts : List (List ℕ)) → texts ≡ drawing.edges → (near : List (List ℕ)) → near ≡ drawing.near → rules_and_rows (order_rules drawing.lanes) (links_of labels marks drawing.edges) ≡ Ok edges
+          → sheet_of labels drawing ≡ Ok (record { marks = marks; pins = pins; rules = edges.rules; rows = edges.rows; edges = texts; near = near })
       unfolding sheet_of
-      sheet-ok edges texts same e = rw (read, named, same) (same_contents marks pins (order_rules drawing.lanes) drawing.edges (links_of labels marks drawing.edges) edges e)
+      sheet-ok edges texts same near kept e = rw (read, named, same, kept) (same_contents marks pins (order_rules drawing.lanes) drawing.edges drawing.near (links_of labels marks drawing.edges) edges e)
 
 -- ---- at a grade
 

@@ -411,9 +411,9 @@ unfolding read_pins
 read_pins_whole lanes = IfOk-unless (λ pins. pins ≡ pins_of lanes) (first_repeated bytes_eq (λ pin. pin.name) [] (pins_of lanes)) (λ pin. DoublePin pin.lane) (pins_of lanes) (λ _. refl)
 
 -- few marks with whole links are a whole sheet
-contents_whole : (lanes : List LaneText) (edges : List (List ℕ)) (marks : List Mark) (pins : List Pin) (links : List Link) → IsMarksOf lanes marks → pins ≡ pins_of lanes → AreWhole (length marks) links
-    → IsWhole (record { marks = marks; pins = pins; rules = order_rules lanes ++ link_rules links; rows = link_rows links; edges = edges })
-contents_whole lanes edges marks pins links read are whole = record {
+contents_whole : (lanes : List LaneText) (edges near : List (List ℕ)) (marks : List Mark) (pins : List Pin) (links : List Link) → IsMarksOf lanes marks → pins ≡ pins_of lanes → AreWhole (length marks) links
+    → IsWhole (record { marks = marks; pins = pins; rules = order_rules lanes ++ link_rules links; rows = link_rows links; edges = edges; near = near })
+contents_whole lanes edges near marks pins links read are whole = record {
   marks = read.few;
   pins = rw (are, read.whole) (pins_within lanes);
   rules = All-append (IsWholeRule (length marks)) (order_rules lanes) (link_rules links) (rw read.whole (order_rules_whole lanes)) (link_rules_whole (length marks) links whole);
@@ -427,7 +427,7 @@ sheet_of_whole labels are drawing =
     IfOk-bind (IsMarksOf drawing.lanes) IsWhole (read_marks drawing.lanes) _ (read_marks_whole drawing.lanes)
     (λ marks read. IfOk-bind (λ pins. pins ≡ pins_of drawing.lanes) IsWhole (read_pins drawing.lanes) _ (read_pins_whole drawing.lanes)
     (λ pins named. IfOk-bind (AreWhole (length marks)) IsWhole (links_of labels marks drawing.edges) _ (links_of_whole labels are marks drawing.edges)
-    (λ links whole. contents_whole drawing.lanes drawing.edges marks pins links read named whole)))
+    (λ links whole. contents_whole drawing.lanes drawing.edges drawing.near marks pins links read named whole)))
 
 -- every sheet that is read is whole
 pub sheet_whole : (labels : Labels) → AreWholeLabels labels → (drawing : Drawing) (sheet : Contents) → sheet_of labels drawing ≡ Ok sheet → IsWhole sheet

@@ -6,10 +6,12 @@ use Rattle.sheet.specs.declared.row.SheetRow.{SheetRow}
 use Rattle.sheet.specs.Rule.{SheetRule}
 
 -- the marks lane by lane and then by place, the pins, the rules in the order of their constraints, the rows in the order of their
--- edges, and the texts of the edges in order, as they are written, comments among them
+-- edges, the texts of the edges in order, as they are written, comments among them, and the keys of the drawing's tree that are passed
+-- over and nearly are keys which are read
 pub record Contents : Type 0 where
   pub marks : List Mark
   pub pins : List Pin
   pub rules : List SheetRule
   pub rows : List SheetRow
   pub edges : List (List ℕ)
+  pub near : List (List ℕ)

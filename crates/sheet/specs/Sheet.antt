@@ -36,6 +36,7 @@ sheet_of labels drawing = do
     rules = order_rules drawing.lanes ++ link_rules links;
     rows = link_rows links;
     edges = drawing.edges;
+    near = drawing.near;
   })
 
 -- the grade of a name, if one is named

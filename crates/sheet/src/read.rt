@@ -89,11 +89,13 @@ fn read_with(alloc: Global, labels: Labels<'_>, diagram: &Diagram) -> Result<She
         rules,
     )?;
     let edges = copied(alloc, diagram.edges())?;
+    let near = copied(alloc, diagram.near())?;
     Ok(Sheet {
         marks,
         pins,
         rules,
         rows,
         edges,
+        near,
     })
 }

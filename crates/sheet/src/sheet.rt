@@ -10,7 +10,7 @@ use crate::rule::Rules;
 use itv_base::Texts;
 use std::marker::Model;
 
-/// The marks, pins, rules and rows of a sheet, and the texts of its edges.
+/// The marks, pins, rules and rows of a sheet, the texts of its edges, and its near keys.
 #[derive(Debug, Drop)]
 pub struct Sheet {
     pub(crate) marks: Marks,
@@ -18,6 +18,7 @@ pub struct Sheet {
     pub(crate) rules: Rules,
     pub(crate) rows: SheetRows,
     pub(crate) edges: Texts,
+    pub(crate) near: Texts,
 }
 
 impl Model for Sheet {
@@ -26,9 +27,9 @@ impl Model for Sheet {
 
     ghost Value = { Contents };
 
-    ghost view = { λ s. record { marks = s.marks; pins = s.pins; rules = s.rules; rows = s.rows; edges = s.edges } };
+    ghost view = { λ s. record { marks = s.marks; pins = s.pins; rules = s.rules; rows = s.rows; edges = s.edges; near = s.near } };
 
-    ghost invariant = { λ s. IsWhole (record { marks = s.marks; pins = s.pins; rules = s.rules; rows = s.rows; edges = s.edges }) };
+    ghost invariant = { λ s. IsWhole (record { marks = s.marks; pins = s.pins; rules = s.rules; rows = s.rows; edges = s.edges; near = s.near }) };
 }
 
 impl Sheet {
@@ -66,5 +67,13 @@ impl Sheet {
         ensures edges { result.now ≡ self.now.edges }
     {
         &self.edges
+    }
+
+    /// The keys of the drawing's tree that are passed over and nearly are keys which are read: its own, and then those of its lanes in
+    /// order.
+    pub fn near(&self) -> &Texts
+        ensures near { result.now ≡ self.now.near }
+    {
+        &self.near
     }
 }

@@ -27,6 +27,7 @@ late_sheet = record {
   rules = record { kind = rules.Late; target = 1; causes = record { mark = 0; shift = 1; range = ends; origin = Edge 0 } ∷ [] } ∷ [];
   rows = record { kind = Ask; from = 0; to = 1; shift = 0; origin = Edge 1 } ∷ record { kind = Ask; from = 0; to = 1; shift = 1; origin = Edge 2 } ∷ [];
   edges = codes "a>j @late+1 [10,20]" ∷ codes "a>j @ask" ∷ codes "a>j @ask+1" ∷ [];
+  near = [];
 }
 
 abbrev one_part : Composed

@@ -1,9 +1,10 @@
--- What a WaveJSON tree draws: its lanes and its edge texts, or the first fault of the tree.
+-- What a WaveJSON tree draws: its lanes, its edge texts and its near keys, or the first fault of the tree.
 use Rattle.std.specs.Prelude.{ℕ, Bool, List, [], ◌∷◌, ◌++◌, Option, Some, None, is_none, ok_or, option_map, option_and_then, Result, Ok, Err, position, filter_map, codes}
 use Rattle.std.specs.Option.{option_map_or}
 use Rattle.serde_json.specs.Data.{Data, null, boolean, number, string, array, object, Items, no_items, item}
 use Rattle.serde_json.specs.Find.{get, as_str, as_array, as_object}
 use Rattle.itv_base.specs.Reading.{◌>>=◌}
+use Rattle.near_keys.specs.NearKeys.{near_in_sheet}
 use Rattle.wavejson.specs.declared.lane_text.LaneText.{LaneText}
 use Rattle.wavejson.specs.declared.fault.DiagramFault.{DiagramFault}
 use Rattle.wavejson.specs.declared.fault.DiagramFault.TheVariants.{NotObject, NoSignal, EdgesNotList, EdgeNotText}
@@ -60,10 +61,11 @@ edge_texts (Some edge) = do
   list ← ok_or (as_array edge) EdgesNotList
   texts_of (elements list)
 
--- what a diagram holds
+-- what a diagram holds: its lanes, its edge texts, and those of its keys that are passed over and nearly are keys which are read
 pub record Drawing : Type 0 where
   pub lanes : List LaneText
   pub edges : List (List ℕ)
+  pub near : List (List ℕ)
 
 -- the elements of `signal`, where it is an array
 abbrev pub signal_of : Data → Option Items
@@ -73,10 +75,10 @@ signal_of tree = option_and_then as_array (get (codes "signal") tree)
 abbrev pub edges_of : Data → Option (List Data)
 edges_of tree = option_map elements (option_and_then as_array (get (codes "edge") tree))
 
--- The drawing of a tree, or its first fault. No other key of the tree is read.
+-- The drawing of a tree, or its first fault. No other key of the tree is read, and of those only the near ones are told.
 abbrev pub diagram_of : Data → Result Drawing DiagramFault
 diagram_of tree = do
   _ ← ok_or (as_object tree) NotObject
   signal ← ok_or (signal_of tree) NoSignal
   edges ← edge_texts (get (codes "edge") tree)
-  Ok (record { lanes = lanes_in signal; edges = edges })
+  Ok (record { lanes = lanes_in signal; edges = edges; near = near_in_sheet tree })

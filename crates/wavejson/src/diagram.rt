@@ -11,15 +11,17 @@ use crate::edges::{edge_list, read_texts};
 use crate::fault::DiagramFault;
 use crate::lanes::{Lanes, read_lanes};
 use itv_base::Texts;
+use near_keys::near_in_sheet;
 use serde_json::Value;
 use std::alloc::Global;
 use std::marker::Model;
 
-/// The lanes and the edge texts of a tree. Contracts see a drawing.
+/// The lanes and the edge texts of a tree, and those of its keys that nearly are keys which are read. Contracts see a drawing.
 #[derive(Debug, Drop)]
 pub struct Diagram {
     lanes: Lanes,
     edges: Texts,
+    near: Texts,
 }
 
 impl Model for Diagram {
@@ -27,7 +29,7 @@ impl Model for Diagram {
 
     ghost Value = { Drawing };
 
-    ghost view = { λ d. record { lanes = d.lanes; edges = d.edges } };
+    ghost view = { λ d. record { lanes = d.lanes; edges = d.edges; near = d.near } };
 }
 
 impl Diagram {
@@ -44,6 +46,13 @@ impl Diagram {
     {
         &self.edges
     }
+
+    /// The keys of the tree that are passed over and nearly are keys which are read: its own, and then those of its lanes in order.
+    pub fn near(&self) -> &Texts
+        ensures near { result.now ≡ self.now.near }
+    {
+        &self.near
+    }
 }
 
 /// The diagram of a tree, or the first fault of the tree in the order of [`DiagramFault`]. Faults are found before memory is
@@ -51,7 +60,7 @@ impl Diagram {
 ///
 /// Lanes are the objects in `signal`. An array there is a group, whose elements are read the same way at any depth; all else
 /// in it is passed over, a group's title too. Of a lane only `name`, `wave` and `node` are read, of the tree only `signal` and
-/// `edge`.
+/// `edge`. Of the keys that are passed over those are kept that nearly are known: [`near_in_sheet`] says which.
 pub fn read_diagram(alloc: Global, tree: &Value) -> Result<Diagram, DiagramFault>
     ensures answer { Gives is_memory (λ drawing. drawing) result (diagram_of (view tree.now)) }
     ensures memory { IsErrOf result DiagramFault.NoMemory → IsOk (diagram_of (view tree.now)) }
@@ -78,5 +87,6 @@ pub fn read_diagram(alloc: Global, tree: &Value) -> Result<Diagram, DiagramFault
     Ok(Diagram {
         lanes: read_lanes(alloc, signal)?,
         edges: read_texts(alloc, edges)?,
+        near: near_in_sheet(alloc, tree)?,
     })
 }

@@ -1,4 +1,5 @@
-//! Reads the tree of a WaveJSON sheet: the lanes of its `signal`, groups flattened, and the texts of its `edge`.
+//! Reads the tree of a WaveJSON sheet: the lanes of its `signal`, groups flattened, the texts of its `edge`, and those of its keys
+//! that are passed over and nearly are keys which are read.
 //! The contract: `read_diagram` gives `diagram_of` of specs/Drawing.antt, which is the drawing of the tree or its first fault.
 //! No fault yields to want of memory, which is answered only for a tree that has a drawing.
 #![tactic(auto)]

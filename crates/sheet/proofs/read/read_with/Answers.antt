@@ -26,10 +26,10 @@ returns-in_err-rules c =
 pub invariant_of-result : goal.invariant_of-result
 invariant_of-result c =
     sheet_whole (labels_view c.args.labels) c.requires c.args.diagram.now _
-    (sheet-ok (labels_view c.args.labels) c.args.diagram.now c.in_ok-marks.field-0.marks (rw (← c.lanes-lanes.ensures.lanes) c.in_ok-marks.ensures.answer) c.in_ok-pins.pins (rw (← c.lanes-lanes.ensures.lanes) c.in_ok-pins.ensures) c.in_ok-rules.field-0 c.in_ok-edges.edges (c.in_ok-edges.ensures.copy ∙ c.edges-2.ensures.edges)
+    (sheet-ok (labels_view c.args.labels) c.args.diagram.now c.in_ok-marks.field-0.marks (rw (← c.lanes-lanes.ensures.lanes) c.in_ok-marks.ensures.answer) c.in_ok-pins.pins (rw (← c.lanes-lanes.ensures.lanes) c.in_ok-pins.ensures) c.in_ok-rules.field-0 c.in_ok-edges.edges (c.in_ok-edges.ensures.copy ∙ c.edges-2.ensures.edges) c.in_ok-near.near (c.in_ok-near.ensures.copy ∙ c.near.ensures.near)
     (rw (c.in_ok-push_lane_orders.ensures, c.new-rules.ensures.items, c.as_slice.ensures.items, c.edges.ensures.edges, c.lanes-lanes.ensures.lanes) at c.in_ok-rules.ensures))
 
 pub returns : goal.returns
 returns c =
-    sheet-ok (labels_view c.args.labels) c.args.diagram.now c.in_ok-marks.field-0.marks (rw (← c.lanes-lanes.ensures.lanes) c.in_ok-marks.ensures.answer) c.in_ok-pins.pins (rw (← c.lanes-lanes.ensures.lanes) c.in_ok-pins.ensures) c.in_ok-rules.field-0 c.in_ok-edges.edges (c.in_ok-edges.ensures.copy ∙ c.edges-2.ensures.edges)
+    sheet-ok (labels_view c.args.labels) c.args.diagram.now c.in_ok-marks.field-0.marks (rw (← c.lanes-lanes.ensures.lanes) c.in_ok-marks.ensures.answer) c.in_ok-pins.pins (rw (← c.lanes-lanes.ensures.lanes) c.in_ok-pins.ensures) c.in_ok-rules.field-0 c.in_ok-edges.edges (c.in_ok-edges.ensures.copy ∙ c.edges-2.ensures.edges) c.in_ok-near.near (c.in_ok-near.ensures.copy ∙ c.near.ensures.near)
     (rw (c.in_ok-push_lane_orders.ensures, c.new-rules.ensures.items, c.as_slice.ensures.items, c.edges.ensures.edges, c.lanes-lanes.ensures.lanes) at c.in_ok-rules.ensures)

@@ -1,0 +1,2 @@
+pub use Rattle.serde_json.specs.View
+pub mod NearKeys

@@ -1,0 +1,85 @@
+-- Keys of objects that are passed over, and that nearly are keys which are read.
+use Rattle.std.specs.Prelude.{ℕ, ◌+◌, ◌-◌, ◌==◌, ◌&&◌, nat_le, Bool, false, not, if◌then◌else◌, List, [], ◌∷◌, ◌++◌, length, map, filter, take, codes, Option, option_and_then, slice_get}
+use Rattle.std.specs.List.{flat_map, list_any}
+use Rattle.std.specs.Option.{option_map_or}
+use Rattle.std.specs.Str.{bytes_eq}
+use Rattle.serde_json.specs.Data.{Data, null, boolean, number, string, array, object, Items, no_items, item}
+use Rattle.serde_json.specs.Find.{as_array, get}
+use Rattle.json_tree.specs.Words.{list_of, members_of}
+
+-- ---- one key
+
+-- a small letter for a capital one of ASCII
+abbrev pub small : ℕ → ℕ
+small byte = if nat_le 65 byte && nat_le byte 90 then byte + 32 else byte
+
+-- the last byte is `s`
+abbrev pub ends_in_s : List ℕ → Bool
+ends_in_s text = option_map_or (λ byte. byte == 115) (slice_get text (length text - 1)) false
+
+-- without one final `s`
+abbrev pub without_s : List ℕ → List ℕ
+without_s text = if ends_in_s text then take (length text - 1) text else text
+
+-- a key in small letters, without one final `s`
+abbrev pub stem : List ℕ → List ℕ
+stem key = without_s (map small key)
+
+-- no known key, and one but for capitals or one final `s`
+abbrev pub is_near : List (List ℕ) → List ℕ → Bool
+is_near known key = not (list_any (bytes_eq key) known) && list_any (λ other. bytes_eq (stem key) (stem other)) known
+
+-- ---- objects
+
+-- the keys of an object
+abbrev pub keys_of : Data → List (List ℕ)
+keys_of d = option_map_or (map (λ at. at.0)) (members_of d) []
+
+-- those of its keys that nearly are known
+abbrev pub near_keys : List (List ℕ) → Data → List (List ℕ)
+near_keys known d = filter (is_near known) (keys_of d)
+
+-- those of the objects of a list under a key
+abbrev pub near_below : List (List ℕ) → Option Data → List (List ℕ)
+near_below known listed = option_map_or (flat_map (near_keys known)) (option_and_then list_of listed) []
+
+-- ---- sheets
+
+abbrev pub sheet_keys : List (List ℕ)
+sheet_keys = codes "signal" ∷ codes "edge" ∷ codes "itv_grades" ∷ []
+
+abbrev pub lane_keys : List (List ℕ)
+lane_keys = codes "name" ∷ codes "wave" ∷ codes "node" ∷ []
+
+-- those of the lanes of an element of `signal`, which is a lane, a group of elements, or passed over
+abbrev mutual
+  pub near_at : Data → List (List ℕ)
+  near_at null = []
+  near_at (boolean b) = []
+  near_at (number n) = []
+  near_at (string s) = []
+  near_at (array group) = near_within group
+  near_at (object members) = near_keys lane_keys (object members)
+
+  pub near_within : Items → List (List ℕ)
+  near_within no_items = []
+  near_within (item d rest) = near_at d ++ near_within rest
+
+-- the keys of a sheet that nearly are known: its own, and then those of its lanes in order
+abbrev pub near_in_sheet : Data → List (List ℕ)
+near_in_sheet tree = near_keys sheet_keys tree ++ option_map_or near_within (option_and_then as_array (get (codes "signal") tree)) []
+
+-- ---- netlists
+
+abbrev pub netlist_keys : List (List ℕ)
+netlist_keys = codes "itv" ∷ codes "cycles" ∷ codes "parts" ∷ codes "nets" ∷ codes "edges" ∷ []
+
+abbrev pub part_keys : List (List ℕ)
+part_keys = codes "name" ∷ codes "sheet" ∷ codes "grade" ∷ []
+
+abbrev pub net_keys : List (List ℕ)
+net_keys = codes "pins" ∷ codes "delay" ∷ []
+
+-- the keys of a netlist that nearly are known: its own, and then those of its parts and of its nets in order
+abbrev pub near_in_netlist : Data → List (List ℕ)
+near_in_netlist tree = near_keys netlist_keys tree ++ (near_below part_keys (get (codes "parts") tree) ++ near_below net_keys (get (codes "nets") tree))

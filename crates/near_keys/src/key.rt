@@ -1,0 +1,29 @@
+//! One key beside those that are known.
+
+ghost use Rattle.std.specs.Prelude.{◌≡◌, map};
+ghost use Rattle.std.specs.List.{list_any};
+ghost use Rattle.std.specs.Str.{bytes_eq};
+ghost use Rattle.near_keys.specs.NearKeys.{is_near, stem};
+
+use crate::letters::have_one_stem;
+
+/// Whether a key is none of those that are known, and one of them but for capitals or one final `s`.
+pub(crate) fn is_near(known: &[&str], key: &str) -> bool
+    ensures { result ≡ is_near (map (λ k. k.now) known.now) key.now }
+{
+    !is_known(known, key) && is_like_one(known, key)
+}
+
+// Whether a key is known.
+fn is_known(known: &[&str], key: &str) -> bool
+    ensures { result ≡ list_any (λ k. bytes_eq key.now k.now) known.now }
+{
+    known.iter().any(|other| key == *other)
+}
+
+// Whether a key is one of those that are known but for capitals or one final `s`.
+fn is_like_one(known: &[&str], key: &str) -> bool
+    ensures { result ≡ list_any (λ k. bytes_eq (stem key.now) (stem k.now)) known.now }
+{
+    known.iter().any(|other| have_one_stem(key, other))
+}

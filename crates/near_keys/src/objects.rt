@@ -1,0 +1,68 @@
+//! The keys of objects.
+
+ghost use Rattle.std.specs.Prelude.{◌≡◌, [], ◌∷◌, ◌++◌, filter, map, OnOk};
+ghost use Rattle.std.specs.List.{flat_map};
+ghost use Rattle.serde_json.specs.View.{view, members_view};
+ghost use Rattle.json_tree.specs.Words.{members};
+ghost use Rattle.near_keys.specs.NearKeys.{is_near, near_keys};
+
+use crate::key::is_near;
+use itv_base::{NoMemory, Texts};
+use serde_json::{Map, Value};
+use std::alloc::Global;
+
+/// Puts the keys of an object that nearly are known at the end. What is no object has none. Where memory is not found, some of
+/// them may be there.
+pub(crate) fn push_near(
+    alloc: Global,
+    near: &mut Texts,
+    known: &[&str],
+    value: &Value,
+) -> Result<(), NoMemory>
+    ensures { OnOk result (near.new ≡ near.old ++ near_keys (map (λ k. k.now) known.now) (view value.now)) }
+{
+    match value.as_object() {
+        Some(object) => push_near_of_members(alloc, near, known, object),
+        None => Ok(()),
+    }
+}
+
+// Puts the keys of members that nearly are known at the end.
+fn push_near_of_members(
+    alloc: Global,
+    near: &mut Texts,
+    known: &[&str],
+    object: &Map<String, Value>,
+) -> Result<(), NoMemory>
+    ensures { OnOk result (near.new ≡ near.old ++ filter (is_near (map (λ k. k.now) known.now)) (map (λ at. at.0) (members (members_view object.now.entries)))) }
+{
+    for (key, _) in object.iter() {
+        push_if_near(alloc, near, known, key.as_str())?;
+    }
+    Ok(())
+}
+
+// Puts a key at the end if it nearly is known.
+fn push_if_near(alloc: Global, near: &mut Texts, known: &[&str], key: &str) -> Result<(), NoMemory>
+    ensures { OnOk result (near.new ≡ near.old ++ filter (is_near (map (λ k. k.now) known.now)) (key.now ∷ [])) }
+{
+    if is_near(known, key) {
+        near.push(alloc, key)?;
+    }
+    Ok(())
+}
+
+/// Puts the keys of the objects of a list that nearly are known at the end. Where memory is not found, some of them may be there.
+pub(crate) fn push_near_of_each(
+    alloc: Global,
+    near: &mut Texts,
+    known: &[&str],
+    list: &[Value],
+) -> Result<(), NoMemory>
+    ensures { OnOk result (near.new ≡ near.old ++ flat_map (near_keys (map (λ k. k.now) known.now)) (map view list.now)) }
+{
+    for value in list {
+        push_near(alloc, near, known, value)?;
+    }
+    Ok(())
+}
