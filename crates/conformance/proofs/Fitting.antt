@@ -18,11 +18,11 @@ use Rattle.reading.specs.declared.place.Place.TheVariants as places
 use Rattle.reading.specs.declared.refusal.Refusal.{Refusal}
 use Rattle.reading.specs.declared.refusal.Refusal.TheVariants as refusals
 use Rattle.plan.specs.Plan.{NamedSheets, sheets_on}
-use Rattle.reading.specs.Design.{design_at, drawn_at, grades_in, is_unread, lone_at, netlist_at, plain_key, plain_sheet_at, plan_at, sheets_at, sheets_in, sheets_of_files, tree_at, tree_planned, tree_in, with_part, with_sheet}
+use Rattle.reading.specs.Design.{design_at, drawn_at, grades_in, is_unread, lone_at, netlist_at, plain_sheet_at, plan_at, sheets_at, sheets_in, sheets_of_files, tree_at, tree_planned, tree_in, with_part, with_sheet}
 use Rattle.compose.specs.Compose.{composed_on}
 use Rattle.compose.specs.Sheets.{key_of}
 use Rattle.grades.specs.Grades.{grades_of}
-use Rattle.netlist.specs.Netlist.{lone_netlist, netlist_of, sheet_names}
+use Rattle.netlist.specs.Netlist.{netlist_of, sheet_names}
 use Rattle.serde_json.specs.Find.{as_object, get}
 use Rattle.sheet.specs.Links.{plain}
 use Rattle.sheet.specs.Sheet.{sheet_by, sheet_of}
