@@ -1,2 +1,8 @@
+pub use Rattle.compose.specs.Compose
+pub use Rattle.explained.specs.Answers
+pub use Rattle.explained.specs.Apart
+pub use Rattle.plan.specs.Plan
+pub use Rattle.warnings.specs.Warnings
 pub mod Text
 pub mod Lint
+pub mod Step

@@ -1,5 +1,5 @@
 -- The text of job lint.
-use Rattle.std.specs.Prelude.{ℕ, ◌+◌, ◌||◌, ◌&&◌, not, Bool, true, false, if◌then◌else◌, List, [], ◌∷◌, ◌++◌, is_empty, Option, Some, None, is_some, option_map, option_and_then, unwrap_or, slice_get, codes}
+use Rattle.std.specs.Prelude.{ℕ, ◌+◌, ◌==◌, ◌||◌, ◌&&◌, not, Bool, true, false, if◌then◌else◌, List, [], ◌∷◌, ◌++◌, length, is_some, option_and_then, unwrap_or, slice_get, codes}
 use Rattle.std.specs.List.{flat_map, list_any}
 use Rattle.std.specs.Option.{option_map_or}
 use Rattle.itv_base.specs.Numerals.{number_text}
@@ -76,17 +76,21 @@ goes_over network (Within limit attained) = false
 abbrev pub is_over : Drawn → RowFound → Bool
 is_over network found = goes_over network found.greatest || (goes_over network found.least || is_some found.apart)
 
+-- the line of such a row
+abbrev pub order_text : ℕ → List ℕ
+order_text number = ended (line_of (codes "warning" ∷ codes "order" ∷ codes "row" ∷ number_text number ∷ []))
+
 -- the lines of rows, the first of which has a number
 abbrev pub orders_text : Drawn → ℕ → List RowFound → List ℕ
 orders_text network number [] = []
 orders_text network number (found ∷ others) =
-    (if is_over network found then ended (line_of (codes "warning" ∷ codes "order" ∷ codes "row" ∷ number_text number ∷ [])) else []) ++ orders_text network (number + 1) others
+    (if is_over network found then order_text number else []) ++ orders_text network (number + 1) others
 
 -- ---- the whole
 
 -- there is no warning
 abbrev pub is_clean : Drawn → List Warning → List RowFound → Bool
-is_clean network warnings found = is_empty warnings && not (list_any (is_over network) found)
+is_clean network warnings found = length warnings == 0 && not (list_any (is_over network) found)
 
 abbrev pub end_text : Bool → List ℕ
 end_text true = ended (codes "end clean")

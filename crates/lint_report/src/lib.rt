@@ -2,6 +2,12 @@
 //! The contract of the crate: `write_lint` writes just the warnings of the definitions; where a put failed, a front of such a text.
 #![tactic(auto)]
 
+mod about;
+mod designing;
+mod line;
+mod over;
+mod put_found;
+mod put_line;
 mod write;
 
 pub use write::write_lint;

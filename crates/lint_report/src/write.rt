@@ -1,31 +1,97 @@
 //! Writing the text of the job.
 
-ghost use Rattle.std.specs.Prelude.{◌≡◌, ◌≤◌, IsOk};
+ghost use Rattle.std.specs.Prelude.{◌≡◌, ◌≤◌, ℕ, List, IfOk, IsOk, OnErr};
+ghost use Rattle.itv_base.specs.Outside.{CutShort, grown};
 ghost use Rattle.itv_base.specs.declared.limits.TheConstants.{MAX_BUDGET};
 ghost use Rattle.compose.specs.Compose.{composed_on};
 ghost use Rattle.jobs.specs.Works.{Works};
 ghost use Rattle.plan.specs.Plan.{sheets_on};
-ghost use Rattle.lint_report.specs.Lint.{AnswersLint, BeginsLint};
+ghost use Rattle.lint_report.specs.Lint.{AnswersLint, BeginsLint, answer_by};
+ghost use Rattle.lint_report.specs.Step.{IsTold};
 
+use crate::designing::design_of;
+use crate::over::is_clean;
+use crate::put_found::{Told, put_text};
+use compose::Design;
 use drawn::DrawnNetwork;
-use itv_base::Sink;
+use explained::explain;
+use itv_base::{NoMemory, PutFailed, Sink};
 use jobs::{Answer, Unanswered};
+use line_words::LineBuffer;
 use plan::Plan;
 use std::alloc::Global;
+use warnings::warnings_of;
+
+// Room for most lines. A longer one is put piece by piece.
+const LINE_ROOM: u32 = 256;
 
 /// Writes what of a design may say something else than was meant: a line for each warning, of the drawing and then of the rows whose
 /// answer rests on the order of a lane. Each search closes at most `budget` cases. All is found before the first put.
 pub fn write_lint<K: Sink>(
-    _alloc: Global,
+    alloc: Global,
     plan: &Plan,
     drawn: &DrawnNetwork,
-    _budget: u64,
+    budget: u64,
     sink: &mut K,
 ) -> Result<Answer, Unanswered>
     requires design { IsOk (composed_on plan.now.netlist (sheets_on plan.now.sheets plan.now.netlist.parts)) }
-    requires least { 1 ≤ _budget }
-    requires most { _budget ≤ MAX_BUDGET }
+    requires least { 1 ≤ budget }
+    requires most { budget ≤ MAX_BUDGET }
     ensures works { Works (AnswersLint plan.now drawn.now) (BeginsLint plan.now drawn.now) (K.told sink.old) (K.told sink.new) result }
 {
-    Err(Unanswered::NoMemory)
+    let design = design_of(alloc, plan)?;
+    let told = find_told(alloc, plan, &design, drawn, budget)?;
+    let mut buffer = LineBuffer::new(alloc, LINE_ROOM)?;
+    Ok(put_told(&design, plan, drawn, &told, &mut buffer, sink)?)
+}
+
+// Finds all that the lines tell.
+fn find_told(
+    alloc: Global,
+    plan: &Plan,
+    design: &Design<'_>,
+    drawn: &DrawnNetwork,
+    budget: u64,
+) -> Result<Told, NoMemory>
+    requires design { composed_on plan.now.netlist (sheets_on plan.now.sheets plan.now.netlist.parts) ≡ Ok design.now }
+    requires least { 1 ≤ budget }
+    requires most { budget ≤ MAX_BUDGET }
+    ensures told { IfOk result (IsTold plan.now design.now drawn.now) }
+{
+    let warnings = warnings_of(alloc, plan, design)?;
+    let found = explain(alloc, drawn, budget)?.rows;
+    let clean = is_clean(drawn, &warnings, &found);
+    Ok(Told {
+        warnings,
+        found,
+        clean,
+    })
+}
+
+// Puts the whole text. The answer is whether there is nothing to warn of.
+fn put_told<K: Sink>(
+    design: &Design<'_>,
+    plan: &Plan,
+    drawn: &DrawnNetwork,
+    told: &Told,
+    buffer: &mut LineBuffer,
+    sink: &mut K,
+) -> Result<Answer, PutFailed>
+    requires told { IsTold plan.now design.now drawn.now told.now }
+    ensures answers { IfOk result (λ answer. (text : List ℕ) × AnswersLint plan.now drawn.now answer text × (K.told sink.new ≡ grown (K.told sink.old) text)) }
+    ensures begins { OnErr result ((text : List ℕ) × BeginsLint plan.now drawn.now text × CutShort (K.told sink.old) (K.told sink.new) text) }
+{
+    put_text(design, drawn, told, buffer, sink)?;
+    Ok(answer_by(told.clean))
+}
+
+// What the job answers: that nothing is noted, or that something is.
+fn answer_by(clean: bool) -> Answer
+    ensures { result ≡ answer_by clean }
+{
+    if clean {
+        Answer::AllPass
+    } else {
+        Answer::SomeFail
+    }
 }

@@ -1,0 +1,35 @@
+-- The whole text of the job.
+use Rattle.std.proofs.Common.{◌≡◌, ℕ, List, refl, ap, ◌∙◌}
+use Rattle.std.specs.Prelude.{OnErr, Result, Ok, Err}
+use Rattle.itv_base.specs.Outside.{CutShort, SinkTold}
+use Rattle.compose.specs.Design.{Composed}
+use Rattle.drawn.specs.Drawn.{Drawn}
+use Rattle.jobs.specs.declared.answer.Answer.{Answer}
+use Rattle.plan.specs.Plan.{Planned}
+use Rattle.warnings.specs.declared.warning.Warning.{Warning}
+use Rattle.lint_report.specs.declared.put_found.Told.{Told}
+use Rattle.lint_report.specs.Lint.{AnswersLint, BeginsLint, answer_by}
+use Rattle.lint_report.specs.Step.{IsTold}
+use Rattle.lint_report.specs.Text.{is_clean, lint_text}
+
+module _ (plan : Planned) (design : Composed) (network : Drawn) (told : Told) (is : IsTold plan design network told) where
+  abbrev text : List ℕ
+  text = lint_text design network told.warnings.items told.found.items
+
+  -- the text has just the warnings
+  pub answers_lint : (answer : Answer) → answer ≡ answer_by told.clean → AnswersLint plan network answer text
+  answers_lint answer by = record {
+    design = design;
+    is_design = is.is_design;
+    finding = is.finding.0;
+    found = told.found.items;
+    is_finding = is.finding.1;
+    are_found = is.finding.2;
+    is_text = ap (λ (ws : List Warning). lint_text design network ws told.found.items) is.warnings;
+    is_answer = by ∙ ap answer_by (is.clean ∙ ap (λ (ws : List Warning). is_clean network ws told.found.items) is.warnings);
+  }
+
+  -- and a front of it begins it
+  pub begins_lint : {B E : Type 0} (result : Result B E) (old new : SinkTold) → CutShort old new text → OnErr result ((whole : List ℕ) × BeginsLint plan network whole × CutShort old new whole)
+  begins_lint (Ok x) old new cut = tt
+  begins_lint (Err e) old new cut = (text, (answer_by told.clean, answers_lint _ refl), cut)

@@ -1,0 +1,26 @@
+-- What the steps of job lint promise one another.
+use Rattle.std.specs.Prelude.{◌≡◌, ℕ, List, Ok}
+use Rattle.compose.specs.Compose.{composed_on}
+use Rattle.compose.specs.Design.{Composed}
+use Rattle.drawn.specs.Drawn.{Drawn}
+use Rattle.explained.specs.declared.finding.Finding.{Finding}
+use Rattle.explained.specs.Answers.{AreFound, IsFindingFound}
+use Rattle.plan.specs.Plan.{Planned, sheets_on}
+use Rattle.warnings.specs.Warnings.{warnings_of}
+use Rattle.lint_report.specs.declared.put_found.Told.{Told}
+use Rattle.lint_report.specs.declared.line.Line.{Line}
+use Rattle.lint_report.specs.declared.line.Line.TheVariants.{Drawing, Order}
+use Rattle.lint_report.specs.Text.{is_clean, order_text, warning_text}
+
+-- a line, with its end
+abbrev pub line_text : Composed → Line → List ℕ
+line_text d (Drawing warning) = warning_text d warning.now
+line_text d (Order number) = order_text number
+
+-- All that the lines tell is right: the warnings are those of the design of the plan, and what was found of the rows stands behind a
+-- finding.
+pub record IsTold (plan : Planned) (design : Composed) (network : Drawn) (told : Told) : Type 0 where
+  pub is_design : composed_on plan.netlist (sheets_on plan.sheets plan.netlist.parts) ≡ Ok design
+  pub warnings : told.warnings.items ≡ warnings_of plan design
+  pub finding : (finding : Finding) × IsFindingFound network.net finding × AreFound network finding told.found.items
+  pub clean : told.clean ≡ is_clean network told.warnings.items told.found.items

@@ -1,0 +1,100 @@
+//! Putting all that was found.
+
+ghost use Rattle.std.specs.Prelude.{◌≡◌, if◌then◌else◌, []};
+ghost use Rattle.std.specs.List.{flat_map};
+ghost use Rattle.itv_base.specs.Outside.{Puts};
+ghost use Rattle.lint_report.specs.Text.{end_text, is_clean, is_over, lint_text, order_text, orders_text, warning_text};
+
+use crate::line::Line;
+use crate::over::is_over;
+use crate::put_line::put_line;
+use compose::Design;
+use drawn::DrawnNetwork;
+use explained::RowFound;
+use itv_base::{PutFailed, Sink};
+use line_words::LineBuffer;
+use warnings::Warning;
+
+/// All that the lines tell: the warnings of the drawing, what was found of the rows, and whether there is nothing to warn of.
+#[derive(Drop)]
+pub struct Told {
+    pub warnings: Vec<Warning>,
+    pub found: Vec<RowFound>,
+    pub clean: bool,
+}
+
+/// Puts the whole text.
+pub fn put_text<K: Sink>(
+    design: &Design<'_>,
+    drawn: &DrawnNetwork,
+    told: &Told,
+    buffer: &mut LineBuffer,
+    sink: &mut K,
+) -> Result<(), PutFailed>
+    requires clean { told.now.clean ≡ is_clean drawn.now told.now.warnings.items told.now.found.items }
+    ensures puts { Puts (K.told sink.old) (K.told sink.new) (lint_text design.now drawn.now told.now.warnings.items told.now.found.items) result }
+{
+    sink.put(b"itv lint 1\n")?;
+    put_warnings(design, &told.warnings, buffer, sink)?;
+    put_orders(design, drawn, &told.found, buffer, sink)?;
+    put_end(told.clean, sink)
+}
+
+// The warnings of the drawing.
+fn put_warnings<K: Sink>(
+    design: &Design<'_>,
+    warnings: &[Warning],
+    buffer: &mut LineBuffer,
+    sink: &mut K,
+) -> Result<(), PutFailed>
+    ensures puts { Puts (K.told sink.old) (K.told sink.new) (flat_map (warning_text design.now) warnings.now) result }
+{
+    for warning in warnings {
+        put_line(design, &Line::Drawing(warning), buffer, sink)?;
+    }
+    Ok(())
+}
+
+// The rows whose answer rests on the order of a lane.
+fn put_orders<K: Sink>(
+    design: &Design<'_>,
+    drawn: &DrawnNetwork,
+    found: &[RowFound],
+    buffer: &mut LineBuffer,
+    sink: &mut K,
+) -> Result<(), PutFailed>
+    ensures puts { Puts (K.told sink.old) (K.told sink.new) (orders_text drawn.now 0 found.now) result }
+{
+    for number in 0..found.len() {
+        let over = is_over(drawn, &found[number]);
+        put_order(design, over, number as u64, buffer, sink)?;
+    }
+    Ok(())
+}
+
+// A row, if its answer rests on the order of a lane.
+fn put_order<K: Sink>(
+    design: &Design<'_>,
+    over: bool,
+    number: u64,
+    buffer: &mut LineBuffer,
+    sink: &mut K,
+) -> Result<(), PutFailed>
+    ensures puts { Puts (K.told sink.old) (K.told sink.new) (if over then order_text number else []) result }
+{
+    if over {
+        put_line(design, &Line::Order(number), buffer, sink)
+    } else {
+        Ok(())
+    }
+}
+
+fn put_end<K: Sink>(clean: bool, sink: &mut K) -> Result<(), PutFailed>
+    ensures puts { Puts (K.told sink.old) (K.told sink.new) (end_text clean) result }
+{
+    if clean {
+        sink.put(b"end clean\n")
+    } else {
+        sink.put(b"end noted\n")
+    }
+}
