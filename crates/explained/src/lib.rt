@@ -1,14 +1,7 @@
-//! What is found of a drawn network and of its rows, with what makes it so: behind a number a chain of edges, behind a
-//! contradiction the constraints that contradict each other, and where a verdict rests on the order of a lane, the bounds without it.
-//! The contract of the crate: all that `explain` finds is right.
+//! What is found of a drawn network.
 #![tactic(auto)]
 
-mod bound;
-mod finding;
-mod network;
-mod row;
+mod apart;
+mod copying;
 
-pub use bound::BoundFound;
-pub use finding::Finding;
-pub use network::{NetworkFound, explain};
-pub use row::RowFound;
+pub use apart::network_apart;
