@@ -1,0 +1,142 @@
+-- What is found of a network and of its rows, with what makes it so.
+use Rattle.std.specs.Prelude.{◌≡◌, ℤ, neg_ℤ, Bool, List, [], ◌∷◌, length, Option, Some, None}
+use Rattle.itv_base.specs.Range.{Ends}
+use Rattle.itv_base.specs.declared.names.EdgeName.{EdgeName}
+use Rattle.itv_base.specs.declared.names.EventId.{EventId}
+use Rattle.itv_base.specs.declared.row_kind.RowKind.{RowKind}
+use Rattle.itv_base.specs.declared.row_kind.RowKind.TheVariants as kinds
+use Rattle.event_graph.specs.Bounds.{IsRay}
+use Rattle.event_graph.specs.Network.{Net}
+use Rattle.event_graph.specs.RootBound.{MeetsAlways}
+use Rattle.event_graph.specs.Satisfying.{Satisfies}
+use Rattle.event_graph.specs.Times.{separation}
+use Rattle.chains.specs.Chain.{IsChain}
+use Rattle.chains.specs.Named.{IsContradiction}
+use Rattle.requirements.specs.Bounds.{HasTimes}
+use Rattle.requirements.specs.Verdicts.{verdict_of}
+use Rattle.requirements.specs.declared.bound.BothBounds.{BothBounds}
+use Rattle.requirements.specs.declared.bound.Bound.{Bound}
+use Rattle.requirements.specs.declared.bound.Bound.TheVariants as bounds
+use Rattle.requirements.specs.declared.verdict.Verdict.{Verdict}
+use Rattle.requirements.specs.declared.verdict.Verdict.TheVariants as verdicts
+use Rattle.slack_report.specs.declared.words.FindingWord.{FindingWord}
+use Rattle.slack_report.specs.declared.words.FindingWord.TheVariants as findings
+use Rattle.right_report.specs.Right.At.{Side, greatest, least_by}
+use Rattle.right_report.specs.Right.Facts.{IsBoundOf, IsFinding}
+use Rattle.drawn.specs.Drawn.{Drawn}
+use Rattle.drawn.specs.declared.row.Row.{Row}
+use Rattle.explained.specs.Apart.{net_apart}
+use Rattle.explained.specs.declared.finding.Finding.{Finding}
+use Rattle.explained.specs.declared.finding.Finding.TheVariants.{Consistent, Inconsistent, Unsettled}
+use Rattle.explained.specs.declared.bound.BoundFound.{BoundFound}
+use Rattle.explained.specs.declared.bound.BoundFound.TheVariants.{Closed, Unbounded, Within}
+use Rattle.explained.specs.declared.row.RowFound.{RowFound}
+
+-- ---- the finding
+
+-- some times satisfy; or the constraints of a set contradict each other by themselves; or the always-edges allow times
+abbrev pub IsFindingFound : Net → Finding → Type 0
+IsFindingFound net Consistent = (times : List ℤ) × Satisfies times net
+IsFindingFound net (Inconsistent set) = (length set.items ≡ length net.constraints) × IsContradiction net set.items
+IsFindingFound net Unsettled = (times : List ℤ) × MeetsAlways times net
+
+abbrev pub word_of : Finding → FindingWord
+word_of Consistent = findings.Consistent
+word_of (Inconsistent set) = findings.Inconsistent
+word_of Unsettled = findings.Unsettled
+
+-- ---- a bound
+
+-- the edges behind a greatest separation: at satisfying times that attain it they lead from the one event to the other, and each is met with
+-- equality
+pub record Explains (net : Net) (from to : EventId) (value : ℤ) (names : List EdgeName) : Type 0 where
+  pub times : List ℤ
+  pub satisfied : Satisfies times net
+  pub attained : separation times from to ≡ value
+  pub chain : IsChain net times from to names
+
+-- the events of a set can be raised by any number from satisfying times
+abbrev pub CanRise : Net → EventId → EventId → List Bool → Type 0
+CanRise net from to set = (times : List ℤ) × Satisfies times net × IsRay net from to times set
+
+-- What stands behind a bound. For a least separation it is that of the reversed pair, whose greatest one is minus it.
+abbrev pub IsBehind : Net → Row → Side → BoundFound → Type 0
+IsBehind net row greatest (Closed value chain) = Explains net row.from row.to value chain.items
+IsBehind net row (least_by most) (Closed value chain) = Explains net row.to row.from (neg_ℤ value) chain.items
+IsBehind net row greatest (Unbounded set) = CanRise net row.from row.to set.items
+IsBehind net row (least_by most) (Unbounded set) = CanRise net row.to row.from set.items
+IsBehind net row side (Within limit attained) = Unit {0}
+
+-- the bound in a table of verdicts and slacks
+abbrev pub bound_of : BoundFound → Bound
+bound_of (Closed value chain) = bounds.Closed value
+bound_of (Unbounded set) = bounds.Unbounded
+bound_of (Within limit attained) = bounds.Within limit attained
+
+-- a bound that is right behind a finding, and what stands behind it
+pub record IsBoundFound (net : Net) (word : FindingWord) (row : Row) (side : Side) (found : BoundFound) : Type 0 where
+  pub right : IsBoundOf net word row side (bound_of found)
+  pub behind : IsBehind net row side found
+
+-- ---- a row
+
+abbrev pub verdict_in : Ends → RowFound → Verdict
+verdict_in range found = verdict_of range (bound_of found.least) (bound_of found.greatest)
+
+abbrev pub verdict_by : Ends → BothBounds → Verdict
+verdict_by range both = verdict_of range both.least both.greatest
+
+-- both bounds of a row in a network, right behind a right finding
+pub record AreBounds (net : Net) (row : Row) (both : BothBounds) : Type 0 where
+  pub word : FindingWord
+  pub finding : IsFinding net word
+  pub greatest : IsBoundOf net word row greatest both.greatest
+  pub least : IsBoundOf net word row (least_by both.greatest) both.least
+
+-- A requirement that passes also passes by bounds that are right in the network apart from the order of lanes; or such bounds are told, by
+-- which it doesn't.
+abbrev pub RestsOnOrder : Net → Row → Ends → Option BothBounds → Type 0
+RestsOnOrder apart row range None = (both : BothBounds) × AreBounds apart row both × (verdict_by range both ≡ verdicts.Pass)
+RestsOnOrder apart row range (Some both) = AreBounds apart row both × (verdict_by range both ≡ verdicts.Pass → ⊥)
+
+abbrev pub IsApart : Net → Row → Ends → Verdict → Option BothBounds → Type 0
+IsApart apart row range verdicts.Pass told = RestsOnOrder apart row range told
+IsApart apart row range verdicts.FailHigh told = told ≡ None
+IsApart apart row range verdicts.FailLow told = told ≡ None
+IsApart apart row range verdicts.Undecided told = told ≡ None
+
+-- of a row that only asks nothing is told
+abbrev pub IsApartOf : Net → Row → RowKind → RowFound → Type 0
+IsApartOf apart row kinds.Ask found = found.apart ≡ None
+IsApartOf apart row (kinds.Req range) found = IsApart apart row range (verdict_in range found) found.apart
+
+-- what is found of a row: both of its bounds with what stands behind them, and whether its verdict rests on the order of a lane
+pub record IsRowFound (drawn : Drawn) (word : FindingWord) (row : Row) (found : RowFound) : Type 0 where
+  pub greatest : IsBoundFound drawn.net word row greatest found.greatest
+  pub least : IsBoundFound drawn.net word row (least_by (bound_of found.greatest)) found.least
+  pub apart : IsApartOf (net_apart drawn) row row.kind found
+
+-- what is found of each row, in order
+abbrev pub AreRowsFound : Drawn → FindingWord → List Row → List RowFound → Type 0
+AreRowsFound drawn word [] [] = Unit {0}
+AreRowsFound drawn word [] (found ∷ others) = ⊥
+AreRowsFound drawn word (row ∷ rows) [] = ⊥
+AreRowsFound drawn word (row ∷ rows) (found ∷ others) = IsRowFound drawn word row found × AreRowsFound drawn word rows others
+
+-- what is found of each row; behind an inconsistent finding nothing
+abbrev pub AreFound : Drawn → Finding → List RowFound → Type 0
+AreFound drawn Consistent found = AreRowsFound drawn findings.Consistent drawn.rows found
+AreFound drawn (Inconsistent set) found = found ≡ []
+AreFound drawn Unsettled found = AreRowsFound drawn findings.Unsettled drawn.rows found
+
+-- ---- which follows
+
+-- each number of the bounds is below 2^61 in absolute value
+abbrev pub HasTimesApart : Option BothBounds → Type 0
+HasTimesApart None = Unit {0}
+HasTimesApart (Some both) = HasTimes both.least × HasTimes both.greatest
+
+pub record HasRowTimes (found : RowFound) : Type 0 where
+  pub greatest : HasTimes (bound_of found.greatest)
+  pub least : HasTimes (bound_of found.least)
+  pub apart : HasTimesApart found.apart

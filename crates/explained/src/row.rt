@@ -1,0 +1,12 @@
+//! What is found of a row.
+
+use crate::bound::BoundFound;
+use requirements::BothBounds;
+
+/// What is found of a row: both of its bounds, and where its verdict rests on the order of a lane, both bounds without that order.
+#[derive(Debug, Drop)]
+pub struct RowFound {
+    pub greatest: BoundFound,
+    pub least: BoundFound,
+    pub apart: Option<BothBounds>,
+}
