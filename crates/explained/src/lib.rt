@@ -3,10 +3,20 @@
 //! The contract of the crate: all that `explain` finds is right.
 #![tactic(auto)]
 
+mod apart;
 mod bound;
+mod bounding;
+mod copying;
+mod desk;
+mod explaining;
 mod finding;
+pub mod laws;
 mod network;
+mod pair;
 mod row;
+mod rows;
+mod searches;
+mod telling;
 
 pub use bound::BoundFound;
 pub use finding::Finding;

@@ -1,0 +1,160 @@
+-- What stands behind a bound.
+use Rattle.std.proofs.Common.{◌≡◌, ◌<◌, ◌≤ℤ◌, ◌-ℤ◌, ℕ, zero, suc, ℤ, pos, neg_ℤ, Bool, List, [], ◌∷◌, length, get_or, All, Option, Some, None, option_map, refl, sym, subst, ap, ◌∙◌, arith}
+use Rattle.std.specs.Prelude.{IfSome}
+use Rattle.std.proofs.lemmas.Int.{ints}
+use Rattle.itv_base.specs.declared.names.EdgeName.{EdgeName}
+use Rattle.itv_base.specs.declared.names.EventId.{EventId}
+use Rattle.event_graph.specs.Bounds.{IsGreatest}
+use Rattle.event_graph.specs.Limits.{IsReach}
+use Rattle.event_graph.specs.Network.{Net}
+use Rattle.event_graph.specs.RootBound.{IsRootBound}
+use Rattle.event_graph.specs.Satisfying.{Satisfies}
+use Rattle.event_graph.specs.Times.{IsTime, separation, time_of}
+use Rattle.event_graph.proofs.Reversing.{least_is_reversed_greatest}
+use Rattle.branch.specs.Answers.{Answers, Evidence, PairSearch}
+use Rattle.branch.specs.Work.{IsClose}
+use Rattle.branch.specs.declared.answer.Answer.{Answer}
+use Rattle.branch.specs.declared.answer.Answer.TheVariants as answers
+use Rattle.chains.specs.Chain.{AreBest}
+use Rattle.requirements.specs.Bounds.{HasTimes, reversed}
+use Rattle.requirements.specs.declared.bound.Bound.{Bound}
+use Rattle.requirements.specs.declared.bound.Bound.TheVariants as bounds
+use Rattle.slack_report.specs.declared.words.FindingWord.{FindingWord}
+use Rattle.slack_report.specs.declared.words.FindingWord.TheVariants as findings
+use Rattle.right_report.specs.Right.At.{Side, greatest, least_by}
+use Rattle.right_report.specs.Right.Facts.{HasAttained, IsBoundOf}
+use Rattle.drawn.specs.declared.row.Row.{Row}
+use Rattle.explained.specs.Answers.{AreBounds, Explains, IsBoundFound}
+use Rattle.explained.specs.declared.bound.BoundFound.{BoundFound}
+use Rattle.explained.specs.declared.bound.BoundFound.TheVariants.{Closed, Unbounded, Within}
+use Rattle.explained.specs.declared.pair.Pair.{Pair}
+use Rattle.explained.specs.Step.Bounding.{IsClosedBy, IsExplained, IsGreatestBy, bound_by, reversed_found}
+use Rattle.explained.specs.Step.Standing.{Allows}
+use Rattle.explained.proofs.Standing.{is_finding}
+
+-- ---- numbers
+
+neg_neg : (z : ℤ) → neg_ℤ (neg_ℤ z) ≡ z
+neg_neg z = omega (arith, ints)
+
+no_neg : (z : Option ℤ) → z ≡ option_map neg_ℤ (option_map neg_ℤ z)
+no_neg None = refl
+no_neg (Some z) = ap Some (sym (neg_neg z))
+
+time_close : (time : ℤ) → IsClose time → IsTime time
+time_close time h = (omega (arith, ints, h.0, h.1), omega (arith, ints, h.0, h.1))
+
+times_close : (times : List ℤ) → All IsClose times → All IsTime times
+times_close times close = λ k d within. time_close (get_or times k d) (close k d within)
+
+close_at : (times : List ℤ) (k : ℕ) → All IsClose times → IsClose (get_or times k (pos 0))
+close_at [] k close = (omega (arith, ints), omega (arith, ints))
+close_at (time ∷ times) zero close = close 0 (pos 0) (omega arith)
+close_at (time ∷ times) (suc k) close = close_at times k (λ j d within. close (suc j) d (omega arith))
+
+separation_time : (times : List ℤ) (from to : EventId) → All IsClose times → IsTime (separation times from to)
+separation_time times from to close = between (time_of times from) (time_of times to) (close_at times from.0 close) (close_at times to.0 close)
+  where
+    between : (a b : ℤ) → IsClose a → IsClose b → IsTime (b -ℤ a)
+    between a b h k = (omega (arith, ints, h.0, h.1, k.0, k.1), omega (arith, ints, h.0, h.1, k.0, k.1))
+
+reach_time : (sum : ℤ) → IsReach sum → IsTime sum
+reach_time sum h = (omega (arith, ints, h.0, h.1), omega (arith, ints, h.0, h.1))
+
+pub limit_time : (limit : Option ℤ) → IfSome limit IsReach → IfSome limit IsTime
+limit_time None h = tt
+limit_time (Some sum) h = reach_time sum h
+
+-- ---- what a search answers
+
+pub answered : (search : PairSearch) (left : Evidence) (answer : Answer) → Answers search left answer → Satisfies left.times search.net → All IsClose left.times
+    → IsGreatestBy search.net findings.Consistent (record { from = search.from; to = search.to }) (bound_by answer) left.times left.ray
+answered search left (answers.Closed value) a sat close = record {
+  found = refl;
+  greatest = a.greatest;
+  satisfied = sat;
+  attained = a.attained;
+  within = times_close left.times close;
+}
+answered search left answers.Unbounded a sat close = record { found = refl; satisfied = sat; ray = a.raised }
+answered search left (answers.Enclosed upper found) a sat close = record { root = a.root; told = refl; attained = (left.times, sat, a.attains) }
+
+pub answer_times : (search : PairSearch) (left : Evidence) (answer : Answer) → Answers search left answer → All IsClose left.times → HasTimes (bound_by answer)
+answer_times search left (answers.Closed value) a close = subst IsTime a.attained (separation_time left.times search.from search.to close)
+answer_times search left answers.Unbounded a close = tt
+answer_times search left (answers.Enclosed upper found) a close =
+    (limit_time upper a.within, subst IsTime a.attains (separation_time left.times search.from search.to close))
+
+-- times that attain the greatest separation are the best
+pub are_best : (net : Net) (word : FindingWord) (pair : Pair) (value : ℤ) (times : List ℤ) → IsClosedBy net word pair value times → AreBest net times pair.from pair.to
+are_best net word pair value times is = record {
+  satisfies = is.satisfied;
+  most = λ others sat. subst (λ z. separation others pair.from pair.to ≤ℤ z) (sym is.attained) (is.greatest.most others sat);
+}
+
+-- ---- the other way round
+
+attained_turned : (word : FindingWord) (attained : Option ℤ) → HasAttained word attained → HasAttained word (option_map neg_ℤ attained)
+attained_turned findings.Consistent None h = h
+attained_turned findings.Consistent (Some value) h = refl
+attained_turned findings.Inconsistent attained h = h
+attained_turned findings.Unsettled None h = h
+attained_turned findings.Unsettled (Some value) h = absurd (cc h)
+
+-- a greatest bound of a row
+pub greatest_of : (net : Net) (word : FindingWord) (row : Row) (value : Bound) (times : List ℤ) (set : List Bool)
+    → IsGreatestBy net word (record { from = row.from; to = row.to }) value times set → IsBoundOf net word row greatest value
+greatest_of net word row (bounds.Closed value) times set is = (is.found, is.greatest)
+greatest_of net word row bounds.Unbounded times set is = is.found
+greatest_of net word row (bounds.Within limit attained) times set is = (is.root, is.told)
+
+-- and a least one, by the reversed pair
+pub least_of : (net : Net) (word : FindingWord) (row : Row) (most value : Bound) (times : List ℤ) (set : List Bool)
+    → IsGreatestBy net word (record { from = row.to; to = row.from }) value times set → IsBoundOf net word row (least_by most) (reversed value)
+least_of net word row most (bounds.Closed value) times set is =
+    (is.found, (least_is_reversed_greatest net row.from row.to (neg_ℤ value)).1 (subst (IsGreatest net row.to row.from) (sym (neg_neg value)) is.greatest))
+least_of net word row most bounds.Unbounded times set is = is.found
+least_of net word row most (bounds.Within limit attained) times set is =
+    (subst (IsRootBound net row.to row.from) (no_neg limit) is.root, attained_turned word attained is.told)
+
+-- with what stands behind them
+pub greatest_found : (net : Net) (word : FindingWord) (row : Row) (found : BoundFound) → IsExplained net word (record { from = row.from; to = row.to }) found
+    → IsBoundFound net word row greatest found
+greatest_found net word row (Closed value chain) is = record { right = (is.0, is.1); behind = is.2 }
+greatest_found net word row (Unbounded set) is = record { right = is.0; behind = is.1 }
+greatest_found net word row (Within limit attained) is = record { right = (is.root, is.told); behind = tt }
+
+pub least_found : (net : Net) (word : FindingWord) (row : Row) (most : Bound) (found : BoundFound) → IsExplained net word (record { from = row.to; to = row.from }) found
+    → IsBoundFound net word row (least_by most) (reversed_found found)
+least_found net word row most (Closed value chain) is = record {
+  right = (is.0, (least_is_reversed_greatest net row.from row.to (neg_ℤ value)).1 (subst (IsGreatest net row.to row.from) (sym (neg_neg value)) is.1));
+  behind = subst (λ z. Explains net row.to row.from z chain.items) (sym (neg_neg value)) is.2;
+}
+least_found net word row most (Unbounded set) is = record { right = is.0; behind = is.1 }
+least_found net word row most (Within limit attained) is = record {
+  right = (subst (IsRootBound net row.to row.from) (no_neg limit) is.root, attained_turned word attained is.told);
+  behind = tt;
+}
+
+-- ---- both
+
+pair_of : (row : Row) (pair : Pair) → row.from ≡ pair.from → row.to ≡ pair.to → pair ≡ record { from = row.from; to = row.to }
+pair_of row pair f t = rw (f, t) refl
+
+-- both bounds of a row, each by the search of a pair
+pub both_of : (net : Net) (word later : FindingWord) (pair turned : Pair) (row : Row) (most fewest least : Bound) (times others : List ℤ) (set flags : List Bool) → Allows net word
+    → later ≡ word → turned ≡ record { from = pair.to; to = pair.from } → least ≡ reversed fewest → row.from ≡ pair.from → row.to ≡ pair.to
+    → IsGreatestBy net word pair most times set → IsGreatestBy net later turned fewest others flags → AreBounds net row (record { least = least; greatest = most })
+both_of net word later pair turned row most fewest least times others set flags allows same_word same_turned same_least f t first second =
+    let same : pair ≡ record { from = row.from; to = row.to } = pair_of row pair f t in
+    let other : turned ≡ record { from = row.to; to = row.from } = same_turned ∙ ap (λ (p : Pair). record { from = p.to; to = p.from }) same in
+    let one : IsGreatestBy net word (record { from = row.from; to = row.to }) most times set = subst (λ (p : Pair). IsGreatestBy net word p most times set) same first in
+    let two : IsGreatestBy net word (record { from = row.to; to = row.from }) fewest others flags =
+    subst (λ (w : FindingWord). IsGreatestBy net w (record { from = row.to; to = row.from }) fewest others flags) same_word
+    (subst (λ (p : Pair). IsGreatestBy net later p fewest others flags) other second) in
+    record {
+      word = word;
+      finding = is_finding net word allows;
+      greatest = greatest_of net word row most times set one;
+      least = subst (λ (b : Bound). IsBoundOf net word row (least_by most) b) (sym same_least) (least_of net word row most fewest others flags two);
+    }

@@ -1,0 +1,5 @@
+pub mod Copies
+pub mod Wider
+pub mod Behind
+pub mod Standing
+pub mod Lanes

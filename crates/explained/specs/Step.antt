@@ -1,0 +1,4 @@
+-- Words of contracts within this crate.
+pub mod Standing
+pub mod Bounding
+pub mod Telling

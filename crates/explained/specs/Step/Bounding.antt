@@ -1,0 +1,63 @@
+-- What stands behind a greatest bound of a pair.
+use Rattle.std.specs.Prelude.{◌≡◌, ℤ, neg_ℤ, Bool, List, All, Option, Some, IfSome, option_map}
+use Rattle.event_graph.specs.Bounds.{IsGreatest, IsRay}
+use Rattle.event_graph.specs.Network.{Net}
+use Rattle.event_graph.specs.RootBound.{IsRootBound}
+use Rattle.event_graph.specs.Satisfying.{Satisfies}
+use Rattle.event_graph.specs.Times.{IsTime, separation}
+use Rattle.branch.specs.declared.answer.Answer.{Answer}
+use Rattle.branch.specs.declared.answer.Answer.TheVariants as answers
+use Rattle.requirements.specs.Bounds.{IsAttained}
+use Rattle.requirements.specs.declared.bound.Bound.{Bound}
+use Rattle.requirements.specs.declared.bound.Bound.TheVariants as bounds
+use Rattle.slack_report.specs.declared.words.FindingWord.{FindingWord}
+use Rattle.slack_report.specs.declared.words.FindingWord.TheVariants as findings
+use Rattle.right_report.specs.Right.Facts.{HasAttained}
+use Rattle.explained.specs.Answers.{CanRise, Explains}
+use Rattle.explained.specs.declared.bound.BoundFound.{BoundFound}
+use Rattle.explained.specs.declared.bound.BoundFound.TheVariants.{Closed, Unbounded, Within}
+use Rattle.explained.specs.declared.pair.Pair.{Pair}
+
+-- the bound that an answer tells
+abbrev pub bound_by : Answer → Bound
+bound_by (answers.Closed value) = bounds.Closed value
+bound_by answers.Unbounded = bounds.Unbounded
+bound_by (answers.Enclosed upper attained) = bounds.Within upper (Some attained)
+
+-- the value is the greatest separation of a pair, and times attain it
+pub record IsClosedBy (net : Net) (word : FindingWord) (pair : Pair) (value : ℤ) (times : List ℤ) : Type 0 where
+  pub found : word ≡ findings.Consistent
+  pub greatest : IsGreatest net pair.from pair.to value
+  pub satisfied : Satisfies times net
+  pub attained : separation times pair.from pair.to ≡ value
+  pub within : All IsTime times
+
+-- the events of a set can be raised from satisfying times without end
+pub record IsUnboundedBy (net : Net) (word : FindingWord) (pair : Pair) (times : List ℤ) (set : List Bool) : Type 0 where
+  pub found : word ≡ findings.Consistent
+  pub satisfied : Satisfies times net
+  pub ray : IsRay net pair.from pair.to times set
+
+-- the limit is the root bound, and what was attained is so
+pub record IsOpenBound (net : Net) (word : FindingWord) (pair : Pair) (limit value : Option ℤ) : Type 0 where
+  pub root : IsRootBound net pair.from pair.to limit
+  pub told : HasAttained word value
+  pub attained : IfSome value (IsAttained net pair.from pair.to)
+
+-- a greatest bound behind a finding, by the times and the set of events that the search left
+abbrev pub IsGreatestBy : Net → FindingWord → Pair → Bound → List ℤ → List Bool → Type 0
+IsGreatestBy net word pair (bounds.Closed value) times set = IsClosedBy net word pair value times
+IsGreatestBy net word pair bounds.Unbounded times set = IsUnboundedBy net word pair times set
+IsGreatestBy net word pair (bounds.Within limit attained) times set = IsOpenBound net word pair limit attained
+
+-- so with the chain or the set behind it
+abbrev pub IsExplained : Net → FindingWord → Pair → BoundFound → Type 0
+IsExplained net word pair (Closed value chain) = (word ≡ findings.Consistent) × IsGreatest net pair.from pair.to value × Explains net pair.from pair.to value chain.items
+IsExplained net word pair (Unbounded set) = (word ≡ findings.Consistent) × CanRise net pair.from pair.to set.items
+IsExplained net word pair (Within limit attained) = IsOpenBound net word pair limit attained
+
+-- the bound of the reversed pair on the other side, with what stands behind it
+abbrev pub reversed_found : BoundFound → BoundFound
+reversed_found (Closed value chain) = Closed (neg_ℤ value) chain
+reversed_found (Unbounded set) = Unbounded set
+reversed_found (Within limit attained) = Within (option_map neg_ℤ limit) (option_map neg_ℤ attained)

@@ -1,0 +1,68 @@
+-- What is known of a network while its rows are searched.
+use Rattle.std.specs.Prelude.{◌≡◌, ◌<◌, ℤ, List, Option, Some, None, IfSome, IsSomeAnd}
+use Rattle.event_graph.specs.Bounds.{IsInconsistent}
+use Rattle.event_graph.specs.Network.{Net}
+use Rattle.event_graph.specs.RootBound.{MeetsAlways}
+use Rattle.event_graph.specs.Satisfying.{Satisfies}
+use Rattle.branch.specs.declared.answer.Found.{Found}
+use Rattle.branch.specs.declared.answer.Found.TheVariants as founds
+use Rattle.branch.specs.Work.{IsMadeFor}
+use Rattle.slack_report.specs.declared.words.FindingWord.{FindingWord}
+use Rattle.slack_report.specs.declared.words.FindingWord.TheVariants as findings
+use Rattle.drawn.specs.Drawn.{Drawn}
+use Rattle.explained.specs.Apart.{net_apart}
+use Rattle.explained.specs.declared.searches.Searches.{Searches}
+use Rattle.explained.specs.declared.desk.Apart.{Apart}
+use Rattle.explained.specs.declared.desk.Desk.{Desk}
+
+-- the word for a finding
+abbrev pub word_of_found : Found → FindingWord
+word_of_found founds.Consistent = findings.Consistent
+word_of_found founds.Inconsistent = findings.Inconsistent
+word_of_found founds.Unsettled = findings.Unsettled
+
+-- what a finding says of a network, and the known times behind it
+abbrev pub HasFound : Net → FindingWord → Option (List ℤ) → Type 0
+HasFound net findings.Consistent known = IsSomeAnd known (λ times. Satisfies times net)
+HasFound net findings.Inconsistent known = IsInconsistent net
+HasFound net findings.Unsettled known = (times : List ℤ) × MeetsAlways times net
+
+-- some times satisfy, or meet the always-edges, as a finding says that is not inconsistent
+abbrev pub Allows : Net → FindingWord → Type 0
+Allows net findings.Consistent = (times : List ℤ) × Satisfies times net
+Allows net findings.Inconsistent = ⊥
+Allows net findings.Unsettled = (times : List ℤ) × MeetsAlways times net
+
+-- memory that is made for a network, and a search may close some case
+pub record IsFor (net : Net) (searches : Searches) : Type 0 where
+  pub made : IsMadeFor net searches.work
+  pub some : 0 < searches.budget
+
+-- nothing was searched yet
+pub record IsFresh (net : Net) (searches : Searches) : Type 0 where
+  pub made : IsFor net searches
+  pub unsettled : searches.word ≡ findings.Unsettled
+
+-- a finding was made that is not inconsistent
+pub record IsSettled (net : Net) (searches : Searches) : Type 0 where
+  pub made : IsFor net searches
+  pub found : HasFound net searches.word searches.work.known
+  pub allows : Allows net searches.word
+
+-- the network of the memory for one apart from the order of lanes, or else the network itself
+abbrev pub net_in : Net → Option Apart → Net
+net_in net None = net
+net_in net (Some apart) = apart.net
+
+-- the memory for a drawn network and for its network apart, where it has one that is not itself
+pub record IsDeskFor (drawn : Drawn) (desk : Desk) : Type 0 where
+  pub chains : desk.chains.events ≡ drawn.net.events
+  pub apart : net_in drawn.net desk.apart ≡ net_apart drawn
+  pub fresh : IfSome desk.apart (λ (a : Apart). IsFresh a.net a.searches)
+
+-- findings were made in both
+pub record IsReady (drawn : Drawn) (desk : Desk) : Type 0 where
+  pub settled : IsSettled drawn.net desk.searches
+  pub chains : desk.chains.events ≡ drawn.net.events
+  pub apart : net_in drawn.net desk.apart ≡ net_apart drawn
+  pub settled_apart : IfSome desk.apart (λ (a : Apart). IsSettled a.net a.searches)

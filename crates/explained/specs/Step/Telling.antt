@@ -1,0 +1,13 @@
+-- What is told of a row apart from the order of lanes.
+use Rattle.std.specs.Prelude.{◌≡◌, Option, None}
+use Rattle.itv_base.specs.declared.row_kind.RowKind.{RowKind}
+use Rattle.itv_base.specs.declared.row_kind.RowKind.TheVariants as kinds
+use Rattle.event_graph.specs.Network.{Net}
+use Rattle.requirements.specs.declared.bound.BothBounds.{BothBounds}
+use Rattle.drawn.specs.declared.row.Row.{Row}
+use Rattle.explained.specs.Answers.{IsApart, verdict_by}
+
+-- what is told of a row by its bounds
+abbrev pub IsTold : Net → Row → RowKind → BothBounds → Option BothBounds → Type 0
+IsTold apart row kinds.Ask both told = told ≡ None
+IsTold apart row (kinds.Req range) both told = IsApart apart row range (verdict_by range both) told

@@ -1,0 +1,104 @@
+//! Greatest bounds of pairs of events.
+
+ghost use Rattle.std.specs.Prelude.{◌≡◌, ◌<◌, ℤ, IsSomeAnd, List};
+ghost use Rattle.event_graph.specs.RootBound.{MeetsAlways};
+ghost use Rattle.event_graph.specs.Satisfying.{Satisfies};
+ghost use Rattle.branch.specs.Work.{IsMadeFor};
+ghost use Rattle.requirements.specs.Bounds.{HasTimes};
+ghost use Rattle.drawn.specs.declared.row.Row.{Row};
+ghost use Rattle.explained.specs.Answers.{AreBounds};
+ghost use Rattle.explained.specs.Step.Bounding.{IsGreatestBy, bound_by};
+ghost use Rattle.explained.specs.Step.Standing.{IsSettled};
+
+use crate::pair::Pair;
+use crate::searches::{Searches, greatest_of};
+use branch::{Answer, Root, Work, root_bound};
+use event_graph::Network;
+use requirements::{BothBounds, Bound};
+use slack_report::FindingWord;
+
+/// The greatest bound of a pair of events of a network that is not inconsistent: behind a consistent finding what a search tells, and
+/// behind an unsettled one the root bound. It leaves the times that attain a closed bound, and the events to raise where the pair is
+/// unbounded.
+pub fn greatest_bound(net: &Network, pair: Pair, searches: &mut Searches) -> Bound
+    requires settled { IsSettled net.now searches.old }
+    requires from { pair.from.0 < net.now.events }
+    requires to { pair.to.0 < net.now.events }
+    ensures settled { IsSettled net.now searches.new }
+    ensures word { searches.new.word ≡ searches.old.word }
+    ensures bound { IsGreatestBy net.now searches.old.word pair result searches.new.work.times searches.new.work.ray }
+    ensures times { HasTimes result }
+{
+    match searches.word {
+        FindingWord::Consistent => {
+            searched_bound(net, pair, searches.budget, &mut searches.work)
+        }
+        FindingWord::Unsettled => limit_of(net, pair, &mut searches.work),
+        FindingWord::Inconsistent => unreachable!(),
+    }
+}
+
+// What a search tells of the greatest separation of a pair.
+fn searched_bound(net: &Network, pair: Pair, budget: u64, work: &mut Work) -> Bound
+    requires made { IsMadeFor net.now work.old }
+    requires known { IsSomeAnd work.old.known (λ times. Satisfies times net.now) }
+    requires from { pair.from.0 < net.now.events }
+    requires to { pair.to.0 < net.now.events }
+    requires budget { 0 < budget }
+    ensures made { IsMadeFor net.now work.new }
+    ensures known { work.new.known ≡ work.old.known }
+    ensures bound { IsGreatestBy net.now FindingWord.Consistent pair result work.new.times work.new.ray }
+    ensures times { HasTimes result }
+{
+    let answer = greatest_of(net, pair, budget, work);
+    bound_by(answer)
+}
+
+// The bound that an answer tells.
+fn bound_by(answer: Answer) -> Bound
+    ensures { result ≡ bound_by answer }
+{
+    match answer {
+        Answer::Closed(value) => Bound::Closed(value),
+        Answer::Unbounded => Bound::Unbounded,
+        Answer::Enclosed { upper, attained } => Bound::Within {
+            limit: upper,
+            attained: Some(attained),
+        },
+    }
+}
+
+// The root bound of a pair, of which nothing was searched.
+fn limit_of(net: &Network, pair: Pair, work: &mut Work) -> Bound
+    requires made { IsMadeFor net.now work.old }
+    requires always { (times : List ℤ) × MeetsAlways times net.now }
+    requires from { pair.from.0 < net.now.events }
+    requires to { pair.to.0 < net.now.events }
+    ensures made { IsMadeFor net.now work.new }
+    ensures known { work.new.known ≡ work.old.known }
+    ensures bound { IsGreatestBy net.now FindingWord.Unsettled pair result work.new.times work.new.ray }
+    ensures times { HasTimes result }
+{
+    match root_bound(work, net, pair.from, pair.to) {
+        Root::Bound(limit) => Bound::Within {
+            limit,
+            attained: None,
+        },
+        Root::NoTimes => unreachable!(),
+    }
+}
+
+/// Both bounds of a pair of events of a network that is not inconsistent.
+pub fn both_bounds(net: &Network, pair: Pair, searches: &mut Searches) -> BothBounds
+    requires settled { IsSettled net.now searches.old }
+    requires from { pair.from.0 < net.now.events }
+    requires to { pair.to.0 < net.now.events }
+    ensures settled { IsSettled net.now searches.new }
+    ensures bounds { (row : Row) → row.from ≡ pair.from → row.to ≡ pair.to → AreBounds net.now row result }
+    ensures least { HasTimes result.least }
+    ensures greatest { HasTimes result.greatest }
+{
+    let greatest = greatest_bound(net, pair, searches);
+    let least = greatest_bound(net, pair.reversed(), searches).reversed();
+    BothBounds { least, greatest }
+}

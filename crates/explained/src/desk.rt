@@ -1,0 +1,78 @@
+//! All memory for the searches.
+
+ghost use Rattle.std.specs.Prelude.{◌≡◌, ◌≤◌, IfOk, IfSome};
+ghost use Rattle.event_graph.specs.Network.{Net};
+ghost use Rattle.explained.specs.Apart.{net_apart};
+ghost use Rattle.explained.specs.Step.Standing.{Allows, IsDeskFor, IsFor, IsFresh, IsSettled, net_in};
+
+use crate::apart::network_apart;
+use crate::searches::{Searches, find_quietly};
+use chains::Chains;
+use drawn::DrawnNetwork;
+use event_graph::Network;
+use itv_base::NoMemory;
+use slack_report::FindingWord;
+use std::alloc::Global;
+
+/// The network of a drawn one apart from the order of lanes, and the memory for its searches.
+#[derive(Debug, Drop)]
+pub struct Apart {
+    pub net: Network,
+    pub searches: Searches,
+}
+
+/// The memory for the searches of a drawn network and for its chains, and that for its network apart, where some constraint keeps an
+/// order.
+#[derive(Debug, Drop)]
+pub struct Desk {
+    pub searches: Searches,
+    pub chains: Chains,
+    pub apart: Option<Apart>,
+}
+
+impl Desk {
+    /// Takes all memory that the searches ever need, or answers `NoMemory`. Nothing is settled yet.
+    pub fn new(alloc: Global, drawn: &DrawnNetwork, budget: u64) -> Result<Desk, NoMemory>
+        requires budget { 1 ≤ budget }
+        ensures made { IfOk result (λ desk. IsFor drawn.now.net desk.searches) }
+        ensures desk { IfOk result (IsDeskFor drawn.now) }
+    {
+        let net = drawn.network();
+        Ok(Desk {
+            searches: Searches::new(alloc, net, budget)?,
+            chains: Chains::new(alloc, net)?,
+            apart: new_apart(alloc, drawn, budget)?,
+        })
+    }
+}
+
+// The network apart with its memory, or `None` where it is the network itself.
+fn new_apart(alloc: Global, drawn: &DrawnNetwork, budget: u64) -> Result<Option<Apart>, NoMemory>
+    requires budget { 1 ≤ budget }
+    ensures apart { IfOk result (λ apart. net_in drawn.now.net apart ≡ net_apart drawn.now) }
+    ensures fresh { IfOk result (λ apart. IfSome apart (λ a. IsFresh a.net a.searches)) }
+{
+    match network_apart(alloc, drawn)? {
+        None => Ok(None),
+        Some(net) => {
+            let searches = Searches::new(alloc, &net, budget)?;
+            Ok(Some(Apart { net, searches }))
+        }
+    }
+}
+
+/// Finds in the network apart what the finding of the drawn network leaves open: behind a consistent one whether the budget suffices to
+/// find times there too. Behind an unsettled one it is left unsettled.
+pub fn settle_apart(word: FindingWord, apart: &mut Option<Apart>)
+    requires fresh { IfSome apart.old (λ a. IsFresh a.net a.searches) }
+    requires allows { IfSome apart.old (λ a. Allows a.net word) }
+    ensures settled { IfSome apart.new (λ a. IsSettled a.net a.searches) }
+    ensures same { (net : Net) → net_in net apart.new ≡ net_in net apart.old }
+{
+    if let Some(apart) = apart {
+        match word {
+            FindingWord::Consistent => find_quietly(&apart.net, &mut apart.searches),
+            FindingWord::Inconsistent | FindingWord::Unsettled => {}
+        }
+    }
+}

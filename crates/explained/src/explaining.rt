@@ -1,0 +1,53 @@
+//! Finding what stands behind a greatest bound.
+
+ghost use Rattle.std.specs.Prelude.{◌≡◌, ◌<◌, IfOk};
+ghost use Rattle.requirements.specs.Bounds.{HasTimes};
+ghost use Rattle.explained.specs.Answers.{bound_of};
+ghost use Rattle.explained.specs.Step.Bounding.{IsExplained};
+ghost use Rattle.explained.specs.Step.Standing.{IsSettled};
+
+use crate::bound::BoundFound;
+use crate::bounding::greatest_bound;
+use crate::pair::Pair;
+use crate::searches::Searches;
+use chains::Chains;
+use event_graph::Network;
+use itv_base::NoMemory;
+use requirements::Bound;
+use std::alloc::Global;
+
+/// The greatest bound of a pair of events of a network that is not inconsistent, with what makes it so.
+pub fn explain_greatest(
+    alloc: Global,
+    net: &Network,
+    pair: Pair,
+    searches: &mut Searches,
+    chains: &mut Chains,
+) -> Result<BoundFound, NoMemory>
+    requires settled { IsSettled net.now searches.old }
+    requires chains { chains.old.events ≡ net.now.events }
+    requires from { pair.from.0 < net.now.events }
+    requires to { pair.to.0 < net.now.events }
+    ensures settled { IsSettled net.now searches.new }
+    ensures word { searches.new.word ≡ searches.old.word }
+    ensures chains { chains.new.events ≡ net.now.events }
+    ensures found { IfOk result (IsExplained net.now searches.old.word pair) }
+    ensures times { IfOk result (λ found. HasTimes (bound_of found)) }
+{
+    match greatest_bound(net, pair, searches) {
+        Bound::Closed(value) => {
+            if !chains.find(net, searches.work.times(), pair.from, pair.to) {
+                // The times attain the greatest separation, so there is a chain.
+                unreachable!()
+            }
+            Ok(BoundFound::Closed {
+                value,
+                chain: Vec::from_slice(alloc, chains.names())?,
+            })
+        }
+        Bound::Unbounded => Ok(BoundFound::Unbounded {
+            set: Vec::from_slice(alloc, searches.work.ray())?,
+        }),
+        Bound::Within { limit, attained } => Ok(BoundFound::Within { limit, attained }),
+    }
+}

@@ -1,0 +1,8 @@
+//! A law of the network apart from the order of lanes. The function does nothing; what it ensures holds of all drawn networks.
+
+ghost use Rattle.explained.specs.Apart.{ApartIsWider};
+
+/// Times that satisfy a drawn network satisfy its network apart from the order of lanes.
+pub fn apart_is_wider()
+    ensures law { ApartIsWider }
+{}

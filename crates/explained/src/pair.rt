@@ -1,0 +1,24 @@
+//! Pairs of events.
+
+ghost use Rattle.std.specs.Prelude.{◌≡◌};
+
+use itv_base::EventId;
+
+/// Two events, whose separation is the time of `to` less that of `from`.
+#[derive(Clone, Copy, Debug)]
+pub struct Pair {
+    pub from: EventId,
+    pub to: EventId,
+}
+
+impl Pair {
+    /// The pair the other way round: minus its greatest separation is the least one of this pair.
+    pub fn reversed(self) -> Pair
+        ensures pair { result ≡ record { from = self.to; to = self.from } }
+    {
+        Pair {
+            from: self.to,
+            to: self.from,
+        }
+    }
+}

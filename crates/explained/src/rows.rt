@@ -1,0 +1,70 @@
+//! Finding all that is asked of the rows.
+
+ghost use Rattle.std.specs.Prelude.{◌≡◌, ◌<◌, ◌≤◌, All, IfOk, length, slice_get, IsSomeAnd};
+ghost use Rattle.drawn.specs.Drawn.{IsRowOf};
+ghost use Rattle.explained.specs.Answers.{AreRowsFound, HasRowTimes, IsRowFound};
+ghost use Rattle.explained.specs.Step.Standing.{IsDeskFor, IsReady, IsSettled};
+
+use crate::desk::{Desk, settle_apart};
+use crate::explaining::explain_greatest;
+use crate::pair::Pair;
+use crate::row::RowFound;
+use crate::telling::told_apart;
+use drawn::{DrawnNetwork, Row};
+use itv_base::NoMemory;
+use requirements::BothBounds;
+use std::alloc::Global;
+
+/// Finds both bounds of each row of a drawn network that is not inconsistent.
+pub fn explain_rows(
+    alloc: Global,
+    drawn: &DrawnNetwork,
+    desk: &mut Desk,
+) -> Result<Vec<RowFound>, NoMemory>
+    requires settled { IsSettled drawn.now.net desk.old.searches }
+    requires desk { IsDeskFor drawn.now desk.old }
+    ensures rows { IfOk result (λ found. AreRowsFound drawn.now desk.old.searches.word drawn.now.rows found.items) }
+    ensures times { IfOk result (λ found. All HasRowTimes found.items) }
+{
+    settle_apart(desk.searches.word, &mut desk.apart);
+    let mut found = Vec::new(alloc);
+    for row in drawn.rows().as_slice() {
+        found.push(explain_row(alloc, drawn, row, desk)?)?;
+    }
+    Ok(found)
+}
+
+// Finds both bounds of a row, and whether its verdict rests on the order of a lane.
+fn explain_row(
+    alloc: Global,
+    drawn: &DrawnNetwork,
+    row: &Row,
+    desk: &mut Desk,
+) -> Result<RowFound, NoMemory>
+    requires ready { IsReady drawn.now desk.old }
+    requires row { IsRowOf drawn.now.net row.now }
+    ensures ready { IfOk result (λ _. IsReady drawn.now desk.new) }
+    ensures word { IfOk result (λ _. desk.new.searches.word ≡ desk.old.searches.word) }
+    ensures found { IfOk result (IsRowFound drawn.now desk.old.searches.word row.now) }
+    ensures times { IfOk result HasRowTimes }
+{
+    let net = drawn.network();
+    let pair = Pair {
+        from: row.from,
+        to: row.to,
+    };
+    let greatest = explain_greatest(alloc, net, pair, &mut desk.searches, &mut desk.chains)?;
+    let searched = pair.reversed();
+    let least =
+        explain_greatest(alloc, net, searched, &mut desk.searches, &mut desk.chains)?.reversed();
+    let both = BothBounds {
+        least: least.bound(),
+        greatest: greatest.bound(),
+    };
+    let apart = told_apart(row, &both, &mut desk.apart);
+    Ok(RowFound {
+        greatest,
+        least,
+        apart,
+    })
+}

@@ -1,0 +1,98 @@
+//! The searches of a network.
+
+ghost use Rattle.std.specs.Prelude.{◌≡◌, ◌<◌, ◌≤◌, ℕ, All, IfOk, IfSome, IsSomeAnd, List, length};
+ghost use Rattle.event_graph.specs.Proof.{ProofLine};
+ghost use Rattle.event_graph.specs.Satisfying.{Satisfies};
+ghost use Rattle.branch.specs.Answers.{Answers, evidence};
+ghost use Rattle.branch.specs.Work.{IsClose, IsMadeFor};
+ghost use Rattle.chains.specs.Named.{IsContradiction};
+ghost use Rattle.explained.specs.Step.Standing.{HasFound, IsFor, IsFresh, word_of_found};
+
+use crate::pair::Pair;
+use branch::{Answer, Found, Quiet, ScribeFailed, Work, find, greatest};
+use chains::Marking;
+use event_graph::Network;
+use itv_base::NoMemory;
+use slack_report::FindingWord;
+use std::alloc::Global;
+
+/// The memory for the searches of a network, what was found of the network, and how many cases a search may close.
+#[derive(Debug, Drop)]
+pub struct Searches {
+    pub work: Work,
+    pub word: FindingWord,
+    pub budget: u64,
+}
+
+impl Searches {
+    /// Takes all the memory that the searches ever need, or answers `NoMemory`. Nothing is settled yet.
+    pub fn new(alloc: Global, net: &Network, budget: u64) -> Result<Searches, NoMemory>
+        requires budget { 1 ≤ budget }
+        ensures fresh { IfOk result (IsFresh net.now) }
+    {
+        Ok(Searches {
+            work: Work::new(alloc, net)?,
+            word: FindingWord::Unsettled,
+            budget,
+        })
+    }
+}
+
+/// Looks for times that satisfy a network. Where there are none the constraints that are marked contradict each other.
+pub fn find_marking(net: &Network, searches: &mut Searches, marking: &mut Marking)
+    requires made { IsFor net.now searches.old }
+    requires count { length marking.old ≡ length net.now.constraints }
+    ensures made { IsFor net.now searches.new }
+    ensures found { HasFound net.now searches.new.word searches.new.work.known }
+    ensures count { length marking.new ≡ length net.now.constraints }
+    ensures marks { searches.new.word ≡ FindingWord.Inconsistent → IsContradiction net.now marking.new }
+{
+    match find(&mut searches.work, net, searches.budget, marking) {
+        Ok(found) => searches.word = word_of(found),
+        Err(ScribeFailed) => unreachable!(),
+    }
+}
+
+/// Looks for times that satisfy a network.
+pub fn find_quietly(net: &Network, searches: &mut Searches)
+    requires made { IsFor net.now searches.old }
+    ensures made { IsFor net.now searches.new }
+    ensures found { HasFound net.now searches.new.word searches.new.work.known }
+{
+    match find(&mut searches.work, net, searches.budget, &mut Quiet) {
+        Ok(found) => searches.word = word_of(found),
+        Err(ScribeFailed) => unreachable!(),
+    }
+}
+
+// The word for a finding.
+fn word_of(found: Found) -> FindingWord
+    ensures { result ≡ word_of_found found }
+{
+    match found {
+        Found::Consistent => FindingWord::Consistent,
+        Found::Inconsistent => FindingWord::Inconsistent,
+        Found::Unsettled => FindingWord::Unsettled,
+    }
+}
+
+/// Finds the greatest separation of a pair of events, from known times on. It leaves times that attain what it tells, and the events
+/// to raise where the pair is unbounded.
+pub fn greatest_of(net: &Network, pair: Pair, budget: u64, work: &mut Work) -> Answer
+    requires made { IsMadeFor net.now work.old }
+    requires known { IsSomeAnd work.old.known (λ times. Satisfies times net.now) }
+    requires from { pair.from.0 < net.now.events }
+    requires to { pair.to.0 < net.now.events }
+    requires budget { 0 < budget }
+    ensures made { IsMadeFor net.now work.new }
+    ensures known { work.new.known ≡ work.old.known }
+    ensures answers { (lines : List ProofLine)
+        × Answers (record { net = net.now; from = pair.from; to = pair.to; budget = budget }) (evidence lines work.new) result }
+    ensures times { Satisfies work.new.times net.now }
+    ensures close { All IsClose work.new.times }
+{
+    match greatest(work, net, pair.from, pair.to, budget, &mut Quiet) {
+        Ok(answer) => answer,
+        Err(ScribeFailed) => unreachable!(),
+    }
+}

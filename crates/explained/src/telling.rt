@@ -1,0 +1,62 @@
+//! Whether a verdict rests on the order of a lane.
+
+ghost use Rattle.std.specs.Prelude.{◌≡◌, IfSome};
+ghost use Rattle.event_graph.specs.Network.{Net};
+ghost use Rattle.drawn.specs.Drawn.{IsRowOf};
+ghost use Rattle.explained.specs.Answers.{AreBounds, HasTimesApart, RestsOnOrder};
+ghost use Rattle.explained.specs.Step.Standing.{IsSettled, net_in};
+ghost use Rattle.explained.specs.Step.Telling.{IsTold};
+
+use crate::bounding::both_bounds;
+use crate::desk::Apart;
+use crate::pair::Pair;
+use drawn::Row;
+use itv_base::{Range, RowKind};
+use requirements::{BothBounds, Verdict, judge};
+
+/// What is told of a row apart from the order of lanes, by both of its bounds: of a requirement that passes with that order alone both
+/// bounds without it, and of any other row nothing.
+pub fn told_apart(row: &Row, both: &BothBounds, apart: &mut Option<Apart>) -> Option<BothBounds>
+    requires settled { IfSome apart.old (λ a. IsSettled a.net a.searches) }
+    requires row { IfSome apart.old (λ a. IsRowOf a.net row.now) }
+    ensures settled { IfSome apart.new (λ a. IsSettled a.net a.searches) }
+    ensures same { (net : Net) → net_in net apart.new ≡ net_in net apart.old }
+    ensures told { (net : Net) → AreBounds net row.now both.now
+        → IsTold (net_in net apart.old) row.now row.now.kind both.now result }
+    ensures times { HasTimesApart result }
+{
+    match row.kind {
+        RowKind::Ask => None,
+        RowKind::Req(range) => {
+            if judge(range, both) != Verdict::Pass {
+                return None;
+            }
+            match apart {
+                // The network apart is the network itself, by whose bounds the row passes.
+                None => None,
+                Some(apart) => broken_apart(row, range, apart),
+            }
+        }
+    }
+}
+
+// Both bounds of a row in the network apart, where it doesn't pass by them.
+fn broken_apart(row: &Row, range: Range, apart: &mut Apart) -> Option<BothBounds>
+    requires settled { IsSettled apart.old.net apart.old.searches }
+    requires row { IsRowOf apart.old.net row.now }
+    ensures settled { IsSettled apart.new.net apart.new.searches }
+    ensures same { apart.new.net ≡ apart.old.net }
+    ensures told { RestsOnOrder apart.old.net row.now range result }
+    ensures times { HasTimesApart result }
+{
+    let pair = Pair {
+        from: row.from,
+        to: row.to,
+    };
+    let both = both_bounds(&apart.net, pair, &mut apart.searches);
+    if judge(range, &both) == Verdict::Pass {
+        None
+    } else {
+        Some(both)
+    }
+}
