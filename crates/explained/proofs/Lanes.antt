@@ -1,20 +1,62 @@
 -- Rows, and whether their verdicts rest on the order of a lane.
-use Rattle.std.proofs.Common.{◌≡◌, List, [], ◌∷◌, ◌++◌, Option, Some, None, refl, sym, subst}
+use Rattle.std.proofs.Common.{◌≡◌, List, [], ◌∷◌, ◌++◌, Option, Some, None, refl, sym, subst, ap, ◌∙◌}
 use Rattle.itv_base.specs.declared.row_kind.RowKind.{RowKind}
 use Rattle.itv_base.specs.declared.row_kind.RowKind.TheVariants as kinds
 use Rattle.event_graph.specs.Network.{Net}
+use Rattle.requirements.specs.declared.bound.BothBounds.{BothBounds}
+use Rattle.requirements.specs.declared.bound.Bound.{Bound}
 use Rattle.slack_report.specs.declared.words.FindingWord.{FindingWord}
+use Rattle.right_report.specs.Right.At.{Side, greatest, least_by}
+use Rattle.right_report.specs.Right.Facts.{IsBoundOf}
 use Rattle.drawn.specs.Drawn.{Drawn}
 use Rattle.drawn.specs.declared.row.Row.{Row}
-use Rattle.explained.specs.Answers.{AreRowsFound, IsApartOf, IsRowFound, bound_of}
+use Rattle.explained.specs.Answers.{AreBounds, AreRowsFound, IsApartOf, IsBoundFound, IsRowFound, bound_of}
+use Rattle.explained.specs.Apart.{net_apart}
+use Rattle.explained.specs.declared.bound.BoundFound.{BoundFound}
+use Rattle.explained.specs.declared.pair.Pair.{Pair}
 use Rattle.explained.specs.declared.row.RowFound.{RowFound}
+use Rattle.explained.specs.Step.Bounding.{IsExplained, reversed_found}
+use Rattle.explained.specs.Step.Standing.{Allows}
 use Rattle.explained.specs.Step.Telling.{IsTold}
+use Rattle.explained.proofs.Behind.{greatest_found, least_found}
+use Rattle.explained.proofs.Standing.{is_finding}
 
 -- what is told by both bounds of a row is told of what is found of it
 pub told_of : (apart : Net) (row : Row) (kind : RowKind) (found : RowFound) → IsTold apart row kind (record { least = bound_of found.least; greatest = bound_of found.greatest }) found.apart
     → IsApartOf apart row kind found
 told_of apart row kinds.Ask found told = told
 told_of apart row (kinds.Req range) found told = told
+
+-- both bounds of a row, as they are found
+both_found : (net : Net) (word : FindingWord) (row : Row) (most fewest : BoundFound) → Allows net word → IsBoundFound net word row greatest most
+    → IsBoundFound net word row (least_by (bound_of most)) fewest → AreBounds net row (record { least = bound_of fewest; greatest = bound_of most })
+both_found net word row most fewest allows first second = record {
+  word = word;
+  finding = is_finding net word allows;
+  greatest = first.right;
+  least = second.right;
+}
+
+-- what is found of a row, by the searches of its pair and of the reversed one, and by what is told of it in the network apart
+pub row_found : (drawn : Drawn) (net apart : Net) (word later : FindingWord) (row : Row) (turned : Pair) (most searched fewest : BoundFound) (both : BothBounds) (told : Option BothBounds)
+    → net ≡ drawn.net → apart ≡ net_apart drawn → later ≡ word → turned ≡ record { from = row.to; to = row.from } → fewest ≡ reversed_found searched
+    → both ≡ record { least = bound_of fewest; greatest = bound_of most } → Allows drawn.net word
+    → IsExplained net word (record { from = row.from; to = row.to }) most → IsExplained net later turned searched
+    → (AreBounds drawn.net row both → IsTold apart row row.kind both told) → IsRowFound drawn word row (record { greatest = most; least = fewest; apart = told })
+row_found drawn net apart word later row turned most searched fewest both told same_net same_apart same_word same_turned same_fewest same_both allows first second tells =
+    let one : IsBoundFound drawn.net word row greatest most =
+    greatest_found drawn.net word row most (subst (λ (n : Net). IsExplained n word (record { from = row.from; to = row.to }) most) same_net first) in
+    let there : IsExplained drawn.net word (record { from = row.to; to = row.from }) searched =
+    subst (λ (n : Net). IsExplained n word (record { from = row.to; to = row.from }) searched) same_net
+    (subst (λ (w : FindingWord). IsExplained net w (record { from = row.to; to = row.from }) searched) same_word
+    (subst (λ (p : Pair). IsExplained net later p searched) same_turned second)) in
+    let two : IsBoundFound drawn.net word row (least_by (bound_of most)) fewest =
+    subst (λ (f : BoundFound). IsBoundFound drawn.net word row (least_by (bound_of most)) f) (sym same_fewest) (least_found drawn.net word row (bound_of most) searched there) in
+    let bounds : AreBounds drawn.net row both = subst (λ (b : BothBounds). AreBounds drawn.net row b) (sym same_both) (both_found drawn.net word row most fewest allows one two) in
+    let is_told : IsTold (net_apart drawn) row row.kind (record { least = bound_of fewest; greatest = bound_of most }) told =
+    subst (λ (n : Net). IsTold n row row.kind (record { least = bound_of fewest; greatest = bound_of most }) told) same_apart
+    (subst (λ (b : BothBounds). IsTold apart row row.kind b told) same_both (tells bounds)) in
+    record { greatest = one; least = two; apart = told_of (net_apart drawn) row row.kind (record { greatest = most; least = fewest; apart = told }) is_told }
 
 -- one row more
 pub rows_more : (drawn : Drawn) (word : FindingWord) (rows : List Row) (found : List RowFound) (row : Row) (last : RowFound) → AreRowsFound drawn word rows found
