@@ -2,7 +2,7 @@
 -- first cause.
 use Rattle.std.specs.Prelude.{ℕ, ◌+◌, ◌-◌, ◌==◌, ◌&&◌, ◌||◌, nat_le, Bool, true, false, not, if◌then◌else◌, List, [], ◌∷◌, ◌++◌, length, map, find, codes, Option, Some, None, is_some, option_map, unwrap_or, slice_get, slice_index}
 use Rattle.std.specs.List.{before_first, flat_map, list_any}
-use Rattle.std.specs.Option.{option_to_list}
+use Rattle.std.specs.Option.{option_map_or, option_to_list}
 use Rattle.std.specs.Str.{bytes_eq}
 use Rattle.itv_base.specs.Cuts.{is_space}
 use Rattle.itv_base.specs.declared.names.RuleKind.{RuleKind}
@@ -182,8 +182,18 @@ single_warnings d = each_from sheet_single 0 d.sheets ++ single_in netlist_part 
 
 -- ---- rules and rows that are in no cycle: their shifts reach before the first cycle even from the last one
 
+abbrev pub is_lane : Origin → Bool
+is_lane (drawn.Lane n) = true
+is_lane (drawn.Edge n) = false
+is_lane (drawn.Pin net pin) = false
+is_lane (drawn.Wire n) = false
+
+-- the order of a lane draws the rule: it also stands from the last mark of a cycle to the first one of the next, where there is one
+abbrev pub keeps_order : SheetRule → Bool
+keeps_order rule = option_map_or is_lane (drawn_by rule) false
+
 abbrev pub rule_never : ℕ → ℕ → SheetRule → List Warning
-rule_never last part rule = if rule_exists last rule then [] else of_rule part Never rule
+rule_never last part rule = if rule_exists last rule || keeps_order rule then [] else of_rule part Never rule
 
 abbrev pub never_rules : ℕ → ℕ → List SheetRule → List Warning
 never_rules last part rules = flat_map (rule_never last part) rules

@@ -2,14 +2,15 @@
 
 ghost use Rattle.std.specs.Prelude.{◌≡◌, ◌++◌, OnOk};
 ghost use Rattle.unroll.specs.Cycles.{rule_exists};
-ghost use Rattle.warnings.specs.Warnings.{each_from, never_rows, never_rules, never_warnings, row_never, rule_never, sheet_never};
+ghost use Rattle.warnings.specs.Warnings.{each_from, is_lane, keeps_order, never_rows, never_rules, never_warnings, row_never, rule_never, sheet_never};
 
 use crate::asked::part_count;
 use crate::push::push_where;
-use crate::rule::spot_of;
+use crate::rule::{drawn_by, spot_of};
 use crate::warning::{Spot, Warning};
 use compose::Design;
 use itv_base::NoMemory;
+use origin::Origin;
 use sheet::{Rule, Sheet, SheetRow};
 
 /// Puts the warnings of rules and rows that are in no cycle at the end: those of the sheets, and then those of the wires.
@@ -65,12 +66,31 @@ fn push_rules(
 fn push_rule(warnings: &mut Vec<Warning>, last: u32, part: u32, rule: &Rule) -> Result<(), NoMemory>
     ensures pushed { OnOk result (warnings.new.items ≡ warnings.old.items ++ rule_never last part rule.now) }
 {
-    if !exists_in(last, rule) {
+    if !(exists_in(last, rule) || keeps_order(rule)) {
         if let Some(spot) = spot_of(part, rule) {
             warnings.push(Warning::Never(spot))?;
         }
     }
     Ok(())
+}
+
+// Whether the order of a lane draws a rule.
+fn keeps_order(rule: &Rule) -> bool
+    ensures { result ≡ keeps_order rule.now }
+{
+    match drawn_by(rule) {
+        Some(origin) => is_lane(origin),
+        None => false,
+    }
+}
+
+fn is_lane(origin: Origin) -> bool
+    ensures { result ≡ is_lane origin }
+{
+    match origin {
+        Origin::Lane(_) => true,
+        Origin::Edge(_) | Origin::Pin { .. } | Origin::Wire(_) => false,
+    }
 }
 
 // Whether every cause of a rule stands in some cycle.
