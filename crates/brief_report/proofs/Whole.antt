@@ -1,5 +1,5 @@
 -- The whole text of the job.
-use Rattle.std.proofs.Common.{◌≡◌, ◌≤◌, ℕ, List, [], ◌∷◌, ◌++◌, length, refl, ap, ◌∙◌, arith}
+use Rattle.std.proofs.Common.{◌≡◌, ◌≤◌, ℕ, List, [], ◌∷◌, ◌++◌, length, refl, arith}
 use Rattle.std.specs.Prelude.{OnErr, Result, Ok, Err, codes}
 use Rattle.itv_base.specs.Outside.{CutShort, SinkTold}
 use Rattle.line_words.specs.Lines.{ended}

@@ -1,5 +1,5 @@
 -- What the steps of job brief promise one another.
-use Rattle.std.specs.Prelude.{◌==◌, ◌&&◌, ◌||◌, ℕ, nat_lt, Bool, true, false, if◌then◌else◌, List, [], ◌∷◌, ◌++◌, length, count_by, Option, Some, None, codes}
+use Rattle.std.specs.Prelude.{◌==◌, ◌&&◌, ◌||◌, ℕ, nat_lt, Bool, true, false, if◌then◌else◌, List, [], ◌∷◌, ◌++◌, count_by, Option, Some, None, codes}
 use Rattle.itv_base.specs.Names.{name_view}
 use Rattle.itv_base.specs.Numerals.{end_text, number_text}
 use Rattle.itv_base.specs.declared.row_kind.RowKind.{RowKind}

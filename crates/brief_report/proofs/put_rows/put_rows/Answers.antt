@@ -1,4 +1,4 @@
-use Rattle.std.proofs.Common.{ap, ◌++◌, ◌∙◌}
+use Rattle.std.proofs.Common.{ap, ◌++◌}
 use Rattle.std.specs.List.{flat_map}
 use Rattle.itv_base.proofs.Written.{puts_same, puts_then}
 use Rattle.line_words.specs.Lines.{ended, line_of}
