@@ -1,7 +1,6 @@
 -- The text of job why.
-use Rattle.std.specs.Prelude.{◌+◌, ℕ, ℤ, neg_ℤ, Bool, true, false, if◌then◌else◌, List, [], ◌∷◌, ◌++◌, reverse, is_empty, slice_get, unwrap_or, Option, Some, None, option_map, option_and_then, codes}
+use Rattle.std.specs.Prelude.{◌+◌, ℕ, ℤ, neg_ℤ, Bool, if◌then◌else◌, List, [], ◌∷◌, ◌++◌, reverse, slice_get, unwrap_or, Option, Some, None, option_map, option_and_then, codes}
 use Rattle.std.specs.List.{flat_map}
-use Rattle.itv_base.specs.Names.{Name}
 use Rattle.itv_base.specs.Numerals.{number_text, signed_text}
 use Rattle.itv_base.specs.Range.{Ends}
 use Rattle.itv_base.specs.declared.names.EdgeName.{EdgeName}
@@ -20,10 +19,8 @@ use Rattle.origin.specs.Text.{origin_text}
 use Rattle.origin.specs.declared.origin.Origin.{Origin}
 use Rattle.requirements.specs.Slacks.{slack_of}
 use Rattle.requirements.specs.declared.bound.BothBounds.{BothBounds}
-use Rattle.requirements.specs.declared.bound.Bound.{Bound}
 use Rattle.slack_report.specs.declared.words.EndWord.{EndWord}
 use Rattle.slack_report.specs.declared.words.EndWord.TheVariants as endings
-use Rattle.slack_report.specs.declared.words.FindingWord.{FindingWord}
 use Rattle.slack_report.specs.declared.words.Which.{Which}
 use Rattle.slack_report.specs.declared.words.Which.TheVariants.{Max, Min}
 use Rattle.slack_report.specs.Entry as line

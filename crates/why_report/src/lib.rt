@@ -3,6 +3,20 @@
 //! put failed, a front of such a text.
 #![tactic(auto)]
 
+mod bound;
+mod drawn_by;
+mod ending;
+mod line;
+mod put_bounds;
+mod put_line;
+mod put_rows;
+mod put_rules;
+mod rule;
+mod steps;
 mod write;
 
+pub use bound::both_of;
+pub use drawn_by::{DrawnBy, put_by};
+pub use ending::{ending_of, finding_word};
+pub use put_line::{put_asked, put_bound_words, put_verdict_words};
 pub use write::write_why;

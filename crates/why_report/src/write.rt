@@ -1,30 +1,105 @@
 //! Writing the text of the job.
 
-ghost use Rattle.std.specs.Prelude.{◌≤◌};
+ghost use Rattle.std.specs.Prelude.{◌≡◌, ◌≤◌, ℕ, List, All, IfOk, OnErr};
+ghost use Rattle.itv_base.specs.Outside.{CutShort, Puts, grown};
 ghost use Rattle.itv_base.specs.declared.limits.TheConstants.{MAX_BUDGET};
 ghost use Rattle.jobs.specs.Works.{Works};
+ghost use Rattle.explained.specs.Answers.{AreFound, HasRowTimes, IsFindingFound};
+ghost use Rattle.why_report.specs.Text.{ending_of, found_text, why_text};
 ghost use Rattle.why_report.specs.Why.{AnswersWhy, BeginsWhy};
 
+use crate::ending::{ending_of, finding_word};
+use crate::put_rows::put_rows;
+use crate::put_rules::put_rules;
 use drawn::DrawnNetwork;
-use itv_base::Sink;
-use jobs::{Answer, Unanswered};
+use explained::{Finding, NetworkFound, RowFound, explain};
+use itv_base::{PutFailed, Sink};
+use jobs::{Answer, Unanswered, answer_of};
+use line_words::LineBuffer;
 use notes::Notes;
+use slack_report::{EndWord, Item, LINE_ROOM, write_item};
 use std::alloc::Global;
 
 /// Writes both bounds of each row of a drawn network with the edges of the drawing that make them so: behind a number the steps from
 /// the one event to the other, whose weights sum to it; behind an inconsistent finding the rules that contradict each other; with the
 /// notes of who drew them. Each search closes at most `budget` cases. All is found before the first put.
 pub fn write_why<N: Notes, K: Sink>(
-    _alloc: Global,
+    alloc: Global,
     notes: &N,
     drawn: &DrawnNetwork,
-    _budget: u64,
+    budget: u64,
     sink: &mut K,
 ) -> Result<Answer, Unanswered>
-    requires least { 1 ≤ _budget }
-    requires most { _budget ≤ MAX_BUDGET }
+    requires least { 1 ≤ budget }
+    requires most { budget ≤ MAX_BUDGET }
     ensures works { Works (AnswersWhy (N.noted notes.now) drawn.now) (BeginsWhy (N.noted notes.now) drawn.now)
         (K.told sink.old) (K.told sink.new) result }
 {
-    Err(Unanswered::NoMemory)
+    let found = explain(alloc, drawn, budget)?;
+    let mut buffer = LineBuffer::new(alloc, LINE_ROOM)?;
+    Ok(put_found(notes, drawn, &found, &mut buffer, sink)?)
+}
+
+// Puts the whole text. The answer is by the word at its end.
+fn put_found<N: Notes, K: Sink>(
+    notes: &N,
+    drawn: &DrawnNetwork,
+    found: &NetworkFound,
+    buffer: &mut LineBuffer,
+    sink: &mut K,
+) -> Result<Answer, PutFailed>
+    requires finding { IsFindingFound drawn.now.net found.now.finding }
+    requires rows { AreFound drawn.now found.now.finding found.now.rows.items }
+    requires times { All HasRowTimes found.now.rows.items }
+    ensures answers { IfOk result (λ answer. (text : List ℕ) × AnswersWhy (N.noted notes.now) drawn.now answer text
+        × (K.told sink.new ≡ grown (K.told sink.old) text)) }
+    ensures begins { OnErr result ((text : List ℕ) × BeginsWhy (N.noted notes.now) drawn.now text
+        × CutShort (K.told sink.old) (K.told sink.new) text) }
+{
+    let word = ending_of(drawn, &found.finding, &found.rows);
+    put_text(notes, drawn, found, word, buffer, sink)?;
+    Ok(answer_of(word))
+}
+
+// Puts the whole text with the word at its end.
+fn put_text<N: Notes, K: Sink>(
+    notes: &N,
+    drawn: &DrawnNetwork,
+    found: &NetworkFound,
+    word: EndWord,
+    buffer: &mut LineBuffer,
+    sink: &mut K,
+) -> Result<(), PutFailed>
+    requires finding { IsFindingFound drawn.now.net found.now.finding }
+    requires rows { AreFound drawn.now found.now.finding found.now.rows.items }
+    requires times { All HasRowTimes found.now.rows.items }
+    requires word { word ≡ ending_of drawn.now.rows found.now.finding found.now.rows.items }
+    ensures puts { Puts (K.told sink.old) (K.told sink.new)
+        (why_text (N.noted notes.now) drawn.now found.now.finding found.now.rows.items) result }
+{
+    let finding = &found.finding;
+    sink.put(b"itv why 1\n")?;
+    write_item(&Item::Finding(finding_word(finding)), buffer, sink)?;
+    put_behind(notes, drawn, finding, &found.rows, buffer, sink)?;
+    write_item(&Item::End(word), buffer, sink)
+}
+
+// Behind the finding: the rules that contradict each other, or each row.
+fn put_behind<N: Notes, K: Sink>(
+    notes: &N,
+    drawn: &DrawnNetwork,
+    finding: &Finding,
+    found: &[RowFound],
+    buffer: &mut LineBuffer,
+    sink: &mut K,
+) -> Result<(), PutFailed>
+    requires finding { IsFindingFound drawn.now.net finding.now }
+    requires rows { AreFound drawn.now finding.now found.now }
+    requires times { All HasRowTimes found.now }
+    ensures puts { Puts (K.told sink.old) (K.told sink.new) (found_text (N.noted notes.now) drawn.now finding.now found.now) result }
+{
+    match finding {
+        Finding::Consistent | Finding::Unsettled => { put_rows(notes, drawn, found, buffer, sink) }
+        Finding::Inconsistent(set) => put_rules(notes, drawn, set, buffer, sink),
+    }
 }

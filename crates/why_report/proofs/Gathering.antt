@@ -1,0 +1,86 @@
+-- One more of a list: rows, steps, events, constraints and causes.
+use Rattle.std.proofs.Common.{◌≡◌, ◌<◌, ◌≤◌, ◌+◌, ◌-◌, ℕ, zero, suc, Bool, List, [], ◌∷◌, ◌++◌, length, get_or, drop, take, reverse, Some, slice_get, refl, sym, ap, ◌∙◌, add-one, drop-cons, arith}
+use Rattle.std.specs.List.{flat_map}
+use Rattle.std.specs.Prelude.{if◌then◌else◌, codes}
+use Rattle.std.proofs.lemmas.List.{reverse-append, take_more}
+use Rattle.std.proofs.lemmas.Option.{same_Some}
+use Rattle.line_words.specs.Lines.{ended, line_of}
+use Rattle.right_report.specs.Right.At.{Course}
+use Rattle.drawn.specs.Drawn.{Drawn}
+use Rattle.drawn.specs.declared.row.Row.{Row}
+use Rattle.explained.specs.declared.row.RowFound.{RowFound}
+use Rattle.why_report.specs.Step.{causes_at, constraint_at, no_constraint, origins_at, rule_words}
+use Rattle.why_report.specs.Text.{Noted, causes_text, name_in, raise_text, row_text, rows_text, rules_text, with_row, with_rows}
+use Rattle.why_report.specs.declared.rule.Rule.{Rule}
+use Rattle.why_report.proofs.Looking.{at_or}
+
+-- ---- lists
+
+pub drop_some : {A : Type 0} (xs : List A) (k : ℕ) (x : A) → slice_get xs k ≡ Some x → drop k xs ≡ x ∷ drop (k + 1) xs
+drop_some xs k x e = rw add-one (go xs k x e)
+  where
+    go : {A : Type 0} (xs : List A) (k : ℕ) (x : A) → slice_get xs k ≡ Some x → drop k xs ≡ x ∷ drop (suc k) xs
+    go [] k x e = absurd (cc e)
+    go (y ∷ xs) zero x e = ap (λ z. z ∷ xs) (same_Some y x e)
+    go (y ∷ xs) (suc k) x e = go xs k x e
+
+pub drop_at : {A : Type 0} (xs : List A) (k : ℕ) (x d : A) → k < length xs → x ≡ get_or xs k d → drop k xs ≡ x ∷ drop (k + 1) xs
+drop_at xs k x d h e = rw (e, add-one) (drop-cons xs k d h)
+
+-- ---- rows
+
+pub rows_more : (noted : Noted) (drawn : Drawn) (rows : List Row) (found : List RowFound) (k : ℕ) (row : Row) (of_row d : RowFound) → slice_get rows k ≡ Some row → k < length found
+    → of_row ≡ get_or found k d
+    → rows_text noted drawn k (drop k rows) (drop k found) ≡ row_text noted drawn k row of_row ++ rows_text noted drawn (k + 1) (drop (k + 1) rows) (drop (k + 1) found)
+rows_more noted drawn rows found k row of_row d e h is = rw (drop_some rows k row e, drop_at found k of_row d h is) refl
+
+pub marks_more : (course next whole : Course) (rows : List Row) (found : List RowFound) (k : ℕ) (row : Row) (of_row d : RowFound) → slice_get rows k ≡ Some row → k < length found
+    → of_row ≡ get_or found k d → with_row course row.kind of_row ≡ next → with_rows course (drop k rows) (drop k found) ≡ whole
+    → with_rows next (drop (k + 1) rows) (drop (k + 1) found) ≡ whole
+marks_more course next whole rows found k row of_row d e h is step before =
+    ap (λ c. with_rows c (drop (k + 1) rows) (drop (k + 1) found)) (sym step) ∙ (sym more ∙ before)
+  where
+    more : with_rows course (drop k rows) (drop k found) ≡ with_rows (with_row course row.kind of_row) (drop (k + 1) rows) (drop (k + 1) found)
+    more = rw (drop_some rows k row e, drop_at found k of_row d h is) refl
+
+-- ---- steps
+
+pub steps_more : {A : Type 0} (text : A → List ℕ) (names : List A) (k : ℕ) (d : A) → k < length names
+    → flat_map text (drop k names) ≡ text (get_or names k d) ++ flat_map text (drop (k + 1) names)
+steps_more text names k d h = rw (add-one, drop-cons names k d h) refl
+
+-- the last of the first ones comes next
+pub steps_back : {A : Type 0} (text : A → List ℕ) (names : List A) (k : ℕ) (d : A) → 0 < k → k ≤ length names
+    → flat_map text (reverse (take k names)) ≡ text (get_or names (k - 1) d) ++ flat_map text (reverse (take (k - 1) names))
+steps_back text names k d some within =
+    let same : (k - 1) + 1 ≡ k = omega arith in
+    let inside : k - 1 < length names = omega arith in
+    ap (λ n. flat_map text (reverse (take n names))) (sym same) ∙ ap (λ ns. flat_map text (reverse ns)) (take_more names (k - 1) d inside)
+    ∙ ap (flat_map text) (reverse-append (take (k - 1) names) (get_or names (k - 1) d ∷ []))
+
+-- ---- events
+
+pub raise_more : (drawn : Drawn) (set : List Bool) (k : ℕ) (d : Bool) → k < length set
+    → raise_text drawn k (drop k set)
+    ≡ (if get_or set k d then ended (line_of (codes "raise" ∷ name_in drawn (record { 0 = k }) ∷ [])) else []) ++ raise_text drawn (k + 1) (drop (k + 1) set)
+raise_more drawn set k d h = rw (drop_at set k (get_or set k d) d h refl) refl
+
+-- ---- constraints and causes
+
+pub causes_more : (noted : Noted) (drawn : Drawn) (number k : ℕ) (rule : Rule) → rule.kind ≡ (constraint_at drawn number).kind → rule.target ≡ (constraint_at drawn number).target
+    → slice_get (constraint_at drawn number).causes k ≡ Some rule.cause → slice_get (origins_at drawn number) k ≡ Some rule.origin
+    → causes_text noted drawn (constraint_at drawn number) (drop k (constraint_at drawn number).causes) (drop k (origins_at drawn number))
+    ≡ ended (line_of (rule_words noted drawn rule))
+    ++ causes_text noted drawn (constraint_at drawn number) (drop (k + 1) (constraint_at drawn number).causes) (drop (k + 1) (origins_at drawn number))
+causes_more noted drawn number k rule kind target cause origin =
+    rw (kind, target, drop_some (constraint_at drawn number).causes k rule.cause cause, drop_some (origins_at drawn number) k rule.origin origin) refl
+
+pub rules_more : (noted : Noted) (drawn : Drawn) (set : List Bool) (k : ℕ) (d : Bool) → k < length set → k < length drawn.net.constraints → k < length drawn.origins
+    → rules_text noted drawn (drop k set) (drop k drawn.net.constraints) (drop k drawn.origins)
+    ≡ (if get_or set k d then causes_at noted drawn k else []) ++ rules_text noted drawn (drop (k + 1) set) (drop (k + 1) drawn.net.constraints) (drop (k + 1) drawn.origins)
+rules_more noted drawn set k d in_set in_net in_origins =
+    rw (
+      drop_at set k (get_or set k d) d in_set refl,
+      drop_some drawn.net.constraints k (constraint_at drawn k) (at_or drawn.net.constraints k no_constraint in_net),
+      drop_some drawn.origins k (origins_at drawn k) (at_or drawn.origins k [] in_origins),
+    ) refl

@@ -1,0 +1,5 @@
+pub mod Lining
+pub mod Putting
+mod Gathering
+mod Looking
+mod Whole

@@ -1,0 +1,88 @@
+//! Putting a bound, and what stands behind it.
+
+ghost use Rattle.std.specs.Prelude.{◌≡◌, ◌<◌, if◌then◌else◌, [], ◌∷◌, codes, length};
+ghost use Rattle.itv_base.specs.Outside.{Puts};
+ghost use Rattle.line_words.specs.Lines.{ended, line_of};
+ghost use Rattle.why_report.specs.Step.{HasFlags};
+ghost use Rattle.why_report.specs.Text.{behind_text, bound_text, name_in, raise_text};
+
+use crate::bound::bound_of;
+use crate::line::Line;
+use crate::put_line::put_line;
+use crate::steps::put_steps;
+use drawn::DrawnNetwork;
+use explained::BoundFound;
+use itv_base::{EventId, PutFailed, Sink};
+use line_words::LineBuffer;
+use notes::Notes;
+use slack_report::{Item, Which, write_item};
+
+/// Puts a bound, and behind a number the steps that sum to it, or behind none the events that can be raised by any number.
+pub fn put_bound<N: Notes, K: Sink>(
+    notes: &N,
+    drawn: &DrawnNetwork,
+    which: Which,
+    found: &BoundFound,
+    buffer: &mut LineBuffer,
+    sink: &mut K,
+) -> Result<(), PutFailed>
+    requires flags { HasFlags drawn.now.net.events found.now }
+    ensures puts { Puts (K.told sink.old) (K.told sink.new) (bound_text (N.noted notes.now) drawn.now which found.now) result }
+{
+    let bound = bound_of(found);
+    write_item(&Item::Bound { which, bound }, buffer, sink)?;
+    put_behind(notes, drawn, which, found, buffer, sink)
+}
+
+// What stands behind a bound.
+fn put_behind<N: Notes, K: Sink>(
+    notes: &N,
+    drawn: &DrawnNetwork,
+    which: Which,
+    found: &BoundFound,
+    buffer: &mut LineBuffer,
+    sink: &mut K,
+) -> Result<(), PutFailed>
+    requires flags { HasFlags drawn.now.net.events found.now }
+    ensures { Puts (K.told sink.old) (K.told sink.new) (behind_text (N.noted notes.now) drawn.now which found.now) result }
+{
+    match found {
+        BoundFound::Closed { chain, .. } => { put_steps(notes, drawn, which, chain, buffer, sink) }
+        BoundFound::Unbounded { set } => put_raised(drawn, set, buffer, sink),
+        BoundFound::Within { .. } => Ok(()),
+    }
+}
+
+// The events of a set, which has a flag for each event.
+fn put_raised<K: Sink>(
+    drawn: &DrawnNetwork,
+    set: &[bool],
+    buffer: &mut LineBuffer,
+    sink: &mut K,
+) -> Result<(), PutFailed>
+    requires count { length set.now ≡ drawn.now.net.events }
+    ensures { Puts (K.told sink.old) (K.told sink.new) (raise_text drawn.now 0 set.now) result }
+{
+    for number in 0..drawn.network().events() {
+        put_flag(drawn, number, set[number as usize], buffer, sink)?;
+    }
+    Ok(())
+}
+
+// An event, if it is in a set.
+fn put_flag<K: Sink>(
+    drawn: &DrawnNetwork,
+    number: u32,
+    is_in: bool,
+    buffer: &mut LineBuffer,
+    sink: &mut K,
+) -> Result<(), PutFailed>
+    requires event { number < drawn.now.net.events }
+    ensures { Puts (K.told sink.old) (K.told sink.new)
+        (if is_in then ended (line_of (codes "raise" ∷ name_in drawn.now (record { 0 = number }) ∷ [])) else []) result }
+{
+    if !is_in {
+        return Ok(());
+    }
+    put_line(&Line::Raise(drawn.name(EventId(number))), buffer, sink)
+}

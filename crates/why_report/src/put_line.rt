@@ -1,0 +1,426 @@
+//! Putting a line.
+
+ghost use Rattle.std.specs.Prelude.{◌≡◌, ◌∷◌, ◌++◌, [], codes};
+ghost use Rattle.std.specs.List.{flat_map};
+ghost use Rattle.itv_base.specs.Names.{name_view};
+ghost use Rattle.itv_base.specs.Numerals.{number_text, signed_text};
+ghost use Rattle.itv_base.specs.Outside.{Puts};
+ghost use Rattle.itv_base.specs.declared.row_kind.RowKind.TheVariants.{Req};
+ghost use Rattle.line_words.specs.Lines.{ended, line_of, spaced};
+ghost use Rattle.requirements.specs.declared.bound.Bound.{Bound};
+ghost use Rattle.requirements.specs.declared.verdict.Verdict.{Verdict};
+ghost use Rattle.slack_report.specs.Text.{bound_words, name_word, range_word, row_words, verdict_words};
+ghost use Rattle.why_report.specs.Step.{by_words, line_words};
+ghost use Rattle.why_report.specs.Text.{rule_word};
+
+use crate::drawn_by::{DrawnBy, put_by};
+use crate::line::Line;
+use itoa::Buffer;
+use itv_base::{
+    EventName, PutFailed, Range, RowKind, RuleKind, Sink, end_text, number_text, put_all,
+    signed_text,
+};
+use line_words::LineBuffer;
+use requirements::{BothBounds, Bound, Verdict};
+
+/// Puts a line and its end: by one put where it fits the buffer, and else piece by piece. What the buffer held before is forgotten.
+pub fn put_line<K: Sink>(
+    line: &Line<'_>,
+    buffer: &mut LineBuffer,
+    sink: &mut K,
+) -> Result<(), PutFailed>
+    ensures puts { Puts (K.told sink.old) (K.told sink.new) (ended (line_of (line_words line.now))) result }
+{
+    buffer.clear();
+    match put_pieces(line, buffer) {
+        Ok(()) => buffer.put_into(sink),
+        Err(PutFailed) => put_pieces(line, sink),
+    }
+}
+
+// Puts a line piece by piece.
+fn put_pieces<K: Sink>(line: &Line<'_>, sink: &mut K) -> Result<(), PutFailed>
+    ensures { Puts (K.told sink.old) (K.told sink.new) (ended (line_of (line_words line.now))) result }
+{
+    match line {
+        Line::Step {
+            from,
+            to,
+            weight,
+            by,
+        } => put_step(*from, *to, weight, by, sink),
+        Line::Raise(name) => put_raise(*name, sink),
+        Line::Order { both, word } => put_order(both, *word, sink),
+        Line::Row {
+            number,
+            kind,
+            from,
+            to,
+            by,
+        } => put_row(*number, kind, *from, *to, by, sink),
+        Line::Rule {
+            kind,
+            from,
+            to,
+            range,
+            by,
+        } => put_rule(*kind, *from, *to, range, by, sink),
+    }
+}
+
+// ---- lines with what draws something
+
+// What draws a cause or a row, and the end of its line.
+fn put_end<K: Sink>(by: &DrawnBy<'_>, sink: &mut K) -> Result<(), PutFailed>
+    ensures { Puts (K.told sink.old) (K.told sink.new) (flat_map spaced (by_words by.now) ++ 10 ∷ []) result }
+{
+    put_by(by, sink)?;
+    sink.put(b"\n")
+}
+
+// The line of a step up to its weight.
+fn put_weight<K: Sink>(
+    from: EventName<'_>,
+    to: EventName<'_>,
+    weight: &i64,
+    sink: &mut K,
+) -> Result<(), PutFailed>
+    ensures { Puts (K.told sink.old) (K.told sink.new) (line_of (codes "step"
+        ∷ name_word (name_view from.entry) ∷ name_word (name_view to.entry) ∷ signed_text weight.now ∷ [])) result }
+{
+    let mut from_cycle = Buffer::new();
+    let mut to_cycle = Buffer::new();
+    let mut digits = Buffer::new();
+    put_all(
+        sink,
+        &[
+            b"step ",
+            from.part.as_bytes(),
+            b".",
+            &[from.mark],
+            b"@",
+            number_text(u64::from(from.cycle), &mut from_cycle).as_bytes(),
+            b" ",
+            to.part.as_bytes(),
+            b".",
+            &[to.mark],
+            b"@",
+            number_text(u64::from(to.cycle), &mut to_cycle).as_bytes(),
+            b" ",
+            signed_text(*weight, &mut digits).as_bytes(),
+        ],
+    )
+}
+
+fn put_step<K: Sink>(
+    from: EventName<'_>,
+    to: EventName<'_>,
+    weight: &i64,
+    by: &DrawnBy<'_>,
+    sink: &mut K,
+) -> Result<(), PutFailed>
+    ensures { Puts (K.told sink.old) (K.told sink.new) (ended (line_of (codes "step"
+        ∷ name_word (name_view from.entry) ∷ name_word (name_view to.entry) ∷ signed_text weight.now ∷ by_words by.now))) result }
+{
+    put_weight(from, to, weight, sink)?;
+    put_end(by, sink)
+}
+
+// The line of a question up to its names.
+fn put_ask<K: Sink>(
+    number: u32,
+    from: EventName<'_>,
+    to: EventName<'_>,
+    sink: &mut K,
+) -> Result<(), PutFailed>
+    ensures { Puts (K.told sink.old) (K.told sink.new) (line_of (codes "row" ∷ number_text number ∷ codes "ask"
+        ∷ name_word (name_view from.entry) ∷ name_word (name_view to.entry) ∷ [])) result }
+{
+    let mut digits = Buffer::new();
+    let mut from_cycle = Buffer::new();
+    let mut to_cycle = Buffer::new();
+    put_all(
+        sink,
+        &[
+            b"row ",
+            number_text(u64::from(number), &mut digits).as_bytes(),
+            b" ask ",
+            from.part.as_bytes(),
+            b".",
+            &[from.mark],
+            b"@",
+            number_text(u64::from(from.cycle), &mut from_cycle).as_bytes(),
+            b" ",
+            to.part.as_bytes(),
+            b".",
+            &[to.mark],
+            b"@",
+            number_text(u64::from(to.cycle), &mut to_cycle).as_bytes(),
+        ],
+    )
+}
+
+// The line of a requirement up to its names.
+fn put_demand_names<K: Sink>(
+    number: u32,
+    from: EventName<'_>,
+    to: EventName<'_>,
+    sink: &mut K,
+) -> Result<(), PutFailed>
+    ensures { Puts (K.told sink.old) (K.told sink.new) (line_of (codes "row" ∷ number_text number ∷ codes "req"
+        ∷ name_word (name_view from.entry) ∷ name_word (name_view to.entry) ∷ [])) result }
+{
+    let mut digits = Buffer::new();
+    let mut from_cycle = Buffer::new();
+    let mut to_cycle = Buffer::new();
+    put_all(
+        sink,
+        &[
+            b"row ",
+            number_text(u64::from(number), &mut digits).as_bytes(),
+            b" req ",
+            from.part.as_bytes(),
+            b".",
+            &[from.mark],
+            b"@",
+            number_text(u64::from(from.cycle), &mut from_cycle).as_bytes(),
+            b" ",
+            to.part.as_bytes(),
+            b".",
+            &[to.mark],
+            b"@",
+            number_text(u64::from(to.cycle), &mut to_cycle).as_bytes(),
+        ],
+    )
+}
+
+// A space and a range.
+fn put_range<K: Sink>(range: &Range, sink: &mut K) -> Result<(), PutFailed>
+    ensures { Puts (K.told sink.old) (K.told sink.new) (spaced (range_word range.now)) result }
+{
+    let mut low = Buffer::new();
+    let mut high = Buffer::new();
+    put_all(
+        sink,
+        &[
+            b" [",
+            end_text(range.low(), &mut low).as_bytes(),
+            b",",
+            end_text(range.high(), &mut high).as_bytes(),
+            b"]",
+        ],
+    )
+}
+
+// The line of a requirement up to its range.
+fn put_demand<K: Sink>(
+    number: u32,
+    range: &Range,
+    from: EventName<'_>,
+    to: EventName<'_>,
+    sink: &mut K,
+) -> Result<(), PutFailed>
+    ensures { Puts (K.told sink.old) (K.told sink.new)
+        (line_of (codes "row" ∷ number_text number ∷ row_words (Req range.now) (name_view from.entry) (name_view to.entry))) result }
+{
+    put_demand_names(number, from, to, sink)?;
+    put_range(range, sink)
+}
+
+/// Puts the line of what is asked of a row, without its end.
+pub fn put_asked<K: Sink>(
+    number: u32,
+    kind: &RowKind,
+    from: EventName<'_>,
+    to: EventName<'_>,
+    sink: &mut K,
+) -> Result<(), PutFailed>
+    ensures puts { Puts (K.told sink.old) (K.told sink.new)
+        (line_of (codes "row" ∷ number_text number ∷ row_words kind.now (name_view from.entry) (name_view to.entry))) result }
+{
+    match kind {
+        RowKind::Ask => put_ask(number, from, to, sink),
+        RowKind::Req(range) => put_demand(number, range, from, to, sink),
+    }
+}
+
+fn put_row<K: Sink>(
+    number: u32,
+    kind: &RowKind,
+    from: EventName<'_>,
+    to: EventName<'_>,
+    by: &DrawnBy<'_>,
+    sink: &mut K,
+) -> Result<(), PutFailed>
+    ensures { Puts (K.told sink.old) (K.told sink.new) (ended (line_of (codes "row" ∷ number_text number
+        ∷ (row_words kind.now (name_view from.entry) (name_view to.entry) ++ by_words by.now)))) result }
+{
+    put_asked(number, kind, from, to, sink)?;
+    put_end(by, sink)
+}
+
+// The line of a cause up to the kind of its constraint.
+fn put_kind<K: Sink>(kind: RuleKind, sink: &mut K) -> Result<(), PutFailed>
+    ensures { Puts (K.told sink.old) (K.told sink.new) (line_of (codes "rule" ∷ rule_word kind ∷ [])) result }
+{
+    match kind {
+        RuleKind::Lin => sink.put(b"rule lin"),
+        RuleKind::Late => sink.put(b"rule late"),
+        RuleKind::Early => sink.put(b"rule early"),
+    }
+}
+
+// A space and a name, for each of two events.
+fn put_names<K: Sink>(from: EventName<'_>, to: EventName<'_>, sink: &mut K) -> Result<(), PutFailed>
+    ensures { Puts (K.told sink.old) (K.told sink.new)
+        (flat_map spaced (name_word (name_view from.entry) ∷ name_word (name_view to.entry) ∷ [])) result }
+{
+    let mut from_cycle = Buffer::new();
+    let mut to_cycle = Buffer::new();
+    put_all(
+        sink,
+        &[
+            b" ",
+            from.part.as_bytes(),
+            b".",
+            &[from.mark],
+            b"@",
+            number_text(u64::from(from.cycle), &mut from_cycle).as_bytes(),
+            b" ",
+            to.part.as_bytes(),
+            b".",
+            &[to.mark],
+            b"@",
+            number_text(u64::from(to.cycle), &mut to_cycle).as_bytes(),
+        ],
+    )
+}
+
+// The line of a cause up to its range.
+fn put_cause<K: Sink>(
+    kind: RuleKind,
+    from: EventName<'_>,
+    to: EventName<'_>,
+    range: &Range,
+    sink: &mut K,
+) -> Result<(), PutFailed>
+    ensures { Puts (K.told sink.old) (K.told sink.new) (line_of (codes "rule" ∷ rule_word kind
+        ∷ name_word (name_view from.entry) ∷ name_word (name_view to.entry) ∷ range_word range.now ∷ [])) result }
+{
+    put_kind(kind, sink)?;
+    put_names(from, to, sink)?;
+    put_range(range, sink)
+}
+
+fn put_rule<K: Sink>(
+    kind: RuleKind,
+    from: EventName<'_>,
+    to: EventName<'_>,
+    range: &Range,
+    by: &DrawnBy<'_>,
+    sink: &mut K,
+) -> Result<(), PutFailed>
+    ensures { Puts (K.told sink.old) (K.told sink.new) (ended (line_of (codes "rule" ∷ rule_word kind
+        ∷ name_word (name_view from.entry) ∷ name_word (name_view to.entry) ∷ range_word range.now ∷ by_words by.now))) result }
+{
+    put_cause(kind, from, to, range, sink)?;
+    put_end(by, sink)
+}
+
+// ---- other lines
+
+fn put_raise<K: Sink>(name: EventName<'_>, sink: &mut K) -> Result<(), PutFailed>
+    ensures { Puts (K.told sink.old) (K.told sink.new) (ended (line_of (codes "raise" ∷ name_word (name_view name.entry) ∷ []))) result }
+{
+    let mut cycle = Buffer::new();
+    put_all(
+        sink,
+        &[
+            b"raise ",
+            name.part.as_bytes(),
+            b".",
+            &[name.mark],
+            b"@",
+            number_text(u64::from(name.cycle), &mut cycle).as_bytes(),
+            b"\n",
+        ],
+    )
+}
+
+/// Puts a space and a word for each word of a bound.
+pub fn put_bound_words<K: Sink>(value: Bound, sink: &mut K) -> Result<(), PutFailed>
+    ensures puts { Puts (K.told sink.old) (K.told sink.new) (flat_map spaced (bound_words value)) result }
+{
+    let mut limit_digits = Buffer::new();
+    let mut digits = Buffer::new();
+    match value {
+        Bound::Closed(number) => {
+            put_all(sink, &[b" ", signed_text(number, &mut digits).as_bytes()])
+        }
+        Bound::Unbounded => sink.put(b" unbounded"),
+        Bound::Within {
+            limit,
+            attained: None,
+        } => put_all(
+            sink,
+            &[b" within ", end_text(limit, &mut limit_digits).as_bytes()],
+        ),
+        Bound::Within {
+            limit,
+            attained: Some(found),
+        } => put_all(
+            sink,
+            &[
+                b" within ",
+                end_text(limit, &mut limit_digits).as_bytes(),
+                b" found ",
+                signed_text(found, &mut digits).as_bytes(),
+            ],
+        ),
+    }
+}
+
+/// Puts a space and a word for each word of a verdict.
+pub fn put_verdict_words<K: Sink>(word: Verdict, sink: &mut K) -> Result<(), PutFailed>
+    ensures puts { Puts (K.told sink.old) (K.told sink.new) (flat_map spaced (verdict_words word)) result }
+{
+    match word {
+        Verdict::Pass => sink.put(b" pass"),
+        Verdict::FailHigh => sink.put(b" fail high"),
+        Verdict::FailLow => sink.put(b" fail low"),
+        Verdict::Undecided => sink.put(b" undecided"),
+    }
+}
+
+// The line of an order up to the greatest bound.
+fn put_greatest<K: Sink>(value: Bound, sink: &mut K) -> Result<(), PutFailed>
+    ensures { Puts (K.told sink.old) (K.told sink.new) (line_of (codes "order" ∷ codes "max" ∷ bound_words value)) result }
+{
+    sink.put(b"order max")?;
+    put_bound_words(value, sink)
+}
+
+// The least bound.
+fn put_least<K: Sink>(value: Bound, sink: &mut K) -> Result<(), PutFailed>
+    ensures { Puts (K.told sink.old) (K.told sink.new) (flat_map spaced (codes "min" ∷ bound_words value)) result }
+{
+    sink.put(b" min")?;
+    put_bound_words(value, sink)
+}
+
+// The verdict, and the end of its line.
+fn put_verdict_end<K: Sink>(word: Verdict, sink: &mut K) -> Result<(), PutFailed>
+    ensures { Puts (K.told sink.old) (K.told sink.new) (flat_map spaced (verdict_words word) ++ 10 ∷ []) result }
+{
+    put_verdict_words(word, sink)?;
+    sink.put(b"\n")
+}
+
+fn put_order<K: Sink>(both: &BothBounds, word: Verdict, sink: &mut K) -> Result<(), PutFailed>
+    ensures { Puts (K.told sink.old) (K.told sink.new) (ended (line_of (codes "order" ∷ codes "max"
+        ∷ (bound_words both.now.greatest ++ (codes "min" ∷ (bound_words both.now.least ++ verdict_words word)))))) result }
+{
+    put_greatest(both.greatest, sink)?;
+    put_least(both.least, sink)?;
+    put_verdict_end(word, sink)
+}

@@ -1,0 +1,83 @@
+//! Causes of constraints, with what draws them.
+
+ghost use Rattle.std.specs.Prelude.{◌≡◌, ◌<◌, length, slice_get, IsSome, Some};
+ghost use Rattle.event_graph.specs.Edges.{edge};
+ghost use Rattle.why_report.specs.Step.{IsBetween, by_words, constraint_at, origins_at};
+ghost use Rattle.why_report.specs.Text.{drawn_words, part_of};
+
+use crate::drawn_by::DrawnBy;
+use drawn::DrawnNetwork;
+use event_graph::Cause;
+use itv_base::{EdgeName, EventId, RuleKind};
+use notes::Notes;
+use origin::Origin;
+
+/// A cause of a constraint: the kind and the target of the constraint, the cause itself, and what draws it.
+#[derive(Clone, Copy, Debug)]
+pub struct Rule {
+    pub kind: RuleKind,
+    pub target: EventId,
+    pub cause: Cause,
+    pub origin: Origin,
+}
+
+/// How many causes a constraint has that is there.
+pub fn cause_count(drawn: &DrawnNetwork, number: u32) -> u32
+    requires number { number < length drawn.now.net.constraints }
+    ensures causes { result ≡ length (constraint_at drawn.now number).causes }
+    ensures origins { result ≡ length (origins_at drawn.now number) }
+{
+    // The network is within its limits.
+    let _events = drawn.network().events();
+    origins_at(drawn, number).len() as u32
+}
+
+/// The cause of a number of a constraint, which are both there.
+pub fn rule_at(drawn: &DrawnNetwork, number: u32, cause: u32) -> Rule
+    requires number { number < length drawn.now.net.constraints }
+    requires cause { cause < length (constraint_at drawn.now number).causes }
+    ensures kind { result.kind ≡ (constraint_at drawn.now number).kind }
+    ensures target { result.target ≡ (constraint_at drawn.now number).target }
+    ensures cause { slice_get (constraint_at drawn.now number).causes cause ≡ Some result.cause }
+    ensures origin { slice_get (origins_at drawn.now number) cause ≡ Some result.origin }
+    ensures between { IsBetween drawn.now.net.events result }
+{
+    let net = drawn.network();
+    // The network is within its limits.
+    let _events = net.events();
+    Rule {
+        kind: net.kind(number),
+        target: net.target(number),
+        cause: net.cause(number, cause),
+        origin: origins_at(drawn, number)[cause as usize],
+    }
+}
+
+/// What draws the cause of an edge that is there.
+pub fn edge_by<'a, N: Notes>(notes: &'a N, drawn: &DrawnNetwork, name: EdgeName) -> DrawnBy<'a>
+    requires edge { IsSome (edge drawn.now.net name) }
+    ensures words { by_words result ≡ drawn_words (N.noted notes.now) drawn.now name }
+{
+    let origin = origins_at(drawn, name.constraint)[name.cause as usize];
+    DrawnBy::of(notes, part_at(drawn, name.constraint), origin)
+}
+
+// What draws each cause of a constraint that is there.
+fn origins_at(drawn: &DrawnNetwork, number: u32) -> &[Origin]
+    requires number { number < length drawn.now.net.constraints }
+    ensures origins { result.now ≡ origins_at drawn.now number }
+    ensures fit { length result.now ≡ length (constraint_at drawn.now number).causes }
+{
+    drawn.origins().get(u64::from(number)).as_slice()
+}
+
+// The part of the target of a constraint that is there.
+fn part_at(drawn: &DrawnNetwork, number: u32) -> &str
+    requires number { number < length drawn.now.net.constraints }
+    ensures part { result.now ≡ part_of drawn.now (constraint_at drawn.now number).target }
+{
+    let net = drawn.network();
+    // The network is within its limits.
+    let _events = net.events();
+    drawn.name(net.target(number)).part
+}
