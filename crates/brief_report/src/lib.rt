@@ -3,6 +3,13 @@
 //! such a text.
 #![tactic(auto)]
 
+mod counts;
+mod judged;
+mod line;
+mod order;
+mod place;
+mod put_line;
+mod put_rows;
 mod write;
 
 pub use write::write_brief;

@@ -1,29 +1,91 @@
 //! Writing the text of the job.
 
-ghost use Rattle.std.specs.Prelude.{◌≤◌};
+ghost use Rattle.std.specs.Prelude.{◌≡◌, ◌≤◌, ℕ, List, All, IfOk, OnErr, length, map};
+ghost use Rattle.itv_base.specs.Outside.{CutShort, Puts, grown};
 ghost use Rattle.itv_base.specs.declared.limits.TheConstants.{MAX_BUDGET};
 ghost use Rattle.jobs.specs.Works.{Works};
+ghost use Rattle.explained.specs.Answers.{AreFound, HasRowTimes, IsFindingFound};
+ghost use Rattle.why_report.specs.Text.{ending_of};
 ghost use Rattle.brief_report.specs.Brief.{AnswersBrief, BeginsBrief};
+ghost use Rattle.brief_report.specs.Step.{place_of, told_of};
+ghost use Rattle.brief_report.specs.Text.{brief_text, ordered};
 
+use crate::order::places_of;
+use crate::place::Place;
+use crate::put_rows::put_rows;
 use drawn::DrawnNetwork;
-use itv_base::Sink;
-use jobs::{Answer, Unanswered};
+use explained::{NetworkFound, explain};
+use itv_base::{PutFailed, Sink};
+use jobs::{Answer, Unanswered, answer_of};
+use line_words::LineBuffer;
 use notes::Notes;
+use slack_report::{EndWord, Item, LINE_ROOM, write_item};
 use std::alloc::Global;
+use why_report::{ending_of, finding_word};
 
 /// Writes each row of a drawn network on one line: broken requirements first, then those that are left undecided, those that pass, and
 /// questions; in each of these the worst slack first. Each search closes at most `budget` cases. All is found before the first put.
 pub fn write_brief<N: Notes, K: Sink>(
-    _alloc: Global,
+    alloc: Global,
     notes: &N,
     drawn: &DrawnNetwork,
-    _budget: u64,
+    budget: u64,
     sink: &mut K,
 ) -> Result<Answer, Unanswered>
-    requires least { 1 ≤ _budget }
-    requires most { _budget ≤ MAX_BUDGET }
+    requires least { 1 ≤ budget }
+    requires most { budget ≤ MAX_BUDGET }
     ensures works { Works (AnswersBrief (N.noted notes.now) drawn.now) (BeginsBrief (N.noted notes.now) drawn.now)
         (K.told sink.old) (K.told sink.new) result }
 {
-    Err(Unanswered::NoMemory)
+    let found = explain(alloc, drawn, budget)?;
+    let places = places_of(alloc, drawn, &found.rows)?;
+    let mut buffer = LineBuffer::new(alloc, LINE_ROOM)?;
+    Ok(put_found(notes, drawn, &found, &places, &mut buffer, sink)?)
+}
+
+// Puts the whole text. The answer is by the word at its end.
+fn put_found<N: Notes, K: Sink>(
+    notes: &N,
+    drawn: &DrawnNetwork,
+    found: &NetworkFound,
+    places: &[Place],
+    buffer: &mut LineBuffer,
+    sink: &mut K,
+) -> Result<Answer, PutFailed>
+    requires finding { IsFindingFound drawn.now.net found.now.finding }
+    requires rows { AreFound drawn.now found.now.finding found.now.rows.items }
+    requires times { All HasRowTimes found.now.rows.items }
+    requires places { places.now ≡ map place_of (ordered (told_of drawn.now found.now.rows.items)) }
+    ensures answers { IfOk result (λ answer. (text : List ℕ) × AnswersBrief (N.noted notes.now) drawn.now answer text
+        × (K.told sink.new ≡ grown (K.told sink.old) text)) }
+    ensures begins { OnErr result ((text : List ℕ) × BeginsBrief (N.noted notes.now) drawn.now text
+        × CutShort (K.told sink.old) (K.told sink.new) text) }
+{
+    let word = ending_of(drawn, &found.finding, &found.rows);
+    put_text(notes, drawn, found, places, word, buffer, sink)?;
+    Ok(answer_of(word))
+}
+
+// Puts the whole text with the word at its end.
+fn put_text<N: Notes, K: Sink>(
+    notes: &N,
+    drawn: &DrawnNetwork,
+    found: &NetworkFound,
+    places: &[Place],
+    word: EndWord,
+    buffer: &mut LineBuffer,
+    sink: &mut K,
+) -> Result<(), PutFailed>
+    requires count { length found.now.rows.items ≤ length drawn.now.rows }
+    requires times { All HasRowTimes found.now.rows.items }
+    requires places { places.now ≡ map place_of (ordered (told_of drawn.now found.now.rows.items)) }
+    requires word { word ≡ ending_of drawn.now.rows found.now.finding found.now.rows.items }
+    ensures puts { Puts (K.told sink.old) (K.told sink.new)
+        (brief_text (N.noted notes.now) drawn.now found.now.finding found.now.rows.items) result }
+{
+    let finding = finding_word(&found.finding);
+    sink.put(b"itv brief 1\n")?;
+    write_item(&Item::Finding(finding), buffer, sink)?;
+    put_rows(notes, drawn, &found.rows, places, buffer, sink)?;
+    write_item(&Item::End(word), buffer, sink)
 }

@@ -1,0 +1,4 @@
+mod Ordering
+mod Lining
+mod Telling
+mod Whole

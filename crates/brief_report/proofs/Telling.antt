@@ -1,0 +1,185 @@
+-- What the line of a row tells, and the lines of all rows.
+use Rattle.std.proofs.Common.{◌≡◌, ◌<◌, ◌≤◌, ◌+◌, ℕ, zero, suc, Bool, true, false, List, [], ◌∷◌, ◌++◌, length, map, drop, get_or, Option, Some, None, slice_get, refl, sym, subst, ap, ◌∙◌, append_assoc, arith}
+use Rattle.std.specs.List.{flat_map}
+use Rattle.std.specs.Prelude.{codes, is_some, if◌then◌else◌}
+use Rattle.std.proofs.lemmas.Option.{same_Some, slice_get_within}
+use Rattle.std.proofs.lemmas.List.{length-map}
+use Rattle.line_words.specs.Words.{Word}
+use Rattle.itv_base.specs.Names.{Name, name_view}
+use Rattle.itv_base.specs.Numerals.{number_text}
+use Rattle.itv_base.specs.declared.row_kind.RowKind.{RowKind}
+use Rattle.itv_base.specs.declared.row_kind.RowKind.TheVariants as kinds
+use Rattle.requirements.specs.declared.bound.BothBounds.{BothBounds}
+use Rattle.drawn.specs.Drawn.{Drawn, name_of}
+use Rattle.drawn.specs.declared.row.Row.{Row}
+use Rattle.explained.specs.declared.row.RowFound.{RowFound}
+use Rattle.explained.specs.Answers.{bound_of}
+use Rattle.slack_report.specs.Text.{bound_words, row_words}
+use Rattle.why_report.specs.Step.{by_words}
+use Rattle.why_report.specs.Text.{Noted, origin_words, part_of}
+use Rattle.brief_report.specs.declared.counts.Counts.{Counts}
+use Rattle.brief_report.specs.declared.line.RowLine.{RowLine}
+use Rattle.brief_report.specs.declared.place.Place.{Place}
+use Rattle.brief_report.specs.Step.{back_words, counts_words, front_words, judged_in, judgement_words, order_word, place_count, place_of, row_line_words, told_of}
+use Rattle.brief_report.specs.Text.{Told, count_words, inserted, is_before, judged_words, order_words, ordered, ordered_onto, told_from, told_text, told_words}
+use Rattle.brief_report.proofs.Ordering.{length_ordered, rank_places}
+
+-- ---- a row
+
+-- the words of what becomes of it
+pub judged_are : (kind : RowKind) (found : RowFound) → judgement_words (judged_in kind found) ≡ judged_words kind found
+judged_are kinds.Ask found = refl
+judged_are (kinds.Req range) found = refl
+
+pub order_is : (apart : Option BothBounds) → order_word (is_some apart) ≡ order_words apart
+order_is None = refl
+order_is (Some both) = refl
+
+-- ---- all rows
+
+-- what is told of a row is of the row of its number, and was found of it
+pub record IsOf (rows : List Row) (found : List RowFound) (told : Told) : Type 0 where
+  pub is_row : slice_get rows told.number ≡ Some told.row
+  pub is_found : slice_get found told.number ≡ Some told.found
+
+abbrev pub Each : (Told → Type 0) → List Told → Type 0
+Each P [] = Unit {0}
+Each P (told ∷ others) = P told × Each P others
+
+each_inserted : (P : Told → Type 0) (told : Told) (done : List Told) → P told → Each P done → Each P (inserted told done)
+each_inserted P told [] p each = (p, tt)
+each_inserted P told (other ∷ others) p each = by_test (is_before told other) (each_inserted P told others p each.1)
+  where
+    by_test : (b : Bool) → Each P (inserted told others) → Each P (if b then told ∷ other ∷ others else other ∷ inserted told others)
+    by_test true rest = (p, each)
+    by_test false rest = (each.0, rest)
+
+each_onto : (P : Told → Type 0) (done rows : List Told) → Each P done → Each P rows → Each P (ordered_onto done rows)
+each_onto P done [] before each = before
+each_onto P done (told ∷ rows) before each = each_onto P (inserted told done) rows (each_inserted P told done each.0 before) each.1
+
+each_told : (all : List Row) (every : List RowFound) (number : ℕ) (rows : List Row) (found : List RowFound)
+    → ((k : ℕ) (row : Row) → slice_get rows k ≡ Some row → slice_get all (number + k) ≡ Some row)
+    → ((k : ℕ) (f : RowFound) → slice_get found k ≡ Some f → slice_get every (number + k) ≡ Some f)
+    → Each (IsOf all every) (told_from number rows found)
+each_told all every number [] found in_rows in_found = tt
+each_told all every number (r ∷ rows) [] in_rows in_found = tt
+each_told all every number (r ∷ rows) (f ∷ found) in_rows in_found = (
+  record { is_row = here (λ n. slice_get all n ≡ Some r) (in_rows 0 r refl); is_found = here (λ n. slice_get every n ≡ Some f) (in_found 0 f refl) },
+  each_told all every (number + 1) rows found (λ k row e. next (λ n. slice_get all n ≡ Some row) k (in_rows (suc k) row e))
+      (λ k f e. next (λ n. slice_get every n ≡ Some f) k (in_found (suc k) f e)),
+)
+  where
+    here : (P : ℕ → Type 0) → P (number + 0) → P number
+    here P p = subst P (omega arith) p
+
+    next : (P : ℕ → Type 0) (k : ℕ) → P (number + suc k) → P ((number + 1) + k)
+    next P k p = subst P (omega arith) p
+
+pub each_ordered : (rows : List Row) (found : List RowFound) → Each (IsOf rows found) (ordered (told_from 0 rows found))
+each_ordered rows found = each_onto (IsOf rows found) [] (told_from 0 rows found) tt
+    (each_told rows found 0 rows found (λ k row e. subst (λ n. slice_get rows n ≡ Some row) (omega arith) e) (λ k f e. subst (λ n. slice_get found n ≡ Some f) (omega arith) e))
+
+-- what is told of the row of the place at a number
+pub record AtPlace (rows : List Row) (found : List RowFound) (tolds : List Told) (k : ℕ) (place : Place) : Type 0 where
+  pub told : Told
+  pub is_of : IsOf rows found told
+  pub number : told.number ≡ place.number
+  pub left : drop k tolds ≡ told ∷ drop (suc k) tolds
+
+pub at_place : (rows : List Row) (found : List RowFound) (tolds : List Told) (k : ℕ) (d : Place) → Each (IsOf rows found) tolds → k < length (map place_of tolds)
+    → AtPlace rows found tolds k (get_or (map place_of tolds) k d)
+at_place rows found [] k d each h = absurd (omega arith)
+at_place rows found (told ∷ tolds) zero d each h = record { told = told; is_of = each.0; number = refl; left = refl }
+at_place rows found (told ∷ tolds) (suc k) d each h =
+    let at = at_place rows found tolds k d each.1 (omega arith) in record { told = at.told; is_of = at.is_of; number = at.number; left = at.left }
+
+-- the row of a place is there, what is found of it is there, and its line is the next
+pub record IsNext (noted : Noted) (drawn : Drawn) (found : List RowFound) (k number : ℕ) : Type 0 where
+  pub in_rows : number < length drawn.rows
+  pub in_found : number < length found
+  pub left : (row : Row) (of_row d : RowFound) → slice_get drawn.rows number ≡ Some row → of_row ≡ get_or found number d
+      → flat_map (told_text noted drawn) (drop k (ordered (told_of drawn found)))
+      ≡ told_text noted drawn (record { number = number; row = row; found = of_row }) ++ flat_map (told_text noted drawn) (drop (k + 1) (ordered (told_of drawn found)))
+
+next_of : (noted : Noted) (drawn : Drawn) (found : List RowFound) (k : ℕ) (place : Place) → AtPlace drawn.rows found (ordered (told_of drawn found)) k place
+    → IsNext noted drawn found k place.number
+next_of noted drawn found k place at = record {
+  in_rows = subst (λ n. n < length drawn.rows) at.number (slice_get_within drawn.rows at.told.number at.told.row at.is_of.is_row);
+  in_found = subst (λ n. n < length found) at.number (slice_get_within found at.told.number at.told.found at.is_of.is_found);
+  left = λ row of_row d is_row is_found.
+      let row_is : at.told.row ≡ row = some_same (sym at.is_of.is_row ∙ ap (slice_get drawn.rows) at.number ∙ is_row) in
+      let found_is : at.told.found ≡ of_row = found_at found at.told.number at.told.found d at.is_of.is_found ∙ ap (λ n. get_or found n d) at.number ∙ sym is_found in
+      let told_is : at.told ≡ record { number = place.number; row = row; found = of_row } = told_same at.told place.number row of_row at.number row_is found_is in
+      let others : List Told = drop (suc k) (ordered (told_of drawn found)) in
+      let one_more : suc k ≡ k + 1 = omega arith in
+      ap (flat_map (told_text noted drawn)) at.left ∙ ap (λ told. told_text noted drawn told ++ flat_map (told_text noted drawn) others) told_is
+      ∙ ap (λ n. told_text noted drawn (record { number = place.number; row = row; found = of_row }) ++ flat_map (told_text noted drawn) (drop n (ordered (told_of drawn found)))) one_more;
+}
+  where
+    some_same : {A : Type 0} {x y : A} → Some x ≡ Some y → x ≡ y
+    some_same e = cc e
+
+    found_at : (found : List RowFound) (n : ℕ) (f d : RowFound) → slice_get found n ≡ Some f → f ≡ get_or found n d
+    found_at [] n f d e = absurd (cc e)
+    found_at (x ∷ found) zero f d e = sym (same_Some x f e)
+    found_at (x ∷ found) (suc n) f d e = found_at found n f d e
+
+    told_same : (told : Told) (number : ℕ) (row : Row) (found : RowFound) → told.number ≡ number → told.row ≡ row → told.found ≡ found
+        → told ≡ record { number = number; row = row; found = found }
+    told_same told number row found a b c = rw (← a, ← b, ← c) refl
+
+-- at the place of each number
+pub next_is : (noted : Noted) (drawn : Drawn) (found : List RowFound) (places : List Place) (k : ℕ) (d : Place) → places ≡ map place_of (ordered (told_of drawn found)) → k < length places
+    → IsNext noted drawn found k (get_or places k d).number
+next_is noted drawn found places k d is h =
+    subst (λ ps. IsNext noted drawn found k (get_or ps k d).number) (sym is)
+    (next_of noted drawn found k (get_or (map place_of (ordered (told_of drawn found))) k d)
+    (at_place drawn.rows found (ordered (told_of drawn found)) k d (each_ordered drawn.rows found) (subst (λ ps. k < length ps) is h)))
+
+-- no line is left
+pub none_left : (noted : Noted) (drawn : Drawn) (found : List RowFound) (places : List Place) (k : ℕ) → places ≡ map place_of (ordered (told_of drawn found)) → length places ≤ k
+    → flat_map (told_text noted drawn) (drop k (ordered (told_of drawn found))) ≡ []
+none_left noted drawn found places k is h = go (ordered (told_of drawn found)) k (subst (λ ps. length ps ≤ k) is h)
+  where
+    go : (ts : List Told) (k : ℕ) → length (map place_of ts) ≤ k → flat_map (told_text noted drawn) (drop k ts) ≡ []
+    go [] zero h = refl
+    go [] (suc k) h = refl
+    go (t ∷ ts) zero h = absurd (omega arith)
+    go (t ∷ ts) (suc k) h = go ts k (omega arith)
+
+-- ---- words
+
+row_same : (kind kind' : RowKind) (from from' to to' : Name) → kind ≡ kind' → from ≡ from' → to ≡ to' → row_words kind from to ≡ row_words kind' from' to'
+row_same kind kind' from from' to to' a b c = ap (λ k. row_words k from to) a ∙ ap (λ n. row_words kind' n to) b ∙ ap (row_words kind' from') c
+
+pieces_same : (row row' least least' most most' judged judged' by by' order order' : List Word) → row ≡ row' → least ≡ least' → most ≡ most' → judged ≡ judged' → by ≡ by' → order ≡ order'
+    → (row ++ (least ++ most)) ++ (judged ++ (by ++ order)) ≡ row' ++ (least' ++ (most' ++ (judged' ++ (by' ++ order'))))
+pieces_same row row' least least' most most' judged judged' by by' order order' a b c d e f =
+    append_assoc row (least ++ most) (judged ++ (by ++ order)) ∙ ap (λ l. row ++ l) (append_assoc least most (judged ++ (by ++ order))) ∙ rw (a, b, c, d, e, f) refl
+
+-- what a line says of a row is what is told of it
+pub told_is : (noted : Noted) (drawn : Drawn) (told : Told) (line : RowLine) → line.number ≡ told.number → line.kind ≡ told.row.kind → name_view line.from ≡ name_of drawn told.row.from
+    → name_view line.to ≡ name_of drawn told.row.to → line.both.least ≡ bound_of told.found.least → line.both.greatest ≡ bound_of told.found.greatest
+    → line.judged ≡ judged_in told.row.kind told.found → by_words line.by ≡ origin_words noted (part_of drawn told.row.from) told.row.origin
+    → line.rests_on_order ≡ is_some told.found.apart → row_line_words line ≡ told_words noted drawn told
+told_is noted drawn told line number kind from to least greatest judged by order =
+    ap (λ n. codes "row" ∷ number_text n ∷ (front_words line ++ back_words line)) number
+    ∙ ap (λ l. codes "row" ∷ number_text told.number ∷ l)
+    (pieces_same (row_words line.kind (name_view line.from) (name_view line.to)) (row_words told.row.kind (name_of drawn told.row.from) (name_of drawn told.row.to))
+    (bound_words line.both.least) (bound_words (bound_of told.found.least)) (bound_words line.both.greatest) (bound_words (bound_of told.found.greatest))
+    (judgement_words line.judged) (judged_words told.row.kind told.found) (by_words line.by) (origin_words noted (part_of drawn told.row.from) told.row.origin)
+    (order_word line.rests_on_order) (order_words told.found.apart)
+    (row_same line.kind told.row.kind (name_view line.from) (name_of drawn told.row.from) (name_view line.to) (name_of drawn told.row.to) kind from to)
+    (ap bound_words least) (ap bound_words greatest) (ap judgement_words judged ∙ judged_are told.row.kind told.found) by (ap order_word order ∙ order_is told.found.apart))
+
+-- what the rows come to
+pub counts_are : (rows : List Told) (places : List Place) (counts : Counts) → places ≡ map place_of (ordered rows) → counts.rows ≡ length places → counts.pass ≡ place_count 2 places
+    → counts.fail ≡ place_count 0 places → counts.undecided ≡ place_count 1 places → counts_words counts ≡ count_words rows
+counts_are rows places counts is all pass fail undecided =
+    rw (
+      all ∙ ap length is ∙ length-map (ordered rows) place_of ∙ length_ordered rows,
+      pass ∙ ap (place_count 2) is ∙ rank_places 2 rows,
+      fail ∙ ap (place_count 0) is ∙ rank_places 0 rows,
+      undecided ∙ ap (place_count 1) is ∙ rank_places 1 rows,
+    ) refl

@@ -1,0 +1,22 @@
+use Rattle.std.proofs.Common.{ap, ◌∙◌}
+use Rattle.jobs.specs.Ending.{answer_of}
+use Rattle.why_report.specs.Text.{ending_of}
+use Rattle.brief_report.specs.Text.{brief_text}
+use Rattle.brief_report.proofs.Whole.{answers_brief, begins_brief, few_found}
+use Rattle.brief_report.proofs.write.put_found.Goals as goal
+
+pub put_text-requires-clause-count : goal.put_text-requires-clause-count
+put_text-requires-clause-count g c = few_found c.args.drawn.now c.args.found.now.finding c.args.found.now.rows.items c.requires.rows
+
+pub returns-in_err-put_text-clause-begins : goal.returns-in_err-put_text-clause-begins
+returns-in_err-put_text-clause-begins g c =
+    begins_brief (g.N.Notes.noted c.args.notes.now) c.args.drawn.now c.args.found.now.finding c.args.found.now.rows.items c.requires.finding c.requires.rows c.from_residual.result _ _
+    c.in_err-put_text.ensures.puts
+
+pub returns-clause-answers : goal.returns-clause-answers
+returns-clause-answers g c = (
+  brief_text (g.N.Notes.noted c.args.notes.now) c.args.drawn.now c.args.found.now.finding c.args.found.now.rows.items,
+  answers_brief (g.N.Notes.noted c.args.notes.now) c.args.drawn.now c.args.found.now.finding c.args.found.now.rows.items c.requires.finding c.requires.rows c.answer_of.result
+      (c.answer_of.ensures ∙ ap answer_of (c.ending_of-word.ensures.word ∙ ap (ending_of c.args.drawn.now.rows c.args.found.now.finding) c.deref.ensures.value)),
+  c.in_ok-put_text.ensures.puts,
+)

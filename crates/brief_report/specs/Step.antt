@@ -1,0 +1,87 @@
+-- What the steps of job brief promise one another.
+use Rattle.std.specs.Prelude.{◌==◌, ◌&&◌, ◌||◌, ℕ, nat_lt, Bool, true, false, if◌then◌else◌, List, [], ◌∷◌, ◌++◌, count_by, Option, Some, None, codes}
+use Rattle.itv_base.specs.Names.{name_view}
+use Rattle.itv_base.specs.Numerals.{end_text, number_text}
+use Rattle.itv_base.specs.declared.row_kind.RowKind.{RowKind}
+use Rattle.itv_base.specs.declared.row_kind.RowKind.TheVariants as kinds
+use Rattle.line_words.specs.Words.{Word}
+use Rattle.requirements.specs.Slacks.{slack_of}
+use Rattle.slack_report.specs.Text.{bound_words, row_words, verdict_words}
+use Rattle.drawn.specs.Drawn.{Drawn}
+use Rattle.explained.specs.Answers.{bound_of, verdict_in}
+use Rattle.explained.specs.declared.row.RowFound.{RowFound}
+use Rattle.why_report.specs.Step.{by_words}
+use Rattle.brief_report.specs.declared.counts.Counts.{Counts}
+use Rattle.brief_report.specs.declared.judged.Judged.{Judged}
+use Rattle.brief_report.specs.declared.line.Line.{Line}
+use Rattle.brief_report.specs.declared.line.Line.TheVariants as lines
+use Rattle.brief_report.specs.declared.line.RowLine.{RowLine}
+use Rattle.brief_report.specs.declared.place.Place.{Place}
+use Rattle.brief_report.specs.Text.{Told, is_worse, lesser, rank_of, told_from, verdict_rank, worst_of}
+
+-- ---- what becomes of rows
+
+-- the verdict on a requirement and its slacks; nothing becomes of an ask
+abbrev pub judged_in : RowKind → RowFound → Option Judged
+judged_in kinds.Ask found = None
+judged_in (kinds.Req range) found =
+    Some (record { word = verdict_in range found; slack = slack_of range (bound_of found.least) (bound_of found.greatest) })
+
+-- ---- places
+
+-- the place of a row
+abbrev pub place_of : Told → Place
+place_of told = record { number = told.number; rank = rank_of told; worst = worst_of told }
+
+-- the place of a row of a number, by what becomes of it
+abbrev pub place_by : ℕ → Option Judged → Place
+place_by number None = record { number = number; rank = 3; worst = None }
+place_by number (Some judged) = record { number = number; rank = verdict_rank judged.word; worst = lesser judged.slack.low judged.slack.high }
+
+-- a row of a place stands before one of another place
+abbrev pub stands_before : Place → Place → Bool
+stands_before a b = nat_lt a.rank b.rank || ((a.rank == b.rank) && is_worse a.worst b.worst)
+
+-- a place among others: behind all that it is not before
+abbrev pub put_in : Place → List Place → List Place
+put_in place [] = place ∷ []
+put_in place (other ∷ others) = if stands_before place other then place ∷ other ∷ others else other ∷ put_in place others
+
+-- how many places are of a rank
+abbrev pub place_count : ℕ → List Place → ℕ
+place_count rank places = count_by (λ (place : Place). place.rank == rank) places
+
+-- the rows of which something is found
+abbrev pub told_of : Drawn → List RowFound → List Told
+told_of drawn found = told_from 0 drawn.rows found
+
+-- ---- lines
+
+-- the words of what becomes of a row
+abbrev pub judgement_words : Option Judged → List Word
+judgement_words None = []
+judgement_words (Some judged) = verdict_words judged.word ++ (end_text judged.slack.low ∷ end_text judged.slack.high ∷ [])
+
+abbrev pub order_word : Bool → List Word
+order_word true = codes "order" ∷ []
+order_word false = []
+
+-- the words of the line of a row behind its number: what is asked with the bounds, and the rest
+abbrev pub front_words : RowLine → List Word
+front_words row = row_words row.kind (name_view row.from) (name_view row.to) ++ (bound_words row.both.least ++ bound_words row.both.greatest)
+
+abbrev pub back_words : RowLine → List Word
+back_words row = judgement_words row.judged ++ (by_words row.by ++ order_word row.rests_on_order)
+
+abbrev pub row_line_words : RowLine → List Word
+row_line_words row = codes "row" ∷ number_text row.number ∷ (front_words row ++ back_words row)
+
+abbrev pub counts_words : Counts → List Word
+counts_words counts =
+    codes "rows" ∷ number_text counts.rows ∷ codes "pass" ∷ number_text counts.pass ∷ codes "fail" ∷ number_text counts.fail
+    ∷ codes "undecided" ∷ number_text counts.undecided ∷ []
+
+-- the words of a line
+abbrev pub line_words : Line → List Word
+line_words (lines.Row row) = row_line_words row
+line_words (lines.Counts counts) = counts_words counts

@@ -1,0 +1,32 @@
+//! What becomes of a row.
+
+ghost use Rattle.std.specs.Prelude.{◌≡◌};
+ghost use Rattle.explained.specs.Answers.{HasRowTimes};
+ghost use Rattle.brief_report.specs.Step.{judged_in};
+
+use explained::RowFound;
+use itv_base::RowKind;
+use requirements::{Slack, Verdict, judge, slack};
+use why_report::both_of;
+
+/// The verdict on a requirement, and its slacks in picoseconds.
+#[derive(Clone, Copy, Debug)]
+pub struct Judged {
+    pub word: Verdict,
+    pub slack: Slack,
+}
+
+/// What becomes of a row, by what is found of it; nothing becomes of an ask.
+pub fn judged_of(kind: RowKind, found: &RowFound) -> Option<Judged>
+    requires times { HasRowTimes found.now }
+    ensures judged { result ≡ judged_in kind found.now }
+{
+    let RowKind::Req(range) = kind else {
+        return None;
+    };
+    let both = both_of(found);
+    Some(Judged {
+        word: judge(range, &both),
+        slack: slack(range, &both),
+    })
+}

@@ -1,0 +1,32 @@
+//! The lines of this job.
+
+use crate::counts::Counts;
+use crate::judged::Judged;
+use itv_base::{EventName, RowKind};
+use requirements::BothBounds;
+use why_report::DrawnBy;
+
+/// What the line of a row says. Bounds are in picoseconds, and rows have their numbers from 0.
+#[derive(Clone, Copy, Debug)]
+pub struct RowLine<'a> {
+    pub number: u32,
+    pub kind: RowKind,
+    pub from: EventName<'a>,
+    pub to: EventName<'a>,
+    pub both: BothBounds,
+    /// What becomes of a requirement.
+    pub judged: Option<Judged>,
+    /// What draws the row.
+    pub by: DrawnBy<'a>,
+    /// The verdict rests on the order of a lane.
+    pub rests_on_order: bool,
+}
+
+/// A line of the text.
+#[derive(Clone, Copy, Debug)]
+pub enum Line<'a> {
+    /// A row.
+    Row(RowLine<'a>),
+    /// How many rows there are.
+    Counts(Counts),
+}

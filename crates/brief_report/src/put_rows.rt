@@ -1,0 +1,95 @@
+//! Putting what is found of each row, and how many rows there are.
+
+ghost use Rattle.std.specs.Prelude.{◌≡◌, ◌≤◌, All, length, map};
+ghost use Rattle.std.specs.List.{flat_map};
+ghost use Rattle.itv_base.specs.Outside.{Puts};
+ghost use Rattle.drawn.specs.Drawn.{IsRowOf};
+ghost use Rattle.explained.specs.Answers.{HasRowTimes};
+ghost use Rattle.line_words.specs.Lines.{ended, line_of};
+ghost use Rattle.brief_report.specs.Step.{place_of, told_of};
+ghost use Rattle.brief_report.specs.Text.{count_words, ordered, rows_text, told_text};
+
+use crate::counts::counts_of;
+use crate::judged::judged_of;
+use crate::line::{Line, RowLine};
+use crate::place::Place;
+use crate::put_line::put_line;
+use drawn::{DrawnNetwork, Row};
+use explained::RowFound;
+use itv_base::{PutFailed, Sink};
+use jobs::row_at;
+use line_words::LineBuffer;
+use notes::Notes;
+use why_report::{DrawnBy, both_of};
+
+/// Puts a line for each row of which something is found, in the order of their places, and how many rows there are.
+pub fn put_rows<N: Notes, K: Sink>(
+    notes: &N,
+    drawn: &DrawnNetwork,
+    found: &[RowFound],
+    places: &[Place],
+    buffer: &mut LineBuffer,
+    sink: &mut K,
+) -> Result<(), PutFailed>
+    requires count { length found.now ≤ length drawn.now.rows }
+    requires times { All HasRowTimes found.now }
+    requires places { places.now ≡ map place_of (ordered (told_of drawn.now found.now)) }
+    ensures puts { Puts (K.told sink.old) (K.told sink.new)
+        (rows_text (N.noted notes.now) drawn.now (told_of drawn.now found.now)) result }
+{
+    put_each(notes, drawn, found, places, buffer, sink)?;
+    put_line(&Line::Counts(counts_of(places)), buffer, sink)
+}
+
+// A line for each row.
+fn put_each<N: Notes, K: Sink>(
+    notes: &N,
+    drawn: &DrawnNetwork,
+    found: &[RowFound],
+    places: &[Place],
+    buffer: &mut LineBuffer,
+    sink: &mut K,
+) -> Result<(), PutFailed>
+    requires count { length found.now ≤ length drawn.now.rows }
+    requires times { All HasRowTimes found.now }
+    requires places { places.now ≡ map place_of (ordered (told_of drawn.now found.now)) }
+    ensures puts { Puts (K.told sink.old) (K.told sink.new)
+        (flat_map (told_text (N.noted notes.now) drawn.now) (ordered (told_of drawn.now found.now))) result }
+{
+    for at in 0..places.len() {
+        let number = places[at].number;
+        let row = row_at(drawn, number);
+        let of_row = &found[number as usize];
+        put_row(number, row, notes, drawn, of_row, buffer, sink)?;
+    }
+    Ok(())
+}
+
+// The line of a row.
+fn put_row<N: Notes, K: Sink>(
+    number: u32,
+    row: &Row,
+    notes: &N,
+    drawn: &DrawnNetwork,
+    found: &RowFound,
+    buffer: &mut LineBuffer,
+    sink: &mut K,
+) -> Result<(), PutFailed>
+    requires row { IsRowOf drawn.now.net row.now }
+    requires times { HasRowTimes found.now }
+    ensures puts { Puts (K.told sink.old) (K.told sink.new)
+        (told_text (N.noted notes.now) drawn.now (record { number = number; row = row.now; found = found.now })) result }
+{
+    let from = drawn.name(row.from);
+    let line = RowLine {
+        number,
+        kind: row.kind,
+        from,
+        to: drawn.name(row.to),
+        both: both_of(found),
+        judged: judged_of(row.kind, found),
+        by: DrawnBy::of(notes, from.part, row.origin),
+        rests_on_order: found.apart.is_some(),
+    };
+    put_line(&Line::Row(line), buffer, sink)
+}
