@@ -1,5 +1,5 @@
 -- What the line of a row tells, and the lines of all rows.
-use Rattle.std.proofs.Common.{◌≡◌, ◌<◌, ◌≤◌, ◌+◌, ℕ, zero, suc, Bool, true, false, List, [], ◌∷◌, ◌++◌, length, map, drop, get_or, Option, Some, None, slice_get, refl, sym, subst, ap, ◌∙◌, append_assoc, arith}
+use Rattle.std.proofs.Common.{◌≡◌, ◌<◌, ◌+◌, ℕ, zero, suc, Bool, true, false, List, [], ◌∷◌, ◌++◌, length, map, drop, get_or, Option, Some, None, slice_get, refl, sym, subst, ap, ◌∙◌, append_assoc, arith}
 use Rattle.std.specs.List.{flat_map}
 use Rattle.std.specs.Prelude.{codes, is_some, if◌then◌else◌}
 use Rattle.std.proofs.lemmas.Option.{same_Some, slice_get_within}
@@ -136,17 +136,6 @@ next_is noted drawn found places k d is h =
     subst (λ ps. IsNext noted drawn found k (get_or ps k d).number) (sym is)
     (next_of noted drawn found k (get_or (map place_of (ordered (told_of drawn found))) k d)
     (at_place drawn.rows found (ordered (told_of drawn found)) k d (each_ordered drawn.rows found) (subst (λ ps. k < length ps) is h)))
-
--- no line is left
-pub none_left : (noted : Noted) (drawn : Drawn) (found : List RowFound) (places : List Place) (k : ℕ) → places ≡ map place_of (ordered (told_of drawn found)) → length places ≤ k
-    → flat_map (told_text noted drawn) (drop k (ordered (told_of drawn found))) ≡ []
-none_left noted drawn found places k is h = go (ordered (told_of drawn found)) k (subst (λ ps. length ps ≤ k) is h)
-  where
-    go : (ts : List Told) (k : ℕ) → length (map place_of ts) ≤ k → flat_map (told_text noted drawn) (drop k ts) ≡ []
-    go [] zero h = refl
-    go [] (suc k) h = refl
-    go (t ∷ ts) zero h = absurd (omega arith)
-    go (t ∷ ts) (suc k) h = go ts k (omega arith)
 
 -- ---- words
 

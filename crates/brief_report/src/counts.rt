@@ -1,6 +1,6 @@
 //! How many rows there are of each rank.
 
-ghost use Rattle.std.specs.Prelude.{◌≡◌, ◌==◌, count_by, length};
+ghost use Rattle.std.specs.Prelude.{◌≡◌, length};
 ghost use Rattle.brief_report.specs.Step.{place_count};
 
 use crate::place::{FAILS, PASSES, Place, UNDECIDED};

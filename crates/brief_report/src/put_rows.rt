@@ -5,9 +5,8 @@ ghost use Rattle.std.specs.List.{flat_map};
 ghost use Rattle.itv_base.specs.Outside.{Puts};
 ghost use Rattle.drawn.specs.Drawn.{IsRowOf};
 ghost use Rattle.explained.specs.Answers.{HasRowTimes};
-ghost use Rattle.line_words.specs.Lines.{ended, line_of};
 ghost use Rattle.brief_report.specs.Step.{place_of, told_of};
-ghost use Rattle.brief_report.specs.Text.{count_words, ordered, rows_text, told_text};
+ghost use Rattle.brief_report.specs.Text.{ordered, rows_text, told_text};
 
 use crate::counts::counts_of;
 use crate::judged::judged_of;
