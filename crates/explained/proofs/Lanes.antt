@@ -1,5 +1,7 @@
 -- Rows, and whether their verdicts rest on the order of a lane.
-use Rattle.std.proofs.Common.{◌≡◌, List, [], ◌∷◌, ◌++◌, Option, Some, None, refl, sym, subst, ap, ◌∙◌}
+use Rattle.std.proofs.Common.{◌≡◌, ◌<◌, ◌+◌, ℕ, All, get_or, length, take, List, [], ◌∷◌, ◌++◌, Option, Some, None, refl, sym, subst, ap, ◌∙◌, arith}
+use Rattle.std.proofs.lemmas.List.{take_more}
+use Rattle.std.proofs.lemmas.List.Elements.{All-push}
 use Rattle.itv_base.specs.declared.row_kind.RowKind.{RowKind}
 use Rattle.itv_base.specs.declared.row_kind.RowKind.TheVariants as kinds
 use Rattle.event_graph.specs.Network.{Net}
@@ -10,13 +12,14 @@ use Rattle.right_report.specs.Right.At.{Side, greatest, least_by}
 use Rattle.right_report.specs.Right.Facts.{IsBoundOf}
 use Rattle.drawn.specs.Drawn.{Drawn}
 use Rattle.drawn.specs.declared.row.Row.{Row}
-use Rattle.explained.specs.Answers.{AreBounds, AreRowsFound, IsApartOf, IsBoundFound, IsRowFound, bound_of}
+use Rattle.explained.specs.Answers.{AreBounds, AreRowsFound, HasRowTimes, IsApartOf, IsBoundFound, IsRowFound, bound_of}
 use Rattle.explained.specs.Apart.{net_apart}
 use Rattle.explained.specs.declared.bound.BoundFound.{BoundFound}
+use Rattle.explained.specs.declared.desk.Desk.{Desk}
 use Rattle.explained.specs.declared.pair.Pair.{Pair}
 use Rattle.explained.specs.declared.row.RowFound.{RowFound}
 use Rattle.explained.specs.Step.Bounding.{IsExplained, reversed_found}
-use Rattle.explained.specs.Step.Standing.{Allows}
+use Rattle.explained.specs.Step.Standing.{Allows, IsReady}
 use Rattle.explained.specs.Step.Telling.{IsTold}
 use Rattle.explained.proofs.Behind.{greatest_found, least_found}
 use Rattle.explained.proofs.Standing.{is_finding}
@@ -65,3 +68,32 @@ rows_more drawn word [] [] row last before is = (is, tt)
 rows_more drawn word [] (f ∷ found) row last before is = absurd before
 rows_more drawn word (r ∷ rows) [] row last before is = absurd before
 rows_more drawn word (r ∷ rows) (f ∷ found) row last before is = (before.0, rows_more drawn word rows found row last before.1 is)
+
+-- the first rows are found, so many of them
+pub record AreSoFar (drawn : Drawn) (word : FindingWord) (count : ℕ) (rows : List Row) (found : List RowFound) (desk : Desk) : Type 0 where
+  pub ready : IsReady drawn desk
+  pub same : desk.searches.word ≡ word
+  pub are : AreRowsFound drawn word (take count rows) found
+  pub times : All HasRowTimes found
+
+pub one_more : (drawn : Drawn) (word : FindingWord) (count : ℕ) (rows : List Row) (found more : List RowFound) (desk after : Desk) (row : Row) (last : RowFound) → count < length rows
+    → row ≡ get_or rows count row → AreSoFar drawn word count rows found desk → more ≡ found ++ last ∷ [] → IsReady drawn after → after.searches.word ≡ desk.searches.word
+    → IsRowFound drawn desk.searches.word row last → HasRowTimes last → AreSoFar drawn word (count + 1) rows more after
+one_more drawn word count rows found more desk after row last within at so_far pushed ready same is times =
+    let next : take (count + 1) rows ≡ take count rows ++ row ∷ [] = take_more rows count row within ∙ ap (λ (r : Row). take count rows ++ r ∷ []) (sym at) in
+    let here : IsRowFound drawn word row last = subst (λ (w : FindingWord). IsRowFound drawn w row last) so_far.same is in
+    record {
+      ready = ready;
+      same = same ∙ so_far.same;
+      are = subst (λ (fs : List RowFound). AreRowsFound drawn word (take (count + 1) rows) fs) (sym pushed)
+          (subst (λ (rs : List Row). AreRowsFound drawn word rs (found ++ last ∷ [])) (sym next) (rows_more drawn word (take count rows) found row last so_far.are here));
+      times = subst (All HasRowTimes) (sym pushed) (All-push HasRowTimes found last so_far.times times);
+    }
+
+pub none_yet : (drawn : Drawn) (rows : List Row) (found : List RowFound) (desk : Desk) → IsReady drawn desk → found ≡ [] → AreSoFar drawn desk.searches.word 0 rows found desk
+none_yet drawn rows found desk ready none = record {
+  ready = ready;
+  same = refl;
+  are = subst (λ (fs : List RowFound). AreRowsFound drawn desk.searches.word [] fs) (sym none) tt;
+  times = subst (All HasRowTimes) (sym none) (λ k d within. absurd (omega arith));
+}

@@ -27,9 +27,24 @@ pub fn explain_rows(
     ensures times { IfOk result (λ found. All HasRowTimes found.items) }
 {
     settle_apart(desk.searches.word, &mut desk.apart);
+    explain_each(alloc, drawn, desk)
+}
+
+// Finds both bounds of each row, behind the finding of the network apart.
+fn explain_each(
+    alloc: Global,
+    drawn: &DrawnNetwork,
+    desk: &mut Desk,
+) -> Result<Vec<RowFound>, NoMemory>
+    requires ready { IsReady drawn.now desk.old }
+    ensures rows { IfOk result (λ found. AreRowsFound drawn.now desk.old.searches.word drawn.now.rows found.items) }
+    ensures times { IfOk result (λ found. All HasRowTimes found.items) }
+{
+    let rows = drawn.rows();
     let mut found = Vec::new(alloc);
-    for row in drawn.rows().as_slice() {
-        found.push(explain_row(alloc, drawn, row, desk)?)?;
+    for row in rows.as_slice() {
+        let last = explain_row(alloc, drawn, row, desk)?;
+        found.push(last)?;
     }
     Ok(found)
 }
