@@ -61,7 +61,8 @@ fn rows_that_are_alike(rt: HostRuntime) -> Result<(), Fail> {
 #[test]
 fn a_requirement_that_passes_by_an_order(rt: HostRuntime) -> Result<(), Fail> {
     let alloc = rt.alloc();
-    let file = r#"{"signal":[{"name":"ADDR","wave":"x=....","node":".a"},{"name":"OE#","wave":"1.0.1.","node":"....h"},
+    let file =
+        r#"{"signal":[{"name":"ADDR","wave":"x=....","node":".a"},{"name":"OE#","wave":"1.0.1.","node":"....h"},
         {"name":"DQ","wave":"z..=.z","node":"...v.z"}],
         "edge":["a~>v @lin [0,40000] tAA","a~>h @lin [20000,20000]","h~>z @lin [0,0] tOHZ","v->h @req [0,*] set-up","a->h @req [15000,*]"]}"#;
     let mut shelf = shelf_with(alloc, "s", file.as_bytes())?;

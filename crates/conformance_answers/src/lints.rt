@@ -76,7 +76,10 @@ fn notes_that_look_like_ranges(rt: HostRuntime) -> Result<(), Fail> {
     each_warns(
         rt.alloc(),
         &[
-            (r#""a->b @lin [0,3] ns tCO","a->b @ask""#, &["note U edge 0"]),
+            (
+                r#""a->b @lin [0,3] ns tCO","a->b @ask""#,
+                &["note U edge 0"],
+            ),
             (r#""a->b @ask [0,50]""#, &["note U edge 0"]),
             (
                 r#""a->b @req [0,3] PS","a->c @ask s","b->c @ask Ms x""#,
@@ -109,7 +112,10 @@ fn two_rules_into_one_mark(rt: HostRuntime) -> Result<(), Fail> {
             ),
             (r#""a->c @lin [0,15]","b->c @lin [0,*]","a->c @ask""#, &[]),
             (r#""a->c @lin [0,15]","a->c @lin [3,9]","a->c @ask""#, &[]),
-            (r#""a->c @late [0,15]","b->c @late [0,15]","a->c @lin [0,3]","a->c @ask""#, &[]),
+            (
+                r#""a->c @late [0,15]","b->c @late [0,15]","a->c @lin [0,3]","a->c @ask""#,
+                &[],
+            ),
         ],
     )
 }
@@ -130,7 +136,10 @@ fn rules_of_one_cause(rt: HostRuntime) -> Result<(), Fail> {
                 &["single U edge 0", "single U edge 1"],
             ),
             (r#""a->c @late [0,15]","b->c @late [0,9]","a->c @ask""#, &[]),
-            (r#""a->c @early#x [0,15]","b->c @early#x [0,9]","a->c @ask""#, &[]),
+            (
+                r#""a->c @early#x [0,15]","b->c @early#x [0,9]","a->c @ask""#,
+                &[],
+            ),
             (r#""a->c @lin [0,15]","a->c @ask""#, &[]),
         ],
     )
@@ -152,10 +161,13 @@ fn rules_and_rows_in_no_cycle(rt: HostRuntime) -> Result<(), Fail> {
             (r#""a->b @lin [0,15]","a->c @ask""#, &[]),
         ],
     )?;
-    let sheet = r#"{"signal":[{"node":"a"},{"node":"b"}],"edge":["a->b @lin+1 [0,9]","a->b @ask+1"]}"#;
-    let two = r#"{"itv":1,"cycles":2,"parts":[{"name":"X","sheet":"t"}],"edges":["X.a X.b @lin+1 [0,9]","X.b X.a @ask"]}"#;
+    let sheet =
+        r#"{"signal":[{"node":"a"},{"node":"b"}],"edge":["a->b @lin+1 [0,9]","a->b @ask+1"]}"#;
+    let two =
+        r#"{"itv":1,"cycles":2,"parts":[{"name":"X","sheet":"t"}],"edges":["X.a X.b @lin+1 [0,9]","X.b X.a @ask"]}"#;
     warns(alloc, &[("s", two), ("t", sheet)], &[])?;
-    let far = r#"{"itv":1,"cycles":2,"parts":[{"name":"X","sheet":"t"}],"edges":["X.a X.b @lin+2 [0,9]","X.b X.a @ask+2"]}"#;
+    let far =
+        r#"{"itv":1,"cycles":2,"parts":[{"name":"X","sheet":"t"}],"edges":["X.a X.b @lin+2 [0,9]","X.b X.a @ask+2"]}"#;
     warns(
         alloc,
         &[("s", far), ("t", sheet)],
@@ -165,16 +177,24 @@ fn rules_and_rows_in_no_cycle(rt: HostRuntime) -> Result<(), Fail> {
 
 // ---- netlists
 
-const READER: &str = r#"{"signal":[{"name":"A","wave":"x=","node":".a"},{"name":"D","wave":"x=","node":".d"}],"edge":["a->d @ask"]}"#;
-const SOURCE: &str = r#"{"signal":[{"name":"A","wave":"x=","node":".a"},{"name":"D","wave":"x=","node":".d"}],"edge":["a~>d @lin [1,9]"]}"#;
-const HOLDER: &str = r#"{"signal":[{"name":"A","wave":"x=","node":".a"},{"name":"D","wave":"x=","node":".d"}],"edge":["a->d @ask","a~>d @lin [*,9]"]}"#;
-const WAITER: &str = r#"{"signal":[{"name":"A","wave":"x=","node":".a"},{"name":"D","wave":"x=","node":".d"}],"edge":["a->d @ask","a~>d @lin [2,*]"]}"#;
+const READER: &str =
+    r#"{"signal":[{"name":"A","wave":"x=","node":".a"},{"name":"D","wave":"x=","node":".d"}],"edge":["a->d @ask"]}"#;
+
+const SOURCE: &str =
+    r#"{"signal":[{"name":"A","wave":"x=","node":".a"},{"name":"D","wave":"x=","node":".d"}],"edge":["a~>d @lin [1,9]"]}"#;
+
+const HOLDER: &str =
+    r#"{"signal":[{"name":"A","wave":"x=","node":".a"},{"name":"D","wave":"x=","node":".d"}],"edge":["a->d @ask","a~>d @lin [*,9]"]}"#;
+
+const WAITER: &str =
+    r#"{"signal":[{"name":"A","wave":"x=","node":".a"},{"name":"D","wave":"x=","node":".d"}],"edge":["a->d @ask","a~>d @lin [2,*]"]}"#;
 
 // Two nets into one pin, a net with a pin of its driver twice, and a pin that follows its own driver.
 #[test]
 fn marks_that_follow_two_drivers(rt: HostRuntime) -> Result<(), Fail> {
     let alloc = rt.alloc();
-    let two = r#"{"itv":1,"cycles":1,"parts":[{"name":"X","sheet":"x"},{"name":"Y","sheet":"x"},{"name":"Z","sheet":"z"}],
+    let two =
+        r#"{"itv":1,"cycles":1,"parts":[{"name":"X","sheet":"x"},{"name":"Y","sheet":"x"},{"name":"Z","sheet":"z"}],
         "nets":[{"pins":["X.D","Z.D"]},{"pins":["Y.D","Z.D"]}]}"#;
     warns(
         alloc,
@@ -191,7 +211,8 @@ fn marks_that_follow_two_drivers(rt: HostRuntime) -> Result<(), Fail> {
     let one = r#"{"itv":1,"cycles":1,"parts":[{"name":"X","sheet":"x"},{"name":"Z","sheet":"z"}],
         "nets":[{"pins":["X.D","Z.D"]},{"pins":["X.A","Z.A"]}]}"#;
     warns(alloc, &[("s", one), ("x", SOURCE), ("z", READER)], &[])?;
-    let chain = r#"{"itv":1,"cycles":1,"parts":[{"name":"X","sheet":"x"},{"name":"Y","sheet":"z"},{"name":"Z","sheet":"z"}],
+    let chain =
+        r#"{"itv":1,"cycles":1,"parts":[{"name":"X","sheet":"x"},{"name":"Y","sheet":"z"},{"name":"Z","sheet":"z"}],
         "nets":[{"pins":["X.D","Y.D"]},{"pins":["Y.D","Z.D"]}]}"#;
     warns(alloc, &[("s", chain), ("x", SOURCE), ("z", READER)], &[])
 }
@@ -237,11 +258,13 @@ fn places_of_warnings(rt: HostRuntime) -> Result<(), Fail> {
 #[test]
 fn rows_that_rest_on_an_order(rt: HostRuntime) -> Result<(), Fail> {
     let alloc = rt.alloc();
-    let slow = r#"{"signal":[{"name":"ADDR","wave":"x=....","node":".a"},{"name":"OE#","wave":"1.0.1.","node":"....h"},
+    let slow =
+        r#"{"signal":[{"name":"ADDR","wave":"x=....","node":".a"},{"name":"OE#","wave":"1.0.1.","node":"....h"},
         {"name":"DQ","wave":"z..=.z","node":"...v.z"}],
         "edge":["a~>v @lin [0,40000] tAA","a~>h @lin [20000,20000]","h~>z @lin [0,0] tOHZ","a->h @ask","v->h @req [0,*] set-up"]}"#;
     warns(alloc, &[("s", slow)], &["order row 1"])?;
-    let fast = r#"{"signal":[{"name":"ADDR","wave":"x=....","node":".a"},{"name":"OE#","wave":"1.0.1.","node":"....h"},
+    let fast =
+        r#"{"signal":[{"name":"ADDR","wave":"x=....","node":".a"},{"name":"OE#","wave":"1.0.1.","node":"....h"},
         {"name":"DQ","wave":"z..=.z","node":"...v.z"}],
         "edge":["a~>v @lin [0,15000] tAA","a~>h @lin [20000,20000]","h~>z @lin [0,0] tOHZ","a->h @ask","v->h @req [0,*] set-up"]}"#;
     warns(alloc, &[("s", fast)], &[])
@@ -252,10 +275,15 @@ fn rows_that_rest_on_an_order(rt: HostRuntime) -> Result<(), Fail> {
 // A processor with its memory has nothing to be told.
 #[test]
 fn a_board_without_warnings(rt: HostRuntime) -> Result<(), Fail> {
-    let board = r#"{"itv":1,"cycles":2,"parts":[{"name":"U1","sheet":"p"},{"name":"U2","sheet":"t"}],
+    let board =
+        r#"{"itv":1,"cycles":2,"parts":[{"name":"U1","sheet":"p"},{"name":"U2","sheet":"t"}],
         "nets":[{"pins":["U1.ADDR","U2.ADDR"],"delay":[100,300]},{"pins":["U1.CE","U2.CE"],"delay":[100,300]},
         {"pins":["U2.DQ","U1.DATA"],"delay":[100,300]}]}"#;
-    warns(rt.alloc(), &[("s", board), ("p", PROCESSOR), ("t", MEMORY)], &[])
+    warns(
+        rt.alloc(),
+        &[("s", board), ("p", PROCESSOR), ("t", MEMORY)],
+        &[],
+    )
 }
 
 // Rules that contradict each other are no warning: there are no rows to be over an order.
@@ -263,7 +291,10 @@ fn a_board_without_warnings(rt: HostRuntime) -> Result<(), Fail> {
 fn an_inconsistent_design(rt: HostRuntime) -> Result<(), Fail> {
     each_warns(
         rt.alloc(),
-        &[(r#""a->b @lin [100,200]","b->a @lin [0,50]","a->b @ask""#, &[])],
+        &[(
+            r#""a->b @lin [100,200]","b->a @lin [0,50]","a->b @ask""#,
+            &[],
+        )],
     )
 }
 

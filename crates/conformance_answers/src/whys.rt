@@ -1,7 +1,9 @@
 //! Job why: chains that were worked by hand, over each kind of rule and over nets, rules that contradict each other, verdicts that rest on the
 //! order of a lane, notes, and the other ends.
 
-use conformance_kit::{BOARD, MEMORY, PROCESSOR, files_end, run_ends, sheet_of, shelf_of, shelf_with};
+use conformance_kit::{
+    BOARD, MEMORY, PROCESSOR, files_end, run_ends, sheet_of, shelf_of, shelf_with,
+};
 use itv_cli::Outcome;
 use std::alloc::Global;
 use std::test::Fail;
@@ -17,12 +19,7 @@ fn tells(alloc: Global, file: &str, wanted: (Outcome, &str)) -> Result<(), Fail>
 }
 
 // The same on a sheet with these nodes and edges, each node on a lane of its own.
-fn explains(
-    alloc: Global,
-    nodes: &str,
-    edges: &str,
-    wanted: (Outcome, &str),
-) -> Result<(), Fail> {
+fn explains(alloc: Global, nodes: &str, edges: &str, wanted: (Outcome, &str)) -> Result<(), Fail> {
     let file = sheet_of(alloc, nodes, edges)?;
     tells(alloc, file.as_str(), wanted)
 }
@@ -233,7 +230,8 @@ fn notes_that_are_told(rt: HostRuntime) -> Result<(), Fail> {
 // In version 2 a parameter stands before the note.
 #[test]
 fn a_note_behind_a_parameter(rt: HostRuntime) -> Result<(), Fail> {
-    let sheet = r#"{"itv_grades":{"-10":{"tAA":[2,10]}},"signal":[{"name":"A","wave":"01","node":".a"},{"name":"B","wave":"01","node":".b"}],
+    let sheet =
+        r#"{"itv_grades":{"-10":{"tAA":[2,10]}},"signal":[{"name":"A","wave":"01","node":".a"},{"name":"B","wave":"01","node":".b"}],
         "edge":["a->b @lin $tAA access","a->b @ask"]}"#;
     let board = r#"{"itv":2,"cycles":1,"parts":[{"name":"X","sheet":"t","grade":"-10"}]}"#;
     files_end(

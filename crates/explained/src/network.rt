@@ -26,11 +26,7 @@ pub struct NetworkFound {
 /// at most `budget` cases. A row that passes is searched once more without the order of lanes, where some constraint keeps one.
 ///
 /// `NoMemory` may come in place of an answer.
-pub fn explain(
-    alloc: Global,
-    drawn: &DrawnNetwork,
-    budget: u64,
-) -> Result<NetworkFound, NoMemory>
+pub fn explain(alloc: Global, drawn: &DrawnNetwork, budget: u64) -> Result<NetworkFound, NoMemory>
     requires least { 1 ≤ budget }
     requires most { budget ≤ MAX_BUDGET }
     ensures finding { IfOk result (λ found. IsFindingFound drawn.now.net found.finding) }

@@ -70,8 +70,13 @@ fn explain_row(
     };
     let greatest = explain_greatest(alloc, net, pair, &mut desk.searches, &mut desk.chains)?;
     let searched = pair.reversed();
-    let least =
-        explain_greatest(alloc, net, searched, &mut desk.searches, &mut desk.chains)?.reversed();
+    let least = explain_greatest(
+        alloc,
+        net,
+        searched,
+        &mut desk.searches,
+        &mut desk.chains,
+    )?.reversed();
     let both = BothBounds {
         least: least.bound(),
         greatest: greatest.bound(),

@@ -16,7 +16,7 @@ loop-number-preserved c =
     elim c.if-not-keeps_order_at.branch [
       | then-not-keeps_order_at+in_ok-copy_constraint w ↦
           w.apart-is ∙ copied_next net origins k c.loop-number.apart w.copy_constraint.new.copy fit within
-              (subst (λ (b : Bool). IsOrder origins k b) w.if-not-keeps_order_at.true order) c.loop-number.invariant w.in_ok-copy_constraint.ensures
+          (subst (λ (b : Bool). IsOrder origins k b) w.if-not-keeps_order_at.true order) c.loop-number.invariant w.in_ok-copy_constraint.ensures
       | else-not-keeps_order_at w ↦
           w.apart-is ∙ (c.loop-number.invariant ∙ sym (left_out net origins k fit within (subst (λ (b : Bool). IsOrder origins k b) w.if-not-keeps_order_at.false order)))
     ]
