@@ -1,8 +1,10 @@
 //! Finding all that is asked of a network.
 
-ghost use Rattle.std.specs.Prelude.{◌≤◌, All, IfOk};
+ghost use Rattle.std.specs.Prelude.{◌≡◌, ◌≤◌, All, IfOk, length};
 ghost use Rattle.itv_base.specs.declared.limits.TheConstants.{MAX_BUDGET};
+ghost use Rattle.chains.specs.Named.{IsContradiction};
 ghost use Rattle.explained.specs.Answers.{AreFound, HasRowTimes, IsFindingFound};
+ghost use Rattle.explained.specs.Step.Standing.{HasFound, IsDeskFor, IsFor};
 
 use crate::desk::Desk;
 use crate::finding::Finding;
@@ -37,18 +39,46 @@ pub fn explain(alloc: Global, drawn: &DrawnNetwork, budget: u64) -> Result<Netwo
     let mut marking = Marking::new(alloc, net)?;
     let mut desk = Desk::new(alloc, drawn, budget)?;
     find_marking(net, &mut desk.searches, &mut marking);
+    found_behind(alloc, drawn, &marking, &mut desk)
+}
+
+// What is found behind the search for times, with the constraints that it marked.
+fn found_behind(
+    alloc: Global,
+    drawn: &DrawnNetwork,
+    marking: &Marking,
+    desk: &mut Desk,
+) -> Result<NetworkFound, NoMemory>
+    requires made { IsFor drawn.now.net desk.old.searches }
+    requires found { HasFound drawn.now.net desk.old.searches.word desk.old.searches.work.known }
+    requires desk { IsDeskFor drawn.now desk.old }
+    requires count { length marking.now ≡ length drawn.now.net.constraints }
+    requires marks { desk.old.searches.word ≡ FindingWord.Inconsistent → IsContradiction drawn.now.net marking.now }
+    ensures finding { IfOk result (λ found. IsFindingFound drawn.now.net found.finding) }
+    ensures rows { IfOk result (λ found. AreFound drawn.now found.finding found.rows.items) }
+    ensures times { IfOk result (λ found. All HasRowTimes found.rows.items) }
+{
     match desk.searches.word {
-        FindingWord::Consistent => Ok(NetworkFound {
-            finding: Finding::Consistent,
-            rows: explain_rows(alloc, drawn, &mut desk)?,
-        }),
-        FindingWord::Inconsistent => Ok(NetworkFound {
-            finding: Finding::Inconsistent(Vec::from_slice(alloc, marking.marks())?),
-            rows: Vec::new(alloc),
-        }),
-        FindingWord::Unsettled => Ok(NetworkFound {
-            finding: Finding::Unsettled,
-            rows: explain_rows(alloc, drawn, &mut desk)?,
-        }),
+        FindingWord::Consistent => {
+            let rows = explain_rows(alloc, drawn, desk)?;
+            Ok(NetworkFound {
+                finding: Finding::Consistent,
+                rows,
+            })
+        }
+        FindingWord::Inconsistent => {
+            let set = Vec::from_slice(alloc, marking.marks())?;
+            Ok(NetworkFound {
+                finding: Finding::Inconsistent(set),
+                rows: Vec::new(alloc),
+            })
+        }
+        FindingWord::Unsettled => {
+            let rows = explain_rows(alloc, drawn, desk)?;
+            Ok(NetworkFound {
+                finding: Finding::Unsettled,
+                rows,
+            })
+        }
     }
 }
