@@ -132,12 +132,12 @@ fn rules_of_one_cause(rt: HostRuntime) -> Result<(), Fail> {
                 &["single U edge 1", "single U edge 2"],
             ),
             (
-                r#""a->c @late#x [0,15]","b->c @late#y [0,9]","a->c @ask""#,
+                r#""a->c @late:x [0,15]","b->c @late:y [0,9]","a->c @ask""#,
                 &["single U edge 0", "single U edge 1"],
             ),
             (r#""a->c @late [0,15]","b->c @late [0,9]","a->c @ask""#, &[]),
             (
-                r#""a->c @early#x [0,15]","b->c @early#x [0,9]","a->c @ask""#,
+                r#""a->c @early:x [0,15]","b->c @early:x [0,9]","a->c @ask""#,
                 &[],
             ),
             (r#""a->c @lin [0,15]","a->c @ask""#, &[]),

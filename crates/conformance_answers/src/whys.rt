@@ -2,7 +2,7 @@
 //! order of a lane, notes, and the other ends.
 
 use conformance_kit::{
-    BOARD, MEMORY, PROCESSOR, files_end, run_ends, sheet_of, shelf_of, shelf_with,
+    BOARD, CONTRADICTS, MEMORY, PROCESSOR, files_end, run_ends, sheet_of, shelf_of, shelf_with,
 };
 use itv_cli::Outcome;
 use std::alloc::Global;
@@ -231,9 +231,9 @@ fn notes_that_are_told(rt: HostRuntime) -> Result<(), Fail> {
 #[test]
 fn a_note_behind_a_parameter(rt: HostRuntime) -> Result<(), Fail> {
     let sheet =
-        r#"{"itv_grades":{"-10":{"tAA":[2,10]}},"signal":[{"name":"A","wave":"01","node":".a"},{"name":"B","wave":"01","node":".b"}],
+        r#"{"itv_grades":{"m10":{"tAA":[2,10]}},"signal":[{"name":"A","wave":"01","node":".a"},{"name":"B","wave":"01","node":".b"}],
         "edge":["a->b @lin $tAA access","a->b @ask"]}"#;
-    let board = r#"{"itv":2,"cycles":1,"parts":[{"name":"X","sheet":"t","grade":"-10"}]}"#;
+    let board = r#"{"itv":2,"cycles":1,"parts":[{"name":"X","sheet":"t","grade":"m10"}]}"#;
     files_end(
         rt.alloc(),
         &[("s", board), ("t", sheet)],
@@ -248,23 +248,18 @@ fn a_note_behind_a_parameter(rt: HostRuntime) -> Result<(), Fail> {
 
 // ---- the other ends
 
-// Two latest events one behind the other take more than one case: with a budget of one the bounds are left within limits, and no step is told.
+// The search for times takes two cases: with a budget of one neither the times nor the bounds are found, and no step is told.
 #[test]
 fn a_budget_that_is_too_small(rt: HostRuntime) -> Result<(), Fail> {
     let alloc = rt.alloc();
-    let file = sheet_of(
-        alloc,
-        "abcde",
-        r#""a->b @lin [0,5]","a->c @lin [0,6]","b->d @late [1,5]","c->d @late [2,7]","b->e @late [1,4]","d->e @late [1,9]","a->e @ask""#,
-    )?;
-    let mut shelf = shelf_with(alloc, "s", file.as_bytes())?;
+    let mut shelf = shelf_with(alloc, "s", CONTRADICTS.as_bytes())?;
     run_ends(
         alloc,
         &["--job", "why", "--budget", "1", "s"],
         &mut shelf,
         (
             Outcome::Undecided,
-            "itv why 1\nfinding ?\nrow 0 ask U.a@0 U.e@0 edge 6\nmax within ?\nmin ?\nend undecided\n",
+            "itv why 1\nfinding unsettled\nrow 0 ask U.a@0 U.j@0 edge ?\nmax within 30\nmin within 20\nend undecided\n",
         ),
     )
 }
