@@ -37,4 +37,4 @@ returns-clause-opens g c =
 
 pub returns-clause-composed : goal.returns-clause-composed
 returns-clause-composed g c =
-    drawn_composed (g.H.Shelf.told c.open_plan.new.shelf) c.in_ok-plan.plan.netlist c.in_ok-plan.plan.sheets c.in_ok-drawn.drawn (c.in_ok-drawn.ensures.draws (g.H.Shelf.told c.open_plan.new.shelf)).0
+    drawn_composed (g.H.Shelf.told c.open_plan.new.shelf) c.in_ok-plan.plan c.in_ok-drawn.drawn (c.in_ok-drawn.ensures.draws (g.H.Shelf.told c.open_plan.new.shelf)).0
