@@ -49,7 +49,8 @@ use Rattle.reading.specs.Opening.{Opening, gives, refuses, fetches, at, file_at,
 use Rattle.reading.specs.Refusal.{refusal_text}
 use Rattle.reading.proofs.Opens.{told_ready, told_refused}
 use Rattle.settle_report.specs.Text.{ending_of as settled_ending}
-use Rattle.words.specs.Task.{Task, bounds, brief, check, confirm, fall, generated, lint, matrix, redraw, settle, taken, task, whatif, why}
+use Rattle.words.specs.Task.{Task, bounds, check, confirm, fall, generated, matrix, redraw, settle, taken, task, whatif}
+use Rattle.words.specs.Task as tasks
 use Rattle.bounds_report.proofs.WrittenLaws.{written_is_right}
 use Rattle.itv_cli.specs.Bounds.{AnswersBounds}
 use Rattle.lint_report.specs.Lint.{answer_by}
@@ -248,15 +249,15 @@ refused_redraws files (settle design budget cert) bytes own h =
     let answered : Answers (given.Settle drawn budget cert) answers.DesignRefused bytes = subst (λ g. Answers g answers.DesignRefused bytes) (sym is) h.answers in
     absurd (never_refused (settled_ending drawn.rows answered.finding answered.found) answered.is_answer)
 refused_redraws files (redraw design budget) bytes own h = (design, budget, refl)
-refused_redraws files (why design budget) bytes own h =
+refused_redraws files (tasks.why design budget) bytes own h =
     let (both, draws, is) = told_then files (planned_at design) (λ p. given.Why p.0 p.1 budget) h.given h.reads in
     let answered : Answers (given.Why both.0 both.1 budget) answers.DesignRefused bytes = subst (λ g. Answers g answers.DesignRefused bytes) (sym is) h.answers in
     absurd (never_refused (explained_ending both.1.rows answered.finding answered.found) answered.is_answer)
-refused_redraws files (brief design budget) bytes own h =
+refused_redraws files (tasks.brief design budget) bytes own h =
     let (both, draws, is) = told_then files (planned_at design) (λ p. given.Brief p.0 p.1 budget) h.given h.reads in
     let answered : Answers (given.Brief both.0 both.1 budget) answers.DesignRefused bytes = subst (λ g. Answers g answers.DesignRefused bytes) (sym is) h.answers in
     absurd (never_refused (explained_ending both.1.rows answered.finding answered.found) answered.is_answer)
-refused_redraws files (lint design budget) bytes own h =
+refused_redraws files (tasks.lint design budget) bytes own h =
     let (both, draws, is) = told_then files (planned_at design) (λ p. given.Lint p.0 p.1 budget) h.given h.reads in
     let answered : Answers (given.Lint both.0 both.1 budget) answers.DesignRefused bytes = subst (λ g. Answers g answers.DesignRefused bytes) (sym is) h.answers in
     absurd (never_warned (is_clean both.1 (warnings_of both.0 answered.design) answered.found) answered.is_answer)
