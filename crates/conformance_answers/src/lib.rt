@@ -3,8 +3,6 @@
 #![tactic(auto)]
 
 #[cfg(test)]
-mod briefs;
-#[cfg(test)]
 mod budgets;
 #[cfg(test)]
 mod checks;
@@ -17,8 +15,6 @@ mod falls;
 #[cfg(test)]
 mod forged;
 #[cfg(test)]
-mod lints;
-#[cfg(test)]
 mod redraws;
 #[cfg(test)]
 mod separations;
@@ -28,5 +24,3 @@ mod settles;
 mod verdicts;
 #[cfg(test)]
 mod whatifs;
-#[cfg(test)]
-mod whys;

@@ -6,4 +6,3 @@ mod Steps
 mod Working
 mod Statuses
 mod Editing
-mod Composing

@@ -7,7 +7,6 @@
 mod job;
 mod opening;
 mod outcome;
-mod planned;
 mod ready;
 mod system;
 mod top;
