@@ -42,13 +42,12 @@ REMARK = (
 WARNINGS = {
     "comment": "a label that is a comment, and looks like a rule",
     "note": "a note that looks like a part of the range",
-    "key": "a key that is passed over, and looks like one that is read",
     "never": "a rule or a row that is in no cycle",
     "single": "a latest or earliest rule with one cause",
     "both": "two rules into one mark, both of which bind",
     "drivers": "two nets that drive one pin, both of which bind",
     "own": "a net into a pin that its own sheet has a rule for",
-    "order": "a bound that goes over the order of a lane",
+    "order": "a row whose answer rests on the order of a lane",
     "rows": "nothing is asked",
 }
 
@@ -250,7 +249,7 @@ def warnings_of(design, lines):
         texts = []
         for before, word, number in zip(words, words[1:], words[2:] + [""]):
             if word == "edge" and number.isdigit():
-                texts.append(design.edge_text(before, int(number)))
+                texts.append(design.edge_text(words[1].split(".")[0] if words[0] == "own" else before, int(number)))
             elif before == "wire" and word.isdigit():
                 texts.append(design.edge_text(None, int(word)))
         shown = "".join(f'<br><code class="name">{escaped(text)}</code>' for text in texts if text)

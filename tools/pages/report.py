@@ -148,5 +148,5 @@ def origin_of(words):
 
 
 def lint_lines(text):
-    """The warnings of job lint: its lines between the head and the end."""
-    return [line for line in text.splitlines() if not re.match(r"itv lint |end ", line)]
+    """The warnings of job lint, each without its first word."""
+    return [line[len("warning ") :] for line in text.splitlines() if line.startswith("warning ")]

@@ -50,9 +50,14 @@ use Rattle.reading.specs.Refusal.{refusal_text}
 use Rattle.reading.proofs.Opens.{told_ready, told_refused}
 use Rattle.settle_report.specs.Text.{ending_of as settled_ending}
 use Rattle.words.specs.Task.{Task, bounds, check, confirm, fall, generated, matrix, redraw, settle, taken, task, whatif}
+use Rattle.words.specs.Task as tasks
 use Rattle.bounds_report.proofs.WrittenLaws.{written_is_right}
 use Rattle.itv_cli.specs.Bounds.{AnswersBounds}
-use Rattle.itv_cli.specs.Job.{Answers, edits_at, edits_in, fall_at, fall_in, made_for, matrix_at, opening, whatif_at}
+use Rattle.lint_report.specs.Lint.{answer_by}
+use Rattle.lint_report.specs.Text.{is_clean}
+use Rattle.warnings.specs.Warnings.{warnings_of}
+use Rattle.why_report.specs.Text.{ending_of as explained_ending}
+use Rattle.itv_cli.specs.Job.{Answers, edits_at, edits_in, fall_at, fall_in, made_for, matrix_at, opening, planned_at, whatif_at}
 use Rattle.itv_cli.specs.Run.{Call, CameTo, Completes, EndsBy, EndsOver, FilesDecide, HasAnswered, HasRefused, IsRefused, Means, Wrote, call_of}
 use Rattle.itv_cli.specs.declared.outcome.Outcome.{Outcome}
 use Rattle.itv_cli.specs.declared.outcome.Outcome.TheVariants as ends
@@ -218,6 +223,11 @@ never_refused endings.Fail e = cc e
 never_refused endings.Inconsistent e = cc e
 never_refused endings.Undecided e = cc e
 
+-- a job of warnings refuses nothing for what it found
+never_warned : (is_clean : Bool) → answers.DesignRefused ≡ answer_by is_clean → ⊥
+never_warned true e = cc e
+never_warned false e = cc e
+
 -- a job of edits refuses nothing for what it found
 never_from : (first : SessionView) (kinds : List RowKind) (edits : List RangeEdit) (text : List ℕ) → AnswersFrom first kinds edits answers.DesignRefused text → ⊥
 never_from first kinds edits text a = never_refused (ending_of kinds (last_note a.note a.notes).found (last_note a.note a.notes).answers) a.is_answer
@@ -239,6 +249,18 @@ refused_redraws files (settle design budget cert) bytes own h =
     let answered : Answers (given.Settle drawn budget cert) answers.DesignRefused bytes = subst (λ g. Answers g answers.DesignRefused bytes) (sym is) h.answers in
     absurd (never_refused (settled_ending drawn.rows answered.finding answered.found) answered.is_answer)
 refused_redraws files (redraw design budget) bytes own h = (design, budget, refl)
+refused_redraws files (tasks.why design budget) bytes own h =
+    let (both, draws, is) = told_then files (planned_at design) (λ p. given.Why p.0 p.1 budget) h.given h.reads in
+    let answered : Answers (given.Why both.0 both.1 budget) answers.DesignRefused bytes = subst (λ g. Answers g answers.DesignRefused bytes) (sym is) h.answers in
+    absurd (never_refused (explained_ending both.1.rows answered.finding answered.found) answered.is_answer)
+refused_redraws files (tasks.brief design budget) bytes own h =
+    let (both, draws, is) = told_then files (planned_at design) (λ p. given.Brief p.0 p.1 budget) h.given h.reads in
+    let answered : Answers (given.Brief both.0 both.1 budget) answers.DesignRefused bytes = subst (λ g. Answers g answers.DesignRefused bytes) (sym is) h.answers in
+    absurd (never_refused (explained_ending both.1.rows answered.finding answered.found) answered.is_answer)
+refused_redraws files (tasks.lint design budget) bytes own h =
+    let (both, draws, is) = told_then files (planned_at design) (λ p. given.Lint p.0 p.1 budget) h.given h.reads in
+    let answered : Answers (given.Lint both.0 both.1 budget) answers.DesignRefused bytes = subst (λ g. Answers g answers.DesignRefused bytes) (sym is) h.answers in
+    absurd (never_warned (is_clean both.1 (warnings_of both.0 answered.design) answered.found) answered.is_answer)
 refused_redraws files (matrix design) bytes own h =
     let (drawn, draws, comes) = told_behind files (design_at design) matrix_at h.given h.reads in
     absurd (subst (λ g. Answers g answers.DesignRefused bytes) (sym (small_by files (nat_lt MAX_MATRIX_EVENTS drawn.net.events) drawn _ h.given comes)) h.answers)

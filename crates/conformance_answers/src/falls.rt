@@ -1,24 +1,12 @@
 //! Job fall: the worked rows, spent turns, refusals, and the numbers of job bounds.
 
-use conformance_kit::{run_ends, shelf_of, shelf_with, written_by};
+use conformance_kit::{run_ends, sheet_of, shelf_of, shelf_with, written_by};
 use design_gen::make;
 use itv_base::ShelfMem;
 use itv_cli::Outcome;
 use std::alloc::Global;
 use std::process::Abort;
 use std::test::Fail;
-
-// A sheet with three nodes on lanes of their own.
-fn sheet_of(alloc: Global, nodes: &str, edges: &str) -> Result<String, Fail> {
-    let mut lanes = String::new(alloc);
-    for node in nodes.chars() {
-        if !lanes.is_empty() {
-            lanes.push_str(",")?;
-        }
-        lanes.push_str(format!(in alloc; r#"{{"node":"{node}"}}"#)?.as_str())?;
-    }
-    Ok(format!(in alloc; r#"{{"signal":[{lanes}],"edge":[{edges}]}}"#)?)
-}
 
 // What the job writes of a sheet with these nodes behind its view.
 fn text_of(alloc: Global, view: &str, nodes: &str, rest: &str) -> Result<String, Fail> {

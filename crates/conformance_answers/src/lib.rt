@@ -3,6 +3,8 @@
 #![tactic(auto)]
 
 #[cfg(test)]
+mod briefs;
+#[cfg(test)]
 mod budgets;
 #[cfg(test)]
 mod checks;
@@ -15,6 +17,8 @@ mod falls;
 #[cfg(test)]
 mod forged;
 #[cfg(test)]
+mod lints;
+#[cfg(test)]
 mod redraws;
 #[cfg(test)]
 mod separations;
@@ -24,3 +28,5 @@ mod settles;
 mod verdicts;
 #[cfg(test)]
 mod whatifs;
+#[cfg(test)]
+mod whys;

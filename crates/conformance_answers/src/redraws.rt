@@ -1,7 +1,8 @@
 //! Job redraw: drawings to the byte, what job bounds makes of them, and the other ends.
 
 use conformance_kit::{
-    CIRCLE, MET, MISSED, SETTLES, UNMET, files_end, run_ends, shelf_of, shelf_with, written_by,
+    CIRCLE, MET, MISSED, SETTLES, UNMET, files_end, run_ends, sheet_of, shelf_of, shelf_with,
+    written_by,
 };
 use itv_base::ShelfMem;
 use itv_cli::Outcome;
@@ -9,18 +10,6 @@ use std::alloc::Global;
 use std::test::Fail;
 
 const REDRAW: [&str; 3] = ["--job", "redraw", "s"];
-
-// A sheet with a node for each character, on lanes of their own.
-fn sheet_of(alloc: Global, nodes: &str, edges: &str) -> Result<String, Fail> {
-    let mut lanes = String::new(alloc);
-    for node in nodes.chars() {
-        if !lanes.is_empty() {
-            lanes.push_str(",")?;
-        }
-        lanes.push_str(format!(in alloc; r#"{{"node":"{node}"}}"#)?.as_str())?;
-    }
-    Ok(format!(in alloc; r#"{{"signal":[{lanes}],"edge":[{edges}]}}"#)?)
-}
 
 // The drawing of a sheet is this line with the status of a fail, and job bounds answers the drawing with a fail.
 fn draws(alloc: Global, sheet: &str, drawing: &str) -> Result<(), Fail> {

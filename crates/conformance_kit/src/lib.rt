@@ -11,6 +11,7 @@ mod files;
 mod frames;
 mod likeness;
 mod runs;
+mod sheets;
 mod tables;
 
 pub use again::is_written_again;
@@ -26,4 +27,5 @@ pub use likeness::{Difference, first_difference, lines_are};
 pub use runs::{
     ROOM, bytes_end, ended, files_end, is_accepted, is_accepted_under, run_ends, written_by,
 };
+pub use sheets::sheet_of;
 pub use tables::{Joined, all_answered, all_refused, contradicts, edges_end, joined};

@@ -6,3 +6,4 @@ mod Steps
 mod Working
 mod Statuses
 mod Editing
+mod Composing

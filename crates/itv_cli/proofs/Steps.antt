@@ -7,6 +7,9 @@ use Rattle.reading.specs.Design.{design_at}
 use Rattle.reading.specs.Opening.{Opening, gives, ◌>>=◌}
 use Rattle.reading.specs.Step.{Opens}
 use Rattle.reading.proofs.Opens.{opens_then, opens_up}
+use Rattle.plan.specs.Plan.{Planned}
+use Rattle.itv_cli.specs.Job.{planned_at}
+use Rattle.itv_cli.specs.declared.planned.Planned as code
 use Rattle.itv_cli.specs.declared.ready.Ready.{Ready}
 
 -- the design was not had
@@ -23,3 +26,17 @@ design_then name f old mid new drawn r h next = opens_then (λ d. d) (λ given. 
 pub design_ready : (name : List ℕ) (f : Drawn → Ready) (old new : ShelfTold) (drawn : Drawn) → Opens (λ (d : Drawn). d) old new (design_at name) (Ok drawn)
     → Opens (λ given. given) old new (design_at name >>= (λ d. gives (f d))) (Ok (f drawn))
 design_ready name f old new drawn h = design_then name (λ d. gives (f d)) old new new drawn (Ok (f drawn)) h (refl, refl)
+
+-- ---- the same of a plan with what it draws
+
+-- a plan with what it draws, without where they lie in memory
+abbrev pub both : code.Planned → Planned × Drawn
+both p = (p.plan, p.drawn)
+
+pub planned_up : (name : List ℕ) (f : Planned × Drawn → Opening Ready) (old new : ShelfTold) (s : Stop) (r : Result Ready Stop) → IsErrAnd r (λ e. e ≡ s) → Opens both old new (planned_at name) (Err s)
+    → Opens (λ given. given) old new (planned_at name >>= f) r
+planned_up name f old new s r is h = opens_up both (λ given. given) (planned_at name) f old new s r is h
+
+pub planned_ready : (name : List ℕ) (f : Planned × Drawn → Ready) (old new : ShelfTold) (p : code.Planned) → Opens both old new (planned_at name) (Ok p)
+    → Opens (λ given. given) old new (planned_at name >>= (λ d. gives (f d))) (Ok (f (both p)))
+planned_ready name f old new p h = opens_then both (λ given. given) (planned_at name) (λ d. gives (f d)) old new new p (Ok (f (both p))) h (refl, refl)

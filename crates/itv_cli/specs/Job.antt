@@ -10,14 +10,18 @@ use Rattle.unroll.specs.declared.limit.Limit.TheVariants.{MatrixEvents, SessionR
 use Rattle.unroll.specs.declared.limit.TheConstants.{MAX_SESSION_ROWS}
 use Rattle.reading.specs.declared.place.Place.TheVariants.{Design, Edits, Report}
 use Rattle.reading.specs.declared.refusal.Refusal.TheVariants as refusals
-use Rattle.reading.specs.Design.{design_at}
+use Rattle.plan.specs.Notes.{plan_note}
+use Rattle.plan.specs.Plan.{Planned}
+use Rattle.reading.specs.Design.{design_at, drawn_at, plan_at}
 use Rattle.reading.specs.Opening.{Opening, gives, refuses, ◌>>=◌, at, file_at}
-use Rattle.words.specs.Task.{Task, bounds, fall, settle, redraw, matrix, check, confirm, generated, whatif}
+use Rattle.words.specs.Task.{Task, bounds, fall, settle, redraw, why, brief, lint, matrix, check, confirm, generated, whatif}
 use Rattle.bounds_report.specs.Reports.{BeginsReport}
+use Rattle.brief_report.specs.Brief.{AnswersBrief, BeginsBrief}
 use Rattle.fall_report.specs.Fall.{AnswersFall, BeginsFall}
 use Rattle.falling.specs.View.{view_of}
 use Rattle.falling.specs.declared.fault.Mixed.{Mixed}
 use Rattle.falling.specs.declared.view.View.{View}
+use Rattle.lint_report.specs.Lint.{AnswersLint, BeginsLint}
 use Rattle.matrix_report.specs.Matrix.{AnswersMatrix, BeginsMatrix}
 use Rattle.redraw_report.specs.Redraw.{AnswersRedraw, BeginsRedraw}
 use Rattle.settle_check.specs.Confirm.{AnswersConfirm, BeginsConfirm}
@@ -27,6 +31,7 @@ use Rattle.summary_report.specs.Summary.{AnswersSummary, BeginsSummary}
 use Rattle.edits.specs.EditsFile.{edits_of}
 use Rattle.edits.specs.declared.file.TheConstants.{MAX_EDITS_BYTES}
 use Rattle.whatif_report.specs.Whatif.{AnswersWhatif, BeginsWhatif}
+use Rattle.why_report.specs.Why.{AnswersWhy, BeginsWhy}
 use Rattle.itv_cli.specs.Bounds.{AnswersBounds, DecidesWithin}
 use Rattle.itv_cli.specs.declared.ready.Ready.{Ready}
 use Rattle.itv_cli.specs.declared.ready.Ready.TheVariants as ready
@@ -62,6 +67,13 @@ abbrev pub whatif_at : List ℕ → ℕ → Drawn → Opening Ready
 whatif_at edits budget drawn =
     if nat_lt MAX_SESSION_ROWS (length drawn.rows) then refuses Design (refusals.Limits (TooMany SessionRows (length drawn.rows))) else edits_at edits budget drawn
 
+-- the plan of the design of a file, and the network that it draws
+abbrev pub planned_at : List ℕ → Opening (Planned × Drawn)
+planned_at name = do
+  plan ← plan_at name
+  drawn ← drawn_at plan.netlist plan.sheets
+  gives (plan, drawn)
+
 abbrev pub opening : Task → Opening Ready
 opening (bounds design budget cert) = do
   drawn ← design_at design
@@ -75,6 +87,15 @@ opening (settle design budget cert) = do
 opening (redraw design budget) = do
   drawn ← design_at design
   gives (ready.Redraw drawn budget)
+opening (why design budget) = do
+  both ← planned_at design
+  gives (ready.Why both.0 both.1 budget)
+opening (brief design budget) = do
+  both ← planned_at design
+  gives (ready.Brief both.0 both.1 budget)
+opening (lint design budget) = do
+  both ← planned_at design
+  gives (ready.Lint both.0 both.1 budget)
 opening (matrix design) = do
   drawn ← design_at design
   matrix_at drawn
@@ -105,6 +126,9 @@ Answers (ready.Bounds drawn budget cert) answer text = AnswersBounds drawn budge
 Answers (ready.Fall drawn view budget cert) answer text = AnswersFall drawn budget cert answer text
 Answers (ready.Settle drawn budget cert) answer text = AnswersSettle drawn cert answer text
 Answers (ready.Redraw drawn budget) answer text = AnswersRedraw drawn budget answer text × DecidesWithin drawn budget answer
+Answers (ready.Why plan drawn budget) answer text = AnswersWhy (plan_note plan) drawn answer text
+Answers (ready.Brief plan drawn budget) answer text = AnswersBrief (plan_note plan) drawn answer text
+Answers (ready.Lint plan drawn budget) answer text = AnswersLint plan drawn answer text
 Answers (ready.Matrix drawn) answer text = AnswersMatrix drawn answer text
 Answers (ready.Check drawn report) answer text = AnswersCheck drawn report answer text
 Answers (ready.Confirm drawn report) answer text = AnswersConfirm drawn report answer text
@@ -117,6 +141,9 @@ Begins (ready.Bounds drawn budget cert) text = BeginsReport drawn budget cert te
 Begins (ready.Fall drawn view budget cert) text = BeginsFall drawn budget cert text
 Begins (ready.Settle drawn budget cert) text = BeginsSettle drawn cert text
 Begins (ready.Redraw drawn budget) text = BeginsRedraw drawn budget text
+Begins (ready.Why plan drawn budget) text = BeginsWhy (plan_note plan) drawn text
+Begins (ready.Brief plan drawn budget) text = BeginsBrief (plan_note plan) drawn text
+Begins (ready.Lint plan drawn budget) text = BeginsLint plan drawn text
 Begins (ready.Matrix drawn) text = BeginsMatrix drawn text
 Begins (ready.Check drawn report) text = BeginsCheck drawn report text
 Begins (ready.Confirm drawn report) text = BeginsConfirm drawn report text

@@ -1,7 +1,8 @@
 -- What the steps of a run answer: words of contracts within this crate.
-use Rattle.std.specs.Prelude.{◌≡◌, ◌≤◌, ◌⊎◌, ℕ, ⊤, List, length, All, Result, Ok, Err}
+use Rattle.std.specs.Prelude.{◌≡◌, ◌≤◌, ◌⊎◌, ℕ, ⊤, List, length, All, IsOk, Result, Ok, Err}
 use Rattle.itv_base.specs.declared.limits.TheConstants.{MAX_MATRIX_EVENTS}
 use Rattle.itv_base.specs.Outside.{Files, ShelfTold, SinkTold, grown, CutShort}
+use Rattle.compose.specs.Compose.{composed_on}
 use Rattle.drawn.specs.Drawn.{Drawn}
 use Rattle.falling.specs.View.{IsViewOf}
 use Rattle.slack_report.specs.Entry.{IsName}
@@ -15,6 +16,7 @@ use Rattle.reading.specs.declared.stop.Stop.{Stop}
 use Rattle.reading.specs.declared.stop.Stop.TheVariants.{Refused, ReadFault, NoMemory}
 use Rattle.reading.specs.Opening.{ready, refused, told_end, unread}
 use Rattle.reading.specs.Refusal.{refusal_text, unread_text}
+use Rattle.plan.specs.Plan.{sheets_on}
 use Rattle.words.specs.Task.{IsBudget, Task}
 use Rattle.itv_cli.specs.declared.outcome.Outcome.{Outcome}
 use Rattle.itv_cli.specs.declared.outcome.Outcome.TheVariants as ends
@@ -34,6 +36,9 @@ IsAllowed (given.Bounds drawn budget cert) = IsBudget budget
 IsAllowed (given.Fall drawn view budget cert) = IsViewOf drawn.net view
 IsAllowed (given.Settle drawn budget cert) = Unit {0}
 IsAllowed (given.Redraw drawn budget) = IsBudget budget × HasForm drawn
+IsAllowed (given.Why plan drawn budget) = IsBudget budget
+IsAllowed (given.Brief plan drawn budget) = IsBudget budget
+IsAllowed (given.Lint plan drawn budget) = IsBudget budget × IsOk (composed_on plan.netlist (sheets_on plan.sheets plan.netlist.parts))
 IsAllowed (given.Matrix drawn) = drawn.net.events ≤ MAX_MATRIX_EVENTS
 IsAllowed (given.Check drawn report) = Unit {0}
 IsAllowed (given.Confirm drawn report) = Unit {0}

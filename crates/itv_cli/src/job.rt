@@ -10,10 +10,12 @@ ghost use Rattle.itv_cli.specs.Step.{HasForm, IsAllowed};
 
 use crate::ready::Ready;
 use bounds_report::write_bounds;
+use brief_report::write_brief;
 use drawn::DrawnNetwork;
 use fall_report::write_fall;
 use itv_base::Sink;
 use jobs::{Answer, Unanswered, answer_of};
+use lint_report::write_lint;
 use matrix_report::write_matrix;
 use redraw_report::write_redraw;
 use report_check::answer_check;
@@ -22,6 +24,7 @@ use settle_report::write_settle;
 use std::alloc::Global;
 use summary_report::write_summary;
 use whatif_report::write_whatif;
+use why_report::write_why;
 
 /// Does the job for which all is read, and writes what it answers. All memory is taken before the first put.
 pub fn answer<K: Sink>(alloc: Global, given: &Ready, sink: &mut K) -> Result<Answer, Unanswered>
@@ -46,6 +49,21 @@ pub fn answer<K: Sink>(alloc: Global, given: &Ready, sink: &mut K) -> Result<Ans
             cert,
         } => write_settle(alloc, drawn, turns_of(*budget), *cert, sink),
         Ready::Redraw { drawn, budget } => answer_redraw(alloc, drawn, *budget, sink),
+        Ready::Why {
+            plan,
+            drawn,
+            budget,
+        } => write_why(alloc, plan, drawn, *budget, sink),
+        Ready::Brief {
+            plan,
+            drawn,
+            budget,
+        } => write_brief(alloc, plan, drawn, *budget, sink),
+        Ready::Lint {
+            plan,
+            drawn,
+            budget,
+        } => write_lint(alloc, plan, drawn, *budget, sink),
         Ready::Matrix { drawn } => write_matrix(alloc, drawn, sink),
         Ready::Check { drawn, report } => answer_check(alloc, drawn, report.as_slice(), sink),
         Ready::Confirm { drawn, report } => answer_confirm(alloc, drawn, report.as_slice(), sink),

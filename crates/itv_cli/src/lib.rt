@@ -7,6 +7,7 @@
 mod job;
 mod opening;
 mod outcome;
+mod planned;
 mod ready;
 mod system;
 mod top;

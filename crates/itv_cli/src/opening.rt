@@ -10,6 +10,7 @@ ghost use Rattle.unroll.specs.declared.limit.TheConstants.{MAX_SESSION_ROWS};
 ghost use Rattle.itv_cli.specs.Job.{edits_at, edits_in, fall_at, matrix_at, opening, whatif_at};
 ghost use Rattle.itv_cli.specs.Step.{IsAllowed, OpensFor, OpensMade};
 
+use crate::planned::{Planned, open_planned};
 use crate::ready::Ready;
 use design_gen::{GenFault, make};
 use drawn::DrawnNetwork;
@@ -45,6 +46,9 @@ pub fn open<H: Shelf>(alloc: Global, task: Task<'_>, shelf: &mut H) -> Result<Re
             cert,
         } => open_settle(alloc, design, budget, cert, shelf),
         Task::Redraw { design, budget } => open_redraw(alloc, design, budget, shelf),
+        Task::Why { design, budget } => open_why(alloc, design, budget, shelf),
+        Task::Brief { design, budget } => open_brief(alloc, design, budget, shelf),
+        Task::Lint { design, budget } => open_lint(alloc, design, budget, shelf),
         Task::Matrix { design } => open_matrix(alloc, design, shelf),
         Task::Check { design, report } => open_check(alloc, design, report, shelf),
         Task::Confirm { design, report } => open_confirm(alloc, design, report, shelf),
@@ -147,6 +151,66 @@ fn open_redraw<H: Shelf>(
 {
     let drawn = open_design(alloc, design, shelf)?;
     Ok(Ready::Redraw { drawn, budget })
+}
+
+// What job why reads.
+fn open_why<H: Shelf>(
+    alloc: Global,
+    design: &str,
+    budget: u64,
+    shelf: &mut H,
+) -> Result<Ready, Stop>
+    requires budget { IsBudget budget }
+    ensures opens { Opens (λ given. given) (H.told shelf.old) (H.told shelf.new)
+        (opening (said.why design.now budget)) result }
+    ensures allowed { IfOk result IsAllowed }
+{
+    let Planned { plan, drawn } = open_planned(alloc, design, shelf)?;
+    Ok(Ready::Why {
+        plan,
+        drawn,
+        budget,
+    })
+}
+
+// What job brief reads.
+fn open_brief<H: Shelf>(
+    alloc: Global,
+    design: &str,
+    budget: u64,
+    shelf: &mut H,
+) -> Result<Ready, Stop>
+    requires budget { IsBudget budget }
+    ensures opens { Opens (λ given. given) (H.told shelf.old) (H.told shelf.new)
+        (opening (said.brief design.now budget)) result }
+    ensures allowed { IfOk result IsAllowed }
+{
+    let Planned { plan, drawn } = open_planned(alloc, design, shelf)?;
+    Ok(Ready::Brief {
+        plan,
+        drawn,
+        budget,
+    })
+}
+
+// What job lint reads.
+fn open_lint<H: Shelf>(
+    alloc: Global,
+    design: &str,
+    budget: u64,
+    shelf: &mut H,
+) -> Result<Ready, Stop>
+    requires budget { IsBudget budget }
+    ensures opens { Opens (λ given. given) (H.told shelf.old) (H.told shelf.new)
+        (opening (said.lint design.now budget)) result }
+    ensures allowed { IfOk result IsAllowed }
+{
+    let Planned { plan, drawn } = open_planned(alloc, design, shelf)?;
+    Ok(Ready::Lint {
+        plan,
+        drawn,
+        budget,
+    })
 }
 
 // What job matrix reads.

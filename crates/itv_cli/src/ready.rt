@@ -4,6 +4,7 @@ use drawn::DrawnNetwork;
 use edits::Edits;
 use falling::View;
 use itv_base::Listing;
+use plan::Plan;
 
 /// What is read for a job, with what its words ask for.
 #[derive(Debug, Drop)]
@@ -31,6 +32,26 @@ pub enum Ready {
     },
     /// To draw a counterexample of a drawn network: the cases that each search may close.
     Redraw {
+        drawn: DrawnNetwork,
+        budget: u64,
+    },
+    /// To tell why the bounds of the rows of a drawn network are what they are: the plan that draws it, and the cases that each search
+    /// may close.
+    Why {
+        plan: Plan,
+        drawn: DrawnNetwork,
+        budget: u64,
+    },
+    /// To tell each row of a drawn network on one line: the plan that draws it, and the cases that each search may close.
+    Brief {
+        plan: Plan,
+        drawn: DrawnNetwork,
+        budget: u64,
+    },
+    /// To tell what of a plan may say something else than was meant: the network that it draws, and the cases that each search may
+    /// close.
+    Lint {
+        plan: Plan,
         drawn: DrawnNetwork,
         budget: u64,
     },

@@ -10,7 +10,7 @@ use Rattle.clap.specs.declared.error.kind.ErrorKind.{ErrorKind}
 use Rattle.clap.specs.declared.error.kind.ErrorKind.TheVariants.{DisplayHelp}
 use Rattle.itv_base.specs.declared.limits.TheConstants.{DEFAULT_BUDGET, MAX_BUDGET, MAX_SELF_SIZE}
 use Rattle.words.specs.Command.{command}
-use Rattle.words.specs.Task.{IsBudget, IsSize, IsWithinLimits, KeepsLimits, Task, answer_by, answer_for, bounds, bounds_of, budget_of, check, check_of, confirm, confirm_of, fall, fall_of, generated, generated_of, matrix, matrix_of, number_in, redraw, redraw_of, refusal_for, settle, settle_of, size_of, taken, task_named, task_of, wants_proofs, whatif, whatif_of}
+use Rattle.words.specs.Task.{IsBudget, IsSize, IsWithinLimits, KeepsLimits, Task, answer_by, answer_for, bounds, bounds_of, brief, brief_of, budget_of, check, check_of, confirm, confirm_of, fall, fall_of, generated, generated_of, lint, lint_of, matrix, matrix_of, number_in, redraw, redraw_of, refusal_for, settle, settle_of, size_of, taken, task_named, task_of, wants_proofs, whatif, whatif_of, why, why_of}
 use Rattle.words.proofs.Numbers.{number_limits}
 
 budget_limits : (given : Option Text) → IfSome (option_map_or (number_in MAX_BUDGET) given (Some DEFAULT_BUDGET)) IsBudget
@@ -78,7 +78,10 @@ named_limits rows (Some name) =
     (by_name (bytes_eq name (codes "redraw")) (redraw_of rows) _ (searching_limits (λ d b proofs. redraw d b) (wants_proofs rows) (first_of (codes "design") rows) (budget_of rows) (λ d b within. within) budgets)
     (by_name (bytes_eq name (codes "whatif")) (whatif_of rows) _ (whatif_limits (first_of (codes "design") rows) (first_of (codes "edits") rows) (budget_of rows) budgets)
     (by_name (bytes_eq name (codes "settle")) (settle_of rows) _ (searching_limits settle (wants_proofs rows) (first_of (codes "design") rows) (budget_of rows) (λ d b within. within) budgets)
-    (by_name (bytes_eq name (codes "confirm")) (confirm_of rows) None (confirm_limits (first_of (codes "design") rows) (first_of (codes "report") rows)) tt))))))))
+    (by_name (bytes_eq name (codes "confirm")) (confirm_of rows) _ (confirm_limits (first_of (codes "design") rows) (first_of (codes "report") rows))
+    (by_name (bytes_eq name (codes "why")) (why_of rows) _ (searching_limits (λ d b proofs. why d b) (wants_proofs rows) (first_of (codes "design") rows) (budget_of rows) (λ d b within. within) budgets)
+    (by_name (bytes_eq name (codes "brief")) (brief_of rows) _ (searching_limits (λ d b proofs. brief d b) (wants_proofs rows) (first_of (codes "design") rows) (budget_of rows) (λ d b within. within) budgets)
+    (by_name (bytes_eq name (codes "lint")) (lint_of rows) None (searching_limits (λ d b proofs. lint d b) (wants_proofs rows) (first_of (codes "design") rows) (budget_of rows) (λ d b within. within) budgets) tt)))))))))))
 
 task_limits : (task : Option Task) → IfSome task IsWithinLimits → KeepsLimits (answer_for task)
 task_limits None within = tt

@@ -14,13 +14,16 @@ use Rattle.clap.specs.declared.error.kind.ErrorKind.TheVariants.{DisplayHelp}
 use Rattle.words.specs.Command.{command}
 
 -- a job with what it needs: the design's name, the budget of each search and whether proofs are wanted, for three jobs; the design's name
--- and the budget; the design's name; the names of the design and of the report, for two jobs; the size of the generated design and the budget; the names
+-- and the budget, for four; the design's name; the names of the design and of the report, for two jobs; the size of the generated design and the budget; the names
 -- of the design and of the edits, and the budget of each search
 pub data Task : Type 0 where
   bounds : Text → ℕ → Bool → Task
   fall : Text → ℕ → Bool → Task
   settle : Text → ℕ → Bool → Task
   redraw : Text → ℕ → Task
+  why : Text → ℕ → Task
+  brief : Text → ℕ → Task
+  lint : Text → ℕ → Task
   matrix : Text → Task
   check : Text → Text → Task
   confirm : Text → Text → Task
@@ -61,8 +64,21 @@ fall_of rows = searching fall rows
 abbrev pub settle_of : List Row → Option Task
 settle_of rows = searching settle rows
 
+-- a job with the design's name and the budget; whether proofs are wanted is passed over
+abbrev pub searching_only : (Text → ℕ → Task) → List Row → Option Task
+searching_only job rows = searching (λ design budget proofs. job design budget) rows
+
 abbrev pub redraw_of : List Row → Option Task
-redraw_of rows = searching (λ design budget proofs. redraw design budget) rows
+redraw_of rows = searching_only redraw rows
+
+abbrev pub why_of : List Row → Option Task
+why_of rows = searching_only why rows
+
+abbrev pub brief_of : List Row → Option Task
+brief_of rows = searching_only brief rows
+
+abbrev pub lint_of : List Row → Option Task
+lint_of rows = searching_only lint rows
 
 abbrev pub matrix_of : List Row → Option Task
 matrix_of rows = option_map matrix (first_of (codes "design") rows)
@@ -93,7 +109,10 @@ task_named rows name =
     else (if bytes_eq name (codes "whatif") then whatif_of rows
     else (if bytes_eq name (codes "settle") then settle_of rows
     else (if bytes_eq name (codes "confirm") then confirm_of rows
-    else None))))))))
+    else (if bytes_eq name (codes "why") then why_of rows
+    else (if bytes_eq name (codes "brief") then brief_of rows
+    else (if bytes_eq name (codes "lint") then lint_of rows
+    else None)))))))))))
 
 abbrev pub task_of : List Row → Option Task
 task_of rows = option_and_then (task_named rows) (first_of (codes "job") rows)
@@ -135,6 +154,9 @@ IsWithinLimits (bounds design budget proofs) = IsBudget budget
 IsWithinLimits (fall design budget proofs) = IsBudget budget
 IsWithinLimits (settle design budget proofs) = IsBudget budget
 IsWithinLimits (redraw design budget) = IsBudget budget
+IsWithinLimits (why design budget) = IsBudget budget
+IsWithinLimits (brief design budget) = IsBudget budget
+IsWithinLimits (lint design budget) = IsBudget budget
 IsWithinLimits (matrix design) = Unit {0}
 IsWithinLimits (check design report) = Unit {0}
 IsWithinLimits (confirm design report) = Unit {0}

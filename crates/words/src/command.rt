@@ -25,10 +25,13 @@ Jobs:
   confirm Checks each claim of the text FILE of job settle against DESIGN
   redraw  Draws the first requirement of DESIGN that fails, with times that break it, as a timing diagram
   whatif  Bounds the separation of each row of DESIGN, and again behind each edit of FILE
+  why     Tells which edges of DESIGN make each bound of each row, or which of its rules contradict each other
+  brief   Tells each row of DESIGN on one line, the worst first
+  lint    Tells what of DESIGN may say something else than was meant
 
 Exit statuses:
   0  All is well: every requirement passes, the matrix is printed, the report is accepted
-  1  A requirement fails
+  1  A requirement fails, or job lint has a warning
   2  No times satisfy the design
   3  The budget was too small to decide
   4  The design, the report or the edits are refused, for the reason that is printed
@@ -71,7 +74,7 @@ fn job_option<'a>(alloc: Global) -> Arg<'a>
         alloc,
         "job",
         "JOB",
-        "What to do: bounds, matrix, check, self, fall, settle, confirm, redraw or whatif",
+        "What to do: bounds, matrix, check, self, fall, settle, confirm, redraw, whatif, why, brief or lint",
     )
     .default_value("bounds")
 }

@@ -5,7 +5,7 @@ ghost use Rattle.clap.specs.Matches.{found_of};
 ghost use Rattle.clap.specs.Values.{kind_of};
 ghost use Rattle.clap.specs.Walk.{first_of, rows_of};
 ghost use Rattle.clap.specs.declared.error.kind.ErrorKind.{ErrorKind};
-ghost use Rattle.words.specs.Task.{KeepsLimits, answer_for, bounds_of, budget_of, check_of, confirm_of, fall_of, generated_of, matrix_of, number_in, redraw_of, refusal_for, settle_of, size_of, taken, task_named, task_of, wants_proofs, whatif_of};
+ghost use Rattle.words.specs.Task.{KeepsLimits, answer_for, bounds_of, brief_of, budget_of, check_of, confirm_of, fall_of, generated_of, lint_of, matrix_of, number_in, redraw_of, refusal_for, settle_of, size_of, taken, task_named, task_of, wants_proofs, whatif_of, why_of};
 ghost use Rattle.words.specs.View.{answer_view, task_view};
 
 use crate::command::command;
@@ -77,6 +77,12 @@ fn task_named<'a>(matches: &ArgMatches<'a>, name: &str) -> Option<Task<'a>>
         settle_task(matches)
     } else if name == "confirm" {
         confirm_task(matches)
+    } else if name == "why" {
+        why_task(matches)
+    } else if name == "brief" {
+        brief_task(matches)
+    } else if name == "lint" {
+        lint_task(matches)
     } else {
         None
     }
@@ -124,6 +130,30 @@ fn redraw_task<'a>(matches: &ArgMatches<'a>) -> Option<Task<'a>>
     let design = text_of(matches, "design")?;
     let budget = budget_of(matches)?;
     Some(Task::Redraw { design, budget })
+}
+
+fn why_task<'a>(matches: &ArgMatches<'a>) -> Option<Task<'a>>
+    ensures { option_map task_view result ≡ why_of (rows_of (found_of matches.now)) }
+{
+    let design = text_of(matches, "design")?;
+    let budget = budget_of(matches)?;
+    Some(Task::Why { design, budget })
+}
+
+fn brief_task<'a>(matches: &ArgMatches<'a>) -> Option<Task<'a>>
+    ensures { option_map task_view result ≡ brief_of (rows_of (found_of matches.now)) }
+{
+    let design = text_of(matches, "design")?;
+    let budget = budget_of(matches)?;
+    Some(Task::Brief { design, budget })
+}
+
+fn lint_task<'a>(matches: &ArgMatches<'a>) -> Option<Task<'a>>
+    ensures { option_map task_view result ≡ lint_of (rows_of (found_of matches.now)) }
+{
+    let design = text_of(matches, "design")?;
+    let budget = budget_of(matches)?;
+    Some(Task::Lint { design, budget })
 }
 
 fn matrix_task<'a>(matches: &ArgMatches<'a>) -> Option<Task<'a>>

@@ -29,6 +29,23 @@ pub enum Task<'a> {
         design: &'a str,
         budget: u64,
     },
+    /// To tell why the bounds of the rows of a design are what they are: the name of its file, and the cases that each search may
+    /// close.
+    Why {
+        design: &'a str,
+        budget: u64,
+    },
+    /// To tell each row of a design on one line: the name of its file, and the cases that each search may close.
+    Brief {
+        design: &'a str,
+        budget: u64,
+    },
+    /// To tell what of a design may say something else than was meant: the name of its file, and the cases that each search may
+    /// close.
+    Lint {
+        design: &'a str,
+        budget: u64,
+    },
     /// To print the matrix of a design: the name of its file.
     Matrix {
         design: &'a str,

@@ -1,6 +1,6 @@
 use Rattle.std.proofs.Common.{refl}
 use Rattle.design_gen.specs.Files.{design_files}
-use Rattle.words.specs.Task.{bounds, fall, settle, redraw, matrix, check, confirm, generated, whatif}
+use Rattle.words.specs.Task.{bounds, fall, settle, redraw, why, brief, lint, matrix, check, confirm, generated, whatif}
 use Rattle.itv_cli.proofs.Fetching.{opens_made, opens_shelf}
 use Rattle.itv_cli.proofs.opening.open.Goals as goal
 
@@ -22,6 +22,18 @@ returns-in-Settle-clause-opens g c =
 pub returns-in-Redraw-clause-opens : goal.returns-in-Redraw-clause-opens
 returns-in-Redraw-clause-opens g c =
     rw c.in-Redraw.is (opens_shelf (g.H.Shelf.told c.args.shelf.now) (g.H.Shelf.told c.open_redraw.new.shelf) (redraw c.in-Redraw.design.now c.in-Redraw.budget) c.open_redraw.result refl c.open_redraw.ensures.opens)
+
+pub returns-in-Why-clause-opens : goal.returns-in-Why-clause-opens
+returns-in-Why-clause-opens g c =
+    rw c.in-Why.is (opens_shelf (g.H.Shelf.told c.args.shelf.now) (g.H.Shelf.told c.open_why.new.shelf) (why c.in-Why.design.now c.in-Why.budget) c.open_why.result refl c.open_why.ensures.opens)
+
+pub returns-in-Brief-clause-opens : goal.returns-in-Brief-clause-opens
+returns-in-Brief-clause-opens g c =
+    rw c.in-Brief.is (opens_shelf (g.H.Shelf.told c.args.shelf.now) (g.H.Shelf.told c.open_brief.new.shelf) (brief c.in-Brief.design.now c.in-Brief.budget) c.open_brief.result refl c.open_brief.ensures.opens)
+
+pub returns-in-Lint-clause-opens : goal.returns-in-Lint-clause-opens
+returns-in-Lint-clause-opens g c =
+    rw c.in-Lint.is (opens_shelf (g.H.Shelf.told c.args.shelf.now) (g.H.Shelf.told c.open_lint.new.shelf) (lint c.in-Lint.design.now c.in-Lint.budget) c.open_lint.result refl c.open_lint.ensures.opens)
 
 pub returns-in-Matrix-clause-opens : goal.returns-in-Matrix-clause-opens
 returns-in-Matrix-clause-opens g c =
