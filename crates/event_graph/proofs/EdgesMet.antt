@@ -1,6 +1,7 @@
 -- Times that meet the edges of a constraint.
-use Rattle.std.proofs.Common.{◌≡◌, ◌<◌, ℕ, zero, suc, ℤ, neg_ℤ, ◌+ℤ◌, ◌≤ℤ◌, IsTrue, List, [], ◌∷◌, All, Any, length, get_or, Option, Some, None, IfSome, option_map, option_and_then, slice_get, sym, ap, ◌∙◌, refl, subst, arith}
+use Rattle.std.proofs.Common.{◌≡◌, ◌<◌, ℕ, zero, suc, ℤ, neg_ℤ, ◌+ℤ◌, ◌≤ℤ◌, IsTrue, List, [], ◌∷◌, All, Any, length, get_or, take, ◌+◌, ◌++◌, Option, Some, None, IfSome, option_map, option_and_then, slice_get, sym, ap, ◌∙◌, refl, subst, arith}
 use Rattle.std.proofs.lemmas.Int.{ints}
+use Rattle.std.proofs.lemmas.List.{take_more}
 use Rattle.std.proofs.lemmas.Option.{get_or_from_slice_get, slice_get_within}
 use Rattle.itv_base.specs.declared.names.EdgeName.{EdgeName}
 use Rattle.itv_base.specs.declared.names.EventId.{EventId}
@@ -14,6 +15,10 @@ use Rattle.event_graph.specs.Network.{Constraint, Net}
 use Rattle.event_graph.specs.Satisfying.{HoldsAs, IsAfter, IsBefore}
 use Rattle.event_graph.specs.Times.{time_of}
 use Rattle.event_graph.specs.Edges.{Meets, edge, holds_always, side_edge}
+
+-- the first ones of a list, and one more
+pub take_next : {A : Type 0} (xs : List A) (i : ℕ) (x : A) → slice_get xs i ≡ Some x → take (i + 1) xs ≡ take i xs ++ x ∷ []
+take_next xs i x at = take_more xs i x (slice_get_within xs i x at) ∙ ap (λ y. take i xs ++ y ∷ []) (get_or_from_slice_get xs i x x at)
 
 -- what a side of a cause asks of the times
 abbrev pub Allows : Side → List ℤ → EventId → Cause → Type 0

@@ -1,6 +1,6 @@
 //! Networks of timing constraints.
 
-ghost use Rattle.std.specs.Prelude.{◌≡◌, ◌<◌, ◌≤◌, ◌↔◌, ℕ, IsTrue, IsSome, IsNone, IfOk, IfErr, IfSome, OnOk, OnErr, Some, [], All, length, option_map, slice_get};
+ghost use Rattle.std.specs.Prelude.{◌≡◌, ◌<◌, ◌≤◌, ◌↔◌, ℕ, IsTrue, IsSome, IsNone, IsSomeAnd, IfOk, IfErr, IfSome, OnOk, OnErr, Some, [], All, length, option_map, slice_get};
 ghost use Rattle.itv_base.specs.Range.{IsEnd};
 ghost use Rattle.std.specs.List.{AllWithin};
 ghost use Rattle.event_graph.specs.Bounds.{IsRay};
@@ -134,6 +134,28 @@ impl Network {
         ensures unchanged { OnErr result (self.new ≡ self.old) }
     {
         self.push(alloc, RuleKind::Early, target, causes)
+    }
+
+    /// Adds a constraint that is there in a network of as many events, by its number. There is room for one more.
+    /// After a refusal the network is unchanged.
+    pub fn push_copy(&mut self, alloc: Global, net: &Network, number: u32) -> Result<(), NoMemory>
+        requires there { number < length net.now.constraints }
+        requires events { self.old.events ≡ net.now.events }
+        requires room { length self.old.constraints < MAX_CONSTRAINTS }
+        ensures added { OnOk result (IsSomeAnd (slice_get net.now.constraints number)
+            (λ c. self.new ≡ with_constraint self.old c)) }
+        ensures unchanged { OnErr result (self.new ≡ self.old) }
+    {
+        let constraint = &net.constraints[number as usize];
+        match self.push(
+            alloc,
+            constraint.kind,
+            constraint.target,
+            &constraint.causes,
+        ) {
+            Ok(()) => Ok(()),
+            Err(_) => Err(NoMemory),
+        }
     }
 
     // Adds a constraint of any kind.

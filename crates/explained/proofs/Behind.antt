@@ -10,13 +10,15 @@ use Rattle.event_graph.specs.Network.{Net}
 use Rattle.event_graph.specs.RootBound.{IsRootBound}
 use Rattle.event_graph.specs.Satisfying.{Satisfies}
 use Rattle.event_graph.specs.Times.{IsTime, separation, time_of}
+use Rattle.event_graph.proofs.Rays.{ray_is_unbounded}
 use Rattle.event_graph.proofs.Reversing.{least_is_reversed_greatest}
 use Rattle.branch.specs.Answers.{Answers, Evidence, PairSearch}
 use Rattle.branch.specs.Work.{IsClose}
 use Rattle.branch.specs.declared.answer.Answer.{Answer}
 use Rattle.branch.specs.declared.answer.Answer.TheVariants as answers
 use Rattle.chains.specs.Chain.{AreBest}
-use Rattle.requirements.specs.Bounds.{HasTimes, reversed}
+use Rattle.requirements.specs.Bounds.{HasTimes, IsGreatestBound, IsLeastBound, reversed}
+use Rattle.requirements.proofs.Judging.{reversed_greatest_is_least}
 use Rattle.requirements.specs.declared.bound.Bound.{Bound}
 use Rattle.requirements.specs.declared.bound.Bound.TheVariants as bounds
 use Rattle.slack_report.specs.declared.words.FindingWord.{FindingWord}
@@ -24,7 +26,7 @@ use Rattle.slack_report.specs.declared.words.FindingWord.TheVariants as findings
 use Rattle.right_report.specs.Right.At.{Side, greatest, least_by}
 use Rattle.right_report.specs.Right.Facts.{HasAttained, IsBoundOf}
 use Rattle.drawn.specs.declared.row.Row.{Row}
-use Rattle.explained.specs.Answers.{AreBounds, Explains, IsBoundFound}
+use Rattle.explained.specs.Answers.{AreBounds, Explains, IsBoundFound, bound_of}
 use Rattle.explained.specs.declared.bound.BoundFound.{BoundFound}
 use Rattle.explained.specs.declared.bound.BoundFound.TheVariants.{Closed, Unbounded, Within}
 use Rattle.explained.specs.declared.pair.Pair.{Pair}
@@ -101,6 +103,25 @@ attained_turned findings.Inconsistent attained h = h
 attained_turned findings.Unsettled None h = h
 attained_turned findings.Unsettled (Some value) h = absurd (cc h)
 
+-- a greatest bound is right
+holds_by : (net : Net) (word : FindingWord) (from to : EventId) (value : Bound) (times : List ℤ) (set : List Bool) → IsGreatestBy net word (record { from = from; to = to }) value times set
+    → IsGreatestBound net from to value
+holds_by net word from to (bounds.Closed value) times set is = is.greatest
+holds_by net word from to bounds.Unbounded times set is = ray_is_unbounded net from to times set is.ray
+holds_by net word from to (bounds.Within limit attained) times set is = (is.root, is.attained)
+
+-- and with what stands behind it
+explained_holds : (net : Net) (word : FindingWord) (from to : EventId) (found : BoundFound) → IsExplained net word (record { from = from; to = to }) found
+    → IsGreatestBound net from to (bound_of found)
+explained_holds net word from to (Closed value chain) is = is.1
+explained_holds net word from to (Unbounded set) is = ray_is_unbounded net from to is.1.0 set.items is.1.1.1
+explained_holds net word from to (Within limit attained) is = (is.root, is.attained)
+
+-- minus the greatest bound of the reversed pair is the least one
+least_holds : (net : Net) (word : FindingWord) (from to : EventId) (found : BoundFound) → IsExplained net word (record { from = to; to = from }) found
+    → IsLeastBound net from to (reversed (bound_of found))
+least_holds net word from to found is = (reversed_greatest_is_least net from to (bound_of found)).0 (explained_holds net word to from found is)
+
 -- a greatest bound of a row
 pub greatest_of : (net : Net) (word : FindingWord) (row : Row) (value : Bound) (times : List ℤ) (set : List Bool)
     → IsGreatestBy net word (record { from = row.from; to = row.to }) value times set → IsBoundOf net word row greatest value
@@ -120,18 +141,20 @@ least_of net word row most (bounds.Within limit attained) times set is =
 -- with what stands behind them
 pub greatest_found : (net : Net) (word : FindingWord) (row : Row) (found : BoundFound) → IsExplained net word (record { from = row.from; to = row.to }) found
     → IsBoundFound net word row greatest found
-greatest_found net word row (Closed value chain) is = record { right = (is.0, is.1); behind = is.2 }
-greatest_found net word row (Unbounded set) is = record { right = is.0; behind = is.1 }
-greatest_found net word row (Within limit attained) is = record { right = (is.root, is.told); behind = tt }
+greatest_found net word row (Closed value chain) is = record { holds = explained_holds net word row.from row.to (Closed value chain) is; right = (is.0, is.1); behind = is.2 }
+greatest_found net word row (Unbounded set) is = record { holds = explained_holds net word row.from row.to (Unbounded set) is; right = is.0; behind = is.1 }
+greatest_found net word row (Within limit attained) is = record { holds = explained_holds net word row.from row.to (Within limit attained) is; right = (is.root, is.told); behind = tt }
 
 pub least_found : (net : Net) (word : FindingWord) (row : Row) (most : Bound) (found : BoundFound) → IsExplained net word (record { from = row.to; to = row.from }) found
     → IsBoundFound net word row (least_by most) (reversed_found found)
 least_found net word row most (Closed value chain) is = record {
+  holds = least_holds net word row.from row.to (Closed value chain) is;
   right = (is.0, (least_is_reversed_greatest net row.from row.to (neg_ℤ value)).1 (subst (IsGreatest net row.to row.from) (sym (neg_neg value)) is.1));
   behind = subst (λ z. Explains net row.to row.from z chain.items) (sym (neg_neg value)) is.2;
 }
-least_found net word row most (Unbounded set) is = record { right = is.0; behind = is.1 }
+least_found net word row most (Unbounded set) is = record { holds = least_holds net word row.from row.to (Unbounded set) is; right = is.0; behind = is.1 }
 least_found net word row most (Within limit attained) is = record {
+  holds = least_holds net word row.from row.to (Within limit attained) is;
   right = (subst (IsRootBound net row.to row.from) (no_neg limit) is.root, attained_turned word attained is.told);
   behind = tt;
 }
@@ -153,6 +176,10 @@ both_of net word later pair turned row most fewest least times others set flags 
     subst (λ (w : FindingWord). IsGreatestBy net w (record { from = row.to; to = row.from }) fewest others flags) same_word
     (subst (λ (p : Pair). IsGreatestBy net later p fewest others flags) other second) in
     record {
+      holds = (
+        holds_by net word row.from row.to most times set one,
+        subst (IsLeastBound net row.from row.to) (sym same_least) ((reversed_greatest_is_least net row.from row.to fewest).0 (holds_by net word row.to row.from fewest others flags two)),
+      );
       word = word;
       finding = is_finding net word allows;
       greatest = greatest_of net word row most times set one;

@@ -34,6 +34,7 @@ told_of apart row (kinds.Req range) found told = told
 both_found : (net : Net) (word : FindingWord) (row : Row) (most fewest : BoundFound) → Allows net word → IsBoundFound net word row greatest most
     → IsBoundFound net word row (least_by (bound_of most)) fewest → AreBounds net row (record { least = bound_of fewest; greatest = bound_of most })
 both_found net word row most fewest allows first second = record {
+  holds = (first.holds, second.holds);
   word = word;
   finding = is_finding net word allows;
   greatest = first.right;

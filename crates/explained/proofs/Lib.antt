@@ -1,4 +1,3 @@
-pub mod Copies
 pub mod Wider
 pub mod Behind
 pub mod Standing

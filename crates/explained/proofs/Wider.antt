@@ -1,9 +1,9 @@
 -- The network apart from the order of lanes.
 use Rattle.std.proofs.Common.{◌≡◌, ◌<◌, ◌≤◌, ◌+◌, ℕ, zero, suc, ℤ, Bool, true, false, IsTrue, List, [], ◌∷◌, ◌++◌, length, get_or, map, take, All, Option, Some, None, option_and_then, slice_get, refl, sym, subst, ap, ◌∙◌, arith}
 use Rattle.std.specs.Prelude.{IsSomeAnd, if◌then◌else◌}
-use Rattle.std.proofs.lemmas.List.{length-map, take_all}
+use Rattle.std.proofs.lemmas.List.{length-map, length-take-le, take_all}
 use Rattle.std.proofs.lemmas.Option.{get_or_from_slice_get}
-use Rattle.event_graph.proofs.EdgesMet.{All-found, found_below}
+use Rattle.event_graph.proofs.EdgesMet.{All-found, found_below, take_next}
 use Rattle.itv_base.specs.declared.names.EdgeName.{EdgeName}
 use Rattle.origin.specs.declared.origin.Origin.{Origin}
 use Rattle.event_graph.specs.declared.edge.Edge.{Edge}
@@ -13,7 +13,6 @@ use Rattle.event_graph.specs.RootBound.{MeetsAlways}
 use Rattle.event_graph.specs.Satisfying.{Holds, Satisfies}
 use Rattle.drawn.specs.Drawn.{Drawn, OriginsFit}
 use Rattle.explained.specs.Apart.{ApartIsWider, constraints_apart, keeps_order, net_apart}
-use Rattle.explained.proofs.Copies.{IsCopied, take_next}
 
 -- ---- one constraint more
 
@@ -92,9 +91,22 @@ left_out net origins k fit within order =
     let n = order_next net origins k true (slice_get net.constraints k) (slice_get origins k) refl refl (fit_length net origins fit) within order in
     ap (λ (cs : List Constraint). record { events = net.events; constraints = cs }) n.2
 
+-- there is room for each of them
+fewer_apart : (cs : List Constraint) (origins : List (List Origin)) → length (constraints_apart cs origins) ≤ length cs
+fewer_apart [] origins = omega arith
+fewer_apart (c ∷ cs) [] = omega arith
+fewer_apart (c ∷ cs) (drew ∷ origins) = by_order (keeps_order drew) (fewer_apart cs origins)
+  where
+    by_order : (keeps : Bool) {xs : List Constraint} → length xs ≤ length cs → length (if keeps then xs else c ∷ xs) ≤ suc (length cs)
+    by_order true fewer = omega (arith, fewer)
+    by_order false fewer = omega (arith, fewer)
+
+pub front_fits : (net : Net) (origins : List (List Origin)) (k : ℕ) → k ≤ length net.constraints → length (front_apart net origins k).constraints ≤ k
+front_fits net origins k within = omega (arith, fewer_apart (take k net.constraints) (take k origins), length-take-le k net.constraints within)
+
 -- another is copied
 pub copied_next : (net : Net) (origins : List (List Origin)) (k : ℕ) (old new : Net) → OriginsFit net origins → k < length net.constraints → IsOrder origins k false
-    → old ≡ front_apart net origins k → IsCopied net k old new → new ≡ front_apart net origins (k + 1)
+    → old ≡ front_apart net origins k → IsSomeAnd (slice_get net.constraints k) (λ c. new ≡ with_constraint old c) → new ≡ front_apart net origins (k + 1)
 copied_next net origins k old new fit within order before copied =
     let n = order_next net origins k false (slice_get net.constraints k) (slice_get origins k) refl refl (fit_length net origins fit) within order in
     let P : Option Constraint → Type 0 = λ o. IsSomeAnd o (λ c. new ≡ with_constraint old c) in

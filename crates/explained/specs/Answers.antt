@@ -12,7 +12,7 @@ use Rattle.event_graph.specs.Satisfying.{Satisfies}
 use Rattle.event_graph.specs.Times.{separation}
 use Rattle.chains.specs.Chain.{IsChain}
 use Rattle.chains.specs.Named.{IsContradiction}
-use Rattle.requirements.specs.Bounds.{HasTimes}
+use Rattle.requirements.specs.Bounds.{HasTimes, IsGreatestBound, IsLeastBound}
 use Rattle.requirements.specs.Verdicts.{verdict_of}
 use Rattle.requirements.specs.declared.bound.BothBounds.{BothBounds}
 use Rattle.requirements.specs.declared.bound.Bound.{Bound}
@@ -73,8 +73,14 @@ bound_of (Closed value chain) = bounds.Closed value
 bound_of (Unbounded set) = bounds.Unbounded
 bound_of (Within limit attained) = bounds.Within limit attained
 
--- a bound that is right behind a finding, and what stands behind it
+-- a bound of a row on one side is right: the separation is the greatest or the least one, or there is none, or what was attained is so
+abbrev pub Holds : Net → Row → Side → Bound → Type 0
+Holds net row greatest value = IsGreatestBound net row.from row.to value
+Holds net row (least_by most) value = IsLeastBound net row.from row.to value
+
+-- a bound that is right, also behind a finding, and what stands behind it
 pub record IsBoundFound (net : Net) (word : FindingWord) (row : Row) (side : Side) (found : BoundFound) : Type 0 where
+  pub holds : Holds net row side (bound_of found)
   pub right : IsBoundOf net word row side (bound_of found)
   pub behind : IsBehind net row side found
 
@@ -86,8 +92,9 @@ verdict_in range found = verdict_of range (bound_of found.least) (bound_of found
 abbrev pub verdict_by : Ends → BothBounds → Verdict
 verdict_by range both = verdict_of range both.least both.greatest
 
--- both bounds of a row in a network, right behind a right finding
+-- both bounds of a row in a network, right, also behind a right finding
 pub record AreBounds (net : Net) (row : Row) (both : BothBounds) : Type 0 where
+  pub holds : IsGreatestBound net row.from row.to both.greatest × IsLeastBound net row.from row.to both.least
   pub word : FindingWord
   pub finding : IsFinding net word
   pub greatest : IsBoundOf net word row greatest both.greatest

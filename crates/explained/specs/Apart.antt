@@ -1,18 +1,11 @@
 -- The network of a drawn one without the constraints that keep the order of a lane.
-use Rattle.std.specs.Prelude.{ℤ, Bool, true, false, if◌then◌else◌, List, [], ◌∷◌}
+use Rattle.std.specs.Prelude.{ℤ, Bool, if◌then◌else◌, List, [], ◌∷◌}
 use Rattle.std.specs.List.{list_any}
 use Rattle.event_graph.specs.Network.{Constraint, Net}
 use Rattle.event_graph.specs.Satisfying.{Satisfies}
 use Rattle.origin.specs.declared.origin.Origin.{Origin}
-use Rattle.origin.specs.declared.origin.Origin.TheVariants.{Lane, Edge, Pin, Wire}
+use Rattle.origin.specs.Order.{is_lane}
 use Rattle.drawn.specs.Drawn.{Drawn}
-
--- the order of a lane draws it
-abbrev pub is_lane : Origin → Bool
-is_lane (Lane number) = true
-is_lane (Edge number) = false
-is_lane (Pin net pin) = false
-is_lane (Wire number) = false
 
 -- a constraint whose causes have these origins keeps the order of a lane
 abbrev pub keeps_order : List Origin → Bool

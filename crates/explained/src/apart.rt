@@ -1,9 +1,8 @@
 //! The network of a drawn one apart from the order of lanes.
 
 ghost use Rattle.std.specs.Prelude.{◌≡◌, ◌<◌, false, IfOk, IsSomeAnd, MatchOption, length, slice_get};
-ghost use Rattle.explained.specs.Apart.{is_lane, keeps_order, net_apart};
+ghost use Rattle.explained.specs.Apart.{keeps_order, net_apart};
 
-use crate::copying::copy_constraint;
 use drawn::{DrawnNetwork, Origins};
 use event_graph::Network;
 use itv_base::NoMemory;
@@ -23,7 +22,7 @@ pub fn network_apart(alloc: Global, drawn: &DrawnNetwork) -> Result<Option<Netwo
     let mut apart = Network::new(alloc, net.events())?;
     for number in 0..net.len() {
         if !keeps_order_at(origins, number) {
-            copy_constraint(alloc, net, number, &mut apart)?;
+            apart.push_copy(alloc, net, number)?;
         }
     }
     Ok(Some(apart))
@@ -55,15 +54,5 @@ fn keeps_order_at(origins: &Origins, number: u32) -> bool
 fn keeps_order(origins: &[Origin]) -> bool
     ensures { result ≡ keeps_order origins.now }
 {
-    origins.iter().any(|origin| is_lane(*origin))
-}
-
-// Whether the order of a lane draws a cause.
-fn is_lane(origin: Origin) -> bool
-    ensures { result ≡ is_lane origin }
-{
-    match origin {
-        Origin::Lane(_) => true,
-        Origin::Edge(_) | Origin::Pin { .. } | Origin::Wire(_) => false,
-    }
+    origins.iter().any(|origin| origin.is_lane())
 }

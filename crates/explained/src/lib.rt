@@ -6,7 +6,6 @@
 mod apart;
 mod bound;
 mod bounding;
-mod copying;
 mod desk;
 mod explaining;
 mod finding;

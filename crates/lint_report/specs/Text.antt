@@ -14,7 +14,7 @@ use Rattle.compose.specs.declared.mark.DesignMark.{DesignMark}
 use Rattle.compose.specs.Design.{Composed}
 use Rattle.compose.specs.Nets.{marks_at}
 use Rattle.drawn.specs.Drawn.{Drawn}
-use Rattle.explained.specs.Apart.{is_lane}
+use Rattle.origin.specs.Order.{is_lane}
 use Rattle.explained.specs.declared.bound.BoundFound.{BoundFound}
 use Rattle.explained.specs.declared.bound.BoundFound.TheVariants.{Closed, Unbounded, Within}
 use Rattle.explained.specs.declared.row.RowFound.{RowFound}

@@ -2,13 +2,11 @@
 
 ghost use Rattle.std.specs.Prelude.{◌≡◌};
 ghost use Rattle.std.specs.List.{list_any};
-ghost use Rattle.explained.specs.Apart.{is_lane};
 ghost use Rattle.lint_report.specs.Text.{goes_over, is_clean, is_lane_edge, is_over};
 
 use drawn::DrawnNetwork;
 use explained::{BoundFound, RowFound};
 use itv_base::EdgeName;
-use origin::Origin;
 use warnings::Warning;
 
 /// Whether there is no warning, neither of the drawing nor of a row.
@@ -59,14 +57,5 @@ fn is_lane_edge(drawn: &DrawnNetwork, name: EdgeName) -> bool
     if causes.len() <= u64::from(name.cause) {
         return false;
     }
-    is_lane(*causes.get(u64::from(name.cause)))
-}
-
-fn is_lane(origin: Origin) -> bool
-    ensures { result ≡ is_lane origin }
-{
-    match origin {
-        Origin::Lane(_) => true,
-        Origin::Edge(_) | Origin::Pin { .. } | Origin::Wire(_) => false,
-    }
+    causes.get(u64::from(name.cause)).is_lane()
 }

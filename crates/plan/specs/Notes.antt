@@ -40,7 +40,7 @@ note_by (Err fault) = []
 
 -- the note of a label, by the version
 abbrev pub label_note : ℕ → List ℕ → List ℕ
-label_note version label = if version == 1 then note_by (judged version_1 (label_of ends_of label)) else note_by (judged version_2 (label_of span_of label))
+label_note version label = if version == 2 then note_by (judged version_2 (label_of span_of label)) else note_by (judged version_1 (label_of ends_of label))
 
 -- ---- edges and wires
 

@@ -34,10 +34,10 @@ pub fn wire_note(text: &str) -> &str
 fn label_note(version: u32, label: &str) -> &str
     ensures { result.now ≡ label_note version label.now }
 {
-    if version == 1 {
-        plain_note(label)
-    } else {
+    if version == 2 {
         graded_note(label)
+    } else {
+        plain_note(label)
     }
 }
 

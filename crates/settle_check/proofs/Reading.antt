@@ -1,8 +1,9 @@
 -- Rows that were read, one behind another.
 use Rattle.std.proofs.Common.{◌≡◌, ◌<◌, ◌+◌, ℕ, true, List, [], ◌∷◌, ◌++◌, length, take, Some, slice_get, sym, subst, ap, ◌∙◌, append_assoc, inl, inr, arith}
-use Rattle.std.proofs.lemmas.List.{length-take-le, take_more}
-use Rattle.std.proofs.lemmas.Option.{get_or_from_slice_get, slice_get_cases, slice_get_within}
+use Rattle.std.proofs.lemmas.List.{length-take-le}
+use Rattle.std.proofs.lemmas.Option.{slice_get_cases, slice_get_within}
 use Rattle.event_graph.specs.Network.{Net}
+use Rattle.event_graph.proofs.EdgesMet.{take_next}
 use Rattle.drawn.specs.Drawn.{Drawn}
 use Rattle.drawn.specs.declared.row.Row.{Row}
 use Rattle.settle_report.specs.declared.row.RowFound.{RowFound}
@@ -28,9 +29,6 @@ text_push drawn net number last (r ∷ rows) [] row of_row are is = absurd are
 text_push drawn net number last (r ∷ rows) (f ∷ found) row of_row are is =
     ap (λ text. row_text drawn true number r f ++ text) (text_push drawn net (number + 1) last rows found row of_row are.1 (omega arith))
     ∙ sym (append_assoc (row_text drawn true number r f) (rows_text drawn true (number + 1) rows found) (row_text drawn true last row of_row))
-
-take_next : (rows : List Row) (k : ℕ) (row : Row) → slice_get rows k ≡ Some row → take (k + 1) rows ≡ take k rows ++ row ∷ []
-take_next rows k row at = take_more rows k row (slice_get_within rows k row at) ∙ ap (λ y. take k rows ++ y ∷ []) (get_or_from_slice_get rows k row row at)
 
 -- the rows so far, and the place behind them
 pub record AreRead (drawn : Drawn) (text : List ℕ) (start number : ℕ) (found : List RowFound) (place : ℕ) : Type 0 where

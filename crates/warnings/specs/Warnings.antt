@@ -13,6 +13,7 @@ use Rattle.label_grammar.specs.Wire.{WireSeen, wire_of}
 use Rattle.label_grammar.specs.Wire as wires
 use Rattle.origin.specs.declared.origin.Origin.{Origin}
 use Rattle.origin.specs.declared.origin.Origin.TheVariants as drawn
+use Rattle.origin.specs.Order.{is_lane}
 use Rattle.sheet.specs.declared.row.SheetRow.{SheetRow}
 use Rattle.sheet.specs.declared.rule.Source.{Source}
 use Rattle.sheet.specs.Contents.{Contents}
@@ -181,12 +182,6 @@ abbrev pub single_warnings : Composed → List Warning
 single_warnings d = each_from sheet_single 0 d.sheets ++ single_in netlist_part d.rules
 
 -- ---- rules and rows that are in no cycle: their shifts reach before the first cycle even from the last one
-
-abbrev pub is_lane : Origin → Bool
-is_lane (drawn.Lane n) = true
-is_lane (drawn.Edge n) = false
-is_lane (drawn.Pin net pin) = false
-is_lane (drawn.Wire n) = false
 
 -- the order of a lane draws the rule: it also stands from the last mark of a cycle to the first one of the next, where there is one
 abbrev pub keeps_order : SheetRule → Bool

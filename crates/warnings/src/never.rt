@@ -2,7 +2,7 @@
 
 ghost use Rattle.std.specs.Prelude.{◌≡◌, ◌++◌, OnOk};
 ghost use Rattle.unroll.specs.Cycles.{rule_exists};
-ghost use Rattle.warnings.specs.Warnings.{each_from, is_lane, keeps_order, never_rows, never_rules, never_warnings, row_never, rule_never, sheet_never};
+ghost use Rattle.warnings.specs.Warnings.{each_from, keeps_order, never_rows, never_rules, never_warnings, row_never, rule_never, sheet_never};
 
 use crate::asked::part_count;
 use crate::push::push_where;
@@ -10,7 +10,6 @@ use crate::rule::{drawn_by, spot_of};
 use crate::warning::{Spot, Warning};
 use compose::Design;
 use itv_base::NoMemory;
-use origin::Origin;
 use sheet::{Rule, Sheet, SheetRow};
 
 /// Puts the warnings of rules and rows that are in no cycle at the end: those of the sheets, and then those of the wires.
@@ -79,17 +78,8 @@ fn keeps_order(rule: &Rule) -> bool
     ensures { result ≡ keeps_order rule.now }
 {
     match drawn_by(rule) {
-        Some(origin) => is_lane(origin),
+        Some(origin) => origin.is_lane(),
         None => false,
-    }
-}
-
-fn is_lane(origin: Origin) -> bool
-    ensures { result ≡ is_lane origin }
-{
-    match origin {
-        Origin::Lane(_) => true,
-        Origin::Edge(_) | Origin::Pin { .. } | Origin::Wire(_) => false,
     }
 }
 

@@ -1,9 +1,10 @@
 -- Lines of a proof that are read one after another.
 use Rattle.std.proofs.Common.{◌≡◌, ◌+◌, ◌≤◌, ◌↔◌, ℕ, Bool, IsTrue, List, [], ◌∷◌, ◌++◌, length, take, drop, Option, Some, None, Result, Ok, Err, OnOk, slice_get, sym, ap, subst, ◌∙◌, append-nil}
 use Rattle.std.specs.Prelude.{MatchBool, is_ok}
-use Rattle.std.proofs.lemmas.List.{drop_more, take-append-drop, take_all, take_more}
+use Rattle.std.proofs.lemmas.List.{drop_more, take-append-drop, take_all}
 use Rattle.std.proofs.lemmas.Option.{get_or_from_slice_get, slice_get_within}
 use Rattle.event_graph.specs.Network.{Net}
+use Rattle.event_graph.proofs.EdgesMet.{take_next}
 use Rattle.event_graph.specs.Proof.{Case, IsProof, Loop, Path, ProofGoal, ProofLine, Reads, Split, cases_of}
 use Rattle.cert_checker.specs.Checking.{Tells}
 use Rattle.cert_checker.specs.Faults.{behind_line, fault_of_line}
@@ -19,9 +20,6 @@ reads_behind net goal (Split number ∷ lines) more (chosen ∷ cases) mid left 
     reads_behind net goal lines more (cases_of net chosen number ++ cases) mid left first.1 whole.1
 reads_behind net goal (Path names ∷ lines) more (chosen ∷ cases) mid left first whole = reads_behind net goal lines more cases mid left first.1 whole.1
 reads_behind net goal (Loop names ∷ lines) more (chosen ∷ cases) mid left first whole = reads_behind net goal lines more cases mid left first.1 whole.1
-
-pub take_next : {A : Type 0} (xs : List A) (i : ℕ) (x : A) → slice_get xs i ≡ Some x → take (i + 1) xs ≡ take i xs ++ x ∷ []
-take_next xs i x at = take_more xs i x (slice_get_within xs i x at) ∙ ap (λ y. take i xs ++ y ∷ []) (get_or_from_slice_get xs i x x at)
 
 split_at : {A : Type 0} (xs : List A) (i : ℕ) (x : A) → slice_get xs i ≡ Some x → xs ≡ take i xs ++ x ∷ drop (i + 1) xs
 split_at xs i x at =

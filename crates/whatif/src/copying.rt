@@ -1,11 +1,9 @@
 //! Copies of networks.
 
-ghost use Rattle.std.specs.Prelude.{◌≡◌, ◌<◌, ◌+◌, IfOk, IsSomeAnd, OnOk, Some, length, option_map, slice_get, take};
-ghost use Rattle.event_graph.specs.Network.{Constraint, IsNet};
-ghost use Rattle.event_graph.specs.Proof.{HasChoice};
+ghost use Rattle.std.specs.Prelude.{◌≡◌, IfOk};
 
-use event_graph::{Cause, Network};
-use itv_base::{NoMemory, RuleKind};
+use event_graph::Network;
+use itv_base::NoMemory;
 use std::alloc::Global;
 
 /// A network that is equal to another one.
@@ -14,89 +12,7 @@ pub fn copied(alloc: Global, net: &Network) -> Result<Network, NoMemory>
 {
     let mut copy = Network::new(alloc, net.events())?;
     for number in 0..net.len() {
-        copy_constraint(alloc, net, number, &mut copy)?;
+        copy.push_copy(alloc, net, number)?;
     }
     Ok(copy)
-}
-
-// Adds the constraint of a number to a copy of those before it.
-fn copy_constraint(
-    alloc: Global,
-    net: &Network,
-    number: u32,
-    copy: &mut Network,
-) -> Result<(), NoMemory>
-    requires net { IsNet net.now }
-    requires there { number < length net.now.constraints }
-    requires before { copy.old ≡ record net.now { constraints = take number net.now.constraints } }
-    ensures { OnOk result (copy.new ≡ record net.now { constraints = take (number + 1) net.now.constraints }) }
-{
-    match net.kind(number) {
-        RuleKind::Lin => copy_linear(alloc, net, number, copy),
-        RuleKind::Late => copy_late(alloc, net, number, copy),
-        RuleKind::Early => copy_early(alloc, net, number, copy),
-    }
-}
-
-// Adds a linear one.
-fn copy_linear(
-    alloc: Global,
-    net: &Network,
-    number: u32,
-    copy: &mut Network,
-) -> Result<(), NoMemory>
-    requires net { IsNet net.now }
-    requires there { number < length net.now.constraints }
-    requires kind { option_map (λ (c : Constraint). c.kind) (slice_get net.now.constraints number) ≡ Some RuleKind.Lin }
-    requires before { copy.old ≡ record net.now { constraints = take number net.now.constraints } }
-    ensures { OnOk result (copy.new ≡ record net.now { constraints = take (number + 1) net.now.constraints }) }
-{
-    let cause = net.cause(number, 0);
-    match copy.push_linear(alloc, cause.event, net.target(number), cause.range) {
-        Ok(()) => Ok(()),
-        Err(_) => Err(NoMemory),
-    }
-}
-
-// Adds a latest one.
-fn copy_late(alloc: Global, net: &Network, number: u32, copy: &mut Network) -> Result<(), NoMemory>
-    requires net { IsNet net.now }
-    requires there { number < length net.now.constraints }
-    requires kind { option_map (λ (c : Constraint). c.kind) (slice_get net.now.constraints number) ≡ Some RuleKind.Late }
-    requires before { copy.old ≡ record net.now { constraints = take number net.now.constraints } }
-    ensures { OnOk result (copy.new ≡ record net.now { constraints = take (number + 1) net.now.constraints }) }
-{
-    let causes = causes_of(alloc, net, number)?;
-    match copy.push_late(alloc, net.target(number), &causes) {
-        Ok(()) => Ok(()),
-        Err(_) => Err(NoMemory),
-    }
-}
-
-// Adds an earliest one.
-fn copy_early(alloc: Global, net: &Network, number: u32, copy: &mut Network) -> Result<(), NoMemory>
-    requires net { IsNet net.now }
-    requires there { number < length net.now.constraints }
-    requires kind { option_map (λ (c : Constraint). c.kind) (slice_get net.now.constraints number) ≡ Some RuleKind.Early }
-    requires before { copy.old ≡ record net.now { constraints = take number net.now.constraints } }
-    ensures { OnOk result (copy.new ≡ record net.now { constraints = take (number + 1) net.now.constraints }) }
-{
-    let causes = causes_of(alloc, net, number)?;
-    match copy.push_early(alloc, net.target(number), &causes) {
-        Ok(()) => Ok(()),
-        Err(_) => Err(NoMemory),
-    }
-}
-
-// The causes of a latest or earliest constraint.
-fn causes_of(alloc: Global, net: &Network, number: u32) -> Result<Vec<Cause>, NoMemory>
-    requires there { number < length net.now.constraints }
-    requires choice { IsSomeAnd (slice_get net.now.constraints number) (λ c. HasChoice c.kind) }
-    ensures causes { IfOk result (λ causes. option_map (λ (c : Constraint). c.causes) (slice_get net.now.constraints number) ≡ Some causes.items) }
-{
-    let mut causes = Vec::new(alloc);
-    for cause in 0..net.cause_count(number) {
-        causes.push(net.cause(number, cause))?;
-    }
-    Ok(causes)
 }

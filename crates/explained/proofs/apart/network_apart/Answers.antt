@@ -3,7 +3,7 @@ use Rattle.event_graph.specs.Network.{Net}
 use Rattle.drawn.specs.Drawn.{OriginsFit}
 use Rattle.explained.proofs.Wider.{IsOrder, copied_next, left_out}
 use Rattle.explained.proofs.apart.network_apart.Goals as goal
-use Rattle.explained.proofs.apart.network_apart.Goals.{then-not-keeps_order_at+in_ok-copy_constraint, else-not-keeps_order_at}
+use Rattle.explained.proofs.apart.network_apart.Goals.{then-not-keeps_order_at+in_ok-push_copy, else-not-keeps_order_at}
 
 pub loop-number-preserved : goal.loop-number-preserved
 loop-number-preserved c =
@@ -14,9 +14,9 @@ loop-number-preserved c =
     let within : k < length net.constraints = omega (arith, c.loop-number-test.true, c.len-number-end.ensures.count) in
     let order : IsOrder origins k c.keeps_order_at.result = c.keeps_order_at.ensures.order in
     elim c.if-not-keeps_order_at.branch [
-      | then-not-keeps_order_at+in_ok-copy_constraint w ↦
-          w.apart-is ∙ copied_next net origins k c.loop-number.apart w.copy_constraint.new.copy fit within
-          (subst (λ (b : Bool). IsOrder origins k b) w.if-not-keeps_order_at.true order) c.loop-number.invariant w.in_ok-copy_constraint.ensures
+      | then-not-keeps_order_at+in_ok-push_copy w ↦
+          w.apart-is ∙ copied_next net origins k c.loop-number.apart w.push_copy.new.self fit within
+          (subst (λ (b : Bool). IsOrder origins k b) w.if-not-keeps_order_at.true order) c.loop-number.invariant w.in_ok-push_copy.ensures.added
       | else-not-keeps_order_at w ↦
           w.apart-is ∙ (c.loop-number.invariant ∙ sym (left_out net origins k fit within (subst (λ (b : Bool). IsOrder origins k b) w.if-not-keeps_order_at.false order)))
     ]
