@@ -1,6 +1,7 @@
 mod Telling
 mod Faults
 mod JobEnds
+mod PlannedEnds
 mod Fitting
 mod Redrawn
 pub mod OwnReports

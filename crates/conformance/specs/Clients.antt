@@ -1,5 +1,5 @@
 -- What callers of `run` know of files and a sink in memory, from its clauses alone.
-use Rattle.std.specs.Prelude.{◌≡◌, ℕ, Bool, List, ◌++◌, Some, None, codes}
+use Rattle.std.specs.Prelude.{◌≡◌, ℕ, Bool, List, [], ◌++◌, Some, None, Ok, codes}
 use Rattle.itv_base.specs.Memory.{MemSink}
 use Rattle.itv_base.specs.Outside.{FailedFor, Files, ShelfTold, file_of}
 use Rattle.design_gen.specs.Files.{design_files}
@@ -17,11 +17,17 @@ use Rattle.drawn.specs.Drawn.{Drawn}
 use Rattle.reading.specs.declared.place.Place.{Place}
 use Rattle.reading.specs.declared.refusal.Refusal.{Refusal}
 use Rattle.reading.specs.Design.{design_at}
+use Rattle.plan.specs.Plan.{Planned}
 use Rattle.reading.specs.Opening.{Comes, ready, refused, told_end, unread}
 use Rattle.reading.specs.Refusal.{refusal_text, unread_text}
 use Rattle.settle_check.specs.Confirm.{IsSettledText}
 use Rattle.words.specs.Task.{Task, bounds, check, confirm, matrix, settle, taken, task}
-use Rattle.itv_cli.specs.Job.{Answers, made_for, opening}
+use Rattle.words.specs.Task as tasks
+use Rattle.warnings.specs.Warnings.{warnings_of}
+use Rattle.compose.specs.Compose.{composed_on}
+use Rattle.compose.specs.Design.{Composed}
+use Rattle.plan.specs.Plan.{sheets_on}
+use Rattle.itv_cli.specs.Job.{Answers, made_for, opening, planned_at}
 use Rattle.itv_cli.specs.Run.{ToWrite, outcome_of}
 use Rattle.itv_cli.specs.declared.outcome.Outcome.{Outcome}
 use Rattle.itv_cli.specs.declared.ready.Ready.{Ready}
@@ -118,6 +124,28 @@ pub record AsksMatrix (given : List (List ℕ)) (files : Files) (drawn : Drawn) 
   pub design : List ℕ
   pub words : taken given ≡ task (matrix design)
   pub draws : Draws files design drawn
+
+-- the words ask for a job of a design and of what was read of it: its plan, and the network that this draws
+pub record AsksPlanned (job : List ℕ → ℕ → Task) (given : List (List ℕ)) (files : Files) (budget : ℕ) (plan : Planned) (drawn : Drawn) : Type 0 where
+  pub design : List ℕ
+  pub words : taken given ≡ task (job design budget)
+  pub plans : told_end files (planned_at design) ≡ ready (plan, drawn)
+
+-- the words ask why each bound of a design is what it is
+abbrev pub AsksWhy : List (List ℕ) → Files → ℕ → Planned → Drawn → Type 0
+AsksWhy given files budget plan drawn = AsksPlanned tasks.why given files budget plan drawn
+
+-- the words ask for a line for each row of a design
+abbrev pub AsksBrief : List (List ℕ) → Files → ℕ → Planned → Drawn → Type 0
+AsksBrief given files budget plan drawn = AsksPlanned tasks.brief given files budget plan drawn
+
+-- the words ask what of a design may say something else than was meant
+abbrev pub AsksLint : List (List ℕ) → Files → ℕ → Planned → Drawn → Type 0
+AsksLint given files budget plan drawn = AsksPlanned tasks.lint given files budget plan drawn
+
+-- a design that a plan draws has no warning of the drawing
+abbrev pub HasNoWarning : Planned → Type 0
+HasNoWarning plan = (design : Composed) → composed_on plan.netlist (sheets_on plan.sheets plan.netlist.parts) ≡ Ok design → warnings_of plan design ≡ []
 
 -- the file of a name is there, and is the text of a right report
 pub record IsRightFile (files : Files) (report : List ℕ) (drawn : Drawn) : Type 0 where

@@ -12,9 +12,14 @@ ghost use Rattle.reading.specs.declared.refusal.Refusal.{Refusal};
 ghost use Rattle.reading.specs.declared.place.Place.{Place};
 ghost use Rattle.reading.specs.Refusal.{refusal_text};
 ghost use Rattle.words.specs.Task.{bounds, generated, redraw, taken, task};
+ghost use Rattle.plan.specs.Notes.{plan_note};
+ghost use Rattle.plan.specs.Plan.{Planned};
+ghost use Rattle.why_report.specs.Why.{AnswersWhy};
+ghost use Rattle.brief_report.specs.Brief.{AnswersBrief};
+ghost use Rattle.lint_report.specs.Lint.{AnswersLint};
 ghost use Rattle.settle_report.specs.Settle.{AnswersSettle};
 ghost use Rattle.jobs.specs.Ending.{answer_of};
-ghost use Rattle.conformance.specs.Clients.{AsksBounds, AsksCheck, AsksConfirm, AsksMatrix, AsksSettle, HasNoWrong, IsReportEnd, IsRightFile, IsSettledFile, IsSummaryOf, IsWrongFile, WroteOne};
+ghost use Rattle.conformance.specs.Clients.{AsksBounds, AsksBrief, AsksCheck, AsksConfirm, AsksLint, AsksMatrix, AsksSettle, AsksWhy, HasNoWarning, HasNoWrong, IsReportEnd, IsRightFile, IsSettledFile, IsSummaryOf, IsWrongFile, WroteOne};
 
 use itv_base::{NoMemory, ShelfMem, SinkMem, Texts};
 use itv_cli::{Outcome, run};
@@ -73,6 +78,40 @@ pub fn confirmed_of(
 ) -> Outcome
     ensures right { (report : List ℕ) (drawn : Drawn) → AsksConfirm words.now shelf.old.files report drawn
         → result ≡ Outcome.AllPass → IsSettledFile shelf.old.files report drawn }
+{
+    run(alloc, words, shelf, sink)
+}
+
+/// A run of job why. With any end of a report it writes what is found of the network and of each row, with what makes it so. Where it
+/// ends inconsistent no times satisfy the network.
+pub fn explained_of(
+    alloc: Global,
+    words: &Texts,
+    shelf: &mut ShelfMem,
+    sink: &mut SinkMem,
+) -> Outcome
+    ensures wrote { (budget : ℕ) (plan : Planned) (drawn : Drawn) → AsksWhy words.now shelf.old.files budget plan drawn
+        → (end : IsReportEnd result) → WroteOne sink.old sink.new (AnswersWhy (plan_note plan) drawn (answer_of end.0)) }
+    ensures none { (budget : ℕ) (plan : Planned) (drawn : Drawn) → AsksWhy words.now shelf.old.files budget plan drawn
+        → result ≡ Outcome.Inconsistent → IsInconsistent drawn.net }
+{
+    run(alloc, words, shelf, sink)
+}
+
+/// A run of job brief. With any end of a report it writes a line for each row.
+pub fn briefed_of(alloc: Global, words: &Texts, shelf: &mut ShelfMem, sink: &mut SinkMem) -> Outcome
+    ensures wrote { (budget : ℕ) (plan : Planned) (drawn : Drawn) → AsksBrief words.now shelf.old.files budget plan drawn
+        → (end : IsReportEnd result) → WroteOne sink.old sink.new (AnswersBrief (plan_note plan) drawn (answer_of end.0)) }
+{
+    run(alloc, words, shelf, sink)
+}
+
+/// A run of job lint. Where it passes, the design has no warning of the drawing.
+pub fn warned_of(alloc: Global, words: &Texts, shelf: &mut ShelfMem, sink: &mut SinkMem) -> Outcome
+    ensures wrote { (budget : ℕ) (plan : Planned) (drawn : Drawn) → AsksLint words.now shelf.old.files budget plan drawn
+        → (end : IsReportEnd result) → WroteOne sink.old sink.new (AnswersLint plan drawn (answer_of end.0)) }
+    ensures clean { (budget : ℕ) (plan : Planned) (drawn : Drawn) → AsksLint words.now shelf.old.files budget plan drawn
+        → result ≡ Outcome.AllPass → HasNoWarning plan }
 {
     run(alloc, words, shelf, sink)
 }

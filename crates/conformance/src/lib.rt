@@ -12,6 +12,7 @@ pub use clients::{
     bounds_of, end_of, fall_of, front_of, refusal_of, report_of, run_twice, unread_of, untouched_of,
 };
 pub use job_clients::{
-    checked_of, confirmed_of, matrix_of, redrawn_of, report_said, self_of, settled_of,
+    briefed_of, checked_of, confirmed_of, explained_of, matrix_of, redrawn_of, report_said,
+    self_of, settled_of, warned_of,
 };
 pub use kept_proofs::kept_proof;

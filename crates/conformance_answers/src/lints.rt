@@ -92,6 +92,57 @@ fn notes_that_look_like_ranges(rt: HostRuntime) -> Result<(), Fail> {
     )
 }
 
+// Keys that would be read with other capitals, or with one final `s` more or less: those of the sheets, and then those of the netlist.
+#[test]
+fn keys_that_nearly_are_known(rt: HostRuntime) -> Result<(), Fail> {
+    let alloc = rt.alloc();
+    let sheet =
+        r#"{"signal":[{"node":"a"},["group",{"nodes":"x","node":"b"}],{"node":"c","Wave":"01"}],
+        "edge":["a->b @ask"],"edges":["a->b @req [*,5]"]}"#;
+    warns(
+        alloc,
+        &[("s", sheet)],
+        &["key U edges", "key U nodes", "key U Wave"],
+    )?;
+    let board =
+        r#"{"itv":1,"cycles":1,"parts":[{"name":"X","sheet":"t","grades":"x"},{"name":"Y","sheet":"t"}],
+        "nets":[{"pins":["X.D","Y.D"],"Delay":[1,2]},{"pin":["X.D"],"pins":["X.E","Y.E"]}],"edge":["X.a Y.a @req [*,5]"]}"#;
+    let part =
+        r#"{"signal":[{"name":"D","node":"a"},{"name":"E","node":"b"}],"edge":["a->b @ask"],"EDGE":[]}"#;
+    warns(
+        alloc,
+        &[("s", board), ("t", part)],
+        &[
+            "key X EDGE",
+            "key Y EDGE",
+            "key edge",
+            "key grades",
+            "key Delay",
+            "key pin",
+        ],
+    )
+}
+
+// Other keys are passed over without a word, and so is `grade` in version 1.
+#[test]
+fn keys_that_are_passed_over(rt: HostRuntime) -> Result<(), Fail> {
+    let alloc = rt.alloc();
+    let sheet =
+        r#"{"signal":[{"node":"a","data":["x"],"period":2},{"node":"b","nodess":"x","pins":["x"]}],
+        "edge":["a->b @ask"],"edgess":[],"grades":{},"sedge":[],"head":{"edges":[]},"":0}"#;
+    warns(alloc, &[("s", sheet)], &[])?;
+    let board = r#"{"itv":1,"cycles":1,"parts":[{"name":"X","sheet":"t","grade":"x","node":"a"}],
+        "nets":[],"signal":[],"itv_grade":{},"edges":["X.a X.b @ask"]}"#;
+    warns(
+        alloc,
+        &[
+            ("s", board),
+            ("t", r#"{"signal":[{"node":"a"},{"node":"b"}]}"#),
+        ],
+        &[],
+    )
+}
+
 // Two linear rules with finite high ends into one mark from different marks; each later one with the first such one.
 #[test]
 fn two_rules_into_one_mark(rt: HostRuntime) -> Result<(), Fail> {

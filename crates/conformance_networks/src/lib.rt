@@ -1,5 +1,5 @@
 //! What the crates answer that speak of networks, each by itself, on networks that are built by hand: what is satisfied, a stack of graphs,
-//! closures, verdicts, checked proofs, splits of a search, falling values, and searches by clauses. They stand apart from those crates, which so are proved once.
+//! closures, verdicts, checked proofs, splits of a search, and falling values. They stand apart from those crates, which so are proved once.
 #![tactic(auto)]
 
 #[cfg(test)]
@@ -12,8 +12,6 @@ mod closures;
 mod falls;
 #[cfg(test)]
 mod satisfying;
-#[cfg(test)]
-mod settling;
 #[cfg(test)]
 mod splitting;
 #[cfg(test)]

@@ -1,4 +1,4 @@
-//! What bounds, searches and checkers of proofs answer, on networks in memory: by hand, and beside plain programs that work every label out
+//! What bounds, searches, chains and checkers of proofs answer, on networks in memory: by hand, and beside plain programs that work every label out
 //! anew and try every choice of causes.
 #![tactic(auto)]
 
@@ -7,6 +7,8 @@ mod bounds;
 #[cfg(test)]
 mod chance;
 #[cfg(test)]
+mod explaining;
+#[cfg(test)]
 mod networks;
 #[cfg(test)]
 mod plain;
@@ -14,3 +16,5 @@ mod plain;
 mod proofs;
 #[cfg(test)]
 mod searches;
+#[cfg(test)]
+mod settling;

@@ -9,6 +9,7 @@ use Rattle.line_words.specs.Lines.{ended, spaced}
 use Rattle.line_words.specs.Words.{Word}
 use Rattle.compose.specs.Design.{Composed}
 use Rattle.drawn.specs.Drawn.{Drawn}
+use Rattle.plan.specs.Plan.{Planned}
 use Rattle.explained.specs.declared.row.RowFound.{RowFound}
 use Rattle.warnings.specs.declared.warning.Warning.{Warning}
 use Rattle.lint_report.specs.Text.{end_text, is_clean, is_over, lint_text, order_text, orders_text, warning_text}
@@ -29,6 +30,16 @@ pub four_spaced : (key mark first other : Word) → spaced key ++ (spaced mark +
 four_spaced key mark first other =
     ap (λ rest. spaced key ++ (spaced mark ++ (rest ++ flat_map spaced (other ∷ [])))) (append-nil (spaced first))
 
+-- a key of a sheet by its pieces
+pub sheet_key_is : (name key part word : List ℕ) → name ≡ part → key ≡ word
+    → codes " key " ++ (name ++ (codes " " ++ key)) ≡ flat_map spaced (codes "key" ∷ part ∷ word ∷ [])
+sheet_key_is name key part word named is =
+    ap (λ (ws : List ℕ). codes " key " ++ (ws ++ (codes " " ++ key))) named ∙ ap (λ (ws : List ℕ). codes " key " ++ (part ++ (codes " " ++ ws))) (is ∙ sym (append-nil word))
+
+-- a key of the netlist
+pub netlist_key_is : (key word : List ℕ) → key ≡ word → codes " key " ++ key ≡ flat_map spaced (codes "key" ∷ word ∷ [])
+netlist_key_is key word is = ap (λ (ws : List ℕ). codes " key " ++ ws) (is ∙ sym (append-nil word))
+
 -- ---- lines
 
 -- the line of a row by the digits of its number
@@ -36,9 +47,9 @@ pub order_is : (number : ℕ) (digits : List ℕ) → digits ≡ number_text num
 order_is number digits is = ap (λ (ds : List ℕ). codes "warning order row " ++ (ds ++ (10 ∷ []))) is
 
 -- one warning more
-pub warnings_more : (d : Composed) (warnings : List Warning) (k : ℕ) (other : Warning) → k < length warnings
-    → flat_map (warning_text d) (drop k warnings) ≡ warning_text d (get_or warnings k other) ++ flat_map (warning_text d) (drop (k + 1) warnings)
-warnings_more d warnings k other within = at_drop_more (flat_map (warning_text d)) warnings k other within
+pub warnings_more : (plan : Planned) (d : Composed) (warnings : List Warning) (k : ℕ) (other : Warning) → k < length warnings
+    → flat_map (warning_text plan d) (drop k warnings) ≡ warning_text plan d (get_or warnings k other) ++ flat_map (warning_text plan d) (drop (k + 1) warnings)
+warnings_more plan d warnings k other within = at_drop_more (flat_map (warning_text plan d)) warnings k other within
 
 -- one row more
 pub orders_more : (network : Drawn) (found : List RowFound) (k : ℕ) (row : RowFound) (over : Bool) → k < length found → row ≡ get_or found k row → over ≡ is_over network row
@@ -48,6 +59,6 @@ orders_more network found k row over within is told =
     ∙ ap (λ (o : Bool). (if o then order_text k else []) ++ orders_text network (k + 1) (drop (k + 1) found)) (sym told)
 
 -- the whole
-pub lint_is : (d : Composed) (network : Drawn) (warnings shown : List Warning) (found told : List RowFound) (clean : Bool) → shown ≡ warnings → told ≡ found → clean ≡ is_clean network warnings found
-    → ended (codes "itv lint 1") ++ (flat_map (warning_text d) shown ++ (orders_text network 0 told ++ end_text clean)) ≡ lint_text d network warnings found
-lint_is d network warnings shown found told clean is_shown is_told is = rw (is_shown, is_told, is) refl
+pub lint_is : (plan : Planned) (d : Composed) (network : Drawn) (warnings shown : List Warning) (found told : List RowFound) (clean : Bool) → shown ≡ warnings → told ≡ found → clean ≡ is_clean network warnings found
+    → ended (codes "itv lint 1") ++ (flat_map (warning_text plan d) shown ++ (orders_text network 0 told ++ end_text clean)) ≡ lint_text plan d network warnings found
+lint_is plan d network warnings shown found told clean is_shown is_told is = rw (is_shown, is_told, is) refl

@@ -14,7 +14,7 @@ use Rattle.lint_report.specs.Text.{is_clean, lint_text}
 
 module _ (plan : Planned) (design : Composed) (network : Drawn) (told : Told) (is : IsTold plan design network told) where
   abbrev text : List ℕ
-  text = lint_text design network told.warnings.items told.found.items
+  text = lint_text plan design network told.warnings.items told.found.items
 
   -- the text has just the warnings
   pub answers_lint : (answer : Answer) → answer ≡ answer_by told.clean → AnswersLint plan network answer text
@@ -25,7 +25,7 @@ module _ (plan : Planned) (design : Composed) (network : Drawn) (told : Told) (i
     found = told.found.items;
     is_finding = is.finding.1;
     are_found = is.finding.2;
-    is_text = ap (λ (ws : List Warning). lint_text design network ws told.found.items) is.warnings;
+    is_text = ap (λ (ws : List Warning). lint_text plan design network ws told.found.items) is.warnings;
     is_answer = by ∙ ap answer_by (is.clean ∙ ap (λ (ws : List Warning). is_clean network ws told.found.items) is.warnings);
   }
 

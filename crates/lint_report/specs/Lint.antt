@@ -26,7 +26,7 @@ pub record AnswersLint (plan : Planned) (network : Drawn) (answer : Answer) (tex
   pub found : List RowFound
   pub is_finding : IsFindingFound network.net finding
   pub are_found : AreFound network finding found
-  pub is_text : text ≡ lint_text design network (warnings_of plan design) found
+  pub is_text : text ≡ lint_text plan design network (warnings_of plan design) found
   pub is_answer : answer ≡ answer_by (is_clean network (warnings_of plan design) found)
 
 -- What may have been begun: all is found before anything is put, so it is a front of a whole text.

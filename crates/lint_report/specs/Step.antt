@@ -13,9 +13,9 @@ use Rattle.lint_report.specs.declared.line.Line.TheVariants.{Drawing, Order}
 use Rattle.lint_report.specs.Text.{is_clean, order_text, warning_text}
 
 -- a line, with its end
-abbrev pub line_text : Composed → Line → List ℕ
-line_text d (Drawing warning) = warning_text d warning.now
-line_text d (Order number) = order_text number
+abbrev pub line_text : Planned → Composed → Line → List ℕ
+line_text plan d (Drawing warning) = warning_text plan d warning.now
+line_text plan d (Order number) = order_text number
 
 -- All that the lines tell is right: the warnings are those of the design of the plan, and what was found of the rows stands behind a
 -- finding.

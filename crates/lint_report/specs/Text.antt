@@ -9,7 +9,9 @@ use Rattle.line_words.specs.Words.{Word}
 use Rattle.origin.specs.Text.{origin_text}
 use Rattle.origin.specs.declared.origin.Origin.{Origin}
 use Rattle.origin.specs.declared.origin.Origin.TheVariants as drawn
+use Rattle.plan.specs.Plan.{Planned}
 use Rattle.sheet.specs.declared.mark.Mark.{Mark}
+use Rattle.sheet.specs.Contents.{Contents}
 use Rattle.compose.specs.declared.mark.DesignMark.{DesignMark}
 use Rattle.compose.specs.Design.{Composed}
 use Rattle.compose.specs.Nets.{marks_at}
@@ -20,7 +22,7 @@ use Rattle.explained.specs.declared.bound.BoundFound.TheVariants.{Closed, Unboun
 use Rattle.explained.specs.declared.row.RowFound.{RowFound}
 use Rattle.warnings.specs.declared.warning.Spot.{Spot}
 use Rattle.warnings.specs.declared.warning.Warning.{Warning}
-use Rattle.warnings.specs.declared.warning.Warning.TheVariants.{Rows, Comment, Note, Both, Single, Never, Drivers, Own}
+use Rattle.warnings.specs.declared.warning.Warning.TheVariants.{Rows, Comment, Note, SheetKey, NetlistKey, Both, Single, Never, Drivers, Own}
 
 -- ---- what a warning is about
 
@@ -45,20 +47,32 @@ mark_byte d mark = option_map_or (λ (m : Mark). m.name ∷ []) (slice_get (mark
 abbrev pub mark_word : Composed → DesignMark → Word
 mark_word d mark = part_word d mark.part ++ (46 ∷ mark_byte d mark)
 
+-- ---- keys that are passed over, and nearly are keys which are read
+
+-- such a key of the sheet of a part
+abbrev pub sheet_key_word : Composed → ℕ → ℕ → Word
+sheet_key_word d part key = unwrap_or (option_and_then (λ (sheet : Contents). slice_get sheet.near key) (slice_get d.sheets part)) []
+
+-- such a key of the netlist
+abbrev pub netlist_key_word : Planned → ℕ → Word
+netlist_key_word plan key = unwrap_or (slice_get plan.netlist.near key) []
+
 -- ---- lines
 
-abbrev pub warning_words : Composed → Warning → List Word
-warning_words d Rows = codes "rows" ∷ []
-warning_words d (Comment spot) = codes "comment" ∷ spot_words d spot
-warning_words d (Note spot) = codes "note" ∷ spot_words d spot
-warning_words d (Both first other) = codes "both" ∷ (spot_words d first ++ spot_words d other)
-warning_words d (Single spot) = codes "single" ∷ spot_words d spot
-warning_words d (Never spot) = codes "never" ∷ spot_words d spot
-warning_words d (Drivers mark first other) = codes "drivers" ∷ mark_word d mark ∷ origin_text first ∷ origin_text other ∷ []
-warning_words d (Own mark pin edge) = codes "own" ∷ mark_word d mark ∷ origin_text pin ∷ origin_text edge ∷ []
+abbrev pub warning_words : Planned → Composed → Warning → List Word
+warning_words plan d Rows = codes "rows" ∷ []
+warning_words plan d (Comment spot) = codes "comment" ∷ spot_words d spot
+warning_words plan d (Note spot) = codes "note" ∷ spot_words d spot
+warning_words plan d (SheetKey part key) = codes "key" ∷ part_word d part ∷ sheet_key_word d part key ∷ []
+warning_words plan d (NetlistKey key) = codes "key" ∷ netlist_key_word plan key ∷ []
+warning_words plan d (Both first other) = codes "both" ∷ (spot_words d first ++ spot_words d other)
+warning_words plan d (Single spot) = codes "single" ∷ spot_words d spot
+warning_words plan d (Never spot) = codes "never" ∷ spot_words d spot
+warning_words plan d (Drivers mark first other) = codes "drivers" ∷ mark_word d mark ∷ origin_text first ∷ origin_text other ∷ []
+warning_words plan d (Own mark pin edge) = codes "own" ∷ mark_word d mark ∷ origin_text pin ∷ origin_text edge ∷ []
 
-abbrev pub warning_text : Composed → Warning → List ℕ
-warning_text d warning = ended (line_of (codes "warning" ∷ warning_words d warning))
+abbrev pub warning_text : Planned → Composed → Warning → List ℕ
+warning_text plan d warning = ended (line_of (codes "warning" ∷ warning_words plan d warning))
 
 -- ---- rows whose answer rests on the order of a lane
 
@@ -96,6 +110,6 @@ abbrev pub end_text : Bool → List ℕ
 end_text true = ended (codes "end clean")
 end_text false = ended (codes "end noted")
 
-abbrev pub lint_text : Composed → Drawn → List Warning → List RowFound → List ℕ
-lint_text d network warnings found =
-    ended (codes "itv lint 1") ++ (flat_map (warning_text d) warnings ++ (orders_text network 0 found ++ end_text (is_clean network warnings found)))
+abbrev pub lint_text : Planned → Composed → Drawn → List Warning → List RowFound → List ℕ
+lint_text plan d network warnings found =
+    ended (codes "itv lint 1") ++ (flat_map (warning_text plan d) warnings ++ (orders_text network 0 found ++ end_text (is_clean network warnings found)))

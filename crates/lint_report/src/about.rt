@@ -1,18 +1,19 @@
 //! Putting what a warning is about.
 
-ghost use Rattle.std.specs.Prelude.{◌≡◌, ◌∷◌, [], option_map, slice_get};
+ghost use Rattle.std.specs.Prelude.{◌≡◌, ◌∷◌, [], codes, option_map, slice_get, unwrap_or};
 ghost use Rattle.std.specs.List.{flat_map};
 ghost use Rattle.itv_base.specs.Outside.{Puts};
 ghost use Rattle.line_words.specs.Lines.{spaced};
 ghost use Rattle.sheet.specs.declared.mark.Mark.{Mark};
 ghost use Rattle.compose.specs.Nets.{marks_at};
 ghost use Rattle.origin.specs.Text.{origin_text};
-ghost use Rattle.lint_report.specs.Text.{mark_word, part_word, spot_words};
+ghost use Rattle.lint_report.specs.Text.{mark_word, netlist_key_word, part_word, sheet_key_word, spot_words};
 
 use compose::{Design, DesignMark};
-use itv_base::{PutFailed, Sink, put_all};
+use itv_base::{PutFailed, Sink, Texts, put_all};
 use line_words::put_spaced;
 use origin::{Origin, put_origin};
+use plan::Plan;
 use warnings::Spot;
 
 /// Puts a space and a word for each word of what draws something.
@@ -61,6 +62,28 @@ pub fn put_mark<K: Sink>(
     }
 }
 
+/// Puts a space and a word for each word of a near key of the sheet of a part.
+pub fn put_sheet_key<K: Sink>(
+    design: &Design<'_>,
+    part: u32,
+    key: u64,
+    sink: &mut K,
+) -> Result<(), PutFailed>
+    ensures puts { Puts (K.told sink.old) (K.told sink.new) (flat_map spaced (codes "key" ∷ part_word design.now part ∷ sheet_key_word design.now part key ∷ [])) result }
+{
+    let part_name = part_word(design, part).as_bytes();
+    let key = sheet_key_word(design, part, key).as_bytes();
+    put_all(sink, &[b" key ", part_name, b" ", key])
+}
+
+/// Puts a space and a word for each word of a near key of the netlist.
+pub fn put_netlist_key<K: Sink>(plan: &Plan, key: u64, sink: &mut K) -> Result<(), PutFailed>
+    ensures puts { Puts (K.told sink.old) (K.told sink.new) (flat_map spaced (codes "key" ∷ netlist_key_word plan.now key ∷ [])) result }
+{
+    let key = netlist_key_word(plan, key).as_bytes();
+    put_all(sink, &[b" key ", key])
+}
+
 // The name of a part; an empty text where there is none.
 fn part_word<'a>(design: &'a Design<'_>, part: u32) -> &'a str
     ensures word { result.now ≡ part_word design.now part }
@@ -87,5 +110,35 @@ fn mark_name(design: &Design<'_>, mark: DesignMark) -> Option<u8>
         Some(marks.get(u64::from(mark.mark)).name)
     } else {
         None
+    }
+}
+
+// A near key of the sheet of a part; an empty text where there is none.
+fn sheet_key_word<'a>(design: &'a Design<'_>, part: u32, key: u64) -> &'a str
+    ensures word { result.now ≡ sheet_key_word design.now part key }
+{
+    // Each part has a sheet.
+    let _cycles = design.cycles();
+    if design.parts().len() <= u64::from(part) {
+        return "";
+    }
+    text_at(design.sheet_of(part).near(), key)
+}
+
+// A near key of the netlist; an empty text where there is none.
+fn netlist_key_word(plan: &Plan, key: u64) -> &str
+    ensures word { result.now ≡ netlist_key_word plan.now key }
+{
+    text_at(plan.netlist().near(), key)
+}
+
+// The text of a number; an empty text where there is none.
+fn text_at(texts: &Texts, number: u64) -> &str
+    ensures { result.now ≡ unwrap_or (slice_get texts.now number) [] }
+{
+    if number < texts.len() {
+        texts.get(number).as_text()
+    } else {
+        ""
     }
 }

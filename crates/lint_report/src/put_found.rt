@@ -13,6 +13,7 @@ use drawn::DrawnNetwork;
 use explained::RowFound;
 use itv_base::{PutFailed, Sink};
 use line_words::LineBuffer;
+use plan::Plan;
 use warnings::Warning;
 
 /// All that the lines tell: the warnings of the drawing, what was found of the rows, and whether there is nothing to warn of.
@@ -25,6 +26,7 @@ pub struct Told {
 
 /// Puts the whole text.
 pub fn put_text<K: Sink>(
+    plan: &Plan,
     design: &Design<'_>,
     drawn: &DrawnNetwork,
     told: &Told,
@@ -32,31 +34,33 @@ pub fn put_text<K: Sink>(
     sink: &mut K,
 ) -> Result<(), PutFailed>
     requires clean { told.now.clean ≡ is_clean drawn.now told.now.warnings.items told.now.found.items }
-    ensures puts { Puts (K.told sink.old) (K.told sink.new) (lint_text design.now drawn.now told.now.warnings.items told.now.found.items) result }
+    ensures puts { Puts (K.told sink.old) (K.told sink.new) (lint_text plan.now design.now drawn.now told.now.warnings.items told.now.found.items) result }
 {
     sink.put(b"itv lint 1\n")?;
-    put_warnings(design, &told.warnings, buffer, sink)?;
-    put_orders(design, drawn, &told.found, buffer, sink)?;
+    put_warnings(plan, design, &told.warnings, buffer, sink)?;
+    put_orders(plan, design, drawn, &told.found, buffer, sink)?;
     put_end(told.clean, sink)
 }
 
 // The warnings of the drawing.
 fn put_warnings<K: Sink>(
+    plan: &Plan,
     design: &Design<'_>,
     warnings: &[Warning],
     buffer: &mut LineBuffer,
     sink: &mut K,
 ) -> Result<(), PutFailed>
-    ensures puts { Puts (K.told sink.old) (K.told sink.new) (flat_map (warning_text design.now) warnings.now) result }
+    ensures puts { Puts (K.told sink.old) (K.told sink.new) (flat_map (warning_text plan.now design.now) warnings.now) result }
 {
     for warning in warnings {
-        put_line(design, &Line::Drawing(warning), buffer, sink)?;
+        put_line(plan, design, &Line::Drawing(warning), buffer, sink)?;
     }
     Ok(())
 }
 
 // The rows whose answer rests on the order of a lane.
 fn put_orders<K: Sink>(
+    plan: &Plan,
     design: &Design<'_>,
     drawn: &DrawnNetwork,
     found: &[RowFound],
@@ -67,13 +71,14 @@ fn put_orders<K: Sink>(
 {
     for number in 0..found.len() {
         let over = is_over(drawn, &found[number]);
-        put_order(design, over, number as u64, buffer, sink)?;
+        put_order(plan, design, over, number as u64, buffer, sink)?;
     }
     Ok(())
 }
 
 // A row, if its answer rests on the order of a lane.
 fn put_order<K: Sink>(
+    plan: &Plan,
     design: &Design<'_>,
     over: bool,
     number: u64,
@@ -83,7 +88,7 @@ fn put_order<K: Sink>(
     ensures puts { Puts (K.told sink.old) (K.told sink.new) (if over then order_text number else []) result }
 {
     if over {
-        put_line(design, &Line::Order(number), buffer, sink)
+        put_line(plan, design, &Line::Order(number), buffer, sink)
     } else {
         Ok(())
     }

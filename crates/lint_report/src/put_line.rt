@@ -8,37 +8,44 @@ ghost use Rattle.origin.specs.Text.{origin_text};
 ghost use Rattle.lint_report.specs.Step.{line_text};
 ghost use Rattle.lint_report.specs.Text.{mark_word, order_text, spot_words, warning_text, warning_words};
 
-use crate::about::{put_drawn, put_mark, put_spot};
+use crate::about::{put_drawn, put_mark, put_netlist_key, put_sheet_key, put_spot};
 use crate::line::Line;
 use compose::{Design, DesignMark};
 use itoa::Buffer;
 use itv_base::{PutFailed, Sink, number_text, put_all};
 use line_words::{LineBuffer, put_spaced};
 use origin::Origin;
+use plan::Plan;
 use warnings::{Spot, Warning};
 
 /// Puts a line and its end: by one put where it fits the buffer, and else piece by piece. What the buffer held before is forgotten.
 pub fn put_line<K: Sink>(
+    plan: &Plan,
     design: &Design<'_>,
     line: &Line<'_>,
     buffer: &mut LineBuffer,
     sink: &mut K,
 ) -> Result<(), PutFailed>
-    ensures puts { Puts (K.told sink.old) (K.told sink.new) (line_text design.now line.now) result }
+    ensures puts { Puts (K.told sink.old) (K.told sink.new) (line_text plan.now design.now line.now) result }
 {
     buffer.clear();
-    match put_pieces(design, line, buffer) {
+    match put_pieces(plan, design, line, buffer) {
         Ok(()) => buffer.put_into(sink),
-        Err(PutFailed) => put_pieces(design, line, sink),
+        Err(PutFailed) => put_pieces(plan, design, line, sink),
     }
 }
 
 // A line piece by piece.
-fn put_pieces<K: Sink>(design: &Design<'_>, line: &Line<'_>, sink: &mut K) -> Result<(), PutFailed>
-    ensures puts { Puts (K.told sink.old) (K.told sink.new) (line_text design.now line.now) result }
+fn put_pieces<K: Sink>(
+    plan: &Plan,
+    design: &Design<'_>,
+    line: &Line<'_>,
+    sink: &mut K,
+) -> Result<(), PutFailed>
+    ensures puts { Puts (K.told sink.old) (K.told sink.new) (line_text plan.now design.now line.now) result }
 {
     match line {
-        Line::Drawing(warning) => put_warning(design, warning, sink),
+        Line::Drawing(warning) => put_warning(plan, design, warning, sink),
         Line::Order(number) => put_order(*number, sink),
     }
 }
@@ -52,29 +59,33 @@ fn put_order<K: Sink>(number: u64, sink: &mut K) -> Result<(), PutFailed>
 }
 
 fn put_warning<K: Sink>(
+    plan: &Plan,
     design: &Design<'_>,
     warning: &Warning,
     sink: &mut K,
 ) -> Result<(), PutFailed>
-    ensures puts { Puts (K.told sink.old) (K.told sink.new) (warning_text design.now warning.now) result }
+    ensures puts { Puts (K.told sink.old) (K.told sink.new) (warning_text plan.now design.now warning.now) result }
 {
     sink.put(b"warning")?;
-    put_warning_words(design, warning, sink)?;
+    put_warning_words(plan, design, warning, sink)?;
     sink.put(b"\n")
 }
 
 // A space and a word for each word of a warning.
 fn put_warning_words<K: Sink>(
+    plan: &Plan,
     design: &Design<'_>,
     warning: &Warning,
     sink: &mut K,
 ) -> Result<(), PutFailed>
-    ensures puts { Puts (K.told sink.old) (K.told sink.new) (flat_map spaced (warning_words design.now warning.now)) result }
+    ensures puts { Puts (K.told sink.old) (K.told sink.new) (flat_map spaced (warning_words plan.now design.now warning.now)) result }
 {
     match warning {
         Warning::Rows => sink.put(b" rows"),
         Warning::Comment(spot) => put_keyed(b"comment", design, spot, sink),
         Warning::Note(spot) => put_keyed(b"note", design, spot, sink),
+        Warning::SheetKey { part, key } => put_sheet_key(design, *part, *key, sink),
+        Warning::NetlistKey(key) => put_netlist_key(plan, *key, sink),
         Warning::Both(first, other) => put_both(design, first, other, sink),
         Warning::Single(spot) => put_keyed(b"single", design, spot, sink),
         Warning::Never(spot) => put_keyed(b"never", design, spot, sink),

@@ -42,7 +42,7 @@ pub fn write_lint<K: Sink>(
     let design = design_of(alloc, plan)?;
     let told = find_told(alloc, plan, &design, drawn, budget)?;
     let mut buffer = LineBuffer::new(alloc, LINE_ROOM)?;
-    Ok(put_told(&design, plan, drawn, &told, &mut buffer, sink)?)
+    Ok(put_told(plan, &design, drawn, &told, &mut buffer, sink)?)
 }
 
 // Finds all that the lines tell.
@@ -70,8 +70,8 @@ fn find_told(
 
 // Puts the whole text. The answer is whether there is nothing to warn of.
 fn put_told<K: Sink>(
-    design: &Design<'_>,
     plan: &Plan,
+    design: &Design<'_>,
     drawn: &DrawnNetwork,
     told: &Told,
     buffer: &mut LineBuffer,
@@ -81,7 +81,7 @@ fn put_told<K: Sink>(
     ensures answers { IfOk result (λ answer. (text : List ℕ) × AnswersLint plan.now drawn.now answer text × (K.told sink.new ≡ grown (K.told sink.old) text)) }
     ensures begins { OnErr result ((text : List ℕ) × BeginsLint plan.now drawn.now text × CutShort (K.told sink.old) (K.told sink.new) text) }
 {
-    put_text(design, drawn, told, buffer, sink)?;
+    put_text(plan, design, drawn, told, buffer, sink)?;
     Ok(answer_by(told.clean))
 }
 

@@ -1,10 +1,10 @@
 -- What the elements of lists give, one element more.
-use Rattle.std.proofs.Common.{◌≡◌, ℕ, suc, ◌+◌, ◌<◌, List, [], ◌∷◌, ◌++◌, length, take, get_or, Some, ap, sym, ◌∙◌, append-nil, append_assoc, arith}
+use Rattle.std.proofs.Common.{◌≡◌, ℕ, suc, ◌+◌, ◌<◌, List, [], ◌∷◌, ◌++◌, length, take, get_or, Some, ap, sym, ◌∙◌, append-nil, append_assoc, inl, inr, arith}
 use Rattle.std.specs.Prelude.{slice_get}
 use Rattle.std.specs.List.{flat_map}
 use Rattle.std.proofs.lemmas.List.{length-take-le, take_more}
 use Rattle.std.proofs.lemmas.List.Concat.{flat_map-append}
-use Rattle.std.proofs.lemmas.Option.{slice_get_within}
+use Rattle.std.proofs.lemmas.Option.{slice_get_cases, slice_get_within}
 use Rattle.sheet.proofs.Lists.{take_get}
 use Rattle.warnings.specs.declared.warning.Warning.{Warning}
 use Rattle.warnings.specs.Warnings.{each_behind, each_from}
@@ -28,6 +28,14 @@ each_more gives xs n x old now new read before grown =
     ap (each_from gives 0) (take_get xs n x read) ∙ each_append gives 0 (take n xs) (x ∷ []) ∙ ap (λ k. each_from gives 0 (take n xs) ++ (gives k x ++ [])) count
     ∙ ap (λ ys. each_from gives 0 (take n xs) ++ ys) (append-nil (gives n x)) in
     grown ∙ ap (λ ys. ys ++ gives n x) before ∙ append_assoc old (each_from gives 0 (take n xs)) (gives n x) ∙ ap (λ ys. old ++ ys) (sym more)
+
+-- and whatever it is
+pub each_there : {X : Type 0} (gives : ℕ → X → List Warning) (xs : List X) (n : ℕ) (old now new : List Warning) → n < length xs
+    → now ≡ old ++ each_from gives 0 (take n xs) → ((x : X) → new ≡ now ++ gives n x) → new ≡ old ++ each_from gives 0 (take (n + 1) xs)
+each_there gives xs n old now new within before grown = elim (slice_get_cases xs n).1 [
+  | inl (x, inside, at, same) ↦ each_more gives xs n x old now new at before (grown x)
+  | inr (past, none) ↦ absurd (omega (arith, within, past))
+]
 
 -- ---- without
 

@@ -27,7 +27,7 @@ use Rattle.plan.specs.Notes.{edge_note, wire_note}
 use Rattle.plan.specs.Plan.{Planned}
 use Rattle.warnings.specs.declared.warning.Spot.{Spot}
 use Rattle.warnings.specs.declared.warning.Warning.{Warning}
-use Rattle.warnings.specs.declared.warning.Warning.TheVariants.{Rows, Comment, Note, Both, Single, Never, Drivers, Own}
+use Rattle.warnings.specs.declared.warning.Warning.TheVariants.{Rows, Comment, Note, SheetKey, NetlistKey, Both, Single, Never, Drivers, Own}
 
 -- ---- lists
 
@@ -112,6 +112,20 @@ sheet_notes version part sheet = each_from (edge_note_warning version part) 0 sh
 
 abbrev pub note_warnings : Planned → Composed → List Warning
 note_warnings plan d = each_from (sheet_notes plan.netlist.version) 0 d.sheets ++ each_from wire_note_warning 0 plan.netlist.edges
+
+-- ---- keys that are passed over, and nearly are keys which are read
+
+abbrev pub sheet_key : ℕ → ℕ → List ℕ → List Warning
+sheet_key part n key = SheetKey part n ∷ []
+
+abbrev pub netlist_key : ℕ → List ℕ → List Warning
+netlist_key n key = NetlistKey n ∷ []
+
+abbrev pub sheet_keys : ℕ → Contents → List Warning
+sheet_keys part sheet = each_from (sheet_key part) 0 sheet.near
+
+abbrev pub key_warnings : Planned → Composed → List Warning
+key_warnings plan d = each_from sheet_keys 0 d.sheets ++ each_from netlist_key 0 plan.netlist.near
 
 -- ---- rules
 
@@ -245,6 +259,14 @@ own_warnings d = flat_map (own_join d.sheets) d.joins
 
 -- ---- all of them
 
+abbrev pub text_warnings : Planned → Composed → List Warning
+text_warnings plan d = comment_warnings plan d ++ (note_warnings plan d ++ key_warnings plan d)
+
+abbrev pub rule_warnings : Composed → List Warning
+rule_warnings d = both_warnings d ++ (single_warnings d ++ never_warnings d)
+
+abbrev pub join_warnings : Composed → List Warning
+join_warnings d = driver_warnings d ++ own_warnings d
+
 abbrev pub warnings_of : Planned → Composed → List Warning
-warnings_of plan d =
-    row_warnings d ++ (comment_warnings plan d ++ (note_warnings plan d ++ (both_warnings d ++ (single_warnings d ++ (never_warnings d ++ (driver_warnings d ++ own_warnings d))))))
+warnings_of plan d = row_warnings d ++ (text_warnings plan d ++ (rule_warnings d ++ join_warnings d))

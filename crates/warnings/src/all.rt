@@ -3,12 +3,13 @@
 ghost use Rattle.std.specs.Prelude.{◌≡◌, ◌++◌, IfOk, Ok, OnOk};
 ghost use Rattle.compose.specs.Compose.{composed_on};
 ghost use Rattle.plan.specs.Plan.{sheets_on};
-ghost use Rattle.warnings.specs.Warnings.{both_warnings, comment_warnings, driver_warnings, never_warnings, note_warnings, own_warnings, row_warnings, single_warnings, warnings_of};
+ghost use Rattle.warnings.specs.Warnings.{join_warnings, rule_warnings, text_warnings, warnings_of};
 
 use crate::asked::push_asked;
 use crate::both::push_both;
 use crate::comments::push_comments;
 use crate::drivers::push_drivers;
+use crate::keys::push_keys;
 use crate::misplaced::push_notes;
 use crate::never::push_never;
 use crate::own::push_own;
@@ -30,17 +31,24 @@ pub fn warnings_of(
 {
     let mut warnings = Vec::new(alloc);
     push_asked(&mut warnings, design)?;
-    push_comments(&mut warnings, plan, design)?;
-    push_notes(&mut warnings, plan, design)?;
+    push_texts(&mut warnings, plan, design)?;
     push_rules(&mut warnings, design)?;
     push_joins(&mut warnings, design)?;
     Ok(warnings)
 }
 
+// Those of the texts of edges, and of keys.
+fn push_texts(warnings: &mut Vec<Warning>, plan: &Plan, design: &Design<'_>) -> Result<(), NoMemory>
+    ensures pushed { OnOk result (warnings.new.items ≡ warnings.old.items ++ text_warnings plan.now design.now) }
+{
+    push_comments(warnings, plan, design)?;
+    push_notes(warnings, plan, design)?;
+    push_keys(warnings, plan, design)
+}
+
 // Those of rules and rows.
 fn push_rules(warnings: &mut Vec<Warning>, design: &Design<'_>) -> Result<(), NoMemory>
-    ensures pushed { OnOk result (warnings.new.items ≡ warnings.old.items
-        ++ (both_warnings design.now ++ (single_warnings design.now ++ never_warnings design.now))) }
+    ensures pushed { OnOk result (warnings.new.items ≡ warnings.old.items ++ rule_warnings design.now) }
 {
     push_both(warnings, design)?;
     push_single(warnings, design)?;
@@ -49,7 +57,7 @@ fn push_rules(warnings: &mut Vec<Warning>, design: &Design<'_>) -> Result<(), No
 
 // Those of marks that follow drivers.
 fn push_joins(warnings: &mut Vec<Warning>, design: &Design<'_>) -> Result<(), NoMemory>
-    ensures pushed { OnOk result (warnings.new.items ≡ warnings.old.items ++ (driver_warnings design.now ++ own_warnings design.now)) }
+    ensures pushed { OnOk result (warnings.new.items ≡ warnings.old.items ++ join_warnings design.now) }
 {
     push_drivers(warnings, design)?;
     push_own(warnings, design)

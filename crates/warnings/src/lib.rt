@@ -7,6 +7,7 @@ mod asked;
 mod both;
 mod comments;
 mod drivers;
+mod keys;
 mod misplaced;
 mod never;
 mod own;

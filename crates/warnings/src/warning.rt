@@ -36,6 +36,13 @@ pub enum Warning {
     Comment(Spot),
     /// The note of an edge begins with a unit of time or with a bracket.
     Note(Spot),
+    /// A key of the sheet of a part is passed over, and nearly is a key that is read: the number of the key among those of the sheet.
+    SheetKey {
+        part: u32,
+        key: u64,
+    },
+    /// A key of the netlist is passed over, and nearly is a key that is read: its number among those of the netlist.
+    NetlistKey(u64),
     /// Two linear rules from different marks hold one mark from above.
     Both(Spot, Spot),
     /// A latest or earliest rule has one cause.

@@ -8,7 +8,7 @@ returns-in_err-put_text-clause-begins g c =
 
 pub returns-clause-answers : goal.returns-clause-answers
 returns-clause-answers g c = (
-  lint_text c.args.design.now c.args.drawn.now c.args.told.now.warnings.items c.args.told.now.found.items,
+  lint_text c.args.plan.now c.args.design.now c.args.drawn.now c.args.told.now.warnings.items c.args.told.now.found.items,
   answers_lint c.args.plan.now c.args.design.now c.args.drawn.now c.args.told.now c.requires.told c.answer_by.result c.answer_by.ensures,
   c.in_ok-put_text.ensures.puts,
 )

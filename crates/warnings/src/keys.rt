@@ -1,0 +1,52 @@
+//! Keys that are passed over, and nearly are keys which are read.
+
+ghost use Rattle.std.specs.Prelude.{◌≡◌, ◌++◌, OnOk};
+ghost use Rattle.warnings.specs.Warnings.{each_from, key_warnings, netlist_key, sheet_key, sheet_keys};
+
+use crate::asked::part_count;
+use crate::warning::Warning;
+use compose::Design;
+use itv_base::{NoMemory, Texts};
+use plan::Plan;
+
+/// Puts the warnings of near keys at the end: those of the sheets, and then those of the netlist.
+pub fn push_keys(
+    warnings: &mut Vec<Warning>,
+    plan: &Plan,
+    design: &Design<'_>,
+) -> Result<(), NoMemory>
+    ensures pushed { OnOk result (warnings.new.items ≡ warnings.old.items ++ key_warnings plan.now design.now) }
+{
+    push_sheets(warnings, design)?;
+    push_netlist(warnings, plan.netlist().near())
+}
+
+// Those of the sheets.
+fn push_sheets(warnings: &mut Vec<Warning>, design: &Design<'_>) -> Result<(), NoMemory>
+    ensures pushed { OnOk result (warnings.new.items ≡ warnings.old.items ++ each_from sheet_keys 0 design.now.sheets) }
+{
+    for part in 0..part_count(design) {
+        push_sheet(warnings, part, design.sheet_of(part).near())?;
+    }
+    Ok(())
+}
+
+// Those of the keys of the sheet of a part.
+fn push_sheet(warnings: &mut Vec<Warning>, part: u32, near: &Texts) -> Result<(), NoMemory>
+    ensures pushed { OnOk result (warnings.new.items ≡ warnings.old.items ++ each_from (sheet_key part) 0 near.now) }
+{
+    for key in 0..near.len() {
+        warnings.push(Warning::SheetKey { part, key })?;
+    }
+    Ok(())
+}
+
+// Those of the keys of the netlist.
+fn push_netlist(warnings: &mut Vec<Warning>, near: &Texts) -> Result<(), NoMemory>
+    ensures pushed { OnOk result (warnings.new.items ≡ warnings.old.items ++ each_from netlist_key 0 near.now) }
+{
+    for key in 0..near.len() {
+        warnings.push(Warning::NetlistKey(key))?;
+    }
+    Ok(())
+}
