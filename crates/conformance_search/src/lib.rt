@@ -7,6 +7,8 @@ mod bounds;
 #[cfg(test)]
 mod chance;
 #[cfg(test)]
+mod clause_lines;
+#[cfg(test)]
 mod explaining;
 #[cfg(test)]
 mod networks;
