@@ -42,6 +42,7 @@ REMARK = (
 WARNINGS = {
     "comment": "a label that is a comment, and looks like a rule",
     "note": "a note that looks like a part of the range",
+    "key": "a key that is passed over, and looks like one that is read",
     "never": "a rule or a row that is in no cycle",
     "single": "a latest or earliest rule with one cause",
     "both": "two rules into one mark, both of which bind",

@@ -146,7 +146,7 @@ fn constraints_that_a_proof_names(rt: HostRuntime) -> Result<(), Fail> {
     )?;
     let net = network_of(alloc, 4, rules.as_slice())?;
     let mut marking = Marking::new(alloc, &net)?;
-    assert_eq!(rt; marking.marks(), &[false, false, false, false]);
+    assert_eq!(rt; marking.marks(), [false, false, false, false].as_slice());
     let edge = |constraint| EdgeName {
         constraint,
         cause: 0,
@@ -155,10 +155,10 @@ fn constraints_that_a_proof_names(rt: HostRuntime) -> Result<(), Fail> {
     marking.split(1)?;
     marking.cut_path(&[edge(3), edge(1)])?;
     marking.cut_loop(&[])?;
-    assert_eq!(rt; marking.marks(), &[false, true, false, true]);
+    assert_eq!(rt; marking.marks(), [false, true, false, true].as_slice());
     marking.cut_loop(&[edge(0), edge(9)])?;
-    assert_eq!(rt; marking.marks(), &[true, true, false, true]);
+    assert_eq!(rt; marking.marks(), [true, true, false, true].as_slice());
     marking.begin();
-    assert_eq!(rt; marking.marks(), &[false, false, false, false]);
+    assert_eq!(rt; marking.marks(), [false, false, false, false].as_slice());
     Ok(())
 }
