@@ -13,6 +13,7 @@ use std::alloc::Global;
 use std::test::Fail;
 
 // A line: a fall of an event, which is told by its letter; a literal that is known; a loop from an event; assumptions; the end of a block.
+#[derive(Clone, Copy)]
 enum Row<'a> {
     Fall(&'a str, i64, Basis),
     Know(Literal, Basis),
