@@ -43,6 +43,25 @@ fn rules_one_behind_the_other(rt: HostRuntime) -> Result<(), Fail> {
     )
 }
 
+// A clock tree: from the clock a over a buffer b to the leaf c, and straight to the leaf d. So c is at most 20 + 6 - 1 behind d, and at least
+// 10 + 5 - 2.
+#[test]
+fn the_skew_of_a_clock_tree(rt: HostRuntime) -> Result<(), Fail> {
+    explains(
+        rt.alloc(),
+        "abcd",
+        r#""a->b @lin [10,20] buffer","b->c @lin [5,6]","a->d @lin [1,2] wire","d->c @req [*,24] skew""#,
+        (
+            Outcome::SomeFail,
+            "finding consistent\n\
+            row 0 req U.d@0 U.c@0 [*,24] edge 3 skew\n\
+            max 25\nstep U.d@0 U.a@0 -1 edge 2 wire\nstep U.a@0 U.b@0 20 edge 0 buffer\nstep U.b@0 U.c@0 6 edge 1\n\
+            min 13\nstep U.d@0 U.a@0 -2 edge 2 wire\nstep U.a@0 U.b@0 10 edge 0 buffer\nstep U.b@0 U.c@0 5 edge 1\n\
+            verdict fail high\nslack * -1\nend fail\n",
+        ),
+    )
+}
+
 // j comes at the latest of a + 450..700 and b + 200..500, and b is 100..300 behind a. So j is at most 300 + 500 behind a, by b, and at
 // least 450, by a; and at most 700 - 100 behind b, by a, and at least 200.
 #[test]
