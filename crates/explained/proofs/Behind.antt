@@ -1,8 +1,7 @@
 -- What stands behind a bound.
-use Rattle.std.proofs.Common.{◌≡◌, ◌<◌, ◌≤ℤ◌, ◌-ℤ◌, ℕ, zero, suc, ℤ, pos, neg_ℤ, Bool, List, [], ◌∷◌, length, get_or, All, Option, Some, None, option_map, refl, sym, subst, ap, ◌∙◌, arith}
+use Rattle.std.proofs.Common.{◌≡◌, ◌≤ℤ◌, ◌-ℤ◌, ℕ, zero, suc, ℤ, pos, neg_ℤ, Bool, List, [], ◌∷◌, get_or, All, Option, Some, None, option_map, refl, sym, subst, ap, ◌∙◌, arith}
 use Rattle.std.specs.Prelude.{IfSome}
 use Rattle.std.proofs.lemmas.Int.{ints}
-use Rattle.itv_base.specs.declared.names.EdgeName.{EdgeName}
 use Rattle.itv_base.specs.declared.names.EventId.{EventId}
 use Rattle.event_graph.specs.Bounds.{IsGreatest}
 use Rattle.event_graph.specs.Limits.{IsReach}
@@ -23,7 +22,7 @@ use Rattle.requirements.specs.declared.bound.Bound.{Bound}
 use Rattle.requirements.specs.declared.bound.Bound.TheVariants as bounds
 use Rattle.slack_report.specs.declared.words.FindingWord.{FindingWord}
 use Rattle.slack_report.specs.declared.words.FindingWord.TheVariants as findings
-use Rattle.right_report.specs.Right.At.{Side, greatest, least_by}
+use Rattle.right_report.specs.Right.At.{greatest, least_by}
 use Rattle.right_report.specs.Right.Facts.{HasAttained, IsBoundOf}
 use Rattle.drawn.specs.declared.row.Row.{Row}
 use Rattle.explained.specs.Answers.{AreBounds, Explains, IsBoundFound, bound_of}
@@ -114,7 +113,7 @@ holds_by net word from to (bounds.Within limit attained) times set is = (is.root
 explained_holds : (net : Net) (word : FindingWord) (from to : EventId) (found : BoundFound) → IsExplained net word (record { from = from; to = to }) found
     → IsGreatestBound net from to (bound_of found)
 explained_holds net word from to (Closed value chain) is = is.1
-explained_holds net word from to (Unbounded set) is = ray_is_unbounded net from to is.1.0 set.items is.1.1.1
+explained_holds net word from to (Unbounded set) is = ray_is_unbounded net from to is.1.0 set.items is.1.2
 explained_holds net word from to (Within limit attained) is = (is.root, is.attained)
 
 -- minus the greatest bound of the reversed pair is the least one

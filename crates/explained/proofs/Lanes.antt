@@ -1,15 +1,13 @@
 -- Rows, and whether their verdicts rest on the order of a lane.
-use Rattle.std.proofs.Common.{◌≡◌, ◌<◌, ◌+◌, ℕ, All, get_or, length, take, List, [], ◌∷◌, ◌++◌, Option, Some, None, refl, sym, subst, ap, ◌∙◌, arith}
+use Rattle.std.proofs.Common.{◌≡◌, ◌<◌, ◌+◌, ℕ, All, get_or, length, take, List, [], ◌∷◌, ◌++◌, Option, refl, sym, subst, ap, ◌∙◌, arith}
 use Rattle.std.proofs.lemmas.List.{take_more}
 use Rattle.std.proofs.lemmas.List.Elements.{All-push}
 use Rattle.itv_base.specs.declared.row_kind.RowKind.{RowKind}
 use Rattle.itv_base.specs.declared.row_kind.RowKind.TheVariants as kinds
 use Rattle.event_graph.specs.Network.{Net}
 use Rattle.requirements.specs.declared.bound.BothBounds.{BothBounds}
-use Rattle.requirements.specs.declared.bound.Bound.{Bound}
 use Rattle.slack_report.specs.declared.words.FindingWord.{FindingWord}
-use Rattle.right_report.specs.Right.At.{Side, greatest, least_by}
-use Rattle.right_report.specs.Right.Facts.{IsBoundOf}
+use Rattle.right_report.specs.Right.At.{greatest, least_by}
 use Rattle.drawn.specs.Drawn.{Drawn}
 use Rattle.drawn.specs.declared.row.Row.{Row}
 use Rattle.explained.specs.Answers.{AreBounds, AreRowsFound, HasRowTimes, IsApartOf, IsBoundFound, IsRowFound, bound_of}

@@ -1,5 +1,5 @@
 -- Findings, of a network and of the one apart from the order of lanes.
-use Rattle.std.proofs.Common.{◌≡◌, ◌<◌, ℕ, ℤ, Bool, List, length, Option, Some, None, refl, sym, subst, ap, ◌∙◌}
+use Rattle.std.proofs.Common.{◌≡◌, ℕ, ℤ, Bool, List, length, Option, Some, None, refl, sym, subst, ◌∙◌}
 use Rattle.std.specs.Prelude.{IfSome, IsSomeAnd}
 use Rattle.event_graph.specs.Network.{Net}
 use Rattle.event_graph.specs.Satisfying.{Satisfies}
@@ -12,8 +12,7 @@ use Rattle.branch.specs.declared.answer.Found.TheVariants as founds
 use Rattle.event_graph.specs.Proof.{ProofLine}
 use Rattle.chains.specs.Named.{HasMarked, IsContradiction}
 use Rattle.chains.proofs.Naming.{named_contradict}
-use Rattle.drawn.specs.Drawn.{Drawn, IsRowOf}
-use Rattle.drawn.specs.declared.row.Row.{Row}
+use Rattle.drawn.specs.Drawn.{Drawn}
 use Rattle.explained.specs.Apart.{net_apart}
 use Rattle.explained.specs.declared.desk.Apart.{Apart}
 use Rattle.explained.specs.Step.Standing.{Allows, HasFound, net_in, word_of_found}

@@ -1,5 +1,5 @@
 -- The network apart from the order of lanes.
-use Rattle.std.proofs.Common.{◌≡◌, ◌<◌, ◌≤◌, ◌+◌, ℕ, zero, suc, ℤ, Bool, true, false, IsTrue, List, [], ◌∷◌, ◌++◌, length, get_or, map, take, All, Option, Some, None, option_and_then, slice_get, refl, sym, subst, ap, ◌∙◌, arith}
+use Rattle.std.proofs.Common.{◌≡◌, ◌<◌, ◌≤◌, ◌+◌, ℕ, zero, suc, ℤ, Bool, true, false, IsTrue, List, [], ◌∷◌, ◌++◌, length, take, All, Option, Some, None, slice_get, refl, sym, subst, ap, ◌∙◌, arith}
 use Rattle.std.specs.Prelude.{IsSomeAnd, if◌then◌else◌}
 use Rattle.std.proofs.lemmas.List.{length-map, length-take-le, take_all}
 use Rattle.std.proofs.lemmas.Option.{get_or_from_slice_get}
@@ -10,7 +10,7 @@ use Rattle.event_graph.specs.declared.edge.Edge.{Edge}
 use Rattle.event_graph.specs.Edges.{IsAlways, Meets, edge, holds_always}
 use Rattle.event_graph.specs.Network.{Constraint, Net, with_constraint}
 use Rattle.event_graph.specs.RootBound.{MeetsAlways}
-use Rattle.event_graph.specs.Satisfying.{Holds, Satisfies}
+use Rattle.event_graph.specs.Satisfying.{Holds}
 use Rattle.drawn.specs.Drawn.{Drawn, OriginsFit}
 use Rattle.explained.specs.Apart.{ApartIsWider, constraints_apart, keeps_order, net_apart}
 
@@ -95,11 +95,11 @@ left_out net origins k fit within order =
 fewer_apart : (cs : List Constraint) (origins : List (List Origin)) → length (constraints_apart cs origins) ≤ length cs
 fewer_apart [] origins = omega arith
 fewer_apart (c ∷ cs) [] = omega arith
-fewer_apart (c ∷ cs) (drew ∷ origins) = by_order (keeps_order drew) (fewer_apart cs origins)
+fewer_apart (c ∷ cs) (drew ∷ origins) = by_order (keeps_order drew) (constraints_apart cs origins) (fewer_apart cs origins)
   where
-    by_order : (keeps : Bool) {xs : List Constraint} → length xs ≤ length cs → length (if keeps then xs else c ∷ xs) ≤ suc (length cs)
-    by_order true fewer = omega (arith, fewer)
-    by_order false fewer = omega (arith, fewer)
+    by_order : (keeps : Bool) (xs : List Constraint) → length xs ≤ length cs → length (if keeps then xs else c ∷ xs) ≤ suc (length cs)
+    by_order true xs fewer = omega (arith, fewer)
+    by_order false xs fewer = omega (arith, fewer)
 
 pub front_fits : (net : Net) (origins : List (List Origin)) (k : ℕ) → k ≤ length net.constraints → length (front_apart net origins k).constraints ≤ k
 front_fits net origins k within = omega (arith, fewer_apart (take k net.constraints) (take k origins), length-take-le k net.constraints within)

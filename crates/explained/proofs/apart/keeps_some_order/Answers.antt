@@ -1,6 +1,5 @@
-use Rattle.std.proofs.Common.{◌≡◌, ◌<◌, length, ◌∙◌, ap, subst, sym, arith, false, Bool}
+use Rattle.std.proofs.Common.{◌<◌, length, ap, subst, arith, Bool}
 use Rattle.event_graph.specs.Network.{Net}
-use Rattle.drawn.specs.Drawn.{OriginsFit}
 use Rattle.explained.proofs.Wider.{IsOrder, whole_next}
 use Rattle.explained.proofs.apart.keeps_some_order.Goals as goal
 

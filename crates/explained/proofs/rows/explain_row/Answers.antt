@@ -1,4 +1,4 @@
-use Rattle.std.proofs.Common.{◌≡◌, refl, ap, ◌∙◌}
+use Rattle.std.proofs.Common.{◌≡◌}
 use Rattle.event_graph.specs.Network.{Net}
 use Rattle.drawn.specs.Drawn.{IsRowOf}
 use Rattle.requirements.specs.declared.bound.BothBounds.{BothBounds}
