@@ -1,6 +1,6 @@
 //! Drawing a design.
 
-ghost use Rattle.std.specs.Prelude.{◌≡◌, ◌≤◌, ◌*◌, IfOk, length};
+ghost use Rattle.std.specs.Prelude.{◌≡◌, ◌≤◌, ◌*◌, IfOk, IsErrOf, IsOk, length};
 ghost use Rattle.itv_base.specs.declared.limits.TheConstants.{MAX_CONSTRAINTS, MAX_EVENTS, MAX_ROWS};
 ghost use Rattle.itv_base.specs.Reading.{Gives};
 ghost use Rattle.compose.specs.Numbers.{mark_count};
@@ -28,9 +28,10 @@ use std::alloc::Global;
 /// much there is. All is counted before memory is taken for any of it, so that a design that passes a limit is refused in a time
 /// that grows as the design itself.
 ///
-/// `NoMemory` may come in place of either. After a refusal nothing was made.
+/// `NoMemory` may come in place of what is drawn, and never in place of a limit that is passed. After a refusal nothing was made.
 pub fn unroll(alloc: Global, design: &Design<'_>) -> Result<DrawnNetwork, UnrollFault>
     ensures answer { Gives is_memory (λ drawn. drawn) result (unrolled design.now) }
+    ensures memory { IsErrOf result UnrollFault.NoMemory → IsOk (unrolled design.now) }
 {
     let counts = Counts::of(design);
     if let Some(passed) = first_passed(design.cycles(), counts) {

@@ -1,4 +1,4 @@
-use Rattle.std.proofs.Common.{◌∙◌, Some, ap, Ok, sym, arith}
+use Rattle.std.proofs.Common.{◌∙◌, Some, ap, Ok, IsOk, refl, sym, subst, arith}
 use Rattle.unroll.proofs.BetweenLists.{few_marks}
 use Rattle.unroll.proofs.DrawnSteps.{drawn_past, drawn_within, few_constraints, few_rows, passed_of}
 use Rattle.unroll.proofs.draw.unroll.Goals as goal
@@ -11,7 +11,7 @@ returns-in-Some c =
     let d = c.args.design.now in
     let passed = c.in-Some.passed in
     let is = passed_of d c.cycles.result c.of-counts.result (Some passed) c.cycles.ensures.cycles c.of-counts.ensures.counts c.in-Some.ensures in
-    rw c.too_many.ensures (record { answer = drawn_past d passed (sym is) })
+    rw c.too_many.ensures (record { answer = drawn_past d passed (sym is); memory = λ e. absurd (cc e) })
 
 pub draw-requires-clause-constraints : goal.draw-requires-clause-constraints
 draw-requires-clause-constraints c =
@@ -29,4 +29,10 @@ pub returns : goal.returns
 returns c =
     let d = c.args.design.now in
     let none = passed_of d c.cycles.result c.of-counts.result c.first_passed.result c.cycles.ensures.cycles c.of-counts.ensures.counts c.first_passed.ensures in
-    record { answer = drawn_within d (sym none ∙ c.in_default.is) ∙ ap Ok (sym c.in_ok-draw.ensures) }
+    record { answer = drawn_within d (sym none ∙ c.in_default.is) ∙ ap Ok (sym c.in_ok-draw.ensures); memory = λ e. absurd (cc e) }
+
+pub returns-in_err-draw-clause-memory : goal.returns-in_err-draw-clause-memory
+returns-in_err-draw-clause-memory c = λ e.
+    let d = c.args.design.now in
+    let none = passed_of d c.cycles.result c.of-counts.result c.first_passed.result c.cycles.ensures.cycles c.of-counts.ensures.counts c.first_passed.ensures in
+    subst IsOk (sym (drawn_within d (sym none ∙ c.in_default.is))) refl
