@@ -80,6 +80,23 @@ fn a_grade_gives_the_parameters_of_a_part(rt: HostRuntime) -> Result<(), Fail> {
                 ("U1.a U1.b U1.j", 1),
                 "ask U1.a@0 U1.j@0\nmax 700\ntimes ?\nmin 500\ntimes ?\n",
             ),
+            // one sheet that names no parameter, with a grade and without one, and twice without one; of a grade that is written twice the last
+            // counts
+            (
+                r#"{"itv":2,"cycles":1,"parts":[{"name":"U1","sheet":"s","grade":"g"},{"name":"U2","sheet":"s"},{"name":"U3","sheet":"s"}]}"#,
+                r#"{"signal":[{"node":"a"},{"node":"b"}],"edge":["a->b @lin [3,5]","a->b @ask"],"itv_grades":{"g":{"p":[1,2]},"g":{}}}"#,
+                "{}",
+                ("U1.a U1.b U2.a U2.b U3.a U3.b", 1),
+                "ask U1.a@0 U1.b@0\nmax 5\ntimes ?\nmin 3\ntimes ?\nask U2.a@0 U2.b@0\nmax 5\ntimes ?\nmin 3\ntimes ?\n\
+                ask U3.a@0 U3.b@0\nmax 5\ntimes ?\nmin 3\ntimes ?\n",
+            ),
+            (
+                r#"{"itv":2,"cycles":1,"parts":[{"name":"U1","sheet":"s","grade":"g"}]}"#,
+                r#"{"signal":[{"node":"a"},{"node":"b"}],"edge":["a->b @lin $p","a->b @ask"],"itv_grades":{"g":{"p":[1,2]},"g":{"p":[3,4]}}}"#,
+                "{}",
+                ("U1.a U1.b", 1),
+                "ask U1.a@0 U1.b@0\nmax 4\ntimes ?\nmin 3\ntimes ?\n",
+            ),
             // a part without a grade on a sheet that names no parameter, with grades or without
             (
                 r#"{"itv":2,"cycles":1,"parts":[{"name":"U1","sheet":"s"},{"name":"V","sheet":"t"}],"edges":["U1.a V.b @ask $tCO"]}"#,
@@ -175,6 +192,13 @@ fn grades_and_parameters_are_there(rt: HostRuntime) -> Result<(), Fail> {
                 r#"{"name":"U1","sheet":"s","grade":"g"}"#,
                 bad,
                 "refused file 1 BadNode 1",
+            ),
+            // a grade without a parameter
+            (
+                "2",
+                r#"{"name":"U1","sheet":"s","grade":"g"}"#,
+                r#"{"signal":[{"node":"a"},{"node":"b"}],"edge":["a->b @lin $p"],"itv_grades":{"g":{}}}"#,
+                "refused file 1 NoParam 0",
             ),
             // `$t` is a parameter, and `CO` a note
             (
