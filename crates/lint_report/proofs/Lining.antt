@@ -32,13 +32,13 @@ four_spaced key mark first other =
 
 -- a key of a sheet by its pieces
 pub sheet_key_is : (name key part word : List ℕ) → name ≡ part → key ≡ word
-    → codes " key " ++ (name ++ (codes " " ++ key)) ≡ flat_map spaced (codes "key" ∷ part ∷ word ∷ [])
+    → codes " key " ++ (name ++ (codes " " ++ (key ++ []))) ≡ flat_map spaced (codes "key" ∷ part ∷ word ∷ [])
 sheet_key_is name key part word named is =
-    ap (λ (ws : List ℕ). codes " key " ++ (ws ++ (codes " " ++ key))) named ∙ ap (λ (ws : List ℕ). codes " key " ++ (part ++ (codes " " ++ ws))) (is ∙ sym (append-nil word))
+    ap (λ (ws : List ℕ). codes " key " ++ (ws ++ (codes " " ++ (key ++ [])))) named ∙ ap (λ (ws : List ℕ). codes " key " ++ (part ++ (codes " " ++ (ws ++ [])))) is
 
 -- a key of the netlist
-pub netlist_key_is : (key word : List ℕ) → key ≡ word → codes " key " ++ key ≡ flat_map spaced (codes "key" ∷ word ∷ [])
-netlist_key_is key word is = ap (λ (ws : List ℕ). codes " key " ++ ws) (is ∙ sym (append-nil word))
+pub netlist_key_is : (key word : List ℕ) → key ≡ word → codes " key " ++ (key ++ []) ≡ flat_map spaced (codes "key" ∷ word ∷ [])
+netlist_key_is key word is = ap (λ (ws : List ℕ). codes " key " ++ (ws ++ [])) is
 
 -- ---- lines
 
