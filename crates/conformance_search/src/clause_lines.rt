@@ -6,19 +6,30 @@ use crate::networks::{event_of, network_of, rules_of};
 use Basis::{ByEarliest, ByEdge, ByKept, ByLatest, BySide};
 use Row::{Assume, Close, Fall, Know, Loop};
 use Side::{Lower, Upper};
+use Steps::{NoStep, One, Two};
+use clauses::laws::{start_is_checking, taken_line_keeps_checking};
 use clauses::{Basis, Claim, ClauseChecker, EventFall, Literal, Step};
 use event_graph::Network;
 use itv_base::{EdgeName, EventId, Side};
 use std::alloc::Global;
 use std::test::Fail;
 
-// A line: a fall of an event, which is told by its letter; a literal that is known; a loop from an event; assumptions; the end of a block.
+// Steps of a loop.
+#[derive(Clone, Copy)]
+enum Steps {
+    NoStep,
+    One(Step),
+    Two(Step, Step),
+}
+
+// A line: a fall of an event, which is told by its letter; a literal that is known; a loop from an event; two assumptions, or one twice; the
+// end of a block.
 #[derive(Clone, Copy)]
 enum Row<'a> {
     Fall(&'a str, i64, Basis),
     Know(Literal, Basis),
-    Loop(&'a str, &'a [Step]),
-    Assume(&'a [Literal]),
+    Loop(&'a str, Steps),
+    Assume(Literal, Literal),
     Close,
 }
 
@@ -54,36 +65,21 @@ fn take(
     alloc: Global,
     net: &Network,
     checker: &mut ClauseChecker,
-    row: &Row<'_>,
+    row: Row<'_>,
 ) -> Result<String, Fail>
     requires checking { IsChecking net.now checker.old }
     ensures checking { IsChecking net.now checker.new }
 {
     match row {
-        Fall(event, value, basis) => take_fall(
-            alloc,
-            net,
-            checker,
-            event_of(event),
-            *value,
-            *basis,
-        ),
-        Know(literal, basis) => match checker.take_know(net, *literal, *basis) {
-            Ok(()) => Ok(String::new(alloc)),
-            Err(fault) => Ok(format!(in alloc; "{fault}")?),
-        },
-        Loop(event, steps) => match checker.keep_loop(alloc, net, EventId(event_of(event)), steps) {
-            Ok(()) => Ok(String::new(alloc)),
-            Err(fault) => Ok(format!(in alloc; "{fault}")?),
-        },
-        Assume(literals) => match checker.assume(alloc, net, literals) {
-            Ok(()) => Ok(String::new(alloc)),
-            Err(fault) => Ok(format!(in alloc; "{fault}")?),
-        },
-        Close => match checker.close(alloc, net) {
-            Ok(()) => Ok(String::new(alloc)),
-            Err(fault) => Ok(format!(in alloc; "{fault}")?),
-        },
+        Fall(event, value, basis) => take_fall(alloc, net, checker, event_of(event), value, basis),
+        Know(literal, basis) => take_know(alloc, net, checker, literal, basis),
+        Loop(event, NoStep) => keep_loop(alloc, net, checker, event_of(event), &[]),
+        Loop(event, One(step)) => keep_loop(alloc, net, checker, event_of(event), &[step]),
+        Loop(event, Two(step, next)) => {
+            keep_loop(alloc, net, checker, event_of(event), &[step, next])
+        }
+        Assume(first, second) => assume(alloc, net, checker, first, second),
+        Close => close(alloc, net, checker),
     }
 }
 
@@ -99,6 +95,7 @@ fn take_fall(
     requires checking { IsChecking net.now checker.old }
     ensures checking { IsChecking net.now checker.new }
 {
+    taken_line_keeps_checking();
     if net.events() <= event {
         return Err(Fail::new("no such event"));
     }
@@ -113,6 +110,68 @@ fn take_fall(
     }
 }
 
+fn take_know(
+    alloc: Global,
+    net: &Network,
+    checker: &mut ClauseChecker,
+    literal: Literal,
+    basis: Basis,
+) -> Result<String, Fail>
+    requires checking { IsChecking net.now checker.old }
+    ensures checking { IsChecking net.now checker.new }
+{
+    taken_line_keeps_checking();
+    match checker.take_know(net, literal, basis) {
+        Ok(()) => Ok(String::new(alloc)),
+        Err(fault) => Ok(format!(in alloc; "{fault}")?),
+    }
+}
+
+fn keep_loop(
+    alloc: Global,
+    net: &Network,
+    checker: &mut ClauseChecker,
+    event: u32,
+    steps: &[Step],
+) -> Result<String, Fail>
+    requires checking { IsChecking net.now checker.old }
+    ensures checking { IsChecking net.now checker.new }
+{
+    taken_line_keeps_checking();
+    match checker.keep_loop(alloc, net, EventId(event), steps) {
+        Ok(()) => Ok(String::new(alloc)),
+        Err(fault) => Ok(format!(in alloc; "{fault}")?),
+    }
+}
+
+fn assume(
+    alloc: Global,
+    net: &Network,
+    checker: &mut ClauseChecker,
+    first: Literal,
+    second: Literal,
+) -> Result<String, Fail>
+    requires checking { IsChecking net.now checker.old }
+    ensures checking { IsChecking net.now checker.new }
+{
+    taken_line_keeps_checking();
+    match checker.assume(alloc, net, &[first, second]) {
+        Ok(()) => Ok(String::new(alloc)),
+        Err(fault) => Ok(format!(in alloc; "{fault}")?),
+    }
+}
+
+fn close(alloc: Global, net: &Network, checker: &mut ClauseChecker) -> Result<String, Fail>
+    requires checking { IsChecking net.now checker.old }
+    ensures checking { IsChecking net.now checker.new }
+{
+    taken_line_keeps_checking();
+    match checker.close(alloc, net) {
+        Ok(()) => Ok(String::new(alloc)),
+        Err(fault) => Ok(format!(in alloc; "{fault}")?),
+    }
+}
+
 // Compares the faults of lines, one behind another, with what is wanted, and whether the lines are a proof in the end.
 fn expect_lines(
     alloc: Global,
@@ -120,6 +179,7 @@ fn expect_lines(
     rows: &[(Row<'_>, &str)],
     is_over: bool,
 ) -> Result<(), Fail> {
+    start_is_checking();
     let rules = rules_of(alloc, RULES)?;
     let net = network_of(alloc, 4, rules.as_slice())?;
     if net.events() <= 3 {
@@ -128,7 +188,7 @@ fn expect_lines(
     let claim = Claim { value: claim };
     let mut checker = ClauseChecker::new(alloc, &net, EventId(0), EventId(3), claim)?;
     for (row, wanted) in rows {
-        let fault = take(alloc, &net, &mut checker, row)?;
+        let fault = take(alloc, &net, &mut checker, *row)?;
         if fault.as_str() != *wanted {
             return Err(Fail::new(format_args!("{fault}, not {wanted}")));
         }
@@ -187,13 +247,16 @@ fn literals_that_are_known(rt: HostRuntime) -> Result<(), Fail> {
             Know(side(1, true), ByEarliest(1)),
             "that side 1.0 is met may hold",
         ),
-        (Assume(&[side(2, true)]), "that side 1.2 is met has no edge"),
         (
-            Assume(&[side(0, false), side(3, false)]),
+            Assume(side(2, true), side(2, true)),
+            "that side 1.2 is met has no edge",
+        ),
+        (
+            Assume(side(0, false), side(3, false)),
             "that side 1.3 is not met has no edge",
         ),
         (Close, "no block is open"),
-        (Assume(&[side(0, false)]), ""),
+        (Assume(side(0, false), side(0, false)), ""),
         (
             Know(side(0, false), ByEarliest(1)),
             "the clause does not have the literal",
@@ -223,7 +286,7 @@ fn a_block_that_is_refuted(rt: HostRuntime) -> Result<(), Fail> {
             Fall("c", 499, BySide(early)),
             "that side 1.0 is met may hold",
         ),
-        (Assume(&[early]), ""),
+        (Assume(early, early), ""),
         (Fall("c", 498, BySide(early)), "a way gives 499"),
         (Fall("c", 499, BySide(early)), ""),
         (Close, "the block has not ended"),
@@ -244,7 +307,7 @@ fn a_block_that_is_refuted(rt: HostRuntime) -> Result<(), Fail> {
             Fall("c", 499, BySide(early)),
             "that side 1.0 is met may hold",
         ),
-        (Assume(&[early]), ""),
+        (Assume(early, early), ""),
         (
             Fall("a", i64::MIN, ByKept(0)),
             "the value is below the least",
@@ -262,33 +325,33 @@ fn a_block_that_is_refuted(rt: HostRuntime) -> Result<(), Fail> {
 fn loops_that_are_kept(rt: HostRuntime) -> Result<(), Fail> {
     let back = by(3, 0, Lower);
     let rows = [
-        (Loop("d", &[]), "the steps lead back by 0"),
+        (Loop("d", NoStep), "the steps lead back by 0"),
         (
-            Loop("d", &[step(ByKept(0), 0)]),
+            Loop("d", One(step(ByKept(0), 0))),
             "step 0: there is no such clause",
         ),
         (
-            Loop("d", &[step(back, 0)]),
+            Loop("d", One(step(back, 0))),
             "step 0: the clause bounds event 1",
         ),
         (
-            Loop("d", &[step(ByLatest(2), 2)]),
+            Loop("d", One(step(ByLatest(2), 2))),
             "step 0: the clause has no such way",
         ),
         (
-            Loop("d", &[step(ByLatest(2), 0)]),
+            Loop("d", One(step(ByLatest(2), 0))),
             "the steps lead to event 1",
         ),
         (
-            Loop("d", &[step(ByLatest(2), 0), step(by(2, 0, Lower), 0)]),
+            Loop("d", Two(step(ByLatest(2), 0), step(by(2, 0, Lower), 0))),
             "the steps lead back by 10",
         ),
         (
-            Loop("d", &[step(ByLatest(2), 1), step(back, 0)]),
+            Loop("d", Two(step(ByLatest(2), 1), step(back, 0))),
             "step 1: the clause bounds event 1",
         ),
         (Fall("d", 440, ByKept(0)), "there is no such clause"),
-        (Loop("d", &[step(ByLatest(2), 0), step(back, 0)]), ""),
+        (Loop("d", Two(step(ByLatest(2), 0), step(back, 0))), ""),
         (Fall("b", 300, by(0, 0, Upper)), ""),
         (Fall("c", 700, by(1, 0, Upper)), ""),
         (Fall("d", 739, ByKept(0)), "a way gives 740"),
