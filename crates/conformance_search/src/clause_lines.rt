@@ -187,14 +187,28 @@ fn expect_lines(
     }
     let claim = Claim { value: claim };
     let mut checker = ClauseChecker::new(alloc, &net, EventId(0), EventId(3), claim)?;
+    take_each(alloc, &net, &mut checker, rows)?;
+    if checker.is_over(&net) != is_over {
+        return Err(Fail::new("the lines end too early or too late"));
+    }
+    Ok(())
+}
+
+// Compares the faults of lines, one behind another, with what is wanted.
+fn take_each(
+    alloc: Global,
+    net: &Network,
+    checker: &mut ClauseChecker,
+    rows: &[(Row<'_>, &str)],
+) -> Result<(), Fail>
+    requires checking { IsChecking net.now checker.old }
+    ensures checking { IsChecking net.now checker.new }
+{
     for (row, wanted) in rows {
-        let fault = take(alloc, &net, &mut checker, *row)?;
+        let fault = take(alloc, net, checker, *row)?;
         if fault.as_str() != *wanted {
             return Err(Fail::new(format_args!("{fault}, not {wanted}")));
         }
-    }
-    if checker.is_over(&net) != is_over {
-        return Err(Fail::new("the lines end too early or too late"));
     }
     Ok(())
 }
