@@ -1,5 +1,5 @@
 -- No file of the generated design is refused as too long.
-use Rattle.std.proofs.Common.{◌≡◌, ◌∙◌, ◌+◌, ◌≤◌, ℕ, Bool, true, false, List, [], ◌∷◌, length, take, Option, Some, None, Result, Ok, Err, IfSome, is_some, is_none, ◌==◌, ◌&&◌, ◌<◌, inl, inr, refl, sym, subst, arith, nat_lt, codes, if◌then◌else◌}
+use Rattle.std.proofs.Common.{◌≡◌, ◌+◌, ◌≤◌, ℕ, Bool, true, false, List, [], ◌∷◌, length, take, Option, Some, None, Result, Ok, Err, IfSome, is_some, is_none, ◌==◌, ◌&&◌, ◌<◌, inl, inr, refl, sym, subst, arith, nat_lt, codes, if◌then◌else◌}
 use Rattle.std.proofs.lemmas.Bool.{ltb-true}
 use Rattle.std.proofs.lemmas.List.{length-take}
 use Rattle.std.specs.Option.{option_map_or}
@@ -8,7 +8,7 @@ use Rattle.itv_base.specs.Outside.{Files, file_of, grown}
 use Rattle.itv_base.specs.declared.limits.TheConstants.{FILE_LIMIT}
 use Rattle.serde_json.specs.Data.{Data}
 use Rattle.wavejson.specs.Drawing.{Drawing, diagram_of}
-use Rattle.design_gen.specs.Files.{FilesFit, IsSize, design_files}
+use Rattle.design_gen.specs.Files.{IsSize, design_files}
 use Rattle.design_gen.proofs.Lengths.{files_fit}
 use Rattle.netlist.specs.Contents.{Contents}
 use Rattle.netlist.specs.declared.part.Part.{Part}
@@ -37,7 +37,6 @@ use Rattle.itv_cli.specs.Job.{Answers, opening}
 use Rattle.itv_cli.specs.Run.{Call, HasAnswered, IsRefused, Means}
 use Rattle.itv_cli.specs.declared.outcome.Outcome.{Outcome}
 use Rattle.itv_cli.specs.declared.outcome.Outcome.TheVariants as ends
-use Rattle.itv_cli.specs.declared.ready.Ready.{Ready}
 use Rattle.itv_cli.specs.declared.ready.Ready.TheVariants as given
 use Rattle.conformance.proofs.JobEnds.{came_made}
 use Rattle.conformance.proofs.Telling.{never_refused, told_then}

@@ -1,19 +1,16 @@
 -- What the ends of runs of one job say over files that are told.
-use Rattle.std.proofs.Common.{◌≡◌, ◌∙◌, ◌+◌, ◌≤◌, ℕ, Bool, true, false, List, ◌++◌, length, take, Option, Some, None, ◌⊎◌, inl, inr, refl, sym, ap, subst, arith, nat_lt, codes, if◌then◌else◌, leb}
+use Rattle.std.proofs.Common.{◌≡◌, ◌∙◌, ◌+◌, ◌≤◌, ℕ, Bool, true, false, List, length, take, Option, Some, None, ◌⊎◌, inl, inr, refl, sym, ap, subst, arith, nat_lt, codes, if◌then◌else◌}
 use Rattle.std.proofs.lemmas.Bool.{ltb-false}
 use Rattle.std.proofs.lemmas.List.{length-take, take_all}
-use Rattle.std.proofs.lemmas.Option.{same_Some}
 use Rattle.std.specs.Option.{option_map_or}
 use Rattle.event_graph.specs.Bounds.{IsInconsistent}
 use Rattle.event_graph.specs.RootBound.{HasNoRoot}
-use Rattle.itv_base.specs.Memory.{MemSink, sink_told}
-use Rattle.itv_base.specs.Outside.{Files, ShelfTold, SinkTold, file_of, grown}
+use Rattle.itv_base.specs.Outside.{Files, ShelfTold, file_of, grown}
 use Rattle.itv_base.specs.declared.limits.TheConstants.{MAX_MATRIX_EVENTS, REPORT_LIMIT}
 use Rattle.design_gen.specs.Files.{design_files}
 use Rattle.jobs.specs.Ending.{answer_of}
 use Rattle.jobs.specs.declared.answer.Answer.{Answer}
 use Rattle.jobs.specs.declared.answer.Answer.TheVariants as answers
-use Rattle.slack_report.specs.Text.{report_text}
 use Rattle.slack_report.specs.declared.words.EndWord.{EndWord}
 use Rattle.slack_report.specs.declared.words.EndWord.TheVariants as endings
 use Rattle.right_report.specs.Laws.{AllMet, SomeBroken, SomeSatisfy}
@@ -29,24 +26,22 @@ use Rattle.reading.specs.declared.place.Place.TheVariants.{Report}
 use Rattle.reading.specs.Design.{design_at}
 use Rattle.reading.specs.declared.refusal.Refusal.{Refusal}
 use Rattle.reading.specs.declared.refusal.Refusal.TheVariants.{TooLong}
-use Rattle.reading.specs.Opening.{Comes, End, Opening, gives, refuses, fetches, ◌>>=◌, ready, refused, unread, told_end, file_at, within_limit}
-use Rattle.unroll.specs.declared.fault.UnrollFault.TheVariants.{TooMany}
+use Rattle.reading.specs.Opening.{Comes, End, Opening, gives, refuses, fetches, ◌>>=◌, ready, unread, told_end, file_at, within_limit}
 use Rattle.bounds_report.proofs.WrittenLaws.{written_is_accepted, written_is_right}
 use Rattle.matrix_report.specs.Matrix.{AnswersMatrix, IsMatrixText}
 use Rattle.report_check.specs.Check.{AnswersCheck, refused_text}
-use Rattle.summary_report.specs.Summary.{AnswersSummary}
 use Rattle.itv_cli.specs.Bounds.{AnswersBounds}
-use Rattle.settle_check.specs.Confirm.{AnswersConfirm, IsSettledText}
+use Rattle.settle_check.specs.Confirm.{AnswersConfirm}
 use Rattle.settle_report.specs.Settle.{AnswersSettle}
-use Rattle.itv_cli.specs.Task.{Task, bounds, check, confirm, generated, matrix, settle, taken, task}
+use Rattle.itv_cli.specs.Task.{bounds, check, confirm, generated, matrix, settle, taken, task}
 use Rattle.itv_cli.specs.Job.{Answers, made_for, matrix_at, opening}
 use Rattle.itv_cli.specs.Run.{Call, CameTo, EndsOver, HasAnswered, Means, outcome_of}
 use Rattle.itv_cli.specs.declared.outcome.Outcome.{Outcome}
 use Rattle.itv_cli.specs.declared.outcome.Outcome.TheVariants as ends
 use Rattle.itv_cli.specs.declared.ready.Ready.{Ready}
 use Rattle.itv_cli.specs.declared.ready.Ready.TheVariants as given
-use Rattle.conformance.specs.Clients.{AsksBounds, AsksCheck, AsksConfirm, AsksMatrix, AsksSettle, Draws, IsReportEnd, IsRightFile, IsSettledFile, IsSummaryOf, IsWrongFile}
-use Rattle.conformance.proofs.Telling.{HasReported, answer_over, came_over, never_refused, reported_over, same_asked, same_ready, told_behind, told_then}
+use Rattle.conformance.specs.Clients.{AsksBounds, AsksCheck, AsksConfirm, AsksMatrix, AsksSettle, IsReportEnd, IsRightFile, IsSettledFile, IsSummaryOf, IsWrongFile}
+use Rattle.conformance.proofs.Telling.{answer_over, never_refused, reported_over, same_asked, same_ready, told_behind, told_then}
 
 -- ---- what was answered
 

@@ -1,6 +1,8 @@
 -- What the ends of runs of jobs why, brief and lint say over files that are told.
-use Rattle.std.proofs.Common.{◌≡◌, ◌∙◌, ◌==◌, ℕ, Bool, true, false, List, [], ◌∷◌, length, Some, Ok, refl, sym, ap, subst}
-use Rattle.std.specs.Prelude.{if◌then◌else◌}
+use Rattle.std.proofs.Common.{◌≡◌, ◌∙◌, ◌==◌, ℕ, Bool, true, false, List, [], ◌∷◌, length, Some, Result, Ok, refl, sym, subst, arith}
+use Rattle.std.specs.Prelude.{◌&&◌, if◌then◌else◌, not}
+use Rattle.std.specs.List.{list_any}
+use Rattle.std.proofs.lemmas.Bool.{eqb-true}
 use Rattle.itv_base.specs.declared.row_kind.RowKind.{RowKind}
 use Rattle.itv_base.specs.declared.row_kind.RowKind.TheVariants as kinds
 use Rattle.event_graph.specs.Bounds.{IsInconsistent}
@@ -14,7 +16,6 @@ use Rattle.drawn.specs.declared.row.Row.{Row}
 use Rattle.jobs.specs.Ending.{answer_of}
 use Rattle.jobs.specs.declared.answer.Answer.{Answer}
 use Rattle.jobs.specs.declared.answer.Answer.TheVariants as answers
-use Rattle.slack_report.specs.declared.words.EndWord.{EndWord}
 use Rattle.slack_report.specs.declared.words.EndWord.TheVariants as endings
 use Rattle.slack_report.specs.declared.words.FindingWord.{FindingWord}
 use Rattle.slack_report.specs.declared.words.FindingWord.TheVariants as findings
@@ -31,13 +32,12 @@ use Rattle.brief_report.specs.Brief.{AnswersBrief}
 use Rattle.warnings.specs.Warnings.{warnings_of}
 use Rattle.warnings.specs.declared.warning.Warning.{Warning}
 use Rattle.lint_report.specs.Lint.{AnswersLint, answer_by}
-use Rattle.lint_report.specs.Text.{is_clean}
+use Rattle.lint_report.specs.Text.{is_clean, is_over}
 use Rattle.words.specs.Task as tasks
 use Rattle.itv_cli.specs.Job.{Answers, planned_at}
 use Rattle.itv_cli.specs.Run.{Call, HasAnswered, Means}
 use Rattle.itv_cli.specs.declared.outcome.Outcome.{Outcome}
 use Rattle.itv_cli.specs.declared.outcome.Outcome.TheVariants as ends
-use Rattle.itv_cli.specs.declared.ready.Ready.{Ready}
 use Rattle.itv_cli.specs.declared.ready.Ready.TheVariants as given
 use Rattle.conformance.specs.Clients.{AsksBrief, AsksLint, AsksWhy, HasNoWarning, IsReportEnd}
 use Rattle.conformance.proofs.JobEnds.{answered_by}
@@ -117,12 +117,19 @@ none_clean : (clean : Bool) → answers.AllPass ≡ answer_by clean → clean �
 none_clean true e = refl
 none_clean false e = absurd (cc e)
 
-none_warned : (drawn : Drawn) (warnings : List Warning) (found : List RowFound) → is_clean drawn warnings found ≡ true → warnings ≡ []
-none_warned drawn [] found e = refl
-none_warned drawn (warning ∷ warnings) found e = absurd (cc e)
+first_true : (a b : Bool) → (a && b) ≡ true → a ≡ true
+first_true true b e = refl
+first_true false b e = absurd (cc e)
 
-same_design : (one two : Composed) → Ok one ≡ Ok two → one ≡ two
-same_design one two e = cc e
+no_length : {A : Type 0} (xs : List A) → length xs ≡ 0 → xs ≡ []
+no_length [] e = refl
+no_length (x ∷ xs) e = absurd (omega (arith, e))
+
+none_warned : (drawn : Drawn) (warnings : List Warning) (found : List RowFound) → is_clean drawn warnings found ≡ true → warnings ≡ []
+none_warned drawn warnings found e = no_length warnings (eqb-true (length warnings) 0 (first_true (length warnings == 0) (not (list_any (is_over drawn) found)) e))
+
+same_ok : {A E : Type 0} (r : Result A E) (one two : A) → r ≡ Ok one → r ≡ Ok two → one ≡ two
+same_ok r one two is also = cc (is, also)
 
 module _ (call : Call) (files : Files) (budget : ℕ) (plan : Planned) (drawn : Drawn) (told : call.shelf_before.files ≡ Some files) (asks : AsksLint call.words files budget plan drawn) where
   lint_said : (answer : Answer) (m : HasAnswered call answer) → AnswersLint plan drawn answer m.text
@@ -142,6 +149,6 @@ module _ (call : Call) (files : Files) (budget : ℕ) (plan : Planned) (drawn : 
       let m = answered_by call result answers.AllPass (λ same. cc same) means e in
       let a = lint_said answers.AllPass m in
       λ design composed.
-      let same : a.design ≡ design = same_design a.design design (sym a.is_design ∙ composed) in
+      let same : a.design ≡ design = same_ok (composed_on plan.netlist (sheets_on plan.sheets plan.netlist.parts)) a.design design a.is_design composed in
       subst (λ (d : Composed). warnings_of plan d ≡ []) same
       (none_warned drawn (warnings_of plan a.design) a.found (none_clean (is_clean drawn (warnings_of plan a.design) a.found) a.is_answer))

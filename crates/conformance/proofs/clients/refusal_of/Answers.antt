@@ -1,4 +1,4 @@
-use Rattle.std.proofs.Common.{◌≡◌, ◌⊎◌, ℕ, List, ◌∙◌, refl, sym, ap}
+use Rattle.std.proofs.Common.{◌⊎◌, ◌∙◌, refl, sym, ap}
 use Rattle.itv_base.specs.Memory.{MemSink, shelf_told, sink_told}
 use Rattle.jobs.specs.declared.answer.Answer.TheVariants.{DesignRefused}
 use Rattle.words.specs.Task.{Task}

@@ -1,4 +1,3 @@
-use Rattle.std.proofs.Common.{refl}
 use Rattle.itv_base.specs.Memory.{shelf_told, sink_told}
 use Rattle.itv_cli.specs.Run.{Call, call_of}
 use Rattle.reading.specs.Refusal.{refusal_text}
