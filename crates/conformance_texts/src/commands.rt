@@ -47,8 +47,11 @@ fn task_line(alloc: Global, task: Task<'_>) -> Result<String, AllocError> {
     }
 }
 
-const TABLE: &[(&[&str], &str)] = &[
-    // The job, and what each needs.
+// Words, and what they are taken for.
+type Row<'a> = (&'a [&'a str], &'a str);
+
+// The job, and what each needs.
+const JOBS: &[Row<'static>] = &[
     (&[], "bad words"),
     (&["x.json"], "bounds x.json 100000 false"),
     (&["--job", "bounds", "x"], "bounds x 100000 false"),
@@ -107,6 +110,9 @@ const TABLE: &[(&[&str], &str)] = &[
     (&["--job", "nope", "x"], "bad words"),
     (&["--job=", "x"], "bad words"),
     (&["--job"], "bad words"),
+];
+
+const FORMS: &[Row<'static>] = &[
     // What a job does not need is passed over.
     (&["--report", "r", "x"], "bounds x 100000 false"),
     (&["--size", "3", "x"], "bounds x 100000 false"),
@@ -168,17 +174,29 @@ const TABLE: &[(&[&str], &str)] = &[
 ];
 
 // Each list of words is taken for what it says by hand.
-#[test]
-fn words_are_taken(rt: HostRuntime) -> Result<(), Fail> {
-    for (words, wanted) in TABLE {
-        let mut texts = Texts::new(rt.alloc())?;
+fn are_taken(alloc: Global, rows: &[Row<'_>]) -> Result<(), Fail> {
+    for (words, wanted) in rows {
+        let mut texts = Texts::new(alloc)?;
         for word in *words {
-            texts.push(rt.alloc(), word)?;
+            texts.push(alloc, word)?;
         }
-        let answer = read_words(rt.alloc(), &texts)?;
-        assert_eq!(rt; line(rt.alloc(), &answer)?.as_str(), *wanted, "{words:?}");
+        let answer = read_words(alloc, &texts)?;
+        let taken = line(alloc, &answer)?;
+        if taken.as_str() != *wanted {
+            return Err(Fail::new(format_args!("{words:?}: {taken}, not {wanted}")));
+        }
     }
     Ok(())
+}
+
+#[test]
+fn words_ask_for_jobs(rt: HostRuntime) -> Result<(), Fail> {
+    are_taken(rt.alloc(), JOBS)
+}
+
+#[test]
+fn words_have_their_form(rt: HostRuntime) -> Result<(), Fail> {
+    are_taken(rt.alloc(), FORMS)
 }
 
 // The help names each job, each exit status and an example.
