@@ -14,7 +14,7 @@ use Rattle.jobs.specs.declared.answer.Answer.{Answer}
 use Rattle.explained.specs.declared.finding.Finding.{Finding}
 use Rattle.explained.specs.declared.finding.Finding.TheVariants.{Consistent, Inconsistent, Unsettled}
 use Rattle.explained.specs.declared.row.RowFound.{RowFound}
-use Rattle.explained.specs.Answers.{AreFound, AreRowsFound, IsFindingFound, word_of}
+use Rattle.explained.specs.Answers.{AreFound, AreRowsFound, IsFindingFound, SettlesWithin, word_of}
 use Rattle.why_report.specs.Text.{Noted, ending_of}
 use Rattle.brief_report.specs.Brief.{AnswersBrief, BeginsBrief}
 use Rattle.brief_report.specs.Step.{told_of}
@@ -37,13 +37,13 @@ pub brief_is : (noted : Noted) (drawn : Drawn) (finding : Finding) (rows found :
     → ended (codes "itv brief 1") ++ (entry_text (line.finding told) ++ (rows_text noted drawn (told_of drawn rows) ++ entry_text (line.ending word))) ≡ brief_text noted drawn finding found
 brief_is noted drawn finding rows found told word is_rows is_told is_word = rw (is_rows, is_told, is_word) refl
 
-module _ (noted : Noted) (drawn : Drawn) (finding : Finding) (found : List RowFound) (f : IsFindingFound drawn.net finding) (a : AreFound drawn finding found) where
+module _ (noted : Noted) (drawn : Drawn) (budget : ℕ) (finding : Finding) (found : List RowFound) (f : IsFindingFound drawn.net finding) (a : AreFound drawn finding found) (s : SettlesWithin drawn.net budget finding found) where
   -- the text tells what was found
-  pub answers_brief : (answer : Answer) → answer ≡ answer_of (ending_of drawn.rows finding found) → AnswersBrief noted drawn answer (brief_text noted drawn finding found)
-  answers_brief answer is = record { finding = finding; found = found; is_finding = f; are_found = a; is_text = refl; is_answer = is }
+  pub answers_brief : (answer : Answer) → answer ≡ answer_of (ending_of drawn.rows finding found) → AnswersBrief noted drawn budget answer (brief_text noted drawn finding found)
+  answers_brief answer is = record { finding = finding; found = found; is_finding = f; are_found = a; settles = s; is_text = refl; is_answer = is }
 
   -- and a front of it begins it
   pub begins_brief : {B E : Type 0} (result : Result B E) (old new : SinkTold) → CutShort old new (brief_text noted drawn finding found)
-      → OnErr result ((text : List ℕ) × BeginsBrief noted drawn text × CutShort old new text)
+      → OnErr result ((text : List ℕ) × BeginsBrief noted drawn budget text × CutShort old new text)
   begins_brief (Ok x) old new cut = tt
   begins_brief (Err e) old new cut = (brief_text noted drawn finding found, (answer_of (ending_of drawn.rows finding found), answers_brief _ refl), cut)

@@ -5,19 +5,20 @@ use Rattle.jobs.specs.Ending.{answer_of}
 use Rattle.jobs.specs.declared.answer.Answer.{Answer}
 use Rattle.explained.specs.declared.finding.Finding.{Finding}
 use Rattle.explained.specs.declared.row.RowFound.{RowFound}
-use Rattle.explained.specs.Answers.{AreFound, IsFindingFound}
+use Rattle.explained.specs.Answers.{AreFound, IsFindingFound, SettlesWithin}
 use Rattle.why_report.specs.Text.{Noted, ending_of}
 use Rattle.brief_report.specs.Text.{brief_text}
 
 -- The text tells what is found of the network and of each row, all of which is right; the answer is by the word at its end.
-pub record AnswersBrief (noted : Noted) (drawn : Drawn) (answer : Answer) (text : List ℕ) : Type 0 where
+pub record AnswersBrief (noted : Noted) (drawn : Drawn) (budget : ℕ) (answer : Answer) (text : List ℕ) : Type 0 where
   pub finding : Finding
   pub found : List RowFound
   pub is_finding : IsFindingFound drawn.net finding
   pub are_found : AreFound drawn finding found
+  pub settles : SettlesWithin drawn.net budget finding found
   pub is_text : text ≡ brief_text noted drawn finding found
   pub is_answer : answer ≡ answer_of (ending_of drawn.rows finding found)
 
 -- What may have been begun: all is found before anything is put, so it is a front of a whole text.
-abbrev pub BeginsBrief : Noted → Drawn → List ℕ → Type 0
-BeginsBrief noted drawn text = (answer : Answer) × AnswersBrief noted drawn answer text
+abbrev pub BeginsBrief : Noted → Drawn → ℕ → List ℕ → Type 0
+BeginsBrief noted drawn budget text = (answer : Answer) × AnswersBrief noted drawn budget answer text

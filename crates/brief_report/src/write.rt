@@ -4,7 +4,7 @@ ghost use Rattle.std.specs.Prelude.{◌≡◌, ◌≤◌, ℕ, List, All, IfOk, 
 ghost use Rattle.itv_base.specs.Outside.{CutShort, Puts, grown};
 ghost use Rattle.itv_base.specs.declared.limits.TheConstants.{MAX_BUDGET};
 ghost use Rattle.jobs.specs.Works.{Works};
-ghost use Rattle.explained.specs.Answers.{AreFound, HasRowTimes, IsFindingFound};
+ghost use Rattle.explained.specs.Answers.{AreFound, HasRowTimes, IsFindingFound, SettlesWithin};
 ghost use Rattle.why_report.specs.Text.{ending_of};
 ghost use Rattle.brief_report.specs.Brief.{AnswersBrief, BeginsBrief};
 ghost use Rattle.brief_report.specs.Step.{place_of, told_of};
@@ -34,7 +34,7 @@ pub fn write_brief<N: Notes, K: Sink>(
 ) -> Result<Answer, Unanswered>
     requires least { 1 ≤ budget }
     requires most { budget ≤ MAX_BUDGET }
-    ensures works { Works (AnswersBrief (N.noted notes.now) drawn.now) (BeginsBrief (N.noted notes.now) drawn.now)
+    ensures works { Works (AnswersBrief (N.noted notes.now) drawn.now budget) (BeginsBrief (N.noted notes.now) drawn.now budget)
         (K.told sink.old) (K.told sink.new) result }
 {
     let found = explain(alloc, drawn, budget)?;
@@ -56,9 +56,11 @@ fn put_found<N: Notes, K: Sink>(
     requires rows { AreFound drawn.now found.now.finding found.now.rows.items }
     requires times { All HasRowTimes found.now.rows.items }
     requires places { places.now ≡ map place_of (ordered (told_of drawn.now found.now.rows.items)) }
-    ensures answers { IfOk result (λ answer. (text : List ℕ) × AnswersBrief (N.noted notes.now) drawn.now answer text
+    ensures answers { (budget : ℕ) → SettlesWithin drawn.now.net budget found.now.finding found.now.rows.items
+        → IfOk result (λ answer. (text : List ℕ) × AnswersBrief (N.noted notes.now) drawn.now budget answer text
         × (K.told sink.new ≡ grown (K.told sink.old) text)) }
-    ensures begins { OnErr result ((text : List ℕ) × BeginsBrief (N.noted notes.now) drawn.now text
+    ensures begins { (budget : ℕ) → SettlesWithin drawn.now.net budget found.now.finding found.now.rows.items
+        → OnErr result ((text : List ℕ) × BeginsBrief (N.noted notes.now) drawn.now budget text
         × CutShort (K.told sink.old) (K.told sink.new) text) }
 {
     let word = ending_of(drawn, &found.finding, &found.rows);

@@ -1,11 +1,13 @@
 -- What the ends of runs of jobs why, brief and lint say over files that are told.
-use Rattle.std.proofs.Common.{◌≡◌, ◌∙◌, ◌==◌, ℕ, Bool, true, false, List, [], ◌∷◌, length, Some, Result, Ok, refl, sym, subst, arith}
-use Rattle.std.specs.Prelude.{◌&&◌, if◌then◌else◌, not}
+use Rattle.std.proofs.Common.{◌≡◌, ◌∙◌, ◌==◌, ◌<◌, ◌≤◌, ℕ, All, Bool, true, false, List, [], ◌∷◌, length, Option, Some, None, Result, Ok, refl, sym, subst, arith}
+use Rattle.std.specs.Prelude.{◌&&◌, ◌||◌, if◌then◌else◌, not}
+use Rattle.std.proofs.lemmas.List.Elements.{All-head, All-tail}
 use Rattle.std.specs.List.{list_any}
 use Rattle.std.proofs.lemmas.Bool.{eqb-true}
 use Rattle.itv_base.specs.declared.row_kind.RowKind.{RowKind}
 use Rattle.itv_base.specs.declared.row_kind.RowKind.TheVariants as kinds
 use Rattle.event_graph.specs.Bounds.{IsInconsistent}
+use Rattle.event_graph.specs.Edges.{cause_choices}
 use Rattle.event_graph.specs.Network.{Net}
 use Rattle.chains.proofs.Naming.{only_is_of, only_is_wider}
 use Rattle.itv_base.specs.Outside.{Files, grown}
@@ -19,13 +21,15 @@ use Rattle.jobs.specs.declared.answer.Answer.TheVariants as answers
 use Rattle.slack_report.specs.declared.words.EndWord.TheVariants as endings
 use Rattle.slack_report.specs.declared.words.FindingWord.{FindingWord}
 use Rattle.slack_report.specs.declared.words.FindingWord.TheVariants as findings
-use Rattle.right_report.specs.Right.At.{Course, course_of, end_word, undecided_or_pass}
+use Rattle.requirements.specs.declared.bound.Bound.{Bound}
+use Rattle.requirements.specs.declared.bound.Bound.TheVariants as bounds
+use Rattle.right_report.specs.Right.At.{Course, course_of, end_word, is_within, undecided_or_pass}
 use Rattle.plan.specs.Notes.{plan_note}
 use Rattle.plan.specs.Plan.{Planned, sheets_on}
 use Rattle.explained.specs.declared.finding.Finding.{Finding}
 use Rattle.explained.specs.declared.finding.Finding.TheVariants.{Consistent, Inconsistent, Unsettled}
 use Rattle.explained.specs.declared.row.RowFound.{RowFound}
-use Rattle.explained.specs.Answers.{IsFindingFound}
+use Rattle.explained.specs.Answers.{IsBoundSettled, IsFindingFound, IsRowSettled, bound_of}
 use Rattle.why_report.specs.Text.{ending_of, with_row, with_rows}
 use Rattle.why_report.specs.Why.{AnswersWhy}
 use Rattle.brief_report.specs.Brief.{AnswersBrief}
@@ -33,15 +37,38 @@ use Rattle.warnings.specs.Warnings.{warnings_of}
 use Rattle.warnings.specs.declared.warning.Warning.{Warning}
 use Rattle.lint_report.specs.Lint.{AnswersLint, answer_by}
 use Rattle.lint_report.specs.Text.{is_clean, is_over}
+use Rattle.reading.specs.Opening.{◌>>=◌, gives, ready, told_end}
 use Rattle.words.specs.Task as tasks
-use Rattle.itv_cli.specs.Job.{Answers, planned_at}
+use Rattle.words.specs.Task.{Task}
+use Rattle.itv_cli.specs.Job.{Answers, made_for, opening, planned_at}
 use Rattle.itv_cli.specs.Run.{Call, HasAnswered, Means}
 use Rattle.itv_cli.specs.declared.outcome.Outcome.{Outcome}
 use Rattle.itv_cli.specs.declared.outcome.Outcome.TheVariants as ends
+use Rattle.itv_cli.specs.declared.ready.Ready.{Ready}
 use Rattle.itv_cli.specs.declared.ready.Ready.TheVariants as given
-use Rattle.conformance.specs.Clients.{AsksBrief, AsksLint, AsksWhy, HasNoWarning, IsReportEnd}
+use Rattle.conformance.specs.Clients.{AsksBrief, AsksLint, AsksPlanned, AsksWhy, HasNoWarning, IsReportEnd}
 use Rattle.conformance.proofs.JobEnds.{answered_by}
 use Rattle.conformance.proofs.Telling.{answer_over, never_refused, same_ready, told_then}
+
+-- ---- jobs of a plan
+
+-- A job that is opened by a plan answers of the plan and the network that the files give.
+module _ (job : List ℕ → ℕ → Task) (made : Planned × Drawn → ℕ → Ready) (opens : (design : List ℕ) (budget : ℕ) → opening (job design budget) ≡ (planned_at design >>= (λ both. gives (made both budget))))
+    (own : (design : List ℕ) (budget : ℕ) → made_for (job design budget) ≡ None) where
+  module _ (call : Call) (files : Files) (budget : ℕ) (plan : Planned) (drawn : Drawn) (told : call.shelf_before.files ≡ Some files) (asks : AsksPlanned job call.words files budget plan drawn) where
+    planned_said : (answer : Answer) (m : HasAnswered call answer) → Answers (made (plan, drawn) budget) answer m.text
+    planned_said answer m =
+        let a = answer_over call files (job asks.design budget) answer m.text told m refl (record { words = asks.words; own = own asks.design budget }) in
+        let reads = subst (λ o. told_end files o ≡ ready a.given) (opens asks.design budget) a.reads in
+        let (other, plans, is) = told_then files (planned_at asks.design) (λ (p : Planned × Drawn). made p budget) a.given reads in
+        let same : other ≡ (plan, drawn) = same_ready other (plan, drawn) (sym plans ∙ asks.plans) in
+        subst (λ (p : Planned × Drawn). Answers (made p budget) answer m.text) same (subst (λ g. Answers g answer m.text) (sym is) a.answers)
+
+    -- with an end of a report it writes a text
+    planned_wrote : (result : Outcome) → Means call result → (end : IsReportEnd result)
+        → (text : List ℕ) × Answers (made (plan, drawn) budget) (answer_of end.0) text × (call.sink_after ≡ grown call.sink_before text)
+    planned_wrote result means end =
+        let m = answered_by call result (answer_of end.0) (λ same. never_refused end.0 (sym same)) means end.1 in (m.text, planned_said (answer_of end.0) m, m.wrote)
 
 -- ---- job why
 
@@ -76,18 +103,53 @@ none_found net rows Consistent found is e = absurd (no_end findings.Consistent r
 none_found net rows (Inconsistent set) found is e = λ times satisfies. is.1 times ((only_is_of net set.items times).0 (only_is_wider net set.items times satisfies))
 none_found net rows Unsettled found is e = absurd (no_end findings.Unsettled rows found (λ same. cc same) e)
 
+-- while the rows are settled no bound is left open
+within_none : (least most : Bound) → IsBoundSettled least → IsBoundSettled most → (is_within least || is_within most) ≡ false
+within_none (bounds.Within limit attained) most l m = absurd l
+within_none (bounds.Closed value) (bounds.Within limit attained) l m = absurd m
+within_none (bounds.Closed value) (bounds.Closed other) l m = refl
+within_none (bounds.Closed value) bounds.Unbounded l m = refl
+within_none bounds.Unbounded (bounds.Within limit attained) l m = absurd m
+within_none bounds.Unbounded (bounds.Closed other) l m = refl
+within_none bounds.Unbounded bounds.Unbounded l m = refl
+
+row_within : (course : Course) (kind : RowKind) (found : RowFound) → IsRowSettled found → course.within ≡ false → (with_row course kind found).within ≡ false
+row_within course kinds.Ask found settled none = rw (none, within_none (bound_of found.least) (bound_of found.greatest) settled.least settled.greatest) refl
+row_within course (kinds.Req range) found settled none = rw (none, within_none (bound_of found.least) (bound_of found.greatest) settled.least settled.greatest) refl
+
+rows_within : (course : Course) (rows : List Row) (found : List RowFound) → All IsRowSettled found → course.within ≡ false → (with_rows course rows found).within ≡ false
+rows_within course [] found all none = none
+rows_within course (row ∷ rows) [] all none = none
+rows_within course (row ∷ rows) (found ∷ others) all none =
+    rows_within (with_row course row.kind found) rows others (All-tail IsRowSettled found others all) (row_within course row.kind found (All-head IsRowSettled found others all) none)
+
+never_open : (fails within : Bool) → within ≡ false → answers.Undecided ≡ answer_of (if fails then endings.Fail else undecided_or_pass findings.Consistent within) → ⊥
+never_open true within none e = cc e
+never_open false true none e = cc none
+never_open false false none e = cc e
+
+consistent_end : (rows : List Row) (found : List RowFound) → All IsRowSettled found → answers.Undecided ≡ answer_of (end_word (with_rows (course_of findings.Consistent) rows found)) → ⊥
+consistent_end rows found all e =
+    let course : Course = with_rows (course_of findings.Consistent) rows found in
+    never_open course.fails course.within (rows_within (course_of findings.Consistent) rows found all refl)
+    (subst (λ (w : FindingWord). answers.Undecided ≡ answer_of (if course.fails then endings.Fail else undecided_or_pass w course.within)) (rows_keep (course_of findings.Consistent) rows found) e)
+
+-- where all is settled the answer is not that something is undecided
+settled_end : (rows : List Row) (finding : Finding) (found : List RowFound) → (finding ≡ Unsettled → ⊥) → All IsRowSettled found → answers.Undecided ≡ answer_of (ending_of rows finding found) → ⊥
+settled_end rows Consistent found settled all e = consistent_end rows found all e
+settled_end rows (Inconsistent set) found settled all e = cc e
+settled_end rows Unsettled found settled all e = settled refl
+
+below_choices : (choices budget : ℕ) → (choices ≤ budget → ⊥) → budget < choices
+below_choices choices budget past = omega (arith, past)
+
 module _ (call : Call) (files : Files) (budget : ℕ) (plan : Planned) (drawn : Drawn) (told : call.shelf_before.files ≡ Some files) (asks : AsksWhy call.words files budget plan drawn) where
-  why_said : (answer : Answer) (m : HasAnswered call answer) → AnswersWhy (plan_note plan) drawn answer m.text
-  why_said answer m =
-      let a = answer_over call files (tasks.why asks.design budget) answer m.text told m refl (record { words = asks.words; own = refl }) in
-      let (other, plans, is) = told_then files (planned_at asks.design) (λ (p : Planned × Drawn). given.Why p.0 p.1 budget) a.given a.reads in
-      let same : other ≡ (plan, drawn) = same_ready other (plan, drawn) (sym plans ∙ asks.plans) in
-      subst (λ (p : Planned × Drawn). AnswersWhy (plan_note p.0) p.1 answer m.text) same (subst (λ g. Answers g answer m.text) (sym is) a.answers)
+  why_said : (answer : Answer) (m : HasAnswered call answer) → AnswersWhy (plan_note plan) drawn budget answer m.text
+  why_said answer m = planned_said tasks.why (λ p b. given.Why p.0 p.1 b) (λ design b. refl) (λ design b. refl) call files budget plan drawn told asks answer m
 
   pub why_wrote : (result : Outcome) → Means call result → (end : IsReportEnd result)
-      → (text : List ℕ) × AnswersWhy (plan_note plan) drawn (answer_of end.0) text × (call.sink_after ≡ grown call.sink_before text)
-  why_wrote result means end =
-      let m = answered_by call result (answer_of end.0) (λ same. never_refused end.0 (sym same)) means end.1 in (m.text, why_said (answer_of end.0) m, m.wrote)
+      → (text : List ℕ) × AnswersWhy (plan_note plan) drawn budget (answer_of end.0) text × (call.sink_after ≡ grown call.sink_before text)
+  why_wrote result means end = planned_wrote tasks.why (λ p b. given.Why p.0 p.1 b) (λ design b. refl) (λ design b. refl) call files budget plan drawn told asks result means end
 
   pub why_none : (result : Outcome) → Means call result → result ≡ ends.Inconsistent → IsInconsistent drawn.net
   why_none result means e =
@@ -95,20 +157,22 @@ module _ (call : Call) (files : Files) (budget : ℕ) (plan : Planned) (drawn : 
       let a = why_said answers.Inconsistent m in
       none_found drawn.net drawn.rows a.finding a.found a.is_finding a.is_answer
 
+  pub why_decides : (result : Outcome) → Means call result → result ≡ ends.Undecided → budget < cause_choices drawn.net.constraints
+  why_decides result means e =
+      let m = answered_by call result answers.Undecided (λ same. cc same) means e in
+      let a = why_said answers.Undecided m in
+      below_choices (cause_choices drawn.net.constraints) budget
+      (λ enough. let (settled, all) = a.settles enough in settled_end drawn.rows a.finding a.found settled all a.is_answer)
+
 -- ---- job brief
 
 module _ (call : Call) (files : Files) (budget : ℕ) (plan : Planned) (drawn : Drawn) (told : call.shelf_before.files ≡ Some files) (asks : AsksBrief call.words files budget plan drawn) where
-  brief_said : (answer : Answer) (m : HasAnswered call answer) → AnswersBrief (plan_note plan) drawn answer m.text
-  brief_said answer m =
-      let a = answer_over call files (tasks.brief asks.design budget) answer m.text told m refl (record { words = asks.words; own = refl }) in
-      let (other, plans, is) = told_then files (planned_at asks.design) (λ (p : Planned × Drawn). given.Brief p.0 p.1 budget) a.given a.reads in
-      let same : other ≡ (plan, drawn) = same_ready other (plan, drawn) (sym plans ∙ asks.plans) in
-      subst (λ (p : Planned × Drawn). AnswersBrief (plan_note p.0) p.1 answer m.text) same (subst (λ g. Answers g answer m.text) (sym is) a.answers)
+  brief_said : (answer : Answer) (m : HasAnswered call answer) → AnswersBrief (plan_note plan) drawn budget answer m.text
+  brief_said answer m = planned_said tasks.brief (λ p b. given.Brief p.0 p.1 b) (λ design b. refl) (λ design b. refl) call files budget plan drawn told asks answer m
 
   pub brief_wrote : (result : Outcome) → Means call result → (end : IsReportEnd result)
-      → (text : List ℕ) × AnswersBrief (plan_note plan) drawn (answer_of end.0) text × (call.sink_after ≡ grown call.sink_before text)
-  brief_wrote result means end =
-      let m = answered_by call result (answer_of end.0) (λ same. never_refused end.0 (sym same)) means end.1 in (m.text, brief_said (answer_of end.0) m, m.wrote)
+      → (text : List ℕ) × AnswersBrief (plan_note plan) drawn budget (answer_of end.0) text × (call.sink_after ≡ grown call.sink_before text)
+  brief_wrote result means end = planned_wrote tasks.brief (λ p b. given.Brief p.0 p.1 b) (λ design b. refl) (λ design b. refl) call files budget plan drawn told asks result means end
 
 -- ---- job lint
 
@@ -132,17 +196,12 @@ same_ok : {A E : Type 0} (r : Result A E) (one two : A) → r ≡ Ok one → r �
 same_ok r one two is also = cc (is, also)
 
 module _ (call : Call) (files : Files) (budget : ℕ) (plan : Planned) (drawn : Drawn) (told : call.shelf_before.files ≡ Some files) (asks : AsksLint call.words files budget plan drawn) where
-  lint_said : (answer : Answer) (m : HasAnswered call answer) → AnswersLint plan drawn answer m.text
-  lint_said answer m =
-      let a = answer_over call files (tasks.lint asks.design budget) answer m.text told m refl (record { words = asks.words; own = refl }) in
-      let (other, plans, is) = told_then files (planned_at asks.design) (λ (p : Planned × Drawn). given.Lint p.0 p.1 budget) a.given a.reads in
-      let same : other ≡ (plan, drawn) = same_ready other (plan, drawn) (sym plans ∙ asks.plans) in
-      subst (λ (p : Planned × Drawn). AnswersLint p.0 p.1 answer m.text) same (subst (λ g. Answers g answer m.text) (sym is) a.answers)
+  lint_said : (answer : Answer) (m : HasAnswered call answer) → AnswersLint plan drawn budget answer m.text
+  lint_said answer m = planned_said tasks.lint (λ p b. given.Lint p.0 p.1 b) (λ design b. refl) (λ design b. refl) call files budget plan drawn told asks answer m
 
   pub lint_wrote : (result : Outcome) → Means call result → (end : IsReportEnd result)
-      → (text : List ℕ) × AnswersLint plan drawn (answer_of end.0) text × (call.sink_after ≡ grown call.sink_before text)
-  lint_wrote result means end =
-      let m = answered_by call result (answer_of end.0) (λ same. never_refused end.0 (sym same)) means end.1 in (m.text, lint_said (answer_of end.0) m, m.wrote)
+      → (text : List ℕ) × AnswersLint plan drawn budget (answer_of end.0) text × (call.sink_after ≡ grown call.sink_before text)
+  lint_wrote result means end = planned_wrote tasks.lint (λ p b. given.Lint p.0 p.1 b) (λ design b. refl) (λ design b. refl) call files budget plan drawn told asks result means end
 
   pub lint_clean : (result : Outcome) → Means call result → result ≡ ends.AllPass → HasNoWarning plan
   lint_clean result means e =

@@ -1,7 +1,8 @@
 //! Callers of `run` for one job each, over files and a sink in memory, proved from its clauses alone.
 
-ghost use Rattle.std.specs.Prelude.{◌≡◌, ◌⊎◌, ◌++◌, ℕ, Bool, List, IfOk, IfSome, true};
+ghost use Rattle.std.specs.Prelude.{◌≡◌, ◌<◌, ◌⊎◌, ◌++◌, ℕ, Bool, List, IfOk, IfSome, true};
 ghost use Rattle.event_graph.specs.Bounds.{IsInconsistent};
+ghost use Rattle.event_graph.specs.Edges.{cause_choices};
 ghost use Rattle.event_graph.specs.RootBound.{HasNoRoot};
 ghost use Rattle.matrix_report.specs.Matrix.{IsMatrixText};
 ghost use Rattle.report_check.specs.Check.{refused_text};
@@ -83,7 +84,7 @@ pub fn confirmed_of(
 }
 
 /// A run of job why. With any end of a report it writes what is found of the network and of each row, with what makes it so. Where it
-/// ends inconsistent no times satisfy the network.
+/// ends inconsistent no times satisfy the network. It ends undecided only if the budget is below the number of cause choices.
 pub fn explained_of(
     alloc: Global,
     words: &Texts,
@@ -91,9 +92,11 @@ pub fn explained_of(
     sink: &mut SinkMem,
 ) -> Outcome
     ensures wrote { (budget : ℕ) (plan : Planned) (drawn : Drawn) → AsksWhy words.now shelf.old.files budget plan drawn
-        → (end : IsReportEnd result) → WroteOne sink.old sink.new (AnswersWhy (plan_note plan) drawn (answer_of end.0)) }
+        → (end : IsReportEnd result) → WroteOne sink.old sink.new (AnswersWhy (plan_note plan) drawn budget (answer_of end.0)) }
     ensures none { (budget : ℕ) (plan : Planned) (drawn : Drawn) → AsksWhy words.now shelf.old.files budget plan drawn
         → result ≡ Outcome.Inconsistent → IsInconsistent drawn.net }
+    ensures decides { (budget : ℕ) (plan : Planned) (drawn : Drawn) → AsksWhy words.now shelf.old.files budget plan drawn
+        → result ≡ Outcome.Undecided → budget < cause_choices drawn.net.constraints }
 {
     run(alloc, words, shelf, sink)
 }
@@ -101,7 +104,7 @@ pub fn explained_of(
 /// A run of job brief. With any end of a report it writes a line for each row.
 pub fn briefed_of(alloc: Global, words: &Texts, shelf: &mut ShelfMem, sink: &mut SinkMem) -> Outcome
     ensures wrote { (budget : ℕ) (plan : Planned) (drawn : Drawn) → AsksBrief words.now shelf.old.files budget plan drawn
-        → (end : IsReportEnd result) → WroteOne sink.old sink.new (AnswersBrief (plan_note plan) drawn (answer_of end.0)) }
+        → (end : IsReportEnd result) → WroteOne sink.old sink.new (AnswersBrief (plan_note plan) drawn budget (answer_of end.0)) }
 {
     run(alloc, words, shelf, sink)
 }
@@ -109,7 +112,7 @@ pub fn briefed_of(alloc: Global, words: &Texts, shelf: &mut ShelfMem, sink: &mut
 /// A run of job lint. Where it passes, the design has no warning of the drawing.
 pub fn warned_of(alloc: Global, words: &Texts, shelf: &mut ShelfMem, sink: &mut SinkMem) -> Outcome
     ensures wrote { (budget : ℕ) (plan : Planned) (drawn : Drawn) → AsksLint words.now shelf.old.files budget plan drawn
-        → (end : IsReportEnd result) → WroteOne sink.old sink.new (AnswersLint plan drawn (answer_of end.0)) }
+        → (end : IsReportEnd result) → WroteOne sink.old sink.new (AnswersLint plan drawn budget (answer_of end.0)) }
     ensures clean { (budget : ℕ) (plan : Planned) (drawn : Drawn) → AsksLint words.now shelf.old.files budget plan drawn
         → result ≡ Outcome.AllPass → HasNoWarning plan }
 {

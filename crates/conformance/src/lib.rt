@@ -5,8 +5,8 @@
 
 mod clients;
 mod job_clients;
-mod kept_bounds;
-mod kept_labels;
+mod derived_bounds;
+mod written_labels;
 mod kept_proofs;
 pub mod laws;
 
@@ -17,6 +17,6 @@ pub use job_clients::{
     briefed_of, checked_of, confirmed_of, explained_of, matrix_of, redrawn_of, report_said,
     self_of, settled_of, warned_of,
 };
-pub use kept_bounds::bound_of;
-pub use kept_labels::written_again;
+pub use derived_bounds::bound_of;
+pub use written_labels::written_again;
 pub use kept_proofs::kept_proof;

@@ -1,11 +1,12 @@
 -- What is found of a network and of its rows, with what makes it so.
-use Rattle.std.specs.Prelude.{◌≡◌, ℤ, neg_ℤ, Bool, List, [], ◌∷◌, length, Option, Some, None}
+use Rattle.std.specs.Prelude.{◌≡◌, ◌≤◌, ℕ, ℤ, neg_ℤ, Bool, List, [], ◌∷◌, length, All, Option, Some, None}
 use Rattle.itv_base.specs.Range.{Ends}
 use Rattle.itv_base.specs.declared.names.EdgeName.{EdgeName}
 use Rattle.itv_base.specs.declared.names.EventId.{EventId}
 use Rattle.itv_base.specs.declared.row_kind.RowKind.{RowKind}
 use Rattle.itv_base.specs.declared.row_kind.RowKind.TheVariants as kinds
 use Rattle.event_graph.specs.Bounds.{IsRay}
+use Rattle.event_graph.specs.Edges.{cause_choices}
 use Rattle.event_graph.specs.Network.{Net}
 use Rattle.event_graph.specs.RootBound.{MeetsAlways}
 use Rattle.event_graph.specs.Satisfying.{Satisfies}
@@ -135,6 +136,29 @@ abbrev pub AreFound : Drawn → Finding → List RowFound → Type 0
 AreFound drawn Consistent found = AreRowsFound drawn findings.Consistent drawn.rows found
 AreFound drawn (Inconsistent set) found = found ≡ []
 AreFound drawn Unsettled found = AreRowsFound drawn findings.Unsettled drawn.rows found
+
+-- ---- what a budget is enough for
+
+-- the search for a bound ended: the bound is closed, or there is none
+abbrev pub IsBoundSettled : Bound → Type 0
+IsBoundSettled (bounds.Closed value) = Unit {0}
+IsBoundSettled bounds.Unbounded = Unit {0}
+IsBoundSettled (bounds.Within limit attained) = ⊥
+
+-- so with both bounds that are told apart from the order of lanes
+abbrev pub AreSettledApart : Option BothBounds → Type 0
+AreSettledApart None = Unit {0}
+AreSettledApart (Some both) = IsBoundSettled both.greatest × IsBoundSettled both.least
+
+-- all bounds that are told of a row are settled
+pub record IsRowSettled (found : RowFound) : Type 0 where
+  pub greatest : IsBoundSettled (bound_of found.greatest)
+  pub least : IsBoundSettled (bound_of found.least)
+  pub apart : AreSettledApart found.apart
+
+-- a budget that is no less than the number of cause choices leaves neither the finding nor a bound open
+abbrev pub SettlesWithin : Net → ℕ → Finding → List RowFound → Type 0
+SettlesWithin net budget finding found = cause_choices net.constraints ≤ budget → (finding ≡ Unsettled → ⊥) × All IsRowSettled found
 
 -- ---- which follows
 

@@ -2,3 +2,4 @@
 pub mod Standing
 pub mod Bounding
 pub mod Telling
+pub mod Settling

@@ -1,13 +1,15 @@
 //! Greatest bounds of pairs of events.
 
-ghost use Rattle.std.specs.Prelude.{◌≡◌, ◌<◌, ℤ, IsSomeAnd, List};
+ghost use Rattle.std.specs.Prelude.{◌≡◌, ◌<◌, ◌≤◌, ℤ, IsSomeAnd, List};
+ghost use Rattle.event_graph.specs.Edges.{cause_choices};
 ghost use Rattle.event_graph.specs.RootBound.{MeetsAlways};
 ghost use Rattle.event_graph.specs.Satisfying.{Satisfies};
 ghost use Rattle.branch.specs.Work.{IsMadeFor};
 ghost use Rattle.requirements.specs.Bounds.{HasTimes};
 ghost use Rattle.drawn.specs.declared.row.Row.{Row};
-ghost use Rattle.explained.specs.Answers.{AreBounds};
+ghost use Rattle.explained.specs.Answers.{AreBounds, IsBoundSettled};
 ghost use Rattle.explained.specs.Step.Bounding.{IsGreatestBy, bound_by};
+ghost use Rattle.explained.specs.Step.Settling.{IsEnough};
 ghost use Rattle.explained.specs.Step.Standing.{IsSettled};
 
 use crate::pair::Pair;
@@ -27,6 +29,8 @@ pub fn greatest_bound(net: &Network, pair: Pair, searches: &mut Searches) -> Bou
     ensures settled { IsSettled net.now searches.new }
     ensures word { searches.new.word ≡ searches.old.word }
     ensures bound { IsGreatestBy net.now searches.old.word pair result searches.new.work.times searches.new.work.ray }
+    ensures enough { IsEnough net.now searches.old → IsEnough net.now searches.new }
+    ensures settles { IsEnough net.now searches.old → IsBoundSettled result }
     ensures times { HasTimes result }
 {
     match searches.word {
@@ -48,6 +52,7 @@ fn searched_bound(net: &Network, pair: Pair, budget: u64, work: &mut Work) -> Bo
     ensures made { IsMadeFor net.now work.new }
     ensures known { work.new.known ≡ work.old.known }
     ensures bound { IsGreatestBy net.now FindingWord.Consistent pair result work.new.times work.new.ray }
+    ensures settles { cause_choices net.now.constraints ≤ budget → IsBoundSettled result }
     ensures times { HasTimes result }
 {
     let answer = greatest_of(net, pair, budget, work);
@@ -95,6 +100,8 @@ pub fn both_bounds(net: &Network, pair: Pair, searches: &mut Searches) -> BothBo
     requires to { pair.to.0 < net.now.events }
     ensures settled { IsSettled net.now searches.new }
     ensures bounds { (row : Row) → row.from ≡ pair.from → row.to ≡ pair.to → AreBounds net.now row result }
+    ensures enough { IsEnough net.now searches.old → IsEnough net.now searches.new }
+    ensures settles { IsEnough net.now searches.old → IsBoundSettled result.greatest × IsBoundSettled result.least }
     ensures least { HasTimes result.least }
     ensures greatest { HasTimes result.greatest }
 {

@@ -2,8 +2,9 @@
 
 ghost use Rattle.std.specs.Prelude.{◌≡◌, ◌<◌, IfOk};
 ghost use Rattle.requirements.specs.Bounds.{HasTimes};
-ghost use Rattle.explained.specs.Answers.{bound_of};
+ghost use Rattle.explained.specs.Answers.{IsBoundSettled, bound_of};
 ghost use Rattle.explained.specs.Step.Bounding.{IsExplained};
+ghost use Rattle.explained.specs.Step.Settling.{IsEnough};
 ghost use Rattle.explained.specs.Step.Standing.{IsSettled};
 
 use crate::bound::BoundFound;
@@ -32,6 +33,8 @@ pub fn explain_greatest(
     ensures word { searches.new.word ≡ searches.old.word }
     ensures chains { chains.new.events ≡ net.now.events }
     ensures found { IfOk result (IsExplained net.now searches.old.word pair) }
+    ensures enough { IsEnough net.now searches.old → IsEnough net.now searches.new }
+    ensures settles { IfOk result (λ found. IsEnough net.now searches.old → IsBoundSettled (bound_of found)) }
     ensures times { IfOk result (λ found. HasTimes (bound_of found)) }
 {
     match greatest_bound(net, pair, searches) {

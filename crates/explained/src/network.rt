@@ -3,7 +3,8 @@
 ghost use Rattle.std.specs.Prelude.{◌≡◌, ◌≤◌, All, IfOk, length};
 ghost use Rattle.itv_base.specs.declared.limits.TheConstants.{MAX_BUDGET};
 ghost use Rattle.chains.specs.Named.{IsContradiction};
-ghost use Rattle.explained.specs.Answers.{AreFound, HasRowTimes, IsFindingFound};
+ghost use Rattle.explained.specs.Answers.{AreFound, HasRowTimes, IsFindingFound, IsRowSettled, SettlesWithin};
+ghost use Rattle.explained.specs.Step.Settling.{IsEnough, SufficesApart};
 ghost use Rattle.explained.specs.Step.Standing.{HasFound, IsDeskFor, IsFor};
 
 use crate::desk::Desk;
@@ -25,7 +26,7 @@ pub struct NetworkFound {
 }
 
 /// Finds whether some times satisfy a drawn network, and both bounds of each of its rows, with what makes it so. Each search closes
-/// at most `budget` cases. A row that passes is searched once more without the order of lanes, where some constraint keeps one.
+/// at most `budget` cases; with a budget that is no less than the number of cause choices nothing is left open. A row that passes is searched once more without the order of lanes, where some constraint keeps one.
 ///
 /// `NoMemory` may come in place of an answer.
 pub fn explain(alloc: Global, drawn: &DrawnNetwork, budget: u64) -> Result<NetworkFound, NoMemory>
@@ -33,6 +34,7 @@ pub fn explain(alloc: Global, drawn: &DrawnNetwork, budget: u64) -> Result<Netwo
     requires most { budget ≤ MAX_BUDGET }
     ensures finding { IfOk result (λ found. IsFindingFound drawn.now.net found.finding) }
     ensures rows { IfOk result (λ found. AreFound drawn.now found.finding found.rows.items) }
+    ensures settles { IfOk result (λ found. SettlesWithin drawn.now.net budget found.finding found.rows.items) }
     ensures times { IfOk result (λ found. All HasRowTimes found.rows.items) }
 {
     let net = drawn.network();
@@ -56,6 +58,8 @@ fn found_behind(
     requires marks { desk.old.searches.word ≡ FindingWord.Inconsistent → IsContradiction drawn.now.net marking.now }
     ensures finding { IfOk result (λ found. IsFindingFound drawn.now.net found.finding) }
     ensures rows { IfOk result (λ found. AreFound drawn.now found.finding found.rows.items) }
+    ensures settles { IfOk result (λ found. IsEnough drawn.now.net desk.old.searches → SufficesApart desk.old.apart
+        → (found.finding ≡ Finding.Unsettled → ⊥) × All IsRowSettled found.rows.items) }
     ensures times { IfOk result (λ found. All HasRowTimes found.rows.items) }
 {
     match desk.searches.word {

@@ -2,7 +2,8 @@
 
 ghost use Rattle.std.specs.Prelude.{◌≡◌, ◌<◌, ◌≤◌, All, IfOk, length, slice_get, IsSomeAnd};
 ghost use Rattle.drawn.specs.Drawn.{IsRowOf};
-ghost use Rattle.explained.specs.Answers.{AreRowsFound, HasRowTimes, IsRowFound};
+ghost use Rattle.explained.specs.Answers.{AreRowsFound, HasRowTimes, IsRowFound, IsRowSettled};
+ghost use Rattle.explained.specs.Step.Settling.{IsEnough, IsEnoughFor, SufficesApart};
 ghost use Rattle.explained.specs.Step.Standing.{IsDeskFor, IsReady, IsSettled};
 
 use crate::desk::{Desk, settle_apart};
@@ -24,6 +25,8 @@ pub fn explain_rows(
     requires settled { IsSettled drawn.now.net desk.old.searches }
     requires desk { IsDeskFor drawn.now desk.old }
     ensures rows { IfOk result (λ found. AreRowsFound drawn.now desk.old.searches.word drawn.now.rows found.items) }
+    ensures settles { IfOk result (λ found. IsEnough drawn.now.net desk.old.searches → SufficesApart desk.old.apart
+        → All IsRowSettled found.items) }
     ensures times { IfOk result (λ found. All HasRowTimes found.items) }
 {
     settle_apart(desk.searches.word, &mut desk.apart);
@@ -38,6 +41,7 @@ fn explain_each(
 ) -> Result<Vec<RowFound>, NoMemory>
     requires ready { IsReady drawn.now desk.old }
     ensures rows { IfOk result (λ found. AreRowsFound drawn.now desk.old.searches.word drawn.now.rows found.items) }
+    ensures settles { IfOk result (λ found. IsEnoughFor drawn.now.net desk.old → All IsRowSettled found.items) }
     ensures times { IfOk result (λ found. All HasRowTimes found.items) }
 {
     let rows = drawn.rows();
@@ -61,6 +65,8 @@ fn explain_row(
     ensures ready { IfOk result (λ _. IsReady drawn.now desk.new) }
     ensures word { IfOk result (λ _. desk.new.searches.word ≡ desk.old.searches.word) }
     ensures found { IfOk result (IsRowFound drawn.now desk.old.searches.word row.now) }
+    ensures enough { IfOk result (λ _. IsEnoughFor drawn.now.net desk.old → IsEnoughFor drawn.now.net desk.new) }
+    ensures settles { IfOk result (λ found. IsEnoughFor drawn.now.net desk.old → IsRowSettled found) }
     ensures times { IfOk result HasRowTimes }
 {
     let net = drawn.network();

@@ -6,6 +6,7 @@ ghost use Rattle.event_graph.specs.Satisfying.{Satisfies};
 ghost use Rattle.branch.specs.Answers.{Answers, evidence};
 ghost use Rattle.branch.specs.Work.{IsClose, IsMadeFor};
 ghost use Rattle.chains.specs.Named.{IsContradiction};
+ghost use Rattle.explained.specs.Step.Settling.{IsEnough, Suffices};
 ghost use Rattle.explained.specs.Step.Standing.{HasFound, IsFor, IsFresh, word_of_found};
 
 use crate::pair::Pair;
@@ -29,6 +30,7 @@ impl Searches {
     pub fn new(alloc: Global, net: &Network, budget: u64) -> Result<Searches, NoMemory>
         requires budget { 1 ≤ budget }
         ensures fresh { IfOk result (IsFresh net.now) }
+        ensures budget { IfOk result (λ searches. searches.budget ≡ budget) }
     {
         Ok(Searches {
             work: Work::new(alloc, net)?,
@@ -44,6 +46,7 @@ pub fn find_marking(net: &Network, searches: &mut Searches, marking: &mut Markin
     requires count { length marking.old ≡ length net.now.constraints }
     ensures made { IsFor net.now searches.new }
     ensures found { HasFound net.now searches.new.word searches.new.work.known }
+    ensures enough { Suffices net.now searches.old → IsEnough net.now searches.new }
     ensures count { length marking.new ≡ length net.now.constraints }
     ensures marks { searches.new.word ≡ FindingWord.Inconsistent → IsContradiction net.now marking.new }
 {
@@ -58,6 +61,7 @@ pub fn find_quietly(net: &Network, searches: &mut Searches)
     requires made { IsFor net.now searches.old }
     ensures made { IsFor net.now searches.new }
     ensures found { HasFound net.now searches.new.word searches.new.work.known }
+    ensures enough { Suffices net.now searches.old → IsEnough net.now searches.new }
 {
     match find(&mut searches.work, net, searches.budget, &mut Quiet) {
         Ok(found) => searches.word = word_of(found),

@@ -3,7 +3,8 @@
 ghost use Rattle.std.specs.Prelude.{◌≡◌, IfSome};
 ghost use Rattle.event_graph.specs.Network.{Net};
 ghost use Rattle.drawn.specs.Drawn.{IsRowOf};
-ghost use Rattle.explained.specs.Answers.{AreBounds, HasTimesApart, RestsOnOrder};
+ghost use Rattle.explained.specs.Answers.{AreBounds, AreSettledApart, HasTimesApart, RestsOnOrder};
+ghost use Rattle.explained.specs.Step.Settling.{IsEnough, IsEnoughApart};
 ghost use Rattle.explained.specs.Step.Standing.{IsSettled, net_in};
 ghost use Rattle.explained.specs.Step.Telling.{IsTold};
 
@@ -23,6 +24,8 @@ pub fn told_apart(row: &Row, both: &BothBounds, apart: &mut Option<Apart>) -> Op
     ensures same { (net : Net) → net_in net apart.new ≡ net_in net apart.old }
     ensures told { (net : Net) → AreBounds net row.now both.now
         → IsTold (net_in net apart.old) row.now row.now.kind both.now result }
+    ensures enough { IsEnoughApart apart.old → IsEnoughApart apart.new }
+    ensures settles { IsEnoughApart apart.old → AreSettledApart result }
     ensures times { HasTimesApart result }
 {
     match row.kind {
@@ -47,6 +50,8 @@ fn broken_apart(row: &Row, range: Range, apart: &mut Apart) -> Option<BothBounds
     ensures settled { IsSettled apart.new.net apart.new.searches }
     ensures same { apart.new.net ≡ apart.old.net }
     ensures told { RestsOnOrder apart.old.net row.now range result }
+    ensures enough { IsEnough apart.old.net apart.old.searches → IsEnough apart.new.net apart.new.searches }
+    ensures settles { IsEnough apart.old.net apart.old.searches → AreSettledApart result }
     ensures times { HasTimesApart result }
 {
     let pair = Pair {

@@ -12,12 +12,12 @@ use Rattle.lint_report.specs.Lint.{AnswersLint, BeginsLint, answer_by}
 use Rattle.lint_report.specs.Step.{IsTold}
 use Rattle.lint_report.specs.Text.{is_clean, lint_text}
 
-module _ (plan : Planned) (design : Composed) (network : Drawn) (told : Told) (is : IsTold plan design network told) where
+module _ (plan : Planned) (design : Composed) (network : Drawn) (budget : ℕ) (told : Told) (is : IsTold plan design network budget told) where
   abbrev text : List ℕ
   text = lint_text plan design network told.warnings.items told.found.items
 
   -- the text has just the warnings
-  pub answers_lint : (answer : Answer) → answer ≡ answer_by told.clean → AnswersLint plan network answer text
+  pub answers_lint : (answer : Answer) → answer ≡ answer_by told.clean → AnswersLint plan network budget answer text
   answers_lint answer by = record {
     design = design;
     is_design = is.is_design;
@@ -25,11 +25,12 @@ module _ (plan : Planned) (design : Composed) (network : Drawn) (told : Told) (i
     found = told.found.items;
     is_finding = is.finding.1;
     are_found = is.finding.2;
+    settles = is.finding.3;
     is_text = ap (λ (ws : List Warning). lint_text plan design network ws told.found.items) is.warnings;
     is_answer = by ∙ ap answer_by (is.clean ∙ ap (λ (ws : List Warning). is_clean network ws told.found.items) is.warnings);
   }
 
   -- and a front of it begins it
-  pub begins_lint : {B E : Type 0} (result : Result B E) (old new : SinkTold) → CutShort old new text → OnErr result ((whole : List ℕ) × BeginsLint plan network whole × CutShort old new whole)
+  pub begins_lint : {B E : Type 0} (result : Result B E) (old new : SinkTold) → CutShort old new text → OnErr result ((whole : List ℕ) × BeginsLint plan network budget whole × CutShort old new whole)
   begins_lint (Ok x) old new cut = tt
   begins_lint (Err e) old new cut = (text, (answer_by told.clean, answers_lint _ refl), cut)

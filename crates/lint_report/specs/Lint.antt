@@ -8,7 +8,7 @@ use Rattle.jobs.specs.declared.answer.Answer.TheVariants.{AllPass, SomeFail}
 use Rattle.plan.specs.Plan.{Planned, sheets_on}
 use Rattle.explained.specs.declared.finding.Finding.{Finding}
 use Rattle.explained.specs.declared.row.RowFound.{RowFound}
-use Rattle.explained.specs.Answers.{AreFound, IsFindingFound}
+use Rattle.explained.specs.Answers.{AreFound, IsFindingFound, SettlesWithin}
 use Rattle.warnings.specs.Warnings.{warnings_of}
 use Rattle.lint_report.specs.Text.{is_clean, lint_text}
 
@@ -19,16 +19,17 @@ answer_by false = SomeFail
 
 -- The text has just the warnings of the design that was read, and of what is found of its rows, all of which is right; the answer is whether there
 -- are any.
-pub record AnswersLint (plan : Planned) (network : Drawn) (answer : Answer) (text : List ℕ) : Type 0 where
+pub record AnswersLint (plan : Planned) (network : Drawn) (budget : ℕ) (answer : Answer) (text : List ℕ) : Type 0 where
   pub design : Composed
   pub is_design : composed_on plan.netlist (sheets_on plan.sheets plan.netlist.parts) ≡ Ok design
   pub finding : Finding
   pub found : List RowFound
   pub is_finding : IsFindingFound network.net finding
   pub are_found : AreFound network finding found
+  pub settles : SettlesWithin network.net budget finding found
   pub is_text : text ≡ lint_text plan design network (warnings_of plan design) found
   pub is_answer : answer ≡ answer_by (is_clean network (warnings_of plan design) found)
 
 -- What may have been begun: all is found before anything is put, so it is a front of a whole text.
-abbrev pub BeginsLint : Planned → Drawn → List ℕ → Type 0
-BeginsLint plan network text = (answer : Answer) × AnswersLint plan network answer text
+abbrev pub BeginsLint : Planned → Drawn → ℕ → List ℕ → Type 0
+BeginsLint plan network budget text = (answer : Answer) × AnswersLint plan network budget answer text

@@ -4,7 +4,7 @@ use Rattle.compose.specs.Compose.{composed_on}
 use Rattle.compose.specs.Design.{Composed}
 use Rattle.drawn.specs.Drawn.{Drawn}
 use Rattle.explained.specs.declared.finding.Finding.{Finding}
-use Rattle.explained.specs.Answers.{AreFound, IsFindingFound}
+use Rattle.explained.specs.Answers.{AreFound, IsFindingFound, SettlesWithin}
 use Rattle.plan.specs.Plan.{Planned, sheets_on}
 use Rattle.warnings.specs.Warnings.{warnings_of}
 use Rattle.lint_report.specs.declared.put_found.Told.{Told}
@@ -19,8 +19,8 @@ line_text plan d (Order number) = order_text number
 
 -- All that the lines tell is right: the warnings are those of the design of the plan, and what was found of the rows stands behind a
 -- finding.
-pub record IsTold (plan : Planned) (design : Composed) (network : Drawn) (told : Told) : Type 0 where
+pub record IsTold (plan : Planned) (design : Composed) (network : Drawn) (budget : ℕ) (told : Told) : Type 0 where
   pub is_design : composed_on plan.netlist (sheets_on plan.sheets plan.netlist.parts) ≡ Ok design
   pub warnings : told.warnings.items ≡ warnings_of plan design
-  pub finding : (finding : Finding) × IsFindingFound network.net finding × AreFound network finding told.found.items
+  pub finding : (finding : Finding) × IsFindingFound network.net finding × AreFound network finding told.found.items × SettlesWithin network.net budget finding told.found.items
   pub clean : told.clean ≡ is_clean network told.warnings.items told.found.items

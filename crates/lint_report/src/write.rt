@@ -37,7 +37,7 @@ pub fn write_lint<K: Sink>(
     requires design { IsOk (composed_on plan.now.netlist (sheets_on plan.now.sheets plan.now.netlist.parts)) }
     requires least { 1 ≤ budget }
     requires most { budget ≤ MAX_BUDGET }
-    ensures works { Works (AnswersLint plan.now drawn.now) (BeginsLint plan.now drawn.now) (K.told sink.old) (K.told sink.new) result }
+    ensures works { Works (AnswersLint plan.now drawn.now budget) (BeginsLint plan.now drawn.now budget) (K.told sink.old) (K.told sink.new) result }
 {
     let design = design_of(alloc, plan)?;
     let told = find_told(alloc, plan, &design, drawn, budget)?;
@@ -56,7 +56,7 @@ fn find_told(
     requires design { composed_on plan.now.netlist (sheets_on plan.now.sheets plan.now.netlist.parts) ≡ Ok design.now }
     requires least { 1 ≤ budget }
     requires most { budget ≤ MAX_BUDGET }
-    ensures told { IfOk result (IsTold plan.now design.now drawn.now) }
+    ensures told { IfOk result (IsTold plan.now design.now drawn.now budget) }
 {
     let warnings = warnings_of(alloc, plan, design)?;
     let found = explain(alloc, drawn, budget)?.rows;
@@ -77,9 +77,12 @@ fn put_told<K: Sink>(
     buffer: &mut LineBuffer,
     sink: &mut K,
 ) -> Result<Answer, PutFailed>
-    requires told { IsTold plan.now design.now drawn.now told.now }
-    ensures answers { IfOk result (λ answer. (text : List ℕ) × AnswersLint plan.now drawn.now answer text × (K.told sink.new ≡ grown (K.told sink.old) text)) }
-    ensures begins { OnErr result ((text : List ℕ) × BeginsLint plan.now drawn.now text × CutShort (K.told sink.old) (K.told sink.new) text) }
+    ensures answers { (budget : ℕ) → IsTold plan.now design.now drawn.now budget told.now
+        → IfOk result (λ answer. (text : List ℕ) × AnswersLint plan.now drawn.now budget answer text
+        × (K.told sink.new ≡ grown (K.told sink.old) text)) }
+    ensures begins { (budget : ℕ) → IsTold plan.now design.now drawn.now budget told.now
+        → OnErr result ((text : List ℕ) × BeginsLint plan.now drawn.now budget text
+        × CutShort (K.told sink.old) (K.told sink.new) text) }
 {
     put_text(plan, design, drawn, told, buffer, sink)?;
     Ok(answer_by(told.clean))

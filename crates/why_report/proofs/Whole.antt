@@ -19,7 +19,7 @@ use Rattle.jobs.specs.Ending.{answer_of}
 use Rattle.jobs.specs.declared.answer.Answer.{Answer}
 use Rattle.explained.specs.declared.finding.Finding.{Finding}
 use Rattle.explained.specs.declared.row.RowFound.{RowFound}
-use Rattle.explained.specs.Answers.{AreFound, IsFindingFound, bound_of, word_of}
+use Rattle.explained.specs.Answers.{AreFound, IsFindingFound, SettlesWithin, bound_of, word_of}
 use Rattle.why_report.specs.Text.{Noted, apart_text, ending_of, found_text, judged_text, why_text}
 use Rattle.why_report.specs.Why.{AnswersWhy, BeginsWhy}
 
@@ -33,13 +33,13 @@ pub why_is : (noted : Noted) (drawn : Drawn) (finding : Finding) (rows found : L
     → ended (codes "itv why 1") ++ (entry_text (line.finding told) ++ (found_text noted drawn finding rows ++ entry_text (line.ending word))) ≡ why_text noted drawn finding found
 why_is noted drawn finding rows found told word is_rows is_told is_word = rw (is_rows, is_told, is_word) refl
 
-module _ (noted : Noted) (drawn : Drawn) (finding : Finding) (found : List RowFound) (f : IsFindingFound drawn.net finding) (a : AreFound drawn finding found) where
+module _ (noted : Noted) (drawn : Drawn) (budget : ℕ) (finding : Finding) (found : List RowFound) (f : IsFindingFound drawn.net finding) (a : AreFound drawn finding found) (s : SettlesWithin drawn.net budget finding found) where
   -- the text tells what was found
-  pub answers_why : (answer : Answer) → answer ≡ answer_of (ending_of drawn.rows finding found) → AnswersWhy noted drawn answer (why_text noted drawn finding found)
-  answers_why answer is = record { finding = finding; found = found; is_finding = f; are_found = a; is_text = refl; is_answer = is }
+  pub answers_why : (answer : Answer) → answer ≡ answer_of (ending_of drawn.rows finding found) → AnswersWhy noted drawn budget answer (why_text noted drawn finding found)
+  answers_why answer is = record { finding = finding; found = found; is_finding = f; are_found = a; settles = s; is_text = refl; is_answer = is }
 
   -- and a front of it begins it
   pub begins_why : {B E : Type 0} (result : Result B E) (old new : SinkTold) → CutShort old new (why_text noted drawn finding found)
-      → OnErr result ((text : List ℕ) × BeginsWhy noted drawn text × CutShort old new text)
+      → OnErr result ((text : List ℕ) × BeginsWhy noted drawn budget text × CutShort old new text)
   begins_why (Ok x) old new cut = tt
   begins_why (Err e) old new cut = (why_text noted drawn finding found, (answer_of (ending_of drawn.rows finding found), answers_why _ refl), cut)

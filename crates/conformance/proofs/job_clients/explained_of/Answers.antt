@@ -1,7 +1,7 @@
 use Rattle.std.proofs.Common.{refl}
 use Rattle.itv_base.specs.Memory.{shelf_told, sink_told}
 use Rattle.itv_cli.specs.Run.{Call, call_of}
-use Rattle.conformance.proofs.PlannedEnds.{why_none, why_wrote}
+use Rattle.conformance.proofs.PlannedEnds.{why_decides, why_none, why_wrote}
 use Rattle.conformance.proofs.Telling.{sink_bytes}
 use Rattle.conformance.proofs.job_clients.explained_of.Goals as goal
 
@@ -13,4 +13,5 @@ returns c =
           let (text, is, wrote) = why_wrote call c.args.shelf.now.files budget plan drawn refl asks c.run.result c.run.ensures.means end in
           (text, is, sink_bytes c.args.sink.now c.run.new.sink text wrote);
       none = λ budget plan drawn asks e. why_none call c.args.shelf.now.files budget plan drawn refl asks c.run.result c.run.ensures.means e;
+      decides = λ budget plan drawn asks e. why_decides call c.args.shelf.now.files budget plan drawn refl asks c.run.result c.run.ensures.means e;
     }

@@ -3,12 +3,12 @@ use Rattle.lint_report.specs.Text.{lint_text}
 use Rattle.lint_report.proofs.write.put_told.Goals as goal
 
 pub returns-in_err-put_text-clause-begins : goal.returns-in_err-put_text-clause-begins
-returns-in_err-put_text-clause-begins g c =
-    begins_lint c.args.plan.now c.args.design.now c.args.drawn.now c.args.told.now c.requires.told c.from_residual.result _ _ c.in_err-put_text.ensures.puts
+returns-in_err-put_text-clause-begins g c = λ budget is.
+    begins_lint c.args.plan.now c.args.design.now c.args.drawn.now budget c.args.told.now is c.from_residual.result _ _ c.in_err-put_text.ensures.puts
 
 pub returns-clause-answers : goal.returns-clause-answers
-returns-clause-answers g c = (
+returns-clause-answers g c = λ budget is. (
   lint_text c.args.plan.now c.args.design.now c.args.drawn.now c.args.told.now.warnings.items c.args.told.now.found.items,
-  answers_lint c.args.plan.now c.args.design.now c.args.drawn.now c.args.told.now c.requires.told c.answer_by.result c.answer_by.ensures,
+  answers_lint c.args.plan.now c.args.design.now c.args.drawn.now budget c.args.told.now is c.answer_by.result c.answer_by.ensures,
   c.in_ok-put_text.ensures.puts,
 )
