@@ -1,5 +1,5 @@
 -- What a budget is enough for.
-use Rattle.std.proofs.Common.{◌≡◌, ◌≤◌, ◌*◌, ℕ, ℤ, Bool, true, false, List, [], ◌∷◌, ◌++◌, All, length, Option, Some, None, refl, sym, subst, ◌∙◌, arith}
+use Rattle.std.proofs.Common.{◌≡◌, ◌≤◌, ◌*◌, ℕ, ℤ, Bool, true, false, List, [], ◌∷◌, ◌++◌, All, length, Option, Some, None, sym, subst, arith}
 use Rattle.std.specs.Prelude.{IfSome, if◌then◌else◌}
 use Rattle.std.proofs.Math.Nat.{mul_comm, mul-le-mul_left}
 use Rattle.std.proofs.lemmas.List.Elements.{All-head, All-push, All-tail}
@@ -25,7 +25,7 @@ use Rattle.explained.specs.declared.desk.Apart.{Apart}
 use Rattle.explained.specs.declared.desk.Desk.{Desk}
 use Rattle.explained.specs.declared.row.RowFound.{RowFound}
 use Rattle.explained.specs.Step.Bounding.{bound_by}
-use Rattle.explained.specs.Step.Settling.{IsEnoughFor, Suffices, SufficesApart}
+use Rattle.explained.specs.Step.Settling.{IsEnoughFor, SufficesApart}
 use Rattle.explained.specs.Step.Standing.{net_in, word_of_found}
 
 -- ---- searches
@@ -33,9 +33,9 @@ use Rattle.explained.specs.Step.Standing.{net_in, word_of_found}
 -- a search for times settles the finding
 pub found_settles : (net : Net) (budget leaves : ℕ) (lines : List ProofLine) (known : Option (List ℤ)) (found : Found) (word : FindingWord) → word ≡ word_of_found found
     → Finds net budget lines leaves known found → cause_choices net.constraints ≤ budget → word ≡ findings.Unsettled → ⊥
-found_settles net budget leaves lines known founds.Consistent word is finds enough open = absurd (cc (is, open))
-found_settles net budget leaves lines known founds.Inconsistent word is finds enough open = absurd (cc (is, open))
-found_settles net budget leaves lines known founds.Unsettled word is finds enough open = omega (arith, finds.below_choices, enough)
+found_settles net budget leaves lines known founds.Consistent word is finds enough none = absurd (cc (is, none))
+found_settles net budget leaves lines known founds.Inconsistent word is finds enough none = absurd (cc (is, none))
+found_settles net budget leaves lines known founds.Unsettled word is finds enough none = omega (arith, finds.below_choices, enough)
 
 -- a search for a greatest separation settles the bound
 pub answer_settles : (search : PairSearch) (left : Evidence) (answer : Answer) → Answers search left answer → cause_choices search.net.constraints ≤ search.budget
@@ -82,7 +82,7 @@ suffices_apart drawn budget (Some a) is_net is same enough =
 -- ---- rows
 
 -- where the budget of a desk is enough, so far it is and the rows are settled
-pub SoFar : Net → Desk → Desk → List RowFound → Type 0
+abbrev pub SoFar : Net → Desk → Desk → List RowFound → Type 0
 SoFar net first desk found = IsEnoughFor net first → IsEnoughFor net desk × All IsRowSettled found
 
 pub none_settled : (net : Net) (desk : Desk) (found : List RowFound) → found ≡ [] → SoFar net desk desk found

@@ -7,6 +7,7 @@ ghost use Rattle.compose.specs.Compose.{composed_on};
 ghost use Rattle.jobs.specs.Works.{Works};
 ghost use Rattle.plan.specs.Plan.{sheets_on};
 ghost use Rattle.lint_report.specs.Lint.{AnswersLint, BeginsLint, answer_by};
+ghost use Rattle.lint_report.specs.Text.{is_clean};
 ghost use Rattle.lint_report.specs.Step.{IsTold};
 
 use crate::designing::design_of;
@@ -77,6 +78,7 @@ fn put_told<K: Sink>(
     buffer: &mut LineBuffer,
     sink: &mut K,
 ) -> Result<Answer, PutFailed>
+    requires clean { told.now.clean ≡ is_clean drawn.now told.now.warnings.items told.now.found.items }
     ensures answers { (budget : ℕ) → IsTold plan.now design.now drawn.now budget told.now
         → IfOk result (λ answer. (text : List ℕ) × AnswersLint plan.now drawn.now budget answer text
         × (K.told sink.new ≡ grown (K.told sink.old) text)) }

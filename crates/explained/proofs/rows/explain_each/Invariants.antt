@@ -1,4 +1,3 @@
-use Rattle.std.proofs.Common.{◌×◌}
 use Rattle.explained.proofs.Lanes.{AreSoFar}
 use Rattle.explained.proofs.Settling.{SoFar}
 use Rattle.explained.proofs.rows.explain_each.Given as goal
