@@ -20,12 +20,12 @@ use crate::chosen_edges::ChosenEdges;
 use crate::falling::label_in;
 use crate::fit::Fit;
 use crate::guess::Guess;
-use crate::out_edges::OutEdges;
+use crate::out_edges::out_edges;
 use crate::pending::Pending;
 use crate::settling::{reach, settle_root};
 use crate::times::{least_lift, write_ray, write_times};
 use crate::walks::{loop_into, path_into};
-use event_graph::Network;
+use event_graph::{ByEvent, Network};
 use itv_base::{EdgeName, EventId, NoMemory, Side};
 use std::alloc::Global;
 use std::marker::Model;
@@ -42,7 +42,7 @@ use trail::Trail;
 #[derive(Debug, Drop)]
 pub struct Bounds {
     events: u32,
-    out: OutEdges,
+    out: ByEvent<Arc>,
     chosen: ChosenEdges,
     guess: Guess,
     trail: Trail,
@@ -81,7 +81,7 @@ impl Bounds {
         let levels = net.splittable_count();
         Ok(Bounds {
             events,
-            out: OutEdges::of_network(alloc, net)?,
+            out: out_edges(alloc, net)?,
             chosen: ChosenEdges::new(alloc, events, levels)?,
             guess: Guess::new(alloc, events)?,
             trail: Trail::new(alloc, events + events, levels)?,
