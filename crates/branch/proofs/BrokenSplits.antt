@@ -47,10 +47,6 @@ named_all Early count has = refl
 -- times that meet the usable edges of a case, and a constraint that is there
 module _ (net : Net) (chosen : Case) (times : List ℤ) (number : ℕ) (k : Constraint) (is_net : IsNet net) (is_case : IsCase net chosen) (meets : MeetsUsable net chosen times)
     (at_k : slice_get net.constraints number ≡ Some k) (breaks : Holds times k → ⊥) where
-  -- the edge of a cause on the choice side
-  name_at : ℕ → EdgeName
-  name_at cause = record { constraint = number; cause = cause; side = choice_side k.kind }
-
   always_met : MeetsAlwaysOf times net number
   always_met name e is_number always is_edge = meets.each name e (inl always) is_edge
 

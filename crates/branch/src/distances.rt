@@ -7,7 +7,7 @@ ghost use Rattle.branch.specs.Step.Looking.{CanLookFor, IsFound, IsWanted};
 
 use crate::decisions::Decisions;
 use crate::splittable::Splittable;
-use event_graph::Network;
+use event_graph::{ByEvent, Network};
 use itv_base::{EdgeName, EventId, NoMemory, Side};
 use std::alloc::Global;
 use std::marker::Model;
@@ -21,9 +21,9 @@ pub struct Distances {
     // The constraints with two or more causes, by their numbers.
     rules: Vec<Splittable>,
     // For each event the places of those that enter it, in the same order.
-    entering: Vec<Vec<usize>>,
+    entering: ByEvent<usize>,
     // For each event the starts of the always-edges that enter it.
-    sources: Vec<Vec<EventId>>,
+    sources: ByEvent<EventId>,
     // Whether an event was reached.
     reached: Vec<bool>,
     // The events that were reached, in their order.
@@ -56,8 +56,8 @@ impl Distances {
         let events = net.events();
         let count = net.splittable_count() as usize;
         let mut rules = Vec::with_capacity(alloc, count)?;
-        let mut entering = empty_lists(alloc, events)?;
-        let mut sources = empty_lists(alloc, events)?;
+        let mut entering = ByEvent::new(alloc, events)?;
+        let mut sources = ByEvent::new(alloc, events)?;
         for number in 0..net.len() {
             // Where there are none to look for, no way to them is wanted.
             if count > 0 {
@@ -115,20 +115,11 @@ impl Distances {
     }
 }
 
-// An empty list for each event.
-fn empty_lists<T: Drop>(alloc: Global, events: u32) -> Result<Vec<Vec<T>>, NoMemory> {
-    let mut lists = Vec::with_capacity(alloc, events as usize)?;
-    for _event in 0..events {
-        lists.push(Vec::new(alloc))?;
-    }
-    Ok(lists)
-}
-
 // Adds the starts of the always-edges of a constraint.
 fn add_sources(
     net: &Network,
     constraint: u32,
-    sources: &mut Vec<Vec<EventId>>,
+    sources: &mut ByEvent<EventId>,
 ) -> Result<(), NoMemory>
     requires { constraint < length net.now.constraints }
 {
@@ -153,14 +144,14 @@ fn add_sources(
 fn add_source(
     net: &Network,
     name: EdgeName,
-    sources: &mut Vec<Vec<EventId>>,
+    sources: &mut ByEvent<EventId>,
 ) -> Result<(), NoMemory> {
     if net.is_always(name)
         && let Some(edge) = net.edge(name)
-        && let Some(list) = sources.get_mut(edge.to.0 as usize)
+        && let Some(list) = sources.get(edge.to)
         && !list.contains(&edge.from)
     {
-        list.push(edge.from)?;
+        sources.push(edge.to, edge.from)?;
     }
     Ok(())
 }
@@ -169,13 +160,13 @@ fn add_source(
 fn add_entering(
     rule: &Splittable,
     place: usize,
-    entering: &mut Vec<Vec<usize>>,
+    entering: &mut ByEvent<usize>,
 ) -> Result<(), NoMemory> {
     for edge in rule.edges() {
-        if let Some(list) = entering.get_mut(edge.to.0 as usize)
+        if let Some(list) = entering.get(edge.to)
             && list.last() != Some(&place)
         {
-            list.push(place)?;
+            entering.push(edge.to, place)?;
         }
     }
     Ok(())
@@ -185,8 +176,8 @@ fn add_entering(
 #[derive(Clone, Copy)]
 struct Graph<'a> {
     rules: &'a [Splittable],
-    entering: &'a [Vec<usize>],
-    sources: &'a [Vec<EventId>],
+    entering: &'a ByEvent<usize>,
+    sources: &'a ByEvent<EventId>,
     cases: &'a Decisions,
     wanted: Wanted<'a>,
 }
@@ -243,15 +234,14 @@ fn visit(
     ensures least { IfSome result.least (IsFound graph.entry.wanted graph.entry.rules.now graph.entry.cases.now.chosen) }
     ensures count { result.count ≤ length queue.new }
 {
-    let place = event.0 as usize;
     let mut reach = so_far;
-    if let Some(places) = graph.entering.get(place) {
+    if let Some(places) = graph.entering.get(event) {
         for rule in places {
             reach = look_at(graph, reached, queue, reach, *rule, event);
         }
     }
     if reach.least.is_none()
-        && let Some(sources) = graph.sources.get(place)
+        && let Some(sources) = graph.sources.get(event)
     {
         for source in sources {
             reach.count = put(reached, queue, reach.count, *source);

@@ -1,10 +1,9 @@
 -- The lists of always-edges, which grow by one name after another.
-use Rattle.std.proofs.Common.{◌≡◌, ℕ, ◌+◌, ◌<◌, ◌≤ℤ◌, max, inl, inr, List, [], ◌∷◌, ◌++◌, length, get_or, set, replicate, Some, option_map, slice_get, All, Contains, sym, ◌∙◌, ap, subst, refl, arith}
-use Rattle.std.specs.Global.{Vec}
+use Rattle.std.proofs.Common.{◌≡◌, ℕ, ◌+◌, ◌<◌, ◌≤ℤ◌, max, ◌<ℤ◌, inl, inr, List, [], ◌∷◌, ◌++◌, length, get_or, set, replicate, Some, option_map, slice_get, All, Contains, sym, ◌∙◌, ap, subst, refl, arith}
 use Rattle.std.proofs.lemmas.Int.{ints}
-use Rattle.std.proofs.lemmas.Bool.{cases_eq, cases_lt}
+use Rattle.std.proofs.lemmas.Bool.{cases_eq}
 use Rattle.std.proofs.lemmas.Option.{option_and_then_some, same_Some, slice_get_within}
-use Rattle.std.proofs.lemmas.List.{get_or-map, get_or-replicate, get_or-set_other, get_or_default, get_or_past, length-map, length-replicate, length-set, map-set}
+use Rattle.std.proofs.lemmas.List.{get_or-set_other, get_or_default, length-replicate, length-set, set-get_or}
 use Rattle.std.proofs.lemmas.List.Elements.{All-contains, All-nil, All-same, Contains-append_left, Contains-get_or, Contains-push, Contains-push_cases}
 use Rattle.std.proofs.lemmas.Grind.{get_or-set_at}
 use Rattle.itv_base.specs.declared.names.EdgeName.{EdgeName}
@@ -17,21 +16,16 @@ use Rattle.event_graph.specs.Edges.{IsAlways}
 use Rattle.event_graph.specs.Network.{IsCauseCount, IsConstraint, IsNet, Net, cause_count_of, named_causes}
 use Rattle.event_graph.proofs.EdgesMet.{All-found, cause_of}
 use Rattle.diff_bounds.specs.declared.arc.Arc.{Arc}
-use Rattle.diff_bounds.specs.Arcs.{AreAlwaysArcs, HasLight, IsArc, edges_out}
-use Rattle.diff_bounds.specs.Step.Listing.{AreArcsSoFar, Grows, HasCause, HasName, Joins, lists_of}
+use Rattle.event_graph.specs.EventLists.{at_event}
+use Rattle.event_graph.proofs.EventLists.{each_at, empty_at, set_at}
+use Rattle.diff_bounds.specs.Arcs.{AreAlwaysArcs, HasLight, IsArc}
+use Rattle.diff_bounds.specs.Step.Listing.{AreArcsSoFar, Grows, HasCause, HasName, IsPlaceOf, Joins, JoinsAt}
 
 pub grows_on : (net : Net) (old mid new : List (List Arc)) → Grows net old mid → Grows net mid new → Grows net old new
 grows_on net old mid new first second = record { arcs = second.arcs; kept = λ v e light. second.kept v e (first.kept v e light) }
 
 pub grows_not : (net : Net) (old : List (List Arc)) → AreArcsSoFar net old → Grows net old old
 grows_not net old are = record { arcs = are; kept = λ v e light. light }
-
-empty_at : (n v : ℕ) → edges_out (replicate n []) v ≡ []
-empty_at n v =
-    elim (cases_lt v n) [
-      | inl below ↦ get_or-replicate n v [] [] below
-      | inr past ↦ get_or_past (replicate n []) v [] (omega (arith, length-replicate {A = List Arc}))
-    ]
 
 -- at first the lists are empty
 pub empty_arcs : (net : Net) → AreArcsSoFar net (replicate net.events [])
@@ -94,60 +88,57 @@ joins_not arc list place other within is to light = record {
 
 -- ---- a list in the lists
 
+pub joined_end : (arc : Arc) (old new : List (List Arc)) → new ≡ set old arc.edge.from.0 (at_event old arc.edge.from.0 ++ arc ∷ []) → JoinsAt arc old new
+joined_end arc old new is = record { list = at_event old arc.edge.from.0 ++ arc ∷ []; is = is; joins = joins_end arc (at_event old arc.edge.from.0) }
+
+pub joined_place : (arc : Arc) (old new : List (List Arc)) (list : List Arc) (place : ℕ) (d : Arc) → list ≡ at_event old arc.edge.from.0 → IsPlaceOf list arc.edge.to place
+    → arc.edge.weight <ℤ (get_or list place d).edge.weight → new ≡ set old arc.edge.from.0 (set (at_event old arc.edge.from.0) place arc) → JoinsAt arc old new
+joined_place arc old new list place d of there lighter is = record {
+  list = set list place arc;
+  is = is ∙ ap (λ (xs : List Arc). set old arc.edge.from.0 (set xs place arc)) (sym of);
+  joins = subst (λ (xs : List Arc). Joins arc xs (set list place arc)) of
+      (joins_place arc list place (get_or list place d) there.0 (get_or_default list place d _ there.0) (there.1 d) (omega (arith, ints)));
+}
+
+pub joined_not : (arc : Arc) (old : List (List Arc)) (list : List Arc) (place : ℕ) (d : Arc) → list ≡ at_event old arc.edge.from.0 → IsPlaceOf list arc.edge.to place
+    → (get_or list place d).edge.weight ≤ℤ arc.edge.weight → JoinsAt arc old old
+joined_not arc old list place d of there light = record {
+  list = at_event old arc.edge.from.0;
+  is = sym (set-get_or old arc.edge.from.0 []);
+  joins = subst (λ (xs : List Arc). Joins arc xs xs) of
+      (joins_not arc list place (get_or list place d) there.0 (get_or_default list place d _ there.0) (there.1 d) light);
+}
+
 joined_all : (P : Arc → Type 0) (arc : Arc) (old new : List Arc) → Joins arc old new → All P old → P arc → All P new
 joined_all P arc old new joins all here k d below =
     elim (joins.among k d below) [ inl was ↦ All-contains P old (get_or new k d) all was | inr same ↦ subst P (sym same) here ]
 
-all_set : (P : ℕ → Arc → Type 0) (out : List (List Arc)) (from : ℕ) (list : List Arc) → from < length out → ((v : ℕ) → All (P v) (edges_out out v)) → All (P from) list → (v : ℕ) → All (P v) (edges_out (set out from list) v)
-all_set P out from list within all here v =
-    elim (cases_eq v from) [
-      | inl same ↦ All-same (P v) _ list (get_or-set_at out from v list [] same within) (let Q : ℕ → Type 0 = λ n. All (P n) list in subst Q (sym same) here)
-      | inr off ↦ All-same (P v) _ _ (get_or-set_other out from v list [] off) (all v)
-    ]
-
 -- one more always-edge has joined the list of the event where it starts
-pub grown : (net : Net) (out : List (List Arc)) (from : ℕ) (list : List Arc) (a : Arc) → AreArcsSoFar net out → from < length out → IsArc net a → IsAlways net a.name → a.edge.from.0 ≡ from → Joins a (edges_out out from) list
-    → Grows net out (set out from list) × HasLight (edges_out (set out from list) from) a.edge
-grown net out from list a are within arc is_always starts joins = (
-  record {
-    arcs = record {
-      count = length-set out from list ∙ are.count;
-      each = all_set (λ v. IsArc net) out from list within are.each (joined_all (IsArc net) a (edges_out out from) list joins (are.each from) arc);
-      starts = all_set (λ v (x : Arc). x.edge.from.0 ≡ v) out from list within are.starts (joined_all (λ (x : Arc). x.edge.from.0 ≡ from) a (edges_out out from) list joins (are.starts from) starts);
-      sound = all_set (λ v (x : Arc). IsAlways net x.name) out from list within are.sound (joined_all (λ (x : Arc). IsAlways net x.name) a (edges_out out from) list joins (are.sound from) is_always);
-    };
-    kept = λ v e light. elim (cases_eq v from) [
-      | inl same ↦
-          let P : List Arc → Type 0 = λ xs. HasLight xs e in
-          let Q : ℕ → Type 0 = λ n. HasLight (edges_out out n) e in
-          subst P (sym (get_or-set_at out from v list [] same within)) (joins.kept e (subst Q same light))
-      | inr off ↦ let P : List Arc → Type 0 = λ xs. HasLight xs e in subst P (sym (get_or-set_other out from v list [] off)) light
-    ];
-  },
-  (let P : List Arc → Type 0 = λ xs. HasLight xs a.edge in subst P (sym (get_or-set_at out from from list [] refl within)) joins.light),
+grown : (net : Net) (out : List (List Arc)) (from : ℕ) (list : List Arc) (a : Arc) → AreArcsSoFar net out → from < length out → IsArc net a → IsAlways net a.name → a.edge.from.0 ≡ from
+    → Joins a (at_event out from) list → Grows net out (set out from list)
+grown net out from list a are within arc is_always starts joins = record {
+  arcs = record {
+    count = length-set out from list ∙ are.count;
+    each = each_at (λ v. All (IsArc net)) out from list within are.each (joined_all (IsArc net) a (at_event out from) list joins (are.each from) arc);
+    starts = each_at (λ v. All (λ (x : Arc). x.edge.from.0 ≡ v)) out from list within are.starts
+        (joined_all (λ (x : Arc). x.edge.from.0 ≡ from) a (at_event out from) list joins (are.starts from) starts);
+    sound = each_at (λ v. All (λ (x : Arc). IsAlways net x.name)) out from list within are.sound
+        (joined_all (λ (x : Arc). IsAlways net x.name) a (at_event out from) list joins (are.sound from) is_always);
+  };
+  kept = each_at (λ v xs. (e : Edge) → HasLight (at_event out v) e → HasLight xs e) out from list within (λ v e light. light) joins.kept;
+}
+
+-- the edge of a name has joined the list of the event where it starts
+pub pushed : (net : Net) (old new : List (List Arc)) (name : EdgeName) (e : Edge) → AreArcsSoFar net old → IsAlways net name → IsArc net (record { name = name; edge = e })
+    → JoinsAt (record { name = name; edge = e }) old new → Grows net old new × HasName net new name
+pushed net old new name e are is_always arc at = (
+  subst (Grows net old) (sym at.is) (grown net old e.from.0 at.list (record { name = name; edge = e }) are within arc is_always refl at.joins),
+  λ f named is. subst (λ (x : Edge). HasLight (at_event new x.from.0) x) (same_Some e f (sym arc.is ∙ is))
+      (subst (λ (xs : List Arc). HasLight xs e) (sym (ap (λ (out : List (List Arc)). at_event out e.from.0) at.is ∙ set_at old e.from.0 at.list within)) at.joins.light),
 )
-
--- the list of an event, in a vector of vectors
-pub list_at : (lists : List (Vec Arc)) (from : ℕ) (x : Vec Arc) → from < length lists → x ≡ get_or lists from x → edges_out (lists_of lists) from ≡ x.items
-list_at lists from x within is =
-    get_or-map (λ (list : Vec Arc). list.items) lists from x [] within ∙ ap (λ (list : Vec Arc). list.items) (sym is)
-
--- an edge has joined the list of its event, in a vector of vectors
-pub pushed : (net : Net) (lists : List (Vec Arc)) (name : EdgeName) (e : Edge) (x y : Vec Arc) → AreArcsSoFar net (lists_of lists) → IsAlways net name → IsArc net (record { name = name; edge = e }) → e.from.0 < length lists
-    → x ≡ get_or lists e.from.0 x → Joins (record { name = name; edge = e }) x.items y.items
-    → Grows net (lists_of lists) (lists_of (set lists e.from.0 y)) × HasName net (lists_of (set lists e.from.0 y)) name
-pushed net lists name e x y are is_always arc within is joins =
-    let P : List Arc → Type 0 = λ xs. Joins (record { name = name; edge = e }) xs y.items in
-    let long : e.from.0 < length (lists_of lists) = rw length-map within in
-    let both = grown net (lists_of lists) e.from.0 y.items (record { name = name; edge = e }) are long arc is_always refl (subst P (sym (list_at lists e.from.0 x within is)) joins) in
-    let sets : lists_of (set lists e.from.0 y) ≡ set (lists_of lists) e.from.0 y.items = map-set (λ (list : Vec Arc). list.items) lists e.from.0 y in
-    let G : List (List Arc) → Type 0 = λ out. Grows net (lists_of lists) out in
-    let H : List (List Arc) → Type 0 = λ out. HasLight (edges_out out e.from.0) e in (
-      subst G (sym sets) both.0,
-      λ f named at. let same : e ≡ f = same_Some e f (sym arc.is ∙ at) in
-          let Q : Edge → Type 0 = λ x. HasLight (edges_out (lists_of (set lists e.from.0 y)) x.from.0) x in
-          subst Q same (subst H (sym sets) both.1),
-    )
+  where
+    within : e.from.0 < length old
+    within = omega (arith, arc.within.from, are.count)
 
 -- an edge that is no always-edge needs no place
 pub named_not : (net : Net) (out : List (List Arc)) (name : EdgeName) → (IsAlways net name → ⊥) → HasName net out name

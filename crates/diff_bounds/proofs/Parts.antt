@@ -15,7 +15,8 @@ use Rattle.trail.specs.declared.stamp.Stamp.{Stamp}
 use Rattle.trail.specs.Stack.{Stack}
 use Rattle.diff_bounds.specs.declared.arc.Arc.{Arc}
 use Rattle.diff_bounds.specs.declared.falling.Run.{Run}
-use Rattle.diff_bounds.specs.Arcs.{AreAlwaysArcs, AreChosenArcs, HasLight, IsArc, edges_out}
+use Rattle.event_graph.specs.EventLists.{at_event}
+use Rattle.diff_bounds.specs.Arcs.{AreAlwaysArcs, AreChosenArcs, HasLight, IsArc}
 use Rattle.diff_bounds.specs.Current.{IsCurrent}
 use Rattle.diff_bounds.specs.Labels.{Follows, HaveSettled, IsAmong, Labels, Scope, labels_from}
 use Rattle.diff_bounds.specs.Step.Falling.{AllDone, Closes, Falls, IsAmongFrom, IsDone, IsDoneFrom, IsPlaced, IsRunning, RunsOn, scope_of}
@@ -104,7 +105,7 @@ runs_running net run a b u v running runs =
     subst P (sym (runs_scope net (scope_of net a run) run a b u v runs)) (running_on (scope_of net a run) run a.current.stamps b.current.stamps running runs.keeps)
 
 -- the always-edges out of an event are of the scope
-pub always_among : (net : Net) (st : Stack) (run : Run) (out : List (List Arc)) (v : ℕ) → AreAlwaysArcs net out → run.first ≤ v → All (IsAmongFrom (scope_of net st run) v) (edges_out out v)
+pub always_among : (net : Net) (st : Stack) (run : Run) (out : List (List Arc)) (v : ℕ) → AreAlwaysArcs net out → run.first ≤ v → All (IsAmongFrom (scope_of net st run) v) (at_event out v)
 always_among net st run out v are counts k d below starts = record {
   is = (are.each v k d below).is;
   current = inl (are.sound v k d below);
@@ -132,10 +133,10 @@ chosen_among net st run arcs v are counts k d below starts = record {
 
 -- an edge of the scope has a light one among those that were tried
 pub found_among : (net : Net) (st : Stack) (run : Run) (out : List (List Arc)) (arcs : List Arc) (name : EdgeName) (e : Edge) → AreAlwaysArcs net out → AreChosenArcs net st.current.edges arcs → IsAmong (scope_of net st run) name e
-    → HasLight (edges_out out e.from.0) e ⊎ Contains arcs (record { name = name; edge = e })
+    → HasLight (at_event out e.from.0) e ⊎ Contains arcs (record { name = name; edge = e })
 found_among net st run out arcs name e always chosen among = of_current among.current
   where
-    of_current : IsCurrent net st.current.edges name → HasLight (edges_out out e.from.0) e ⊎ Contains arcs (record { name = name; edge = e })
+    of_current : IsCurrent net st.current.edges name → HasLight (at_event out e.from.0) e ⊎ Contains arcs (record { name = name; edge = e })
     of_current (inl is_always) = inl (always.complete name e is_always among.is)
     of_current (inr is_chosen) =
         let P : List EdgeName → Type 0 = λ names. Contains names name in
@@ -165,18 +166,18 @@ done_elsewhere run v stamps marks marks' e is off (inr waits) = inr (ap (λ (m :
 -- after an event was taken, and its edges were tried, all are done
 pub done_again : (net : Net) (run : Run) (out : List (List Arc)) (arcs : List Arc) (v : ℕ) (t₀ t t₁ t₂ : Stack) (p p' p₁ p₂ : Waiting) → AreAlwaysArcs net out → AreChosenArcs net t₀.current.edges arcs
     → AllDone (scope_of net t₀ run) run t.current.stamps p.marks → p'.marks ≡ set p.marks v false
-    → Falls (scope_of net t₀ run) run t t₁ p' p₁ → All (IsDoneFrom run v t₁.current.stamps p₁.marks) (edges_out out v)
+    → Falls (scope_of net t₀ run) run t t₁ p' p₁ → All (IsDoneFrom run v t₁.current.stamps p₁.marks) (at_event out v)
     → Falls (scope_of net t₀ run) run t₁ t₂ p₁ p₂ → All (IsDoneFrom run v t₂.current.stamps p₂.marks) arcs
     → AllDone (scope_of net t₀ run) run t₂.current.stamps p₂.marks
 done_again net run out arcs v t₀ t t₁ t₂ p p' p₁ p₂ always chosen all taken first tried second chosen_tried name e among =
     elim (cases_eq e.from.0 v) [
       | inl same ↦ elim (found_among net t₀ run out arcs name e always chosen among) [
         | inl light ↦
-            let P : ℕ → Type 0 = λ n. Contains (edges_out out n) light.0 in
-            let in_list : Contains (edges_out out v) light.0 = subst P same light.1 in
-            let starts : light.0.edge.from.0 ≡ v = All-contains (λ (a : Arc). a.edge.from.0 ≡ v) (edges_out out v) light.0 (always.starts v) in_list in
+            let P : ℕ → Type 0 = λ n. Contains (at_event out n) light.0 in
+            let in_list : Contains (at_event out v) light.0 = subst P same light.1 in
+            let starts : light.0.edge.from.0 ≡ v = All-contains (λ (a : Arc). a.edge.from.0 ≡ v) (at_event out v) light.0 (always.starts v) in_list in
             let counts : run.first ≤ light.0.edge.from.0 = let from = among.from in omega arith in
-            let here = All-contains (IsDoneFrom run v t₁.current.stamps p₁.marks) (edges_out out v) light.0 tried in_list starts in
+            let here = All-contains (IsDoneFrom run v t₁.current.stamps p₁.marks) (at_event out v) light.0 tried in_list starts in
             done_light run t₂.current.stamps p₂.marks light.0.edge e (starts ∙ sym same) light.2 light.3 (second.done light.0.edge counts here)
         | inr is_chosen ↦ All-contains (IsDoneFrom run v t₂.current.stamps p₂.marks) arcs (record { name = name; edge = e }) chosen_tried is_chosen same
       ]

@@ -1,8 +1,9 @@
 -- Edges with their names, by the event where they start.
-use Rattle.std.specs.Prelude.{◌≡◌, ℕ, ◌≤ℤ◌, List, [], length, map, All, Contains, Some, slice_index_or}
+use Rattle.std.specs.Prelude.{◌≡◌, ℕ, ◌≤ℤ◌, List, length, map, All, Contains, Some}
 use Rattle.itv_base.specs.declared.names.EdgeName.{EdgeName}
 use Rattle.event_graph.specs.declared.edge.Edge.{Edge}
 use Rattle.event_graph.specs.Edges.{IsAlways, edge}
+use Rattle.event_graph.specs.EventLists.{at_event}
 use Rattle.event_graph.specs.Network.{Net}
 use Rattle.diff_bounds.specs.declared.arc.Arc.{Arc}
 use Rattle.diff_bounds.specs.Labels.{IsWithin}
@@ -12,10 +13,6 @@ pub record IsArc (net : Net) (a : Arc) : Type 0 where
   pub is : edge net a.name ≡ Some a.edge
   pub within : IsWithin net.events a.edge
 
--- the edges that start at an event
-abbrev pub edges_out : List (List Arc) → ℕ → List Arc
-edges_out out event = slice_index_or out event []
-
 -- among some edges, there is one to the same event whose weight is no greater
 abbrev pub HasLight : List Arc → Edge → Type 0
 HasLight arcs e = (a : Arc) × Contains arcs a × (a.edge.to ≡ e.to) × (a.edge.weight ≤ℤ e.weight)
@@ -23,10 +20,10 @@ HasLight arcs e = (a : Arc) × Contains arcs a × (a.edge.to ≡ e.to) × (a.edg
 -- a list for each event, of always-edges that start there; of those that lead to one event it has one of least weight
 pub record AreAlwaysArcs (net : Net) (out : List (List Arc)) : Type 0 where
   pub count : length out ≡ net.events
-  pub each : (event : ℕ) → All (IsArc net) (edges_out out event)
-  pub starts : (event : ℕ) → All (λ (a : Arc). a.edge.from.0 ≡ event) (edges_out out event)
-  pub sound : (event : ℕ) → All (λ (a : Arc). IsAlways net a.name) (edges_out out event)
-  pub complete : (name : EdgeName) (e : Edge) → IsAlways net name → edge net name ≡ Some e → HasLight (edges_out out e.from.0) e
+  pub each : (event : ℕ) → All (IsArc net) (at_event out event)
+  pub starts : (event : ℕ) → All (λ (a : Arc). a.edge.from.0 ≡ event) (at_event out event)
+  pub sound : (event : ℕ) → All (λ (a : Arc). IsAlways net a.name) (at_event out event)
+  pub complete : (name : EdgeName) (e : Edge) → IsAlways net name → edge net name ≡ Some e → HasLight (at_event out e.from.0) e
 
 -- the edges of the chosen names, in their order
 pub record AreChosenArcs (net : Net) (chosen : List EdgeName) (arcs : List Arc) : Type 0 where

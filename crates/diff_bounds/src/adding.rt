@@ -12,16 +12,15 @@ ghost use Rattle.diff_bounds.specs.Step.Walking.{HasLoop};
 use crate::arc::Arc;
 use crate::chosen_edges::ChosenEdges;
 use crate::falling::{Run, fall, follow, label_in};
-use crate::out_edges::OutEdges;
 use crate::pending::Pending;
-use event_graph::Network;
+use event_graph::{ByEvent, Network};
 use trail::Trail;
 
 /// Lets the feasible times settle over one more edge, where all others are followed already. The answer is an edge that closes a loop
 /// of negative sum through its start, if there is one.
 pub fn add_to_feasible(
     net: &Network,
-    out: &OutEdges,
+    out: &ByEvent<Arc>,
     chosen: &ChosenEdges,
     arc: Arc,
     trail: &mut Trail,
@@ -48,7 +47,7 @@ pub fn add_to_feasible(
 /// settled.
 pub fn add_to_uppers(
     net: &Network,
-    out: &OutEdges,
+    out: &ByEvent<Arc>,
     chosen: &ChosenEdges,
     arc: Arc,
     trail: &mut Trail,
@@ -80,7 +79,7 @@ pub fn add_to_uppers(
 // would lower the label at the stop, if there is one.
 fn fall_over(
     net: &Network,
-    out: &OutEdges,
+    out: &ByEvent<Arc>,
     chosen: &ChosenEdges,
     run: Run,
     arc: Arc,

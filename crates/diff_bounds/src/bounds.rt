@@ -20,12 +20,12 @@ use crate::chosen_edges::ChosenEdges;
 use crate::falling::label_in;
 use crate::fit::Fit;
 use crate::guess::Guess;
-use crate::out_edges::OutEdges;
+use crate::out_edges::out_edges;
 use crate::pending::Pending;
 use crate::settling::{reach, settle_root};
 use crate::times::{least_lift, write_ray, write_times};
 use crate::walks::{loop_into, path_into};
-use event_graph::Network;
+use event_graph::{ByEvent, Network};
 use itv_base::{EdgeName, EventId, NoMemory, Side};
 use std::alloc::Global;
 use std::marker::Model;
@@ -34,7 +34,7 @@ use trail::Trail;
 /// Bounds on a network: the greatest separations of its events from a source, in picoseconds, and times that attain them, over the
 /// times that meet the **current edges**. These are the always-edges of the network and the edges that were chosen.
 ///
-/// They are made for one network, and a graph stands from a [`start`](Bounds::start) that fits until the next one. A
+/// They are made for one network, and a graph stands from a [`start`](Bounds::start) that fits until the next start. A
 /// [`descend`](Bounds::descend) adds an edge, and a [`retreat`](Bounds::retreat) gives the graph back as it stood before. The graphs
 /// are kept in one [`Trail`], with the labels of each event from the source in the first half of its slots, and feasible times in the
 /// second half: so a level costs what it changes. Labels fall along edges, those first that have fallen furthest, and the feasible
@@ -42,7 +42,7 @@ use trail::Trail;
 #[derive(Debug, Drop)]
 pub struct Bounds {
     events: u32,
-    out: OutEdges,
+    out: ByEvent<Arc>,
     chosen: ChosenEdges,
     guess: Guess,
     trail: Trail,
@@ -51,7 +51,7 @@ pub struct Bounds {
     settled: bool,
     source: Option<EventId>,
     walk: Vec<EdgeName>,
-    // How many edges the walk that was found last has.
+    // How many edges the walk has that was found last.
     count: usize,
 }
 
@@ -81,7 +81,7 @@ impl Bounds {
         let levels = net.splittable_count();
         Ok(Bounds {
             events,
-            out: OutEdges::of_network(alloc, net)?,
+            out: out_edges(alloc, net)?,
             chosen: ChosenEdges::new(alloc, events, levels)?,
             guess: Guess::new(alloc, events)?,
             trail: Trail::new(alloc, events + events, levels)?,
@@ -94,7 +94,7 @@ impl Bounds {
     }
 
     /// Lets the bounds stand on the always-edges of the network that they were made for, from one of its events or from none. The
-    /// answer is `Loop` exactly where these edges allow no times, and then no graph stands until the next start.
+    /// answer is `Loop` if and only if no times meet these edges. After `Loop` no graph stands until the next start that fits.
     pub fn start(&mut self, net: &Network, source: Option<EventId>) -> Fit
         requires network { IsMadeFor net.now self.old }
         requires source { IfSome source (λ s. s.0 < net.now.events) }
@@ -133,10 +133,10 @@ impl Bounds {
         Fit::Fits
     }
 
-    /// Adds an edge of the network as a new level, in which all current edges count that did before. Where there is no edge of this
-    /// name the new level has the same edges. A graph has to stand, with fewer levels above the start than there are constraints with
-    /// two or more causes. The answer is `Loop` exactly where no times meet the new edges, and then the level is taken back, and the
-    /// graph is as it was.
+    /// Adds an edge of the network as a new level. All edges that were current stay current in it. Where there is no edge of this name,
+    /// the new level has the same edges. A graph has to stand, with fewer levels above the start than there are constraints with two or
+    /// more causes. The answer is `Loop` if and only if no times meet the edges of the new level. After `Loop` the new level is taken
+    /// back, and all but the [`walk`](Bounds::walk) is as it was.
     pub fn descend(&mut self, net: &Network, choice: EdgeName) -> Fit
         requires stands { Stands net.now self.old }
         requires levels { length self.old.trail.below < self.old.trail.levels }
@@ -181,7 +181,8 @@ impl Bounds {
         Fit::Fits
     }
 
-    /// Gives back the graph as it stood before the last [`descend`](Bounds::descend) that fitted. A level above the start has to stand.
+    /// Gives back the graph as it stood before the last [`descend`](Bounds::descend) that fitted and was not given back yet. A level
+    /// above the start has to stand.
     pub fn retreat(&mut self)
         requires stands { (net : Net) × Stands net self.old }
         requires level { 0 < length self.old.trail.below }
@@ -208,9 +209,11 @@ impl Bounds {
         label_in(&self.trail, event.0)
     }
 
-    /// Writes times in picoseconds, one per event, that meet the current edges. From a source they attain each
-    /// [`upper`](Bounds::upper) that is a number, all at once, and the source is at 0. Each other event has its feasible time, and
-    /// these are all put off by one number, which is as small as the labels ask. A graph has to stand.
+    /// Writes one time for each event, in picoseconds. The times meet the current edges. An event whose [`upper`](Bounds::upper) is a
+    /// number has that number as its time. So from a source the time of the source is 0, and the times attain all these numbers at
+    /// once. Each other event has its feasible time plus the lift. The lift is one number of picoseconds for all events, for which no
+    /// [`upper`](Bounds::upper) is greater than the feasible time of its event plus the lift. No time is below 0 by more than the reach
+    /// of a path, or above 0 by more than twice the reach of a path. A graph has to stand.
     pub fn times_into(&self, out: &mut [i64])
         requires stands { (net : Net) × Stands net self.now }
         requires count { length out.old ≡ self.now.events }
@@ -227,8 +230,9 @@ impl Bounds {
         write_times(&self.trail, self.events, lift, out);
     }
 
-    /// Writes for each event whether its [`upper`](Bounds::upper) is `None`. The times of [`times_into`](Bounds::times_into) meet the
-    /// current edges however far all of these events are raised. A graph has to stand from a source.
+    /// Writes for each event whether its [`upper`](Bounds::upper) is `None`. The times of [`times_into`](Bounds::times_into) still meet
+    /// the current edges where the times of all events whose [`upper`](Bounds::upper) is `None` are raised by one number of picoseconds,
+    /// however large. A graph has to stand from a source.
     pub fn ray_into(&self, out: &mut [bool])
         requires stands { (net : Net) × Stands net self.now }
         requires source { IsSome self.now.source }
@@ -240,8 +244,9 @@ impl Bounds {
         write_ray(&self.trail, out);
     }
 
-    /// A path of current edges from the source to an event whose [`upper`](Bounds::upper) is a number, with that sum, and with at most
-    /// as many edges as there are events. It is kept as [`walk`](Bounds::walk) until the next change. A graph has to stand from a source.
+    /// A path of current edges from the source to an event whose [`upper`](Bounds::upper) is a number. The sum of the path is that
+    /// number, in picoseconds. The path has at most as many edges as there are events. The path is the [`walk`](Bounds::walk) until the
+    /// next call that takes the bounds as `&mut`. A graph has to stand from a source.
     pub fn path(&mut self, net: &Network, event: EventId) -> &[EdgeName]
         requires stands { Stands net.now self.old }
         requires event { event.0 < net.now.events }
@@ -255,7 +260,8 @@ impl Bounds {
         self.walk()
     }
 
-    /// Finds a path as [`path`](Bounds::path) does, and keeps it as [`walk`](Bounds::walk).
+    /// Finds a path as [`path`](Bounds::path) does. The path is the [`walk`](Bounds::walk) until the next call that takes the bounds as
+    /// `&mut`.
     pub fn find_path(&mut self, net: &Network, event: EventId)
         requires stands { Stands net.now self.old }
         requires event { event.0 < net.now.events }
@@ -270,15 +276,18 @@ impl Bounds {
         }
     }
 
-    /// The walk that was found last, by a call that answered `Loop` or by [`find_path`](Bounds::find_path), and kept since.
+    /// The walk that the last call with the bounds as `&mut` found. Such a call finds a walk where it is [`start`](Bounds::start) or
+    /// [`descend`](Bounds::descend) and answers `Loop`, and where it is [`path`](Bounds::path) or [`find_path`](Bounds::find_path). After
+    /// any other call that takes the bounds as `&mut` nothing is promised of the walk.
     pub fn walk(&self) -> &[EdgeName]
         ensures { result.now ≡ self.now.walk }
     {
         &self.walk[..self.count]
     }
 
-    /// After an answer `Loop` a closed walk of the edges that were tried, whose sum is negative, and with at most as many edges as
-    /// there are events. It is kept until the next change.
+    /// The same as [`walk`](Bounds::walk). After an answer `Loop` the walk is closed, and each of its edges is a current edge or the
+    /// edge that was to be added. The sum of the walk is negative. The walk has at most as many edges as there are events. All this holds
+    /// until the next call that takes the bounds as `&mut`.
     pub fn loop_walk(&self) -> &[EdgeName]
         ensures { result.now ≡ self.now.walk }
     {

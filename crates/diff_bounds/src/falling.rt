@@ -11,9 +11,8 @@ ghost use Rattle.diff_bounds.specs.Step.Waiting.{Pushes};
 
 use crate::arc::Arc;
 use crate::chosen_edges::ChosenEdges;
-use crate::out_edges::OutEdges;
 use crate::pending::Pending;
-use event_graph::Network;
+use event_graph::{ByEvent, Network};
 use itv_base::{EventId, MAX_EVENTS};
 use trail::{Stamp, Trail};
 
@@ -48,7 +47,7 @@ pub enum Step {
 /// The events whose labels have fallen wait in a queue for their edges to be followed, as in the algorithm of Bellman and Ford.
 pub fn fall(
     net: &Network,
-    out: &OutEdges,
+    out: &ByEvent<Arc>,
     chosen: &ChosenEdges,
     run: Run,
     trail: &mut Trail,
@@ -68,7 +67,7 @@ pub fn fall(
         if event.0 < run.first {
             continue;
         }
-        if let Some(arc) = relax_from(net, run, event, out.from(event), trail, pending) {
+        if let Some(arc) = relax_from(net, run, event, out.of(event), trail, pending) {
             return Some(arc);
         }
         if let Some(arc) = relax_chosen(net, run, event, chosen, trail, pending) {

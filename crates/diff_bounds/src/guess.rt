@@ -9,8 +9,7 @@ ghost use Rattle.diff_bounds.specs.Arcs.{AreAlwaysArcs};
 ghost use Rattle.diff_bounds.specs.Step.Guessing.{AreEvents, IsBetween};
 
 use crate::arc::Arc;
-use crate::out_edges::OutEdges;
-use event_graph::Network;
+use event_graph::{ByEvent, Network};
 use itv_base::{EventId, NoMemory};
 use std::alloc::Global;
 use std::marker::Model;
@@ -57,7 +56,7 @@ impl Guess {
     /// Times fall from 0 as the edges of one event after another are followed. Where there are times that meet all edges, no edges of
     /// negative weight lead around: then each event comes behind those from which such edges lead there, and a chain settles in the
     /// first turn, whichever way it leads.
-    pub fn make(&mut self, net: &Network, out: &OutEdges) -> bool
+    pub fn make(&mut self, net: &Network, out: &ByEvent<Arc>) -> bool
         requires out { AreAlwaysArcs net.now out.now }
         requires count { length self.old ≡ net.now.events }
         ensures count { length self.new ≡ length self.old }
@@ -82,7 +81,7 @@ impl Guess {
 
 // Orders the events: each one comes behind those from which edges of negative weight lead there. The answer is whether all have come
 // into the order, which they do where no such edges lead around.
-fn sort(net: &Network, out: &OutEdges, order: &mut [EventId], due: &mut [u32]) -> bool
+fn sort(net: &Network, out: &ByEvent<Arc>, order: &mut [EventId], due: &mut [u32]) -> bool
     requires out { AreAlwaysArcs net.now out.now }
     requires due { length due.old ≡ net.now.events }
     requires order { AreEvents net.now.events order.old }
@@ -94,21 +93,21 @@ fn sort(net: &Network, out: &OutEdges, order: &mut [EventId], due: &mut [u32]) -
     let mut next = 0;
     while next < count {
         let event = order[next];
-        count = release(out.from(event), order, count, due);
+        count = release(out.of(event), order, count, due);
         next += 1;
     }
     count == order.len()
 }
 
 // Counts for each event the edges of negative weight that lead there.
-fn count_due(net: &Network, out: &OutEdges, due: &mut [u32])
+fn count_due(net: &Network, out: &ByEvent<Arc>, due: &mut [u32])
     requires out { AreAlwaysArcs net.now out.now }
     requires due { length due.old ≡ net.now.events }
     ensures { length due.new ≡ net.now.events }
 {
     due.fill(0);
     for event in 0..net.events() {
-        add_due(out.from(EventId(event)), due);
+        add_due(out.of(EventId(event)), due);
     }
 }
 
@@ -190,7 +189,7 @@ fn take_due(event: EventId, due: &mut [u32]) -> bool
 }
 
 // Lets times fall over the edges of all events, until none falls or the turns are used up.
-fn follow_in_turns(net: &Network, out: &OutEdges, order: &[EventId], times: &mut [i64])
+fn follow_in_turns(net: &Network, out: &ByEvent<Arc>, order: &[EventId], times: &mut [i64])
     requires out { AreAlwaysArcs net.now out.now }
     requires order { AreEvents net.now.events order.now }
     requires times { length times.old ≡ net.now.events }
@@ -204,7 +203,7 @@ fn follow_in_turns(net: &Network, out: &OutEdges, order: &[EventId], times: &mut
 }
 
 // Lets times fall over the edges of all events, there and back along the order. The answer is whether one has fallen.
-fn follow_twice(net: &Network, out: &OutEdges, order: &[EventId], times: &mut [i64]) -> bool
+fn follow_twice(net: &Network, out: &ByEvent<Arc>, order: &[EventId], times: &mut [i64]) -> bool
     requires out { AreAlwaysArcs net.now out.now }
     requires order { AreEvents net.now.events order.now }
     requires times { length times.old ≡ net.now.events }
@@ -212,13 +211,13 @@ fn follow_twice(net: &Network, out: &OutEdges, order: &[EventId], times: &mut [i
 {
     let mut has_fallen = false;
     for event in order {
-        if follow(out.from(*event), times) {
+        if follow(out.of(*event), times) {
             has_fallen = true;
         }
     }
     for behind in 0..order.len() {
         let event = order[order.len() - 1 - behind];
-        if follow(out.from(event), times) {
+        if follow(out.of(event), times) {
             has_fallen = true;
         }
     }
@@ -243,13 +242,13 @@ fn follow(arcs: &[Arc], times: &mut [i64]) -> bool
 }
 
 // Whether times meet all always-edges.
-fn meet_all(net: &Network, out: &OutEdges, times: &[i64]) -> bool
+fn meet_all(net: &Network, out: &ByEvent<Arc>, times: &[i64]) -> bool
     requires out { AreAlwaysArcs net.now out.now }
     requires times { length times.now ≡ net.now.events }
     ensures { IsTrue result → MeetsAlways times.now net.now }
 {
     for event in 0..net.events() {
-        if !meet_each(out.from(EventId(event)), times) {
+        if !meet_each(out.of(EventId(event)), times) {
             return false;
         }
     }

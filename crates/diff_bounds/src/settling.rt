@@ -18,9 +18,8 @@ use crate::arc::Arc;
 use crate::chosen_edges::ChosenEdges;
 use crate::falling::{Run, fall};
 use crate::guess::Guess;
-use crate::out_edges::OutEdges;
 use crate::pending::Pending;
-use event_graph::Network;
+use event_graph::{ByEvent, Network};
 use itv_base::EventId;
 use trail::{Stamp, Trail};
 
@@ -42,7 +41,7 @@ const ZERO: Stamp = Stamp {
 pub fn settle_root(
     settled: bool,
     net: &Network,
-    out: &OutEdges,
+    out: &ByEvent<Arc>,
     chosen: &ChosenEdges,
     guess: &mut Guess,
     trail: &mut Trail,
@@ -107,7 +106,7 @@ fn begin(trail: &mut Trail, events: u32)
 // the one comes first whose feasible time is the least far above the guess: so no event falls again after it was taken.
 fn settle_at_once(
     net: &Network,
-    out: &OutEdges,
+    out: &ByEvent<Arc>,
     chosen: &ChosenEdges,
     guess: &Guess,
     trail: &mut Trail,
@@ -157,7 +156,7 @@ fn push_all(events: u32, guess: &Guess, pending: &mut Pending)
 // answer is an edge that closes a loop of negative sum, if there is one.
 fn settle_all(
     net: &Network,
-    out: &OutEdges,
+    out: &ByEvent<Arc>,
     chosen: &ChosenEdges,
     trail: &mut Trail,
     pending: &mut Pending,
@@ -191,7 +190,7 @@ fn settle_all(
 // below `first` do not count. The answer is an edge that closes a loop of negative sum through the event, if there is one.
 fn settle_feasible(
     net: &Network,
-    out: &OutEdges,
+    out: &ByEvent<Arc>,
     chosen: &ChosenEdges,
     from: EventId,
     first: u32,
@@ -218,7 +217,7 @@ fn settle_feasible(
 /// Labels the events from a source anew, where there is one, in a first graph whose feasible times have settled.
 pub fn reach(
     net: &Network,
-    out: &OutEdges,
+    out: &ByEvent<Arc>,
     chosen: &ChosenEdges,
     source: Option<EventId>,
     trail: &mut Trail,
@@ -257,7 +256,7 @@ fn clear_uppers(trail: &mut Trail, events: u32)
 // feasible times have settled.
 fn settle_uppers(
     net: &Network,
-    out: &OutEdges,
+    out: &ByEvent<Arc>,
     chosen: &ChosenEdges,
     from: EventId,
     trail: &mut Trail,
@@ -289,7 +288,7 @@ fn settle_uppers(
 // the label at the stop, if there is one.
 fn fall_from(
     net: &Network,
-    out: &OutEdges,
+    out: &ByEvent<Arc>,
     chosen: &ChosenEdges,
     run: Run,
     from: EventId,

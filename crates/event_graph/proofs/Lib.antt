@@ -11,3 +11,4 @@ pub mod ReadingOn
 pub mod Rising
 pub mod Spelling
 pub mod RangeSet
+pub mod EventLists

@@ -3,6 +3,7 @@
 //! satisfy the network, else the least number of a constraint that they break.
 #![tactic(auto)]
 
+mod by_event;
 mod cause;
 mod constraint;
 mod edge;
@@ -12,6 +13,7 @@ mod network;
 mod push_fault;
 mod scribe;
 
+pub use by_event::ByEvent;
 pub use cause::Cause;
 pub use edge::Edge;
 pub use line::Line;

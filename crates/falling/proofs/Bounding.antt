@@ -2,7 +2,7 @@
 use Rattle.std.proofs.Common.{◌≡◌, ◌<◌, ◌≤◌, ◌⊎◌, inl, inr, ℕ, zero, suc, ℤ, pos, neg_ℤ, ◌+ℤ◌, ◌-ℤ◌, ◌≤ℤ◌, ◌<ℤ◌, List, [], ◌∷◌, All, Any, length, get_or, set, replicate, Option, Some, None, IsSome, IfSome, IsSomeAnd, slice_get, sym, ap, ◌∙◌, refl, subst, arith}
 use Rattle.std.proofs.Math.ListN.{length-set}
 use Rattle.std.proofs.lemmas.Int.{ints}
-use Rattle.std.proofs.lemmas.List.{length-replicate}
+use Rattle.std.proofs.lemmas.List.{get_or_default, length-replicate}
 use Rattle.itv_base.specs.declared.names.EventId.{EventId}
 use Rattle.itv_base.specs.declared.names.RuleKind.{RuleKind}
 use Rattle.itv_base.specs.declared.names.RuleKind.TheVariants.{Lin, Late, Early}
@@ -158,11 +158,6 @@ ended_is_inconsistent net from lines values is_net in_from derivation ended time
         below_zero : (time value : ℤ) → time ≡ pos 0 → time ≤ℤ value → value <ℤ pos 0 → ⊥
         below_zero time value at_zero le low = omega (arith, ints)
       contradiction others within_cap near above (inr (i, value, within, here, low)) =
-          below_far (get_or others i (pos 0)) (get_or values i (pos 0)) value (near i (pos 0) (omega (arith, above.count))) (above.each i) (default_same values i value within ∙ here) low where
+          below_far (get_or others i (pos 0)) (get_or values i (pos 0)) value (near i (pos 0) (omega (arith, above.count))) (above.each i) (get_or_default values i (pos 0) value within ∙ here) low where
             below_far : (time at value : ℤ) → neg_ℤ (pos (far_line net)) ≤ℤ time → time ≤ℤ at → at ≡ value → value <ℤ neg_ℤ (pos (far_line net)) → ⊥
             below_far time at value near le same low = omega (arith, ints)
-
-            default_same : (xs : List ℤ) (i : ℕ) (d : ℤ) → i < length xs → get_or xs i (pos 0) ≡ get_or xs i d
-            default_same [] i d within = absurd (omega arith)
-            default_same (x ∷ xs) zero d within = refl
-            default_same (x ∷ xs) (suc i) d within = default_same xs i d (omega arith)

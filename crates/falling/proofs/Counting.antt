@@ -1,6 +1,7 @@
 -- How many lines a derivation can have.
-use Rattle.std.proofs.Common.{◌≡◌, ◌+◌, ◌*◌, ◌<◌, ◌≤◌, inl, inr, ℕ, zero, suc, ℤ, pos, neg_ℤ, ◌+ℤ◌, ◌≤ℤ◌, ◌<ℤ◌, List, [], ◌∷◌, All, length, get_or, set, replicate, slice_get, ap, ◌∙◌, refl, subst, arith}
+use Rattle.std.proofs.Common.{◌≡◌, ◌+◌, ◌*◌, ◌<◌, ◌≤◌, inl, inr, ℕ, zero, suc, ℤ, pos, neg_ℤ, ◌+ℤ◌, ◌≤ℤ◌, ◌<ℤ◌, List, [], ◌∷◌, All, length, get_or, set, replicate, slice_get, ap, ◌∙◌, subst, arith}
 use Rattle.std.proofs.Math.ListN.{length-set}
+use Rattle.std.proofs.lemmas.List.{get_or_default}
 use Rattle.std.proofs.lemmas.Int.{ints}
 use Rattle.itv_base.specs.declared.names.EventId.{EventId}
 use Rattle.event_graph.specs.Edges.{edge}
@@ -80,13 +81,9 @@ start_heights net from =
 pub least_of : (net : Net) (from : EventId) (values : List ℤ) (i : ℕ) (d : ℤ) → (IsEnded net from values → ⊥) → i < length values
     → neg_ℤ (pos (far_line net)) ≤ℤ get_or values i d
 least_of net from values i d goes_on within = elim (below_or_not (get_or values i d) (neg_ℤ (pos (far_line net)))) [
-  | inl low ↦ absurd (goes_on (inr (i, get_or values i d, within, default_same values i (get_or values i d) d within, low)))
+  | inl low ↦ absurd (goes_on (inr (i, get_or values i d, within, get_or_default values i (get_or values i d) d within, low)))
   | inr high ↦ high
-] where
-  default_same : (xs : List ℤ) (i : ℕ) (d e : ℤ) → i < length xs → get_or xs i d ≡ get_or xs i e
-  default_same [] i d e within = absurd (omega arith)
-  default_same (x ∷ xs) zero d e within = refl
-  default_same (x ∷ xs) (suc i) d e within = default_same xs i d e (omega arith)
+]
 
 -- one value that is lowered lowers the sum
 set_lowers : (far : ℕ) (values : List ℤ) (i : ℕ) (value : ℤ) → i < length values → height far value < height far (get_or values i (pos 0))

@@ -1,18 +1,18 @@
 -- The followers of events, which grow by one edge after another.
-use Rattle.std.proofs.Common.{◌≡◌, ◌+◌, ◌<◌, ◌≤◌, ℕ, max, inl, inr, List, [], ◌∷◌, ◌++◌, length, get_or, set, replicate, Some, None, option_map, slice_get, All, Contains, sym, ◌∙◌, ap, subst, refl, arith}
-use Rattle.std.specs.Global.{Vec}
-use Rattle.std.proofs.lemmas.Bool.{cases_eq, cases_lt}
+use Rattle.std.proofs.Common.{◌≡◌, ◌+◌, ◌<◌, ◌≤◌, ℕ, max, inl, inr, List, [], ◌∷◌, ◌++◌, length, set, replicate, Some, None, option_map, slice_get, All, Contains, sym, ◌∙◌, subst, refl, arith}
+use Rattle.std.proofs.lemmas.Bool.{cases_eq}
 use Rattle.std.proofs.lemmas.Option.{same_Some, slice_get_within}
-use Rattle.std.proofs.lemmas.List.{get_or-map, get_or-replicate, get_or-set_other, get_or_past, length-map, length-replicate, length-set, map-set}
-use Rattle.std.proofs.lemmas.List.Elements.{All-contains, All-nil, All-same, Contains-append_left, Contains-get_or, Contains-push, Contains-push_cases}
-use Rattle.std.proofs.lemmas.Grind.{get_or-set_at}
+use Rattle.std.proofs.lemmas.List.{length-replicate, length-set}
+use Rattle.std.proofs.lemmas.List.Elements.{All-nil, All-push, All-same, Contains-append_left, Contains-push}
 use Rattle.itv_base.specs.declared.names.EdgeName.{EdgeName}
 use Rattle.itv_base.specs.declared.names.Side.{Side}
 use Rattle.itv_base.specs.declared.names.Side.TheVariants.{Lower, Upper}
 use Rattle.event_graph.specs.declared.edge.Edge.{Edge}
 use Rattle.event_graph.specs.Edges.{edge}
 use Rattle.event_graph.specs.Network.{IsNet, Net, cause_count_of}
-use Rattle.falling.specs.Agenda.{AreFollowers, AreLists, Grows, HasCause, HasName, Joins, followers_of, lists_of}
+use Rattle.event_graph.specs.EventLists.{at_event}
+use Rattle.event_graph.proofs.EventLists.{each_at, empty_at, set_at}
+use Rattle.falling.specs.Agenda.{AreFollowers, AreLists, Grows, HasCause, HasName}
 use Rattle.falling.proofs.Between.{then_some}
 use Rattle.falling.proofs.Tried.{cause_below}
 
@@ -22,12 +22,6 @@ grows_on net old mid new first second = record { lists = second.lists; kept = λ
 pub grows_not : (net : Net) (old : List (List ℕ)) → AreLists net old → Grows net old old
 grows_not net old are = record { lists = are; kept = λ v n there. there }
 
-empty_at : (n v : ℕ) → followers_of (replicate n []) v ≡ []
-empty_at n v = elim (cases_lt v n) [
-  | inl below ↦ get_or-replicate n v [] [] below
-  | inr past ↦ get_or_past (replicate n []) v [] (omega (arith, length-replicate {A = List ℕ}))
-]
-
 -- at first the lists are empty
 pub empty_lists : (net : Net) (lists : List (List ℕ)) → lists ≡ replicate net.events [] → AreLists net lists
 empty_lists net lists is = subst (AreLists net) (sym is) (record {
@@ -35,70 +29,37 @@ empty_lists net lists is = subst (AreLists net) (sym is) (record {
   within = λ v. All-same (λ (number : ℕ). number < length net.constraints) _ [] (empty_at net.events v) (All-nil (λ (number : ℕ). number < length net.constraints));
 })
 
--- ---- a number joins a list
+-- ---- a number joins the list of an event
 
-pub joins_end : (number : ℕ) (list : List ℕ) → Joins number list (list ++ number ∷ [])
-joins_end number list = record {
-  among = λ k d below.
-      elim (Contains-push_cases list number (get_or (list ++ number ∷ []) k d) (Contains-get_or (list ++ number ∷ []) k d below)) [ inl was ↦ inl was | inr same ↦ inr (sym same) ];
-  kept = λ n there. Contains-append_left list (number ∷ []) n there;
-  here = Contains-push list number;
+-- the lists with a number at the end of the list of an event
+abbrev pub with_number : List (List ℕ) → ℕ → ℕ → List (List ℕ)
+with_number lists from number = set lists from (at_event lists from ++ number ∷ [])
+
+grown : (net : Net) (lists : List (List ℕ)) (from number : ℕ) → AreLists net lists → from < length lists → number < length net.constraints
+    → Grows net lists (with_number lists from number)
+grown net lists from number are within there = record {
+  lists = record {
+    count = length-set lists from (at_event lists from ++ number ∷ []) ∙ are.count;
+    within = each_at (λ v. All (λ (n : ℕ). n < length net.constraints)) lists from (at_event lists from ++ number ∷ []) within are.within
+        (All-push (λ (n : ℕ). n < length net.constraints) (at_event lists from) number (are.within from) there);
+  };
+  kept = each_at (λ v xs. (n : ℕ) → Contains (at_event lists v) n → Contains xs n) lists from (at_event lists from ++ number ∷ []) within (λ v n has. has)
+      (λ n has. Contains-append_left (at_event lists from) (number ∷ []) n has);
 }
 
-pub joins_not : (number : ℕ) (list : List ℕ) (place d : ℕ) → place < length list → get_or list place d ≡ number → Joins number list list
-joins_not number list place d within is = record {
-  among = λ k e below. inl (Contains-get_or list k e below);
-  kept = λ n there. there;
-  here = subst (Contains list) is (Contains-get_or list place d within);
-}
+-- the constraint of an edge is in the list of the event where the edge starts
+pub named : (net : Net) (lists : List (List ℕ)) (name : EdgeName) (e : Edge) → edge net name ≡ Some e → Contains (at_event lists e.from.0) name.constraint → HasName net lists name
+named net lists name e is_edge there f at = subst (λ (g : Edge). Contains (at_event lists g.from.0) name.constraint) (same_Some e f (sym is_edge ∙ at)) there
 
--- ---- a list in the lists
-
-joined_all : (P : ℕ → Type 0) (number : ℕ) (old new : List ℕ) → Joins number old new → All P old → P number → All P new
-joined_all P number old new joins all here k d below =
-    elim (joins.among k d below) [ inl was ↦ All-contains P old (get_or new k d) all was | inr same ↦ subst P (sym same) here ]
-
--- a number has joined the list of an event
-grown : (net : Net) (lists : List (List ℕ)) (from number : ℕ) (list : List ℕ) → AreLists net lists → from < length lists → number < length net.constraints
-    → Joins number (followers_of lists from) list → Grows net lists (set lists from list) × Contains (followers_of (set lists from list) from) number
-grown net lists from number list are within there joins = (
-  record {
-    lists = record {
-      count = length-set lists from list ∙ are.count;
-      within = λ v. elim (cases_eq v from) [
-        | inl same ↦ All-same (λ (n : ℕ). n < length net.constraints) _ list (get_or-set_at lists from v list [] same within)
-            (joined_all (λ (n : ℕ). n < length net.constraints) number (followers_of lists from) list joins (are.within from) there)
-        | inr off ↦ All-same (λ (n : ℕ). n < length net.constraints) _ _ (get_or-set_other lists from v list [] off) (are.within v)
-      ];
-    };
-    kept = λ v n has. elim (cases_eq v from) [
-      | inl same ↦
-          subst (λ (xs : List ℕ). Contains xs n) (sym (get_or-set_at lists from v list [] same within))
-          (joins.kept n (subst (λ (i : ℕ). Contains (followers_of lists i) n) same has))
-      | inr off ↦ subst (λ (xs : List ℕ). Contains xs n) (sym (get_or-set_other lists from v list [] off)) has
-    ];
-  },
-  subst (λ (xs : List ℕ). Contains xs number) (sym (get_or-set_at lists from from list [] refl within)) joins.here,
+-- the constraint of an edge has joined the list of the event where the edge starts
+pub pushed : (net : Net) (lists : List (List ℕ)) (name : EdgeName) (e : Edge) → AreLists net lists → edge net name ≡ Some e → name.constraint < length net.constraints
+    → e.from.0 < length lists → Grows net lists (with_number lists e.from.0 name.constraint) × HasName net (with_number lists e.from.0 name.constraint) name
+pushed net lists name e are is_edge there within = (
+  grown net lists e.from.0 name.constraint are within there,
+  named net (with_number lists e.from.0 name.constraint) name e is_edge
+      (subst (λ (xs : List ℕ). Contains xs name.constraint) (sym (set_at lists e.from.0 (at_event lists e.from.0 ++ name.constraint ∷ []) within))
+      (Contains-push (at_event lists e.from.0) name.constraint)),
 )
-
--- the list of an event, in a vector of vectors
-list_at : (lists : List (Vec ℕ)) (from : ℕ) (x : Vec ℕ) → from < length lists → x ≡ get_or lists from x → followers_of (lists_of lists) from ≡ x.items
-list_at lists from x within is =
-    get_or-map (λ (list : Vec ℕ). list.items) lists from x [] within ∙ ap (λ (list : Vec ℕ). list.items) (sym is)
-
--- the constraint of an edge has joined the list of the event where it starts, in a vector of vectors
-pub pushed : (net : Net) (lists : List (Vec ℕ)) (name : EdgeName) (e : Edge) (x y : Vec ℕ) → AreLists net (lists_of lists) → edge net name ≡ Some e
-    → name.constraint < length net.constraints → e.from.0 < length lists → x ≡ get_or lists e.from.0 x → Joins name.constraint x.items y.items
-    → Grows net (lists_of lists) (lists_of (set lists e.from.0 y)) × HasName net (lists_of (set lists e.from.0 y)) name
-pushed net lists name e x y are is_edge there within is joins =
-    let long : e.from.0 < length (lists_of lists) = rw length-map within in
-    let both = grown net (lists_of lists) e.from.0 name.constraint y.items are long there
-    (subst (λ (xs : List ℕ). Joins name.constraint xs y.items) (sym (list_at lists e.from.0 x within is)) joins) in
-    let sets : lists_of (set lists e.from.0 y) ≡ set (lists_of lists) e.from.0 y.items = map-set (λ (list : Vec ℕ). list.items) lists e.from.0 y in (
-      subst (Grows net (lists_of lists)) (sym sets) both.0,
-      λ f at. subst (λ (g : Edge). Contains (followers_of (lists_of (set lists e.from.0 y)) g.from.0) name.constraint) (same_Some e f (sym is_edge ∙ at))
-          (subst (λ (out : List (List ℕ)). Contains (followers_of out e.from.0) name.constraint) (sym sets) both.1),
-    )
 
 -- a name without an edge needs no place
 pub named_not : (net : Net) (lists : List (List ℕ)) (name : EdgeName) → edge net name ≡ None → HasName net lists name

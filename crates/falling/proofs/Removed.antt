@@ -207,13 +207,6 @@ covers_is width time z e = by_tests (int_le time z) (int_lt z (time +ℤ pos wid
   by_tests true false is_a is_b both = absurd (cc)
   by_tests false b is_a is_b both = absurd (cc)
 
-covers_not : (width : ℕ) (time z : ℤ) → covers width time z ≡ false → (z <ℤ time) ⊎ ((time +ℤ pos width) ≤ℤ z)
-covers_not width time z e = by_tests (int_le time z) (int_lt z (time +ℤ pos width)) refl refl e where
-  by_tests : (a b : Bool) → int_le time z ≡ a → int_lt z (time +ℤ pos width) ≡ b → (a && b) ≡ false → (z <ℤ time) ⊎ ((time +ℤ pos width) ≤ℤ z)
-  by_tests true true is_a is_b both = absurd (cc)
-  by_tests true false is_a is_b both = inr (omega (arith, ints))
-  by_tests false b is_a is_b both = inl (omega (arith, ints))
-
 small_more : (width : ℕ) (time base : ℤ) (k count : ℕ) (b : Bool) → IsSmall width time (base +ℤ pos k) count → covers width time (base +ℤ pos k) ≡ b
     → IsSmall width time (base +ℤ pos (suc k)) (count + (if b then 1 else 0))
 small_more width time base k count true small is =

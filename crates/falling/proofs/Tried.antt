@@ -101,9 +101,6 @@ some_at (Some x) some = (x, refl)
 and_is : {X : Type 0} (o : Option X) (P : X → Type 0) (x : X) → o ≡ Some x → P x → IsSomeAnd o P
 and_is o P x is h = rw is h
 
-one_cause : {X : Type 0} (o : Option X) (a b : X) → o ≡ Some a → o ≡ Some b → a ≡ b
-one_cause o a b p q = same_Some a b (sym p ∙ q)
-
 -- the first cause alone
 pub first_of : (net : Net) (values : List ℤ) (number : ℕ) (value : ℤ) → IsSome (cause_at net number 0) → IsHighOf net values number 0 (Some value) → IsLatestSoFar net values number 1 value
 first_of net values number value some high =

@@ -16,7 +16,8 @@ use Rattle.event_graph.specs.Network.{Constraint, Net}
 use Rattle.event_graph.specs.Times.{time_of}
 use Rattle.falling.specs.declared.line.FallLine.{FallLine}
 use Rattle.falling.specs.declared.line.Reason.TheVariants.{ByEdge, ByLatest}
-use Rattle.falling.specs.Agenda.{Agenda, AreOthersTried, IsAgendaFor, IsPending, followers_of}
+use Rattle.event_graph.specs.EventLists.{at_event}
+use Rattle.falling.specs.Agenda.{Agenda, AreOthersTried, IsAgendaFor, IsPending}
 use Rattle.falling.specs.Derivation.{IsLatestHigh}
 use Rattle.falling.specs.Turns.{IsConstraintTried, IsFirstOf, IsTried, IsTurnLine}
 use Rattle.falling.proofs.Bounding.{some_and}
@@ -108,20 +109,20 @@ tried_before net values event value number lower none tried (ByLatest n) is =
 
 -- after a fall, and with the flags of the followers, a constraint without a flag allows no line
 pub woken : (net : Net) (agenda : Agenda) (pending : List ℕ) (values : List ℤ) (event : EventId) (value : ℤ) → IsAgendaFor net agenda → value <ℤ time_of values event
-    → ((k : ℕ) → IsPending agenda.pending k → IsPending pending k) → All (IsPending pending) (followers_of agenda.followers event.0)
+    → ((k : ℕ) → IsPending agenda.pending k → IsPending pending k) → All (IsPending pending) (at_event agenda.followers event.0)
     → AreOthersTried net values agenda.pending → AreOthersTried net (set values event.0 value) pending
 woken net agenda pending values event value made lower kept there tried number within not_pending =
     tried_before net values event value number lower
     (λ name e is_number is_edge same.
     not_pending
-    (All-contains (IsPending pending) (followers_of agenda.followers event.0) number there
+    (All-contains (IsPending pending) (at_event agenda.followers event.0) number there
     (listed name e is_number same (made.followers.edges name e is_edge))))
     (tried number within (λ p. not_pending (kept number p))) where
-      listed : (name : EdgeName) (e : Edge) → name.constraint ≡ number → e.from.0 ≡ event.0 → Contains (followers_of agenda.followers e.from.0) name.constraint
-          → Contains (followers_of agenda.followers event.0) number
+      listed : (name : EdgeName) (e : Edge) → name.constraint ≡ number → e.from.0 ≡ event.0 → Contains (at_event agenda.followers e.from.0) name.constraint
+          → Contains (at_event agenda.followers event.0) number
       listed name e is_number same contains =
-          subst (λ (n : ℕ). Contains (followers_of agenda.followers event.0) n) is_number
-          (subst (λ (i : ℕ). Contains (followers_of agenda.followers i) name.constraint) same contains)
+          subst (λ (n : ℕ). Contains (at_event agenda.followers event.0) n) is_number
+          (subst (λ (i : ℕ). Contains (at_event agenda.followers i) name.constraint) same contains)
 
 -- a constraint that was looked at in vain needs no flag
 pub tried_without : (net : Net) (values : List ℤ) (before after : List ℕ) (number : ℕ) → AreOthersTried net values before → IsConstraintTried net values number
@@ -149,10 +150,10 @@ begun_tried net values agenda pending made count all number within not_pending =
 
 -- the same of an agenda that is known by its parts
 pub woken_of : (net : Net) (agenda : Agenda) (followers : List (List ℕ)) (before after list : List ℕ) (values : List ℤ) (event : EventId) (value : ℤ)
-    → record { followers = followers; pending = before } ≡ agenda → list ≡ followers_of followers event.0 → IsAgendaFor net agenda → value <ℤ time_of values event
+    → record { followers = followers; pending = before } ≡ agenda → list ≡ at_event followers event.0 → IsAgendaFor net agenda → value <ℤ time_of values event
     → ((k : ℕ) → IsPending before k → IsPending after k) → All (IsPending after) list → AreOthersTried net values agenda.pending
     → AreOthersTried net (set values event.0 value) after
 woken_of net agenda followers before after list values event value view is made lower kept there tried =
     woken net agenda after values event value made lower
     (λ k here. kept k (subst (λ (words : List ℕ). IsPending words k) (sym (ap (λ (a : Agenda). a.pending) view)) here))
-    (subst (All (IsPending after)) (is ∙ ap (λ (a : Agenda). followers_of a.followers event.0) view) there) tried
+    (subst (All (IsPending after)) (is ∙ ap (λ (a : Agenda). at_event a.followers event.0) view) there) tried

@@ -1,10 +1,10 @@
 -- What a solver keeps of the constraints that may be able to lower a value.
-use Rattle.std.specs.Prelude.{◌≡◌, ◌<◌, ◌≤◌, ◌⊎◌, ◌*◌, ◌/◌, ◌%◌, ℕ, ℤ, List, [], length, map, All, Contains, Some, slice_index_or}
-use Rattle.std.specs.Global.{Vec}
+use Rattle.std.specs.Prelude.{◌≡◌, ◌<◌, ◌≤◌, ◌*◌, ◌/◌, ◌%◌, ℕ, ℤ, List, length, All, Contains, Some, slice_index_or}
 use Rattle.std.specs.Int.{bit_at}
 use Rattle.itv_base.specs.declared.names.EdgeName.{EdgeName}
 use Rattle.event_graph.specs.declared.edge.Edge.{Edge}
 use Rattle.event_graph.specs.Edges.{edge}
+use Rattle.event_graph.specs.EventLists.{at_event}
 use Rattle.event_graph.specs.Network.{Net}
 use Rattle.falling.specs.Turns.{IsConstraintTried}
 
@@ -22,33 +22,19 @@ pub record IsFirstPending (words : List ℕ) (number : ℕ) : Type 0 where
   pub here : IsPending words number
   pub earlier : (k : ℕ) → k < number → IsPending words k → ⊥
 
--- the followers of an event
-abbrev pub followers_of : List (List ℕ) → ℕ → List ℕ
-followers_of lists event = slice_index_or lists event []
-
--- the lists in vectors
-abbrev pub lists_of : List (Vec ℕ) → List (List ℕ)
-lists_of lists = map (λ (list : Vec ℕ). list.items) lists
-
 -- a list for each event, of numbers of constraints
 pub record AreLists (net : Net) (lists : List (List ℕ)) : Type 0 where
   pub count : length lists ≡ net.events
-  pub within : (event : ℕ) → All (λ (number : ℕ). number < length net.constraints) (followers_of lists event)
-
--- a number has joined a list: nothing else came, and nothing went
-pub record Joins (number : ℕ) (old new : List ℕ) : Type 0 where
-  pub among : All (λ (n : ℕ). Contains old n ⊎ (n ≡ number)) new
-  pub kept : (n : ℕ) → Contains old n → Contains new n
-  pub here : Contains new number
+  pub within : (event : ℕ) → All (λ (number : ℕ). number < length net.constraints) (at_event lists event)
 
 -- lists that have grown
 pub record Grows (net : Net) (old new : List (List ℕ)) : Type 0 where
   pub lists : AreLists net new
-  pub kept : (event n : ℕ) → Contains (followers_of old event) n → Contains (followers_of new event) n
+  pub kept : (event n : ℕ) → Contains (at_event old event) n → Contains (at_event new event) n
 
 -- where there is an edge of the name, its constraint follows the event where it starts
 abbrev pub HasName : Net → List (List ℕ) → EdgeName → Type 0
-HasName net lists name = (e : Edge) → edge net name ≡ Some e → Contains (followers_of lists e.from.0) name.constraint
+HasName net lists name = (e : Edge) → edge net name ≡ Some e → Contains (at_event lists e.from.0) name.constraint
 
 -- so it is with the edges of a cause of a constraint on both sides
 abbrev pub HasCause : Net → List (List ℕ) → ℕ → ℕ → Type 0

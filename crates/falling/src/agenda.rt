@@ -3,15 +3,16 @@
 ghost use Rattle.std.specs.Prelude.{◌≡◌, ◌<◌, ◌*◌, ℕ, ℤ, ◌<ℤ◌, List, All, IfOk, IfSome, IfNone, length, set};
 ghost use Rattle.event_graph.specs.Network.{IsNet, Net};
 ghost use Rattle.event_graph.specs.Times.{time_of};
-ghost use Rattle.falling.specs.Agenda.{AreOthersTried, IsAgendaFor, followers_of};
+ghost use Rattle.event_graph.specs.EventLists.{at_event};
+ghost use Rattle.falling.specs.Agenda.{AreOthersTried, IsAgendaFor};
 ghost use Rattle.falling.specs.Derivation.{IsAllowed, IsSettled};
 ghost use Rattle.falling.specs.Turns.{IsNearValue, IsTurnLine};
 
-use crate::followers::Followers;
+use crate::followers::followers;
 use crate::line::FallLine;
 use crate::pending::{Pending, insert_all};
 use crate::turn::next_line;
-use event_graph::Network;
+use event_graph::{ByEvent, Network};
 use itv_base::{EventId, MAX_EVENTS, NoMemory};
 use std::alloc::Global;
 use std::marker::Model;
@@ -19,7 +20,7 @@ use std::marker::Model;
 /// The constraints that may be able to lower a value, each by its flag, and those that follow each event.
 #[derive(Debug, Drop)]
 pub struct Agenda {
-    followers: Followers,
+    followers: ByEvent<u32>,
     pending: Pending,
 }
 
@@ -37,7 +38,7 @@ impl Agenda {
         ensures made { IfOk result (IsAgendaFor net.now) }
     {
         prove!(net.events() <= MAX_EVENTS);
-        let followers = Followers::of_network(alloc, net)?;
+        let followers = followers(alloc, net)?;
         let pending = Pending::new(alloc, net.len())?;
         Ok(Agenda { followers, pending })
     }
@@ -70,7 +71,7 @@ impl Agenda {
     pub fn wake(&mut self, event: EventId)
         requires event { event.0 < length self.old.followers }
         requires room { All (λ (number : ℕ). number < 64 * length self.old.pending)
-            (followers_of self.old.followers event.0) }
+            (at_event self.old.followers event.0) }
         ensures made { (net : Net) → IsAgendaFor net self.old → IsAgendaFor net self.new }
         ensures tried { (net : Net) (values : List ℤ) (value : ℤ) → IsAgendaFor net self.old
             → value <ℤ time_of values event → AreOthersTried net values self.old.pending

@@ -46,15 +46,6 @@ pub row_by_bits : (event : ℕ) (old through new : List ℤ) → event < length 
 row_by_bits event old through new below fits there held improves =
     row_improved event old through new _ (read_at event old _ below fits refl) (there_from _ there) held improves
 
--- the row of an event without a path to the other stays
-row_stays : (event : ℕ) (row through : List ℤ) → (IsThere (entry_at row event) → ⊥) → RowThrough event row through row
-row_stays event row through absent = record {
-  count = refl;
-  falls = λ to. omega (arith, ints);
-  least = λ to first second. absurd (absent first);
-  made = λ to. inl refl;
-}
-
 -- the row of an event
 abbrev pub row_of : List (List ℤ) → ℕ → List ℤ
 row_of rows event = slice_index_or rows event []

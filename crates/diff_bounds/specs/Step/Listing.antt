@@ -1,26 +1,22 @@
 -- The lists of edges by their from-events, while they grow.
-use Rattle.std.specs.Prelude.{◌≡◌, ◌<◌, ◌⊎◌, ℕ, List, length, map, All, Contains, Some}
-use Rattle.std.specs.Global.{Vec}
+use Rattle.std.specs.Prelude.{◌≡◌, ◌<◌, ◌⊎◌, ℕ, List, length, set, All, Contains, Some}
 use Rattle.std.specs.List.{HoldsAt}
 use Rattle.itv_base.specs.declared.names.EventId.{EventId}
 use Rattle.itv_base.specs.declared.names.EdgeName.{EdgeName}
 use Rattle.itv_base.specs.declared.names.Side.{Side}
 use Rattle.event_graph.specs.declared.edge.Edge.{Edge}
 use Rattle.event_graph.specs.Edges.{IsAlways, edge}
+use Rattle.event_graph.specs.EventLists.{at_event}
 use Rattle.event_graph.specs.Network.{Net}
 use Rattle.diff_bounds.specs.declared.arc.Arc.{Arc}
-use Rattle.diff_bounds.specs.Arcs.{HasLight, IsArc, edges_out}
-
--- the lists in vectors
-abbrev pub lists_of : List (Vec Arc) → List (List Arc)
-lists_of lists = map (λ (list : Vec Arc). list.items) lists
+use Rattle.diff_bounds.specs.Arcs.{HasLight, IsArc}
 
 -- always-edges in the lists of the events where they start
 pub record AreArcsSoFar (net : Net) (out : List (List Arc)) : Type 0 where
   pub count : length out ≡ net.events
-  pub each : (event : ℕ) → All (IsArc net) (edges_out out event)
-  pub starts : (event : ℕ) → All (λ (a : Arc). a.edge.from.0 ≡ event) (edges_out out event)
-  pub sound : (event : ℕ) → All (λ (a : Arc). IsAlways net a.name) (edges_out out event)
+  pub each : (event : ℕ) → All (IsArc net) (at_event out event)
+  pub starts : (event : ℕ) → All (λ (a : Arc). a.edge.from.0 ≡ event) (at_event out event)
+  pub sound : (event : ℕ) → All (λ (a : Arc). IsAlways net a.name) (at_event out event)
 
 -- at a place of a list there is an edge to an event
 abbrev pub IsPlaceOf : List Arc → EventId → ℕ → Type 0
@@ -32,14 +28,20 @@ pub record Joins (arc : Arc) (old new : List Arc) : Type 0 where
   pub kept : (e : Edge) → HasLight old e → HasLight new e
   pub light : HasLight new arc.edge
 
+-- an edge has joined the list of the event where it starts
+pub record JoinsAt (arc : Arc) (old new : List (List Arc)) : Type 0 where
+  pub list : List Arc
+  pub is : new ≡ set old arc.edge.from.0 list
+  pub joins : Joins arc (at_event old arc.edge.from.0) list
+
 -- lists that have grown by always-edges
 pub record Grows (net : Net) (old new : List (List Arc)) : Type 0 where
   pub arcs : AreArcsSoFar net new
-  pub kept : (event : ℕ) (e : Edge) → HasLight (edges_out old event) e → HasLight (edges_out new event) e
+  pub kept : (event : ℕ) (e : Edge) → HasLight (at_event old event) e → HasLight (at_event new event) e
 
 -- the edge of a name has a light one in its list, if it is an always-edge
 abbrev pub HasName : Net → List (List Arc) → EdgeName → Type 0
-HasName net out name = (e : Edge) → IsAlways net name → edge net name ≡ Some e → HasLight (edges_out out e.from.0) e
+HasName net out name = (e : Edge) → IsAlways net name → edge net name ≡ Some e → HasLight (at_event out e.from.0) e
 
 -- so have the edges of a cause of a constraint on both sides
 abbrev pub HasCause : Net → List (List Arc) → ℕ → ℕ → Type 0

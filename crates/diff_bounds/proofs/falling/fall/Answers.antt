@@ -42,7 +42,7 @@ loop-event-preserved c =
       all = done_again net run c.args.out.now c.args.chosen.now.arcs c.in-Some.event.0 start c.loop-event.trail c.relax_from.new.trail c.relax_chosen.new.trail c.loop-event.pending c.pop.new.self c.relax_from.new.pending
           c.relax_chosen.new.pending c.requires.out c.requires.chosen c.loop-event.invariant.all c.in-Some.ensures.event.1
           (at_first net run start c.loop-event.trail c.loop-event.trail c.relax_from.new.trail c.args.pending.now c.loop-event.pending c.pop.new.self c.relax_from.new.pending c.loop-event.invariant.runs c.relax_from.ensures.falls)
-          (rw (← c.from.ensures) c.in_default-relax_from.ensures.done)
+          (rw (← c.of.ensures.list) c.in_default-relax_from.ensures.done)
           (at_first net run start c.relax_from.new.trail c.relax_from.new.trail c.relax_chosen.new.trail c.args.pending.now c.relax_from.new.pending c.relax_from.new.pending c.relax_chosen.new.pending first
           c.relax_chosen.ensures.falls)
           c.in_default-relax_chosen.ensures.done;

@@ -1,23 +1,19 @@
-use Rattle.std.proofs.Common.{◌≡◌, ◌<◌, arith, length, rules, set, sym}
+use Rattle.std.proofs.Common.{arith, rules, sym}
 use Rattle.std.proofs.lemmas.Int.{ints}
-use Rattle.std.proofs.lemmas.List.{length-map}
 use Rattle.event_graph.specs.Edges.{IsAlways}
 use Rattle.diff_bounds.specs.Arcs.{IsArc}
-use Rattle.diff_bounds.specs.Step.Listing.{Grows, HasName, lists_of}
+use Rattle.diff_bounds.specs.Step.Listing.{Grows, HasName}
 use Rattle.diff_bounds.proofs.OutLists.{pushed}
 use Rattle.diff_bounds.proofs.out_edges.push_edge.Goals as goal
 use Rattle.diff_bounds.proofs.out_edges.push_edge.Goals.{In_ok-push_arc}
 
-both : (c : In_ok-push_arc) → Grows c.args.net.now (lists_of c.args.lists.now.items) (lists_of (set c.args.lists.now.items c.in-Some.edge.from.0 c.push_arc.new.list))
-    × HasName c.args.net.now (lists_of (set c.args.lists.now.items c.in-Some.edge.from.0 c.push_arc.new.list)) c.args.name
+both : (c : In_ok-push_arc) → Grows c.args.net.now c.args.lists.now c.push_arc.new.lists × HasName c.args.net.now c.push_arc.new.lists c.args.name
 both c =
     let is_always : IsAlways c.args.net.now c.args.name = search rules in
     let found = c.in-Some.ensures in
     let arc : IsArc c.args.net.now (record { name = c.args.name; edge = c.in-Some.edge }) =
     record { is = sym found.edge; within = record { from = found.from; to = found.to; low = omega (arith, ints, found.weight.0); high = omega (arith, ints, found.weight.1) } } in
-    let count : length c.args.lists.now.items ≡ c.args.net.now.events = rw length-map at c.requires.count in
-    let within : c.in-Some.edge.from.0 < length c.args.lists.now.items = omega (arith, found.from) in
-    pushed c.args.net.now c.args.lists.now.items c.args.name c.in-Some.edge c.index_mut.result.now c.push_arc.new.list c.requires is_always arc within c.index_mut.ensures.value c.in_ok-push_arc.ensures
+    pushed c.args.net.now c.args.lists.now c.push_arc.new.lists c.args.name c.in-Some.edge c.requires is_always arc c.in_ok-push_arc.ensures
 
 pub returns-in_ok-push_arc-clause-grows : goal.returns-in_ok-push_arc-clause-grows
 returns-in_ok-push_arc-clause-grows c = (both c).0

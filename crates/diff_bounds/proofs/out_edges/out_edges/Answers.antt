@@ -1,6 +1,6 @@
 use Rattle.std.proofs.Common.{◌<◌, length, arith}
 use Rattle.diff_bounds.proofs.OutLists.{all_constraints, constraints_more}
-use Rattle.diff_bounds.proofs.out_edges.OutEdges.of_network.Goals as goal
+use Rattle.diff_bounds.proofs.out_edges.out_edges.Goals as goal
 
 pub loop-constraint-preserved : goal.loop-constraint-preserved
 loop-constraint-preserved c =

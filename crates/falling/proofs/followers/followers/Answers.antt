@@ -1,6 +1,6 @@
 use Rattle.std.proofs.Common.{arith}
 use Rattle.falling.proofs.Following.{all_constraints, constraints_more}
-use Rattle.falling.proofs.followers.Followers.of_network.Goals as goal
+use Rattle.falling.proofs.followers.followers.Goals as goal
 
 pub loop-number-preserved : goal.loop-number-preserved
 loop-number-preserved c =
