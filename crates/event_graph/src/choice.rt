@@ -3,7 +3,7 @@
 use std::marker::Model;
 
 /// A cause of a constraint that is chosen, by their numbers from 0.
-#[derive(Clone, Copy, Debug)]
+#[derive(Clone, Copy, Debug, PartialEq, Eq)]
 pub struct Choice {
     pub constraint: u32,
     pub cause: u32,
