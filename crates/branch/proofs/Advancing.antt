@@ -6,7 +6,8 @@ use Rattle.event_graph.specs.Proof.{Bound, Case, Nothing, ProofGoal, ProofLine, 
 use Rattle.event_graph.specs.Satisfying.{Breaks}
 use Rattle.event_graph.specs.Usable.{MeetsUsable}
 use Rattle.branch.specs.Needed.{IsNeededToBound, IsNeededToFind}
-use Rattle.branch.specs.Step.Cases.{IsFree, first_of, open_cases}
+use Rattle.event_graph.specs.Cases.{first_of, open_cases}
+use Rattle.branch.specs.Step.Cases.{IsFree}
 use Rattle.branch.specs.Step.Searched.{IsBoundSearched, IsCutAfter, IsFindCutAfter, IsFindSearched, IsOpen, IsSearched, Steps, StepsShort, left_after}
 use Rattle.branch.specs.declared.best.Aim.{Aim}
 use Rattle.branch.specs.declared.search.Entry.{Entry}

@@ -5,6 +5,7 @@ use Rattle.std.proofs.lemmas.List.Elements.{All-cons, All-contains, All-nil, Con
 use Rattle.itv_base.specs.declared.names.EdgeName.{EdgeName}
 use Rattle.itv_base.specs.declared.names.RuleKind.{RuleKind}
 use Rattle.itv_base.specs.declared.names.RuleKind.TheVariants.{Lin, Late, Early}
+use Rattle.event_graph.specs.Cases.{IsCase}
 use Rattle.event_graph.specs.Edges.{Meets, choice_side, edge, holds_always}
 use Rattle.event_graph.specs.Laws.{MeetsAlwaysOf, MeetsSomeChoice}
 use Rattle.event_graph.specs.Network.{Constraint, IsCauseCount, IsConstraint, IsNet, Net, cause_count_of, named_causes}
@@ -13,7 +14,7 @@ use Rattle.event_graph.specs.Satisfying.{Breaks, Holds}
 use Rattle.event_graph.specs.Usable.{MeetsUsable}
 use Rattle.event_graph.proofs.ByEdges.{holds_by_edges}
 use Rattle.event_graph.proofs.EdgesMet.{All-found, met_if_some}
-use Rattle.branch.specs.Step.Cases.{IsCase, IsFree}
+use Rattle.branch.specs.Step.Cases.{IsFree, IsSearchCase}
 use Rattle.branch.proofs.Results.{some_and}
 
 -- the cause of a choice is there
@@ -22,7 +23,7 @@ HasCauseThere net choice = choice.cause < count_causes (slice_get net.constraint
 
 have_causes : (net : Net) (chosen : Case) → IsCase net chosen → All (HasCauseThere net) chosen
 have_causes net [] is_case = All-nil (HasCauseThere net)
-have_causes net (choice ∷ below) is_case = All-cons (HasCauseThere net) choice below is_case.0.cause (have_causes net below is_case.1)
+have_causes net (choice ∷ below) is_case = All-cons (HasCauseThere net) choice below is_case.1 (have_causes net below is_case.2)
 
 linear_or_choice : (kind : RuleKind) → (HasChoice kind → ⊥) ⊎ HasChoice kind
 linear_or_choice Lin = inl (λ has. has)
@@ -45,7 +46,7 @@ named_all Late count has = refl
 named_all Early count has = refl
 
 -- times that meet the usable edges of a case, and a constraint that is there
-module _ (net : Net) (chosen : Case) (times : List ℤ) (number : ℕ) (k : Constraint) (is_net : IsNet net) (is_case : IsCase net chosen) (meets : MeetsUsable net chosen times)
+module _ (net : Net) (chosen : Case) (times : List ℤ) (number : ℕ) (k : Constraint) (is_net : IsNet net) (is_case : IsSearchCase net chosen) (meets : MeetsUsable net chosen times)
     (at_k : slice_get net.constraints number ≡ Some k) (breaks : Holds times k → ⊥) where
   always_met : MeetsAlwaysOf times net number
   always_met name e is_number always is_edge = meets.each name e (inl always) is_edge
@@ -83,7 +84,7 @@ module _ (net : Net) (chosen : Case) (times : List ℤ) (number : ℕ) (k : Cons
   met_chosen : (choice : Choice) → Contains chosen choice → choice.constraint ≡ number → MeetsSomeChoice times net number k
   met_chosen choice contains same =
       let counted : count_causes (slice_get net.constraints number) ≡ length k.causes = ap count_causes at_k in
-      let there : choice.cause < count_causes (slice_get net.constraints choice.constraint) = All-contains (HasCauseThere net) chosen choice (have_causes net chosen is_case) contains in
+      let there : choice.cause < count_causes (slice_get net.constraints choice.constraint) = All-contains (HasCauseThere net) chosen choice (have_causes net chosen is_case.0) contains in
       let there_number : choice.cause < count_causes (slice_get net.constraints number) = subst (λ (n : ℕ). choice.cause < count_causes (slice_get net.constraints n)) same there in
       let name : EdgeName = record { constraint = number; cause = choice.cause; side = choice_side k.kind } in
       let here : Contains chosen (record { constraint = number; cause = choice.cause }) =
@@ -97,7 +98,7 @@ module _ (net : Net) (chosen : Case) (times : List ℤ) (number : ℕ) (k : Cons
   is_free : IsFree net chosen number
   is_free = record { may = (rw at_k has_choice, none_chosen); causes = rw at_k two_causes }
 
-pub broken_is_free : (net : Net) (chosen : Case) (times : List ℤ) (number : ℕ) → IsNet net → IsCase net chosen → MeetsUsable net chosen times → Breaks times net number
+pub broken_is_free : (net : Net) (chosen : Case) (times : List ℤ) (number : ℕ) → IsNet net → IsSearchCase net chosen → MeetsUsable net chosen times → Breaks times net number
     → IsFree net chosen number
 broken_is_free net chosen times number is_net is_case meets breaks =
     let found = some_and (slice_get net.constraints number) (λ (k : Constraint). Holds times k → ⊥) breaks in

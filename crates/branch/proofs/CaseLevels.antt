@@ -6,7 +6,7 @@ use Rattle.itv_base.specs.declared.names.EdgeName.{EdgeName}
 use Rattle.trail.specs.Stack.{Graph}
 use Rattle.diff_bounds.specs.Current.{IsLoop, with_choice}
 use Rattle.diff_bounds.specs.Standing.{Standing, chosen_of}
-use Rattle.branch.specs.Step.Cases.{IsCase}
+use Rattle.branch.specs.Step.Cases.{IsSearchCase}
 use Rattle.branch.specs.Step.Edges.{choice_name}
 use Rattle.branch.specs.Step.Standing.{StandsBelow, StandsOn, edges_below, edges_of}
 use Rattle.branch.proofs.CaseCounts.{case_room}
@@ -27,10 +27,10 @@ levels_are net chosen bounds stands =
     omega (arith, same, length-edges_below net chosen, length-edges bounds.trail.below)
 
 -- and one more for the latest choice
-pub room_below : (net : Net) (chosen : Case) (choice : Choice) (below : Case) (bounds : Standing) → chosen ≡ choice ∷ below → IsCase net chosen → StandsBelow net chosen bounds
+pub room_below : (net : Net) (chosen : Case) (choice : Choice) (below : Case) (bounds : Standing) → chosen ≡ choice ∷ below → IsSearchCase net chosen → StandsBelow net chosen bounds
     → length bounds.trail.below < bounds.trail.levels
 room_below net chosen choice below bounds same is_case stands =
-    let is_case_here : IsCase net (choice ∷ below) = subst (IsCase net) same is_case in
+    let is_case_here : IsSearchCase net (choice ∷ below) = subst (IsSearchCase net) same is_case in
     let stands_here : StandsOn net below bounds = subst (λ (c : Case). StandsBelow net c bounds) same stands in
     omega (arith, case_room net choice below is_case_here, levels_are net below bounds stands_here, stands_here.stands.made.levels)
 
@@ -41,9 +41,9 @@ level_above net (choice ∷ below) bounds stands some = omega (arith, levels_are
 
 -- a loop that was found closes the case
 pub loop_closes : (net : Net) (chosen : Case) (choice : Choice) (below : Case) (bounds : Standing) (name : EdgeName) (walk : List EdgeName) → chosen ≡ choice ∷ below
-    → IsCase net chosen → StandsBelow net chosen bounds → name ≡ choice_name net choice → IsLoop net (with_choice net (chosen_of bounds) name) walk → ClosesByLoop net chosen walk
+    → IsSearchCase net chosen → StandsBelow net chosen bounds → name ≡ choice_name net choice → IsLoop net (with_choice net (chosen_of bounds) name) walk → ClosesByLoop net chosen walk
 loop_closes net chosen choice below bounds name walk same is_case stands is_name loop' =
-    let is_case_here : IsCase net (choice ∷ below) = subst (IsCase net) same is_case in
+    let is_case_here : IsSearchCase net (choice ∷ below) = subst (IsSearchCase net) same is_case in
     let stands_here : StandsOn net below bounds = subst (λ (c : Case). StandsBelow net c bounds) same stands in
     let at_name : IsLoop net (with_choice net (chosen_of bounds) (choice_name net choice)) walk = subst (λ (n : EdgeName). IsLoop net (with_choice net (chosen_of bounds) n) walk) is_name loop' in
     let here : IsLoop net (edges_of net (choice ∷ below)) walk = subst (λ (edges : List EdgeName). IsLoop net (with_choice net edges (choice_name net choice)) walk) stands_here.edges at_name in

@@ -10,7 +10,7 @@ use Rattle.event_graph.specs.Limits.{IsReach}
 use Rattle.event_graph.proofs.SoundProofs.{proof_bounds, proof_of_nothing}
 use Rattle.event_graph.proofs.ProofCounts.{proof_is_within_choices, stopped_proof_is_below_choices}
 use Rattle.branch.specs.Answers.{IsClosedAt, IsCounted, IsEnclosedBy, IsFoundConsistent, IsFoundInconsistent, IsFoundUnsettled, IsShownUnbounded}
-use Rattle.branch.specs.Step.Cases.{open_cases, siblings}
+use Rattle.event_graph.specs.Cases.{open_cases, siblings}
 use Rattle.branch.specs.Step.Searched.{AreBest, AreRays, IsBoundSearched, IsClosing, IsFindSearched, IsSearched, aimed}
 use Rattle.branch.specs.declared.best.Aim.{Aim}
 use Rattle.branch.specs.declared.best.Best.{Best}

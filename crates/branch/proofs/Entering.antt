@@ -1,11 +1,11 @@
 -- Closing cases on the way to the next one.
-use Rattle.std.proofs.Common.{◌≡◌, ◌+◌, ◌<◌, ◌≤◌, ℕ, List, [], ◌∷◌, ◌++◌, Some, refl, sym, ap, ◌∙◌, subst, arith}
+use Rattle.std.proofs.Common.{◌≡◌, ◌+◌, ◌<◌, ◌≤◌, ℕ, List, [], ◌∷◌, ◌++◌, Some, length, refl, sym, ap, ◌∙◌, subst, arith}
 use Rattle.std.proofs.lemmas.List.Elements.{All-append, All-cons, All-nil}
 use Rattle.itv_base.specs.declared.names.EdgeName.{EdgeName}
 use Rattle.event_graph.specs.Network.{Net}
 use Rattle.event_graph.specs.Proof.{Case, ClosesByLoop, ClosesByPath, Loop, Path, ProofGoal, ProofLine, Reads, Split, closing_lines}
-use Rattle.event_graph.specs.Network.{splittable_count}
-use Rattle.branch.specs.Step.Cases.{IsCase, open_cases, siblings, work_left}
+use Rattle.event_graph.specs.Cases.{open_cases, siblings}
+use Rattle.branch.specs.Step.Cases.{IsSearchCase, work_left}
 use Rattle.branch.specs.Step.Searched.{Closes, IsAtCase, IsClosing, IsNext, IsSearched, Keeps, LeavesFor, Steps, StepsShort, left_after}
 use Rattle.branch.specs.Step.Standing.{AreOfSame, StandsOn}
 use Rattle.branch.specs.declared.search.Entry.{Entry}
@@ -16,7 +16,7 @@ use Rattle.event_graph.proofs.ReadingOn.{closing_lines-append, reads-append}
 use Rattle.branch.proofs.SearchedLines.{none_searched}
 
 -- a closed case leaves less work
-pub leave_falls : (net : Net) (before now : Search) → before.leaves < before.budget → IsCase net now.cases.chosen → now.budget ≡ before.budget → now.leaves ≡ before.leaves + 1
+pub leave_falls : (net : Net) (before now : Search) → before.leaves < before.budget → IsSearchCase net now.cases.chosen → now.budget ≡ before.budget → now.leaves ≡ before.leaves + 1
     → work_left net now.budget now.leaves now.cases.chosen < work_left net before.budget before.leaves before.cases.chosen
 leave_falls net before now left is_case same_budget one_more =
     subst (λ (b : ℕ). work_left net b now.leaves now.cases.chosen < work_left net before.budget before.leaves before.cases.chosen) (sym same_budget)
@@ -143,9 +143,9 @@ pub path_reads : (net : Net) (goal : ProofGoal) (chosen : Case) (walk : List Edg
 path_reads net goal chosen walk closes = (closes, refl)
 
 -- a search that was started is at the case without choices
-pub at_root : (net : Net) (s : Search) → s.cases.chosen ≡ [] → StandsOn net [] s.bounds → splittable_count net ≤ s.cases.room → s.leaves < s.budget → IsAtCase net s
+pub at_root : (net : Net) (s : Search) → s.cases.chosen ≡ [] → StandsOn net [] s.bounds → length net.constraints ≤ s.cases.room → s.leaves < s.budget → IsAtCase net s
 at_root net s none stands room left = record {
-  case = subst (IsCase net) (sym none) tt;
+  case = subst (IsSearchCase net) (sym none) (tt, tt);
   stands = subst (λ (chosen : Case). StandsOn net chosen s.bounds) (sym none) stands;
   room = room;
   left = left;

@@ -15,4 +15,3 @@ mod GivenEdges
 mod MetSplits
 mod Looking
 mod KnownTimes
-mod Noting

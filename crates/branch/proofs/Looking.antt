@@ -10,7 +10,7 @@ use Rattle.event_graph.specs.Satisfying.{Breaks, Satisfies}
 use Rattle.event_graph.specs.Times.{IsTime, separation}
 use Rattle.event_graph.specs.Usable.{MeetsUsable}
 use Rattle.diff_bounds.specs.Limits.{IsTimely}
-use Rattle.branch.specs.Step.Cases.{IsCase, IsFree}
+use Rattle.branch.specs.Step.Cases.{IsFree, IsSearchCase}
 use Rattle.branch.specs.Step.Raising.{AreRaised, IsNearSeparation}
 use Rattle.branch.specs.Step.Searched.{IsOpen}
 use Rattle.branch.specs.Step.Standing.{IsRayIn, IsUpperIn}
@@ -18,7 +18,7 @@ use Rattle.branch.proofs.BrokenSplits.{broken_is_free}
 use Rattle.branch.proofs.Gaps.{apart_is_ray}
 
 -- a case with a greatest separation beyond the best is split on what times that have it break
-pub open_at_bound : (net : Net) (from to : EventId) (best value : ℤ) (chosen : Case) (times : List ℤ) (number : ℕ) → IsNet net → IsCase net chosen
+pub open_at_bound : (net : Net) (from to : EventId) (best value : ℤ) (chosen : Case) (times : List ℤ) (number : ℕ) → IsNet net → IsSearchCase net chosen
     → IsUpperIn net chosen from to (Some value) → MeetsUsable net chosen times → separation times from to ≡ value → best <ℤ value → Breaks times net number
     → IsOpen net from to best chosen number
 open_at_bound net from to best value chosen times number is_net is_case upper meets attained past breaks = record {
@@ -32,7 +32,7 @@ open_at_bound net from to best value chosen times number is_net is_case upper me
 }
 
 -- a case without a greatest separation is split on what raised times break, or on any other
-pub open_at_ray : (net : Net) (from to : EventId) (best : ℤ) (chosen : Case) (times : List ℤ) (number : ℕ) → IsNet net → IsCase net chosen
+pub open_at_ray : (net : Net) (from to : EventId) (best : ℤ) (chosen : Case) (times : List ℤ) (number : ℕ) → IsNet net → IsSearchCase net chosen
     → IsUpperIn net chosen from to None → MeetsUsable net chosen times → Breaks times net number ⊎ IsFree net chosen number → IsOpen net from to best chosen number
 open_at_ray net from to best chosen times number is_net is_case unbounded meets splits = record {
   free = elim splits [ inl breaks ↦ broken_is_free net chosen times number is_net is_case meets breaks | inr free ↦ free ];

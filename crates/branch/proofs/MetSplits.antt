@@ -25,7 +25,7 @@ use Rattle.branch.specs.declared.distances.Wanted.TheVariants.{Open}
 use Rattle.branch.specs.Step.Cases.{IsFree, IsSplittable}
 use Rattle.branch.specs.Step.Edges.{choice_name, side_of}
 use Rattle.branch.specs.Step.Looking.{IsFound}
-use Rattle.branch.specs.Step.Noted.{HasNoCause}
+use Rattle.event_graph.proofs.Choices.{IsOther, free_others}
 use Rattle.branch.proofs.Results.{some_and}
 
 one_cause : (kind : RuleKind) (count : ℕ) → IsCauseCount kind count → named_causes kind count < 2 → count ≡ 1
@@ -125,23 +125,23 @@ broken_among net times splits number s is_net are among is broken =
     subst P is (split_broken net times s is_net (All-contains (IsSplitOf net) splits s are.each among) broken)
 
 -- one of which no cause is chosen can be split
-free_at : (net : Net) (chosen : Case) (s : Splitting) → IsSplitOf net s → HasNoCause chosen s.number → IsFree net chosen s.number
+free_at : (net : Net) (chosen : Case) (s : Splitting) → IsSplitOf net s → All (IsOther s.number) chosen → IsFree net chosen s.number
 free_at net chosen s split none =
     let found = some_and (slice_get net.constraints s.number) (λ (k : Constraint). 2 ≤ cause_count_of k) split.causes in
     let has = (named_all found.0.kind (length found.0.causes) found.2).1 in
     record { may = (rw found.1 has, none); causes = split.causes }
 
-free_among : (net : Net) (splits : List Splitting) (chosen : Case) (number : ℕ) → AreSplits net splits → HasNumber splits number → HasNoCause chosen number → IsFree net chosen number
+free_among : (net : Net) (splits : List Splitting) (chosen : Case) (number : ℕ) → AreSplits net splits → HasNumber splits number → All (IsOther number) chosen → IsFree net chosen number
 free_among net splits chosen number are (s, among, is) none =
     let P : ℕ → Type 0 = IsFree net chosen in
-    let Q : ℕ → Type 0 = HasNoCause chosen in
+    let Q : ℕ → Type 0 = λ (n : ℕ). All (IsOther n) chosen in
     subst P is (free_at net chosen s (All-contains (IsSplitOf net) splits s are.each among) (subst Q (sym is) none))
 
 -- what was found can be split, or else another one is broken
 pub free_or_broken : (net : Net) (splits : List Splitting) (chosen : Case) (times : List ℤ) (found : Option ℕ) (first : ℕ) → AreSplits net splits → IfSome found (IsFound Open splits chosen) → Breaks times net first
     → Breaks times net (unwrap_or found first) ⊎ IsFree net chosen (unwrap_or found first)
 free_or_broken net splits chosen times None first are is broken = inl broken
-free_or_broken net splits chosen times (Some number) first are is broken = inr (free_among net splits chosen number are is.0 is.1)
+free_or_broken net splits chosen times (Some number) first are is broken = inr (free_among net splits chosen number are is.0 (free_others chosen number is.1))
 
 -- their edges are between the events of the network
 ends_between : (net : Net) (kind : RuleKind) (target event : EventId) (c : ChoiceEdge) → HasChoiceEnds kind target event c → target.0 < net.events → event.0 < net.events → IsBetween net.events c

@@ -9,7 +9,7 @@ use Rattle.event_graph.specs.Proof.{Bound, Case, ClosesByPath, Loop, MaySplit, P
 use Rattle.std.proofs.Common.{slice_get}
 use Rattle.event_graph.specs.Reading.{cases_left}
 use Rattle.event_graph.proofs.ReadingOn.{closing_lines-append, reading_leaves_cases, reads-append}
-use Rattle.branch.specs.Step.Cases.{first_of, open_cases, siblings}
+use Rattle.event_graph.specs.Cases.{first_of, open_cases, siblings}
 use Rattle.branch.specs.Step.Searched.{Closes, IsClosing, IsSearched}
 
 path_raises : (net : Net) (from to : EventId) (value higher : ℤ) (chosen : Case) (names : List EdgeName) → value ≤ℤ higher

@@ -5,6 +5,7 @@ use Rattle.std.proofs.lemmas.List.Elements.{All-cons, All-contains, All-head, Al
 use Rattle.itv_base.specs.declared.names.EdgeName.{EdgeName}
 use Rattle.itv_base.specs.declared.names.EventId.{EventId}
 use Rattle.itv_base.specs.declared.names.Side.{Side}
+use Rattle.event_graph.specs.Cases.{IsCase}
 use Rattle.event_graph.specs.declared.edge.Edge.{Edge}
 use Rattle.event_graph.specs.Edges.{IsAlways, choice_side, edge}
 use Rattle.event_graph.specs.Network.{Constraint, Net}
@@ -12,7 +13,7 @@ use Rattle.event_graph.specs.Proof.{Bound, Case, Choice, ClosesByLoop, ClosesByP
 use Rattle.event_graph.specs.RootBound.{IsRootBound, MeetsAlways}
 use Rattle.event_graph.specs.Usable.{MeetsUsable}
 use Rattle.diff_bounds.specs.Current.{IsCurrent, IsLoop, IsPath, IsUpper, MeetsCurrent, with_choice}
-use Rattle.branch.specs.Step.Cases.{IsCase}
+use Rattle.branch.specs.Step.Cases.{IsSearchCase}
 use Rattle.branch.specs.Step.Edges.{choice_name, side_of}
 use Rattle.branch.specs.Step.Standing.{IsUpperIn, edges_of}
 
@@ -55,7 +56,7 @@ MayChoose net choice = IsSomeAnd (slice_get net.constraints choice.constraint) (
 
 have_choices : (net : Net) (chosen : Case) → IsCase net chosen → All (MayChoose net) chosen
 have_choices net [] is_case = All-nil (MayChoose net)
-have_choices net (choice ∷ below) is_case = All-cons (MayChoose net) choice below is_case.0.may.0 (have_choices net below is_case.1)
+have_choices net (choice ∷ below) is_case = All-cons (MayChoose net) choice below is_case.0.0 (have_choices net below is_case.2)
 
 on_own_side : (o : Option Constraint) → IsSomeAnd o (λ c. HasChoice c.kind) → IsSomeAnd o (λ c. HasChoice c.kind × (side_of o ≡ choice_side c.kind))
 on_own_side None has = absurd has
@@ -66,12 +67,12 @@ own_side None side on = absurd on
 own_side (Some k) side on = sym on.1
 
 -- in a case, a current edge may be used
-pub current_usable : (net : Net) (chosen : Case) (name : EdgeName) → IsCase net chosen → IsCurrent net (edges_of net chosen) name → IsUsable net chosen name
+pub current_usable : (net : Net) (chosen : Case) (name : EdgeName) → IsSearchCase net chosen → IsCurrent net (edges_of net chosen) name → IsUsable net chosen name
 current_usable net chosen name is_case (inl always) = inl always
 current_usable net chosen name is_case (inr contains) =
     let found = edges_in net chosen name contains in
     let choice : Choice = found.0 in
-    let may = All-contains (MayChoose net) chosen choice (have_choices net chosen is_case) found.1 in
+    let may = All-contains (MayChoose net) chosen choice (have_choices net chosen is_case.0) found.1 in
     subst (IsUsable net chosen) found.2 (inr (found.1, on_own_side (slice_get net.constraints choice.constraint) may))
 
 -- and the other way round
@@ -91,14 +92,14 @@ meets_usable net chosen times meets = record {
   each = λ name e usable there. meets.each name e (usable_current net chosen name e there usable) there;
 }
 
-pub meets_current : (net : Net) (chosen : Case) (times : List ℤ) → IsCase net chosen → MeetsUsable net chosen times → MeetsCurrent net (edges_of net chosen) times
+pub meets_current : (net : Net) (chosen : Case) (times : List ℤ) → IsSearchCase net chosen → MeetsUsable net chosen times → MeetsCurrent net (edges_of net chosen) times
 meets_current net chosen times is_case meets = record {
   count = meets.count;
   each = λ name e current there. meets.each name e (current_usable net chosen name is_case current) there;
 }
 
 -- so they have the same greatest separations
-pub upper_usable : (net : Net) (chosen : Case) (from to : EventId) (upper : Option ℤ) → IsCase net chosen → IsUpper net (edges_of net chosen) from to upper → IsUpperIn net chosen from to upper
+pub upper_usable : (net : Net) (chosen : Case) (from to : EventId) (upper : Option ℤ) → IsSearchCase net chosen → IsUpper net (edges_of net chosen) from to upper → IsUpperIn net chosen from to upper
 upper_usable net chosen from to (Some value) is_case greatest = record {
   attained = (greatest.attained.0, meets_usable net chosen greatest.attained.0 greatest.attained.1, greatest.attained.2);
   most = λ times meets. greatest.most times (meets_current net chosen times is_case meets);
@@ -112,18 +113,18 @@ source_bounded net chosen from None unbounded none = let past = unbounded (pos 0
 source_bounded net chosen from (Some value) greatest none = cc
 
 -- along a walk each edge is there, so current edges are usable ones
-all_usable : (net : Net) (chosen : Case) (names : List EdgeName) → IsCase net chosen → All (IsCurrent net (edges_of net chosen)) names → All (IsUsable net chosen) names
+all_usable : (net : Net) (chosen : Case) (names : List EdgeName) → IsSearchCase net chosen → All (IsCurrent net (edges_of net chosen)) names → All (IsUsable net chosen) names
 all_usable net chosen [] is_case all = All-nil (IsUsable net chosen)
 all_usable net chosen (name ∷ names) is_case all =
     All-cons (IsUsable net chosen) name names
     (current_usable net chosen name is_case (All-head (IsCurrent net (edges_of net chosen)) name names all))
     (all_usable net chosen names is_case (All-tail (IsCurrent net (edges_of net chosen)) name names all))
 
-pub closes_by_loop : (net : Net) (chosen : Case) (names : List EdgeName) → IsCase net chosen → IsLoop net (edges_of net chosen) names → ClosesByLoop net chosen names
+pub closes_by_loop : (net : Net) (chosen : Case) (names : List EdgeName) → IsSearchCase net chosen → IsLoop net (edges_of net chosen) names → ClosesByLoop net chosen names
 closes_by_loop net chosen names is_case loop' =
     ((loop'.event, loop'.walk), all_usable net chosen names is_case loop'.current, loop'.negative, loop'.count)
 
-pub closes_by_path : (net : Net) (chosen : Case) (from to : EventId) (sum value : ℤ) (names : List EdgeName) → IsCase net chosen
+pub closes_by_path : (net : Net) (chosen : Case) (from to : EventId) (sum value : ℤ) (names : List EdgeName) → IsSearchCase net chosen
     → IsPath net (edges_of net chosen) from to sum names → sum ≤ℤ value → ClosesByPath net (Bound from to value) chosen names
 closes_by_path net chosen from to sum value names is_case path within =
     (path.walk, all_usable net chosen names is_case path.current, subst (λ (s : ℤ). s ≤ℤ value) (sym path.total) within, path.count)

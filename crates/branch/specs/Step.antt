@@ -5,4 +5,3 @@ pub mod Standing
 pub mod Searched
 pub mod Inside
 pub mod Looking
-pub mod Noted

@@ -6,10 +6,9 @@ use Rattle.event_graph.specs.Times.{separation}
 use Rattle.event_graph.specs.Limits.{reach_limit}
 use Rattle.diff_bounds.specs.Standing.{Standing}
 use Rattle.diff_bounds.specs.Standing.{IsMadeFor as IsBoundsFor}
-use Rattle.event_graph.specs.Network.{splittable_count}
 use Rattle.branch.specs.Splits.{AreSplits, Splitting}
 
--- the bounds, room for a number of choices, the constraints that can be split, the known times, where there are some, the times and the events to raise that the last search
+-- the bounds, for how many constraints there is room, the constraints that can be split, the known times, where there are some, the times and the events to raise that the last search
 -- for a bound left, and how many cases the last search closed
 pub record View : Type 0 where
   pub bounds : Standing
@@ -24,7 +23,7 @@ pub record View : Type 0 where
 pub record IsMadeFor (net : Net) (work : View) : Type 0 where
   pub is_net : IsNet net
   pub bounds : IsBoundsFor net work.bounds
-  pub room : splittable_count net ≤ work.room
+  pub room : length net.constraints ≤ work.room
   pub splits : AreSplits net work.splits
   pub places : length work.times ≡ net.events
 

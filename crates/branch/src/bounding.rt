@@ -9,7 +9,6 @@ ghost use Rattle.event_graph.specs.Times.{separation};
 ghost use Rattle.diff_bounds.specs.Standing.{IsMadeFor};
 ghost use Rattle.branch.specs.Answers.{Answers, IsCounted, IsRoot, IsRootReach};
 ghost use Rattle.event_graph.specs.Reading.{AtEachSplit};
-ghost use Rattle.event_graph.specs.Network.{splittable_count};
 ghost use Rattle.branch.specs.Lines.{IsAccepted};
 ghost use Rattle.branch.specs.Needed.{IsNeededToBound};
 ghost use Rattle.branch.specs.Work.{IsClose};
@@ -41,7 +40,7 @@ pub fn bound_pair<S: Scribe>(
 ) -> Result<Answer, ScribeFailed>
     requires made { IsMadeFor net.now search.old.bounds }
     requires net { IsNet net.now }
-    requires room { splittable_count net.now ≤ search.old.cases.room }
+    requires room { length net.now.constraints ≤ search.old.cases.room }
     requires from { aim.from.0 < net.now.events }
     requires to { aim.to.0 < net.now.events }
     requires near { IsNearSeparation aim.known }

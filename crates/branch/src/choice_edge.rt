@@ -5,9 +5,8 @@ ghost use Rattle.event_graph.specs.Network.{cause_at};
 ghost use Rattle.event_graph.specs.Times.{IsTime};
 ghost use Rattle.branch.specs.ChoiceEdges.{IsBetween, IsChoiceEdge, IsEdgeBroken, IsEdgeMet};
 
-use crate::choice::Choice;
 use crate::levels::name_of;
-use event_graph::Network;
+use event_graph::{Choice, Network};
 use itv_base::{EventId, RuleKind};
 
 /// The edge that the choice of a cause gives: the time of `to` less that of `from` is at most `weight` picoseconds, or anything where

@@ -8,9 +8,8 @@ ghost use Rattle.event_graph.specs.Times.{IsTime};
 ghost use Rattle.branch.specs.Splits.{AreSplits};
 ghost use Rattle.branch.specs.Step.Cases.{IsFree};
 
-use crate::decisions::Decisions;
 use crate::distances::{Distances, Wanted};
-use event_graph::Network;
+use event_graph::{Decisions, Network};
 use itv_base::EventId;
 
 /// The constraint nearest to an event among those that the times break, or none exactly where they satisfy the network. Of several at

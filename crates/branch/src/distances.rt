@@ -5,9 +5,8 @@ ghost use Rattle.event_graph.specs.Times.{IsTime};
 ghost use Rattle.branch.specs.Splits.{AreBetween, AreSplits, IsFirstOf, MeetsSome};
 ghost use Rattle.branch.specs.Step.Looking.{CanLookFor, IsFound, IsWanted};
 
-use crate::decisions::Decisions;
 use crate::splittable::Splittable;
-use event_graph::{ByEvent, Network};
+use event_graph::{ByEvent, Decisions, Network};
 use itv_base::{EdgeName, EventId, NoMemory, Side};
 use std::alloc::Global;
 use std::marker::Model;

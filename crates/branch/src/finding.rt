@@ -8,7 +8,6 @@ ghost use Rattle.event_graph.specs.RootBound.{MeetsAlways};
 ghost use Rattle.diff_bounds.specs.Standing.{IsMadeFor};
 ghost use Rattle.branch.specs.Answers.{Finds, IsCounted};
 ghost use Rattle.event_graph.specs.Reading.{AtEachSplit};
-ghost use Rattle.event_graph.specs.Network.{splittable_count};
 ghost use Rattle.branch.specs.Lines.{IsAccepted};
 ghost use Rattle.branch.specs.Needed.{IsNeededToFind};
 ghost use Rattle.branch.specs.Splits.{AreSplits};
@@ -36,7 +35,7 @@ pub fn find_times<S: Scribe>(
 ) -> Result<Found, ScribeFailed>
     requires made { IsMadeFor net.now search.old.bounds }
     requires net { IsNet net.now }
-    requires room { splittable_count net.now ≤ search.old.cases.room }
+    requires room { length net.now.constraints ≤ search.old.cases.room }
     requires candidate { length candidate.old ≡ net.now.events }
     requires splits { AreSplits net.now distances.now }
     requires budget { 0 < budget }

@@ -7,14 +7,13 @@ ghost use Rattle.event_graph.specs.Network.{IsNet};
 ghost use Rattle.event_graph.specs.Proof.{Bound, Case, ClosesByLoop, ClosesByPath};
 ghost use Rattle.event_graph.specs.RootBound.{HasNoRoot};
 ghost use Rattle.diff_bounds.specs.Standing.{IsMadeFor};
-ghost use Rattle.branch.specs.Step.Cases.{IsCase};
+ghost use Rattle.branch.specs.Step.Cases.{IsSearchCase};
 ghost use Rattle.branch.specs.Step.Edges.{choice_name};
 ghost use Rattle.branch.specs.Step.Standing.{AreOfSame, AreTimesIn, HasNoUpper, HasUpper, IsRayIn, IsUpperIn, StandsBelow, StandsOn};
 
-use crate::choice::Choice;
 use crate::search::Search;
 use diff_bounds::{Bounds, Fit};
-use event_graph::Network;
+use event_graph::{Choice, Network};
 use itv_base::{EdgeName, EventId, RuleKind, Side};
 
 /// Begins a search at the case without choices, from an event or from none. The answer is `Loop` where the always-edges allow no
@@ -42,7 +41,7 @@ pub fn start(net: &Network, search: &mut Search, source: Option<EventId>, budget
 
 /// Adds the edge of the latest choice to the bounds. Where that allows no times they stay on the other choices.
 pub fn enter_choice(net: &Network, search: &mut Search, choice: Choice) -> Fit
-    requires case { IsCase net.now search.old.cases.chosen }
+    requires case { IsSearchCase net.now search.old.cases.chosen }
     requires below { StandsBelow net.now search.old.cases.chosen search.old.bounds }
     requires latest { (below : Case) × (search.old.cases.chosen ≡ choice ∷ below) }
     ensures fits { result ≡ Fit.Fits → StandsOn net.now search.old.cases.chosen search.new.bounds }
@@ -70,7 +69,7 @@ pub fn step_back(net: &Network, search: &mut Search)
 pub fn upper_in(net: &Network, search: &Search, to: EventId) -> Option<i64>
     requires source { (from : EventId) × (search.now.bounds.source ≡ Some from) }
     requires stands { StandsOn net.now search.now.cases.chosen search.now.bounds }
-    requires case { IsCase net.now search.now.cases.chosen }
+    requires case { IsSearchCase net.now search.now.cases.chosen }
     requires to { to.0 < net.now.events }
     ensures within { IfSome result IsReach }
     ensures value { MatchOption result (HasNoUpper search.now.bounds to) (HasUpper search.now.bounds to) }
@@ -83,7 +82,7 @@ pub fn upper_in(net: &Network, search: &Search, to: EventId) -> Option<i64>
 /// Writes times that meet the edges of the case at hand, and attain each greatest separation that is a number.
 pub fn times_in(net: &Network, search: &Search, out: &mut [i64])
     requires stands { StandsOn net.now search.now.cases.chosen search.now.bounds }
-    requires case { IsCase net.now search.now.cases.chosen }
+    requires case { IsSearchCase net.now search.now.cases.chosen }
     requires count { length out.old ≡ net.now.events }
     ensures { AreTimesIn net.now search.now.cases.chosen search.now.bounds out.new }
 {
@@ -104,7 +103,7 @@ pub fn ray_in(
     requires to { to.0 < net.now.events }
     requires none { HasNoUpper search.now.bounds to }
     requires stands { StandsOn net.now search.now.cases.chosen search.now.bounds }
-    requires case { IsCase net.now search.now.cases.chosen }
+    requires case { IsSearchCase net.now search.now.cases.chosen }
     requires count { length out.old ≡ net.now.events }
     requires places { length ray.old ≡ net.now.events }
     ensures { IsRayIn net.now search.now.cases.chosen from to out.new ray.new }
@@ -118,7 +117,7 @@ pub fn ray_in(
 /// Finds a path from the source to an event, over the edges of the case at hand, whose sum is the greatest separation.
 pub fn find_path(net: &Network, search: &mut Search, to: EventId)
     requires stands { StandsOn net.now search.old.cases.chosen search.old.bounds }
-    requires case { IsCase net.now search.old.cases.chosen }
+    requires case { IsSearchCase net.now search.old.cases.chosen }
     requires source { (from : EventId) × (search.old.bounds.source ≡ Some from) }
     requires value { (value : ℤ) × HasUpper search.old.bounds to value }
     requires to { to.0 < net.now.events }

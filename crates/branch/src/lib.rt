@@ -6,10 +6,8 @@
 mod answer;
 mod best;
 mod bounding;
-mod choice;
 mod choice_edge;
 mod choose;
-mod decisions;
 mod distances;
 mod finding;
 mod levels;

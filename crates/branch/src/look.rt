@@ -2,7 +2,7 @@
 
 ghost use Rattle.std.specs.Prelude.{◌≡◌, ◌<◌, ◌<ℤ◌, ℤ, Some, None, length};
 ghost use Rattle.event_graph.specs.Network.{IsNet};
-ghost use Rattle.branch.specs.Step.Cases.{IsCase};
+ghost use Rattle.branch.specs.Step.Cases.{IsSearchCase};
 ghost use Rattle.branch.specs.Step.Raising.{IsNearSeparation};
 ghost use Rattle.branch.specs.Step.Searched.{IsTrialFor, Looks};
 ghost use Rattle.branch.specs.Step.Standing.{HasNoUpper, HasUpper, IsUpperIn, StandsOn};
@@ -31,7 +31,7 @@ pub enum Look {
 /// Looks at the case at hand, on which the bounds stand from the first event of the pair.
 pub fn look_at_case(net: &Network, search: &Search, trial: &mut Trial, aim: Aim, best: i64) -> Look
     requires net { IsNet net.now }
-    requires case { IsCase net.now search.now.cases.chosen }
+    requires case { IsSearchCase net.now search.now.cases.chosen }
     requires stands { StandsOn net.now search.now.cases.chosen search.now.bounds }
     requires source { search.now.bounds.source ≡ Some aim.from }
     requires from { aim.from.0 < net.now.events }
@@ -51,7 +51,7 @@ pub fn look_at_case(net: &Network, search: &Search, trial: &mut Trial, aim: Aim,
 // Looks at a case with a greatest separation beyond the best so far.
 fn look_at_bound(net: &Network, search: &Search, trial: &mut Trial, aim: Aim, upper: i64) -> Look
     requires net { IsNet net.now }
-    requires case { IsCase net.now search.now.cases.chosen }
+    requires case { IsSearchCase net.now search.now.cases.chosen }
     requires stands { StandsOn net.now search.now.cases.chosen search.now.bounds }
     requires source { search.now.bounds.source ≡ Some aim.from }
     requires to { aim.to.0 < net.now.events }
@@ -77,7 +77,7 @@ fn look_at_bound(net: &Network, search: &Search, trial: &mut Trial, aim: Aim, up
 // Looks at a case without a greatest separation.
 fn look_at_ray(net: &Network, search: &Search, trial: &mut Trial, aim: Aim) -> Look
     requires net { IsNet net.now }
-    requires case { IsCase net.now search.now.cases.chosen }
+    requires case { IsSearchCase net.now search.now.cases.chosen }
     requires stands { StandsOn net.now search.now.cases.chosen search.now.bounds }
     requires source { search.now.bounds.source ≡ Some aim.from }
     requires upper { IsUpperIn net.now search.now.cases.chosen aim.from aim.to None }

@@ -5,15 +5,14 @@ ghost use Rattle.itv_base.specs.Outside.{Rose};
 ghost use Rattle.itv_base.specs.declared.names.EventId.{EventId};
 ghost use Rattle.event_graph.specs.Network.{IsNet};
 ghost use Rattle.event_graph.specs.Proof.{Bound, ProofGoal, ProofLine, Split, count_causes};
-ghost use Rattle.branch.specs.Step.Cases.{IsCase, IsFree, IsSplittable, first_of, open_cases, siblings, work_left};
+ghost use Rattle.event_graph.specs.Cases.{first_of, open_cases, siblings};
+ghost use Rattle.branch.specs.Step.Cases.{IsFree, IsSearchCase, IsSplittable, work_left};
 ghost use Rattle.branch.specs.Step.Searched.{EndsAs, IsAtCase, IsBelowCase, IsNext, Keeps, LeavesFor, Steps, StepsShort};
 ghost use Rattle.branch.specs.Step.Standing.{HasUpper, StandsBelow};
 
-use crate::choice::Choice;
-use crate::decisions::Decisions;
 use crate::levels::{enter_choice, find_path, step_back};
 use diff_bounds::{Bounds, Fit};
-use event_graph::{Network, Scribe, ScribeFailed};
+use event_graph::{Choice, Decisions, Network, Scribe, ScribeFailed};
 use itv_base::EventId;
 
 /// A search: the bounds, the choices of the case at hand, how many cases are closed, and how many may be.
@@ -163,7 +162,7 @@ fn leave_case(net: &Network, search: &mut Search) -> Option<Entry>
 
 // Goes on from a case that is closed to the next one that is open, and tells whether there is one.
 fn next_case(net: &Network, search: &mut Search) -> bool
-    requires below { IsCase net.now search.old.cases.chosen }
+    requires below { IsSearchCase net.now search.old.cases.chosen }
     requires stands { StandsBelow net.now search.old.cases.chosen search.old.bounds }
     ensures same { Keeps net.now search.old search.new }
     ensures leaves { search.new.leaves ≡ search.old.leaves }

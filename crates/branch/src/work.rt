@@ -7,7 +7,6 @@ ghost use Rattle.event_graph.specs.Satisfying.{Satisfies};
 ghost use Rattle.event_graph.specs.Times.{separation};
 ghost use Rattle.branch.specs.Answers.{Answers, Finds, IsCounted, IsRoot, IsRootReach, evidence};
 ghost use Rattle.event_graph.specs.Reading.{AtEachSplit};
-ghost use Rattle.event_graph.specs.Network.{splittable_count};
 ghost use Rattle.branch.specs.Lines.{IsAccepted};
 ghost use Rattle.branch.specs.Needed.{IsNeededToBound, IsNeededToFind};
 ghost use Rattle.branch.specs.Work.{IsClose, IsMadeFor, IsReached, known_separation};
@@ -15,13 +14,12 @@ ghost use Rattle.branch.specs.Work.{IsClose, IsMadeFor, IsReached, known_separat
 use crate::answer::{Answer, Found, Root};
 use crate::best::{Aim, Best};
 use crate::bounding::{bound_pair, root_of, separation_of};
-use crate::decisions::Decisions;
 use crate::distances::Distances;
 use crate::finding::find_times;
 use crate::search::Search;
 use crate::trial::Trial;
 use diff_bounds::Bounds;
-use event_graph::{Network, Scribe, ScribeFailed};
+use event_graph::{Decisions, Network, Scribe, ScribeFailed};
 use itv_base::{EventId, NoMemory};
 use std::alloc::Global;
 use std::marker::Model;
@@ -61,7 +59,7 @@ impl Work {
         Ok(Work {
             search: Search {
                 bounds: Bounds::new(alloc, net)?,
-                cases: Decisions::new(alloc, net.splittable_count(), net.len())?,
+                cases: Decisions::new(alloc, net.len())?,
                 leaves: 0,
                 budget: 0,
             },

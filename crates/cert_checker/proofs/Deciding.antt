@@ -1,20 +1,21 @@
 -- What the tests of faults decide.
-use Rattle.std.proofs.Common.{◌≡◌, ◌==◌, ◌&&◌, ◌⊎◌, inl, inr, ℕ, zero, suc, Bool, true, false, if◌then◌else◌, IsTrue, [], ◌∷◌, All, Contains, length, Option, Some, None, IsSomeAnd, slice_get, sym, ap, ◌∙◌, refl, subst, arith}
+use Rattle.std.proofs.Common.{◌≡◌, ◌==◌, ◌&&◌, ◌⊎◌, inl, inr, ℕ, zero, suc, Bool, true, false, if◌then◌else◌, IsTrue, [], ◌∷◌, Contains, length, Option, Some, None, IsSomeAnd, slice_get, sym, ap, ◌∙◌, refl, subst, arith}
 use Rattle.std.specs.Option.{option_or}
-use Rattle.std.proofs.lemmas.Bool.{and_from, and_parts, eq-eqb, eqb-true, ne_eqb, or_cases, or_from, or_left, or_parts, or_right, true≢false}
-use Rattle.std.proofs.lemmas.List.Elements.{All-cons, All-head, All-nil, All-tail}
+use Rattle.std.proofs.lemmas.Bool.{and_from, and_parts, eq-eqb, eqb-true, or_cases, or_left, or_right}
 use Rattle.itv_base.specs.declared.names.EdgeName.{EdgeName}
 use Rattle.itv_base.specs.declared.names.RuleKind.{RuleKind}
 use Rattle.itv_base.specs.declared.names.RuleKind.TheVariants.{Lin, Late, Early}
 use Rattle.itv_base.specs.declared.names.Side.{Side}
 use Rattle.itv_base.specs.declared.names.Side.TheVariants.{Lower, Upper}
 use Rattle.event_graph.specs.declared.edge.Edge.{Edge}
+use Rattle.event_graph.specs.Cases.{is_split}
 use Rattle.event_graph.specs.Edges.{choice_side, edge, holds_always}
 use Rattle.event_graph.specs.Network.{Constraint, Net}
 use Rattle.event_graph.specs.Proof.{Case, Choice, HasChoice, IsUsable, MaySplit}
+use Rattle.event_graph.proofs.Choices.{others_unsplit, unsplit_others}
 use Rattle.cert_checker.specs.declared.check_fault.CheckFault.{CheckFault}
 use Rattle.cert_checker.specs.declared.check_fault.CheckFault.TheVariants.{AlreadySplit, NoSuchConstraint}
-use Rattle.cert_checker.specs.Faults.{fault_of_constraint, fault_of_split, has_choice, is_choice_side, is_chosen, is_split, is_usable, may_use}
+use Rattle.cert_checker.specs.Faults.{fault_of_constraint, fault_of_split, has_choice, is_choice_side, is_chosen, is_usable, may_use}
 
 -- ---- tests that answer a fault or none
 
@@ -63,21 +64,6 @@ is_side_at Late h = refl
 is_side_at Early h = refl
 
 -- ---- what is chosen
-
-abbrev pub IsOther : ℕ → Choice → Type 0
-IsOther number choice = choice.constraint ≡ number → ⊥
-
-pub others_unsplit : (chosen : Case) (number : ℕ) → All (IsOther number) chosen → is_split chosen number ≡ false
-others_unsplit [] number h = refl
-others_unsplit (choice ∷ above) number h =
-    or_from (choice.constraint == number) (is_split above number) (ne_eqb choice.constraint number (All-head (IsOther number) choice above h))
-    (others_unsplit above number (All-tail (IsOther number) choice above h))
-
-pub unsplit_others : (chosen : Case) (number : ℕ) → is_split chosen number ≡ false → All (IsOther number) chosen
-unsplit_others [] number h = All-nil (IsOther number)
-unsplit_others (choice ∷ above) number h =
-    let parts = or_parts (choice.constraint == number) (is_split above number) h in
-    All-cons (IsOther number) choice above (λ same. true≢false (sym (eq-eqb choice.constraint number same) ∙ parts.0)) (unsplit_others above number parts.1)
 
 same_choice : (choice : Choice) (number cause : ℕ) → choice.constraint ≡ number → choice.cause ≡ cause → choice ≡ record { constraint = number; cause = cause }
 same_choice choice number cause same_number same_cause =

@@ -1,12 +1,12 @@
 -- Splits of a case, by the number of causes that a constraint names.
-use Rattle.std.proofs.Common.{◌≡◌, ℕ, true, false, ◌∷◌, length, Option, Some, None, IsSomeAnd, option_map, slice_get, sym, ◌∙◌, refl, arith}
+use Rattle.std.proofs.Common.{◌≡◌, ℕ, true, false, length, Option, Some, None, IsSomeAnd, option_map, slice_get, sym, ◌∙◌, refl, arith}
 use Rattle.itv_base.specs.declared.names.RuleKind.{RuleKind}
 use Rattle.itv_base.specs.declared.names.RuleKind.TheVariants.{Lin, Late, Early}
+use Rattle.event_graph.specs.Cases.{IsCase, first_of, is_split}
 use Rattle.event_graph.specs.Network.{Constraint, Net, cause_count_of, named_causes}
 use Rattle.event_graph.specs.Proof.{Case, HasChoice, MaySplit, count_causes}
 use Rattle.cert_checker.specs.declared.check_fault.CheckFault.TheVariants.{AlreadySplit}
-use Rattle.cert_checker.specs.Checking.{IsCase}
-use Rattle.cert_checker.specs.Faults.{fault_of_constraint, fault_of_split, is_split}
+use Rattle.cert_checker.specs.Faults.{fault_of_constraint, fault_of_split}
 use Rattle.cert_checker.proofs.Deciding.{has_true, split_none}
 
 -- ---- numbers of causes
@@ -54,7 +54,7 @@ split_fresh net chosen number count is some split = rw split (fresh (slice_get n
 
 -- the case of the first cause
 pub split_case : (net : Net) (chosen : Case) (number count : ℕ) → option_map cause_count_of (slice_get net.constraints number) ≡ Some count → (count ≡ 0 → ⊥)
-    → is_split chosen number ≡ false → IsCase net chosen → IsCase net ((record { constraint = number; cause = 0 }) ∷ chosen)
+    → is_split chosen number ≡ false → IsCase net chosen → IsCase net (first_of number chosen)
 split_case net chosen number count is some split case =
     let may : MaySplit net chosen number = split_none net chosen number (split_fresh net chosen number count is some split) in
     let causes : count_causes (slice_get net.constraints number) ≡ count = count_is (slice_get net.constraints number) count may.0 is in

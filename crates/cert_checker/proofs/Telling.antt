@@ -1,25 +1,16 @@
 -- What the table of choices tells of a case.
-use Rattle.std.proofs.Common.{◌≡◌, ◌==◌, ◌&&◌, ◌||◌, ℕ, Bool, true, false, if◌then◌else◌, eqb, IsTrue, [], ◌∷◌, All, length, Option, Some, None, IsSomeAnd, is_some, option_map, refl}
+use Rattle.std.proofs.Common.{◌≡◌, ◌==◌, ◌&&◌, ◌||◌, ℕ, Bool, true, false, if◌then◌else◌, eqb, IsTrue, [], ◌∷◌, All, length, Option, Some, None, IsSomeAnd, option_map, refl}
 use Rattle.std.specs.Option.{option_eq}
 use Rattle.std.proofs.lemmas.Bool.{ne_eqb, eqb-true}
 use Rattle.std.proofs.lemmas.List.Elements.{All-head, All-tail}
 use Rattle.itv_base.specs.declared.names.EdgeName.{EdgeName}
 use Rattle.itv_base.specs.declared.names.RuleKind.{RuleKind}
+use Rattle.event_graph.specs.Cases.{IsCase, cause_chosen}
 use Rattle.event_graph.specs.Edges.{holds_always}
 use Rattle.event_graph.specs.Network.{Constraint, Net}
 use Rattle.event_graph.specs.Proof.{Case}
-use Rattle.cert_checker.specs.Checking.{IsCase}
-use Rattle.cert_checker.specs.Faults.{is_choice_side, is_chosen, is_split, may_use}
-use Rattle.cert_checker.specs.Step.Chosen.{cause_chosen}
-use Rattle.cert_checker.proofs.Deciding.{IsOther}
-
--- a constraint is split where a cause of it is chosen
-pub split_cause : (chosen : Case) (number : ℕ) → is_some (cause_chosen chosen number) ≡ is_split chosen number
-split_cause [] number = refl
-split_cause (choice ∷ above) number = by_head (choice.constraint == number) choice.cause (cause_chosen above number) (is_split above number) (split_cause above number) where
-  by_head : (b : Bool) (cause : ℕ) (o : Option ℕ) (split : Bool) → is_some o ≡ split → is_some (if b then Some cause else o) ≡ (b || split)
-  by_head true cause o split rest = refl
-  by_head false cause o split rest = rest
+use Rattle.event_graph.proofs.Choices.{IsOther}
+use Rattle.cert_checker.specs.Faults.{is_choice_side, is_chosen, may_use}
 
 unchosen : (chosen : Case) (number cause : ℕ) → All (IsOther number) chosen → is_chosen chosen number cause ≡ false
 unchosen [] number cause others = refl

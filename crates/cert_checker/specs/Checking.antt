@@ -1,7 +1,9 @@
 -- What a checker of proofs stands at.
-use Rattle.std.specs.Prelude.{◌≡◌, ◌<◌, ◌+◌, ◌-◌, ◌++◌, ℕ, Bool, true, false, List, [], ◌∷◌, length, Option, Some, None, Result, Ok, Err, slice_get}
+use Rattle.std.specs.Prelude.{◌≡◌, ℕ, Bool, true, false, List, [], length, Option, Some, None, Result, Ok, Err}
+use Rattle.event_graph.specs.Cases.{IsCase}
+use Rattle.event_graph.specs.Cases as cases
 use Rattle.event_graph.specs.Network.{Net}
-use Rattle.event_graph.specs.Proof.{Bound, Case, MaySplit, Nothing, ProofGoal, cases_from, count_causes}
+use Rattle.event_graph.specs.Proof.{Bound, Case, Nothing, ProofGoal}
 use Rattle.cert_checker.specs.declared.check_fault.CheckFault.{CheckFault}
 use Rattle.cert_checker.specs.declared.goal.Goal.{Goal}
 use Rattle.cert_checker.specs.declared.goal.Goal.TheVariants as goals
@@ -17,26 +19,13 @@ pub record Checking : Type 0 where
   pub chosen : Case
   pub room : ℕ
 
--- The choices of one case tell all other open cases of a proof that is read in order: the causes after the chosen one, of the latest choice and
--- then of each one before it.
-abbrev pub siblings : Net → Case → List Case
-siblings net [] = []
-siblings net (choice ∷ above) =
-    cases_from above choice.constraint (choice.cause + 1) (count_causes (slice_get net.constraints choice.constraint) - (choice.cause + 1)) ++ siblings net above
-
 abbrev pub open_by : Net → Bool → Case → List Case
-open_by net true chosen = chosen ∷ siblings net chosen
+open_by net true chosen = cases.open_cases net chosen
 open_by net false chosen = []
 
 -- the cases that are open
 abbrev pub open_cases : Net → Checking → List Case
 open_cases net checking = open_by net checking.is_open checking.chosen
-
--- each choice is of a constraint that may be split in the case before it, and of one of its causes
-abbrev pub IsCase : Net → Case → Type 0
-IsCase net [] = Unit {0}
-IsCase net (choice ∷ above) =
-    MaySplit net above choice.constraint × (choice.cause < count_causes (slice_get net.constraints choice.constraint)) × IsCase net above
 
 -- a checker stands in a proof for a network
 pub record StandsFor (net : Net) (checking : Checking) : Type 0 where

@@ -8,6 +8,7 @@ use Rattle.itv_base.specs.declared.names.RuleKind.TheVariants.{Lin, Late, Early}
 use Rattle.itv_base.specs.declared.names.Side.{Side}
 use Rattle.itv_base.specs.declared.names.Side.TheVariants.{Lower, Upper}
 use Rattle.event_graph.specs.declared.edge.Edge.{Edge}
+use Rattle.event_graph.specs.Cases.{is_split}
 use Rattle.event_graph.specs.Edges.{edge, holds_always}
 use Rattle.event_graph.specs.Network.{Constraint, Net}
 use Rattle.event_graph.specs.Proof.{Bound, Case, Loop, Nothing, Path, ProofGoal, ProofLine, Split, cases_of, path_sum}
@@ -21,11 +22,6 @@ abbrev pub has_choice : RuleKind → Bool
 has_choice Lin = false
 has_choice Late = true
 has_choice Early = true
-
--- a cause of the constraint is chosen
-abbrev pub is_split : Case → ℕ → Bool
-is_split [] number = false
-is_split (choice ∷ above) number = (choice.constraint == number) || is_split above number
 
 -- this cause of the constraint is chosen
 abbrev pub is_chosen : Case → ℕ → ℕ → Bool

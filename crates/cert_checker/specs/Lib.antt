@@ -2,4 +2,3 @@ pub mod Faults
 pub mod FaultText
 pub mod Checking
 pub mod Laws
-pub mod Step

@@ -3,15 +3,14 @@
 ghost use Rattle.std.specs.Prelude.{◌≡◌, ◌↔◌, ◌∷◌, [], IsTrue, IfOk, OnOk, OnErr, MatchBool, length, false};
 ghost use Rattle.event_graph.specs.Lines.{lent_line};
 ghost use Rattle.event_graph.specs.Network.{Net};
-ghost use Rattle.cert_checker.specs.Checking.{IsCase, StandsFor, Tells, goal_view, open_cases, siblings};
+ghost use Rattle.event_graph.specs.Cases.{IsCase, first_of, siblings};
+ghost use Rattle.cert_checker.specs.Checking.{StandsFor, Tells, goal_view, open_cases};
 ghost use Rattle.cert_checker.specs.Faults.{behind_line, fault_of_line, fault_of_split};
 
 use crate::check_fault::CheckFault;
-use crate::choice::Choice;
-use crate::decisions::Decisions;
 use crate::goal::Goal;
 use crate::walk::{check_loop, check_path};
-use event_graph::{Line, Network};
+use event_graph::{Choice, Decisions, Line, Network};
 use itv_base::NoMemory;
 use std::alloc::Global;
 use std::marker::Model;
@@ -108,9 +107,8 @@ fn split(net: &Network, chosen: &mut Decisions, constraint: u32) -> Result<(), C
     requires room { chosen.old.room ≡ length net.now.constraints }
     requires case { IsCase net.now chosen.old.chosen }
     ensures fault { Tells result (fault_of_split net.now chosen.old.chosen constraint) }
-    ensures chosen { OnOk result (chosen.new ≡ record chosen.old {
-      chosen = (record { constraint = constraint; cause = 0 }) ∷ chosen.old.chosen;
-    }) }
+    ensures chosen { OnOk result
+        (chosen.new ≡ record chosen.old { chosen = first_of constraint chosen.old.chosen }) }
     ensures case { IsCase net.now chosen.new.chosen }
     ensures unchanged { OnErr result (chosen.new ≡ chosen.old) }
 {

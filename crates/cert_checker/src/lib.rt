@@ -5,8 +5,6 @@
 
 mod check_fault;
 mod checker;
-mod choice;
-mod decisions;
 mod goal;
 pub mod laws;
 mod ray;

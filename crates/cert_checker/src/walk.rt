@@ -4,13 +4,13 @@ ghost use Rattle.std.specs.Prelude.{◌≡◌, ◌<◌, ◌≤◌, ◌^◌, ℤ,
 ghost use Rattle.itv_base.specs.Range.{IsEnd};
 ghost use Rattle.event_graph.specs.Edges.{edge};
 ghost use Rattle.event_graph.specs.Proof.{path_sum};
-ghost use Rattle.cert_checker.specs.Checking.{IsCase, Tells, goal_view};
+ghost use Rattle.event_graph.specs.Cases.{IsCase};
+ghost use Rattle.cert_checker.specs.Checking.{Tells, goal_view};
 ghost use Rattle.cert_checker.specs.Faults.{fault_of_edge, fault_of_length, fault_of_loop, fault_of_path, fault_of_walk, is_choice_side, is_usable, loop_begin};
 
 use crate::check_fault::CheckFault;
-use crate::decisions::Decisions;
 use crate::goal::Goal;
-use event_graph::{Edge, Network};
+use event_graph::{Decisions, Edge, Network};
 use itv_base::{EdgeName, EventId, MAX_EVENTS, RuleKind, Side};
 
 /// Whether a path closes a case: the goal is a bound, and the path leads from its from-event to its to-event along
@@ -22,7 +22,6 @@ pub fn check_path(
     names: &[EdgeName],
 ) -> Result<(), CheckFault>
     requires case { IsCase net.now chosen.now.chosen }
-    requires room { chosen.now.room ≡ length net.now.constraints }
     ensures { Tells result (fault_of_path net.now (goal_view goal) chosen.now.chosen names.now) }
 {
     match goal {
@@ -43,7 +42,6 @@ pub fn check_path(
 /// negative.
 pub fn check_loop(net: &Network, chosen: &Decisions, names: &[EdgeName]) -> Result<(), CheckFault>
     requires case { IsCase net.now chosen.now.chosen }
-    requires room { chosen.now.room ≡ length net.now.constraints }
     ensures { Tells result (fault_of_loop net.now chosen.now.chosen names.now) }
 {
     check_length(net, names)?;
@@ -90,7 +88,6 @@ fn check_walk(
     names: &[EdgeName],
 ) -> Result<i64, CheckFault>
     requires case { IsCase net.now chosen.now.chosen }
-    requires room { chosen.now.room ≡ length net.now.constraints }
     requires few { length names.now ≤ MAX_EVENTS }
     ensures sum { IfOk result (λ sum. sum ≡ path_sum net.now names.now) }
     ensures fault { Tells result (fault_of_walk net.now chosen.now.chosen to 0 from names.now) }
@@ -128,7 +125,6 @@ fn check_edge(
     name: EdgeName,
 ) -> Result<Edge, CheckFault>
     requires case { IsCase net.now chosen.now.chosen }
-    requires room { chosen.now.room ≡ length net.now.constraints }
     ensures edge { IfOk result (λ e. edge net.now name ≡ Some e) }
     ensures weight { IfOk result (λ e. IsEnd (Some e.weight)) }
     ensures fault { Tells result
@@ -150,7 +146,6 @@ fn check_edge(
 fn is_usable(net: &Network, chosen: &Decisions, name: EdgeName) -> bool
     requires there { IsSome (edge net.now name) }
     requires case { IsCase net.now chosen.now.chosen }
-    requires room { chosen.now.room ≡ length net.now.constraints }
     ensures { result ≡ is_usable net.now chosen.now.chosen name }
 {
     net.is_always(name)

@@ -6,6 +6,8 @@ pub mod EdgesMet
 pub mod Ends
 pub mod ByEdges
 pub mod SoundProofs
+pub mod Choices
+pub mod Choosing
 pub mod ProofCounts
 pub mod ReadingOn
 pub mod Rising

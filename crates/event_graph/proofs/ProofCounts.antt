@@ -1,5 +1,5 @@
 -- How many cases a proof closes.
-use Rattle.std.proofs.Common.{◌≡◌, ◌+◌, ◌*◌, ◌<◌, ◌≤◌, ◌==◌, ℕ, zero, suc, Bool, true, false, cond, List, [], ◌∷◌, ◌++◌, All, length, Option, Some, None, IsSomeAnd, slice_get, sym, ap, ◌∙◌, refl, arith}
+use Rattle.std.proofs.Common.{◌≡◌, ◌+◌, ◌*◌, ◌<◌, ◌≤◌, ℕ, zero, suc, Bool, true, false, cond, List, [], ◌∷◌, ◌++◌, All, length, Option, Some, None, IsSomeAnd, slice_get, sym, ap, ◌∙◌, refl, arith}
 use Rattle.std.proofs.Math.Nat.{mul_assoc, mul_comm, mul-le-mul_left}
 use Rattle.std.proofs.lemmas.Option.{same_Some}
 use Rattle.std.proofs.lemmas.List.Elements.{All-head, All-tail}
@@ -7,19 +7,16 @@ use Rattle.itv_base.specs.declared.names.RuleKind.{RuleKind}
 use Rattle.itv_base.specs.declared.names.RuleKind.TheVariants.{Lin, Late, Early}
 use Rattle.event_graph.specs.Network.{Constraint, IsConstraint, IsNet, Net}
 use Rattle.event_graph.specs.Edges.{cause_choices, choices_of}
-use Rattle.event_graph.specs.Proof.{Case, Choice, HasChoice, Loop, Path, ProofGoal, ProofLine, Reads, Split, cases_from, cases_of, closing_lines, count_causes}
+use Rattle.event_graph.specs.Proof.{Case, HasChoice, Loop, Path, ProofGoal, ProofLine, Reads, Split, cases_from, cases_of, closing_lines, count_causes}
 use Rattle.event_graph.specs.Laws.{ProofIsWithinChoices, StoppedProofIsBelowChoices}
+use Rattle.event_graph.specs.Cases.{is_split}
+use Rattle.event_graph.proofs.Choices.{others_unsplit, split-other, split-same}
 use Rattle.event_graph.proofs.Products.{choices_of-some}
-
--- whether a cause of the constraint of a number is chosen
-abbrev pub is_chosen : ℕ → Case → Bool
-is_chosen number [] = false
-is_chosen number (choice ∷ chosen) = cond (choice.constraint == number) true (is_chosen number chosen)
 
 -- the product of the numbers of causes of those constraints, numbered from one on, of which no cause is chosen
 abbrev pub left_from : ℕ → List Constraint → Case → ℕ
 left_from number [] chosen = 1
-left_from number (k ∷ ks) chosen = cond (is_chosen number chosen) 1 (choices_of k.kind (length k.causes)) * left_from (number + 1) ks chosen
+left_from number (k ∷ ks) chosen = cond (is_split chosen number) 1 (choices_of k.kind (length k.causes)) * left_from (number + 1) ks chosen
 
 -- the choices left in all open cases
 abbrev pub left_of_all : Net → List Case → ℕ
@@ -30,26 +27,20 @@ left_from-none : (number : ℕ) (ks : List Constraint) → left_from number ks [
 left_from-none number [] = refl
 left_from-none number (k ∷ ks) = ap (λ n. choices_of k.kind (length k.causes) * n) (left_from-none (number + 1) ks)
 
-is_chosen-other : (number other cause : ℕ) (chosen : Case) → (other ≡ number → ⊥) → is_chosen number ((record { constraint = other; cause = cause }) ∷ chosen) ≡ is_chosen number chosen
-is_chosen-other number other cause chosen apart = grind arith
-
-is_chosen-same : (number other cause : ℕ) (chosen : Case) → other ≡ number → is_chosen number ((record { constraint = other; cause = cause }) ∷ chosen) ≡ true
-is_chosen-same number other cause chosen same = grind arith
-
 -- a choice of an earlier constraint changes nothing
 left_from-earlier : (number : ℕ) (ks : List Constraint) (earlier cause : ℕ) (chosen : Case) → earlier < number
     → left_from number ks ((record { constraint = earlier; cause = cause }) ∷ chosen) ≡ left_from number ks chosen
 left_from-earlier number [] earlier cause chosen below = refl
 left_from-earlier number (k ∷ ks) earlier cause chosen below =
     let apart : earlier ≡ number → ⊥ = λ e. omega arith in
-    rw (is_chosen-other number earlier cause chosen apart, left_from-earlier (number + 1) ks earlier cause chosen (omega arith)) refl
+    rw (split-other number earlier cause chosen apart, left_from-earlier (number + 1) ks earlier cause chosen (omega arith)) refl
 
 swapped : (a b n : ℕ) → a * (b * n) ≡ b * (a * n)
 swapped a b n = sym (mul_assoc a b n) ∙ (ap (λ m. m * n) (mul_comm a b) ∙ mul_assoc b a n)
 
 -- a choice divides what is left by the number of causes
 left_from-choice : (number : ℕ) (ks : List Constraint) (place chosen_number cause : ℕ) (k : Constraint) (chosen : Case) → slice_get ks place ≡ Some k
-    → chosen_number ≡ number + place → is_chosen chosen_number chosen ≡ false
+    → chosen_number ≡ number + place → is_split chosen chosen_number ≡ false
     → choices_of k.kind (length k.causes) * left_from number ks ((record { constraint = chosen_number; cause = cause }) ∷ chosen) ≡ left_from number ks chosen
 left_from-choice number [] place chosen_number cause k chosen at_k is_number fresh = absurd (cc)
 left_from-choice number (x ∷ ks) zero chosen_number cause k chosen at_k is_number fresh =
@@ -58,22 +49,22 @@ left_from-choice number (x ∷ ks) zero chosen_number cause k chosen at_k is_num
     let factor : choices_of x.kind (length x.causes) ≡ choices_of k.kind (length k.causes) = ap (λ (c : Constraint). choices_of c.kind (length c.causes)) same in
     let rest : left_from (number + 1) ks ((record { constraint = chosen_number; cause = cause }) ∷ chosen) ≡ left_from (number + 1) ks chosen =
     left_from-earlier (number + 1) ks chosen_number cause chosen (omega arith) in
-    let fresh_here : is_chosen number chosen ≡ false = ap (λ n. is_chosen n chosen) (sym here) ∙ fresh in
-    rw (is_chosen-same number chosen_number cause chosen here, rest, fresh_here, factor) (omega arith)
+    let fresh_here : is_split chosen number ≡ false = ap (λ n. is_split chosen n) (sym here) ∙ fresh in
+    rw (split-same number chosen_number cause chosen here, rest, fresh_here, factor) (omega arith)
 left_from-choice number (x ∷ ks) (suc place) chosen_number cause k chosen at_k is_number fresh =
     let apart : chosen_number ≡ number → ⊥ = λ e. omega arith in
     let rest : choices_of k.kind (length k.causes) * left_from (number + 1) ks ((record { constraint = chosen_number; cause = cause }) ∷ chosen) ≡ left_from (number + 1) ks chosen =
     left_from-choice (number + 1) ks place chosen_number cause k chosen at_k (omega arith) fresh in
-    rw (is_chosen-other number chosen_number cause chosen apart)
-    (swapped (choices_of k.kind (length k.causes)) (cond (is_chosen number chosen) 1 (choices_of x.kind (length x.causes))) _
-    ∙ ap (λ n. cond (is_chosen number chosen) 1 (choices_of x.kind (length x.causes)) * n) rest)
+    rw (split-other number chosen_number cause chosen apart)
+    (swapped (choices_of k.kind (length k.causes)) (cond (is_split chosen number) 1 (choices_of x.kind (length x.causes))) _
+    ∙ ap (λ n. cond (is_split chosen number) 1 (choices_of x.kind (length x.causes)) * n) rest)
 
 -- which cause was chosen does not matter
 left_from-same : (number : ℕ) (ks : List Constraint) (chosen_number cause other : ℕ) (chosen : Case)
     → left_from number ks ((record { constraint = chosen_number; cause = cause }) ∷ chosen) ≡ left_from number ks ((record { constraint = chosen_number; cause = other }) ∷ chosen)
 left_from-same number [] chosen_number cause other chosen = refl
 left_from-same number (k ∷ ks) chosen_number cause other chosen =
-    ap (λ n. cond (is_chosen number ((record { constraint = chosen_number; cause = cause }) ∷ chosen)) 1 (choices_of k.kind (length k.causes)) * n)
+    ap (λ n. cond (is_split ((record { constraint = chosen_number; cause = cause }) ∷ chosen) number) 1 (choices_of k.kind (length k.causes)) * n)
     (left_from-same (number + 1) ks chosen_number cause other chosen)
 
 left_of_all-append : (net : Net) (xs ys : List Case) → left_of_all net (xs ++ ys) ≡ left_of_all net xs + left_of_all net ys
@@ -88,12 +79,6 @@ left_of_all-cases net chosen number cause zero each all = omega arith
 left_of_all-cases net chosen number cause (suc count) each all =
     rw (all cause, left_of_all-cases net chosen number (cause + 1) count each all) (omega arith)
 
-fresh_choice : (number : ℕ) (chosen : Case) → All (λ (choice : Choice). choice.constraint ≡ number → ⊥) chosen → is_chosen number chosen ≡ false
-fresh_choice number [] fresh = refl
-fresh_choice number (choice ∷ chosen) fresh =
-    let apart : choice.constraint ≡ number → ⊥ = All-head (λ (c : Choice). c.constraint ≡ number → ⊥) choice chosen fresh in
-    is_chosen-other number choice.constraint choice.cause chosen apart ∙ fresh_choice number chosen (All-tail (λ (c : Choice). c.constraint ≡ number → ⊥) choice chosen fresh)
-
 choices_of-choice : (kind : RuleKind) (count : ℕ) → HasChoice kind → choices_of kind count ≡ count
 choices_of-choice Lin count has = absurd has
 choices_of-choice Late count has = refl
@@ -101,7 +86,7 @@ choices_of-choice Early count has = refl
 
 -- a split keeps what is left
 split_keeps : (net : Net) (chosen : Case) (number : ℕ) (o : Option Constraint) → slice_get net.constraints number ≡ o → IsSomeAnd o (λ c. HasChoice c.kind)
-    → is_chosen number chosen ≡ false → left_of_all net (cases_from chosen number 0 (count_causes o)) ≡ left_from 0 net.constraints chosen
+    → is_split chosen number ≡ false → left_of_all net (cases_from chosen number 0 (count_causes o)) ≡ left_from 0 net.constraints chosen
 split_keeps net chosen number None at_k has fresh = absurd has
 split_keeps net chosen number (Some k) at_k has fresh =
     let each : (other : ℕ) → left_from 0 net.constraints ((record { constraint = number; cause = other }) ∷ chosen)
@@ -120,10 +105,10 @@ factor_some false n some = some
 left_from-some : (events number : ℕ) (ks : List Constraint) (chosen : Case) → All (IsConstraint events) ks → 1 ≤ left_from number ks chosen
 left_from-some events number [] chosen all = omega arith
 left_from-some events number (k ∷ ks) chosen all =
-    let first : 1 ≤ cond (is_chosen number chosen) 1 (choices_of k.kind (length k.causes)) =
-    factor_some (is_chosen number chosen) _ (choices_of-some k.kind (length k.causes) (All-head (IsConstraint events) k ks all).count) in
+    let first : 1 ≤ cond (is_split chosen number) 1 (choices_of k.kind (length k.causes)) =
+    factor_some (is_split chosen number) _ (choices_of-some k.kind (length k.causes) (All-head (IsConstraint events) k ks all).count) in
     let rest : 1 ≤ left_from (number + 1) ks chosen = left_from-some events (number + 1) ks chosen (All-tail (IsConstraint events) k ks all) in
-    omega (arith, mul-le-mul_left (cond (is_chosen number chosen) 1 (choices_of k.kind (length k.causes))) rest)
+    omega (arith, mul-le-mul_left (cond (is_split chosen number) 1 (choices_of k.kind (length k.causes))) rest)
 
 -- each closing line takes at least one of the choices left
 reads_count : (net : Net) (goal : ProofGoal) (lines : List ProofLine) (cases left : List Case) → IsNet net → Reads net goal cases lines left
@@ -132,7 +117,7 @@ reads_count net goal [] cases left is_net reads = omega (arith, ap (left_of_all 
 reads_count net goal (line ∷ lines) [] left is_net reads = absurd reads
 reads_count net goal (Split number ∷ lines) (chosen ∷ cases) left is_net reads =
     let kept : left_of_all net (cases_of net chosen number) ≡ left_from 0 net.constraints chosen =
-    split_keeps net chosen number (slice_get net.constraints number) refl reads.0.0 (fresh_choice number chosen reads.0.1) in
+    split_keeps net chosen number (slice_get net.constraints number) refl reads.0.0 (others_unsplit chosen number reads.0.1) in
     omega (arith, kept, left_of_all-append net (cases_of net chosen number) cases, reads_count net goal lines (cases_of net chosen number ++ cases) left is_net reads.1)
 reads_count net goal (Path names ∷ lines) (chosen ∷ cases) left is_net reads =
     omega (arith, left_from-some net.events 0 net.constraints chosen is_net.constraints, reads_count net goal lines cases left is_net reads.1)

@@ -1,11 +1,13 @@
 //! Networks of timing constraints between events, linear, latest and earliest: which times satisfy one,
-//! its edges and its cause choices. The contract of the crate: `broken` gives none exactly where the times
+//! its edges, its cause choices and the choices of a case. The contract of the crate: `broken` gives none exactly where the times
 //! satisfy the network, else the least number of a constraint that they break.
 #![tactic(auto)]
 
 mod by_event;
 mod cause;
+mod choice;
 mod constraint;
+mod decisions;
 mod edge;
 pub mod laws;
 mod line;
@@ -15,6 +17,8 @@ mod scribe;
 
 pub use by_event::ByEvent;
 pub use cause::Cause;
+pub use choice::Choice;
+pub use decisions::Decisions;
 pub use edge::Edge;
 pub use line::Line;
 pub use network::Network;

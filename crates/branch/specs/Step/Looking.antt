@@ -1,11 +1,11 @@
 -- Constraints that are looked for.
-use Rattle.std.specs.Prelude.{◌≡◌, ℕ, List, length, All, Contains}
+use Rattle.std.specs.Prelude.{◌≡◌, ℕ, List, length, All, Contains, None}
+use Rattle.event_graph.specs.Cases.{cause_chosen}
 use Rattle.event_graph.specs.Proof.{Case}
 use Rattle.event_graph.specs.Times.{IsTime}
 use Rattle.branch.specs.declared.distances.Wanted.{Wanted}
 use Rattle.branch.specs.declared.distances.Wanted.TheVariants.{Broken, Open}
 use Rattle.branch.specs.Splits.{AreBetween, BreaksEach, HasNumber, Splitting}
-use Rattle.branch.specs.Step.Noted.{HasNoCause}
 
 -- the edges of some constraints can be read against the times, where those that they break are looked for
 abbrev pub CanLookFor : Wanted → List Splitting → Type 0
@@ -19,4 +19,4 @@ IsWanted Open splits number = HasNumber splits number
 
 -- a constraint that is looked for, and of which no cause is chosen
 abbrev pub IsFound : Wanted → List Splitting → Case → ℕ → Type 0
-IsFound wanted splits chosen number = IsWanted wanted splits number × HasNoCause chosen number
+IsFound wanted splits chosen number = IsWanted wanted splits number × (cause_chosen chosen number ≡ None)

@@ -8,12 +8,12 @@ use Rattle.event_graph.specs.Satisfying.{Breaks, Satisfies}
 use Rattle.event_graph.specs.Times.{separation}
 use Rattle.event_graph.specs.Usable.{MeetsUsable}
 use Rattle.event_graph.specs.Reading.{AtEachSplit}
-use Rattle.event_graph.specs.Network.{splittable_count}
 use Rattle.branch.specs.Answers.{PairSearch}
 use Rattle.branch.specs.Work.{IsClose}
 use Rattle.branch.specs.Needed.{IsNeededToBound, IsNeededToFind}
 use Rattle.branch.specs.Splits.{AreSplits}
-use Rattle.branch.specs.Step.Cases.{IsCase, IsFree, open_cases, siblings}
+use Rattle.event_graph.specs.Cases.{open_cases, siblings}
+use Rattle.branch.specs.Step.Cases.{IsFree, IsSearchCase}
 use Rattle.diff_bounds.specs.Limits.{IsTimely}
 use Rattle.branch.specs.Step.Raising.{IsNearSeparation}
 use Rattle.branch.specs.Step.Standing.{AreOfSame, HasUpper, StandsBelow, StandsOn}
@@ -34,16 +34,16 @@ aimed net aim budget = record { net = net; from = aim.from; to = aim.to; budget 
 
 -- a search is at a case: the bounds stand on it, there is room for every split, and the budget is not used up
 pub record IsAtCase (net : Net) (s : Search) : Type 0 where
-  pub case : IsCase net s.cases.chosen
+  pub case : IsSearchCase net s.cases.chosen
   pub stands : StandsOn net s.cases.chosen s.bounds
-  pub room : splittable_count net ≤ s.cases.room
+  pub room : length net.constraints ≤ s.cases.room
   pub left : s.leaves < s.budget
 
 -- a search comes to a case: the bounds stand on all its choices but the latest
 pub record IsBelowCase (net : Net) (s : Search) : Type 0 where
-  pub case : IsCase net s.cases.chosen
+  pub case : IsSearchCase net s.cases.chosen
   pub below : StandsBelow net s.cases.chosen s.bounds
-  pub room : splittable_count net ≤ s.cases.room
+  pub room : length net.constraints ≤ s.cases.room
   pub left : s.leaves < s.budget
 
 -- a step keeps what the search was made for
@@ -68,7 +68,7 @@ left_after net now Stopped = open_cases net now
 pub record IsNext (net : Net) (before now : Search) : Type 0 where
   pub same : siblings net before.cases.chosen ≡ open_cases net now.cases.chosen
   pub some : 0 < length now.cases.chosen
-  pub case : IsCase net now.cases.chosen
+  pub case : IsSearchCase net now.cases.chosen
   pub below : StandsBelow net now.cases.chosen now.bounds
 
 -- how a closed case is left: for a next one, or for good

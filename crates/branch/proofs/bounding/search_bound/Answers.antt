@@ -1,7 +1,7 @@
 use Rattle.std.proofs.Common.{◌≡◌, ◌+◌, ◌∙◌, ℤ, List, [], ◌++◌, Some, sym, ap, subst}
 use Rattle.event_graph.specs.Proof.{Bound, ProofLine}
 use Rattle.branch.specs.Needed.{IsNeededToBound}
-use Rattle.branch.specs.Step.Cases.{open_cases}
+use Rattle.event_graph.specs.Cases.{open_cases}
 use Rattle.branch.specs.Step.Searched.{IsBoundSearched}
 use Rattle.branch.specs.declared.search.Search.{Search}
 use Rattle.branch.proofs.Entering.{keeps_same, keeps_then, root_read}

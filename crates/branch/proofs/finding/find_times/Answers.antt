@@ -5,7 +5,7 @@ use Rattle.event_graph.specs.Proof.{ClosesByLoop, Loop, Nothing, ProofLine}
 use Rattle.event_graph.specs.Reading.{AtEachSplit}
 use Rattle.branch.specs.Answers.{IsFoundConsistent}
 use Rattle.branch.specs.Needed.{IsNeededToFind}
-use Rattle.branch.specs.Step.Cases.{open_cases}
+use Rattle.event_graph.specs.Cases.{open_cases}
 use Rattle.branch.specs.Step.Searched.{IsFindCut, IsFindSearched}
 use Rattle.branch.specs.declared.search.Search.{Search}
 use Rattle.branch.proofs.Endings.{cut_count, found_consistent, found_inconsistent, found_unsettled, proof_count, root_searched, stopped_count}

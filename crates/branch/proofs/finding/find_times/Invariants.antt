@@ -1,6 +1,7 @@
 use Rattle.std.proofs.Common.{◌≡◌, List}
 use Rattle.event_graph.specs.Proof.{ProofLine}
-use Rattle.branch.specs.Step.Cases.{open_cases, work_left}
+use Rattle.event_graph.specs.Cases.{open_cases}
+use Rattle.branch.specs.Step.Cases.{work_left}
 use Rattle.branch.specs.Step.Searched.{IsAtCase, IsFindSearched}
 use Rattle.branch.proofs.finding.find_times.Given as goal
 

@@ -1,7 +1,7 @@
 use Rattle.std.proofs.Common.{◌≡◌, ◌+◌, ◌∙◌, ℕ, List, [], ◌∷◌, ap, subst, sym}
 use Rattle.itv_base.specs.declared.names.EdgeName.{EdgeName}
 use Rattle.event_graph.specs.Proof.{Bound, Case, ClosesByPath, Path, ProofGoal}
-use Rattle.branch.specs.Step.Cases.{open_cases, siblings}
+use Rattle.event_graph.specs.Cases.{open_cases, siblings}
 use Rattle.branch.specs.declared.search.Search.{Search}
 use Rattle.branch.proofs.Entering.{HasClosed, closed_end, closed_next, closed_none, closed_one, path_reads, short_after, short_one, steps_after}
 use Rattle.branch.proofs.Results.{if_ok_then, on_err, on_err_then}

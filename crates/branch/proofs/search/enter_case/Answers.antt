@@ -2,7 +2,8 @@ use Rattle.std.proofs.Common.{◌≡◌, ◌+◌, ◌∙◌, List, [], ◌∷◌
 use Rattle.itv_base.specs.declared.names.EdgeName.{EdgeName}
 use Rattle.diff_bounds.specs.declared.fit.Fit.TheVariants.{Loop as Looped}
 use Rattle.event_graph.specs.Proof.{Case, ClosesByLoop, Loop}
-use Rattle.branch.specs.Step.Cases.{open_cases, siblings, work_left}
+use Rattle.event_graph.specs.Cases.{open_cases, siblings}
+use Rattle.branch.specs.Step.Cases.{work_left}
 use Rattle.branch.specs.declared.search.Search.{Search}
 use Rattle.branch.proofs.Entering.{HasClosed, closed_end, closed_next, closed_one, keeps_bounds, keeps_then, loop_reads, short_one, steps_here}
 use Rattle.branch.proofs.Results.{on_err}

@@ -1,6 +1,7 @@
 use Rattle.std.proofs.Common.{◌-◌, ◌<◌, ◌≤◌, List, length}
 use Rattle.event_graph.specs.Proof.{ProofGoal, ProofLine}
-use Rattle.branch.specs.Step.Cases.{open_cases, work_left}
+use Rattle.event_graph.specs.Cases.{open_cases}
+use Rattle.branch.specs.Step.Cases.{work_left}
 use Rattle.branch.specs.Step.Searched.{IsBelowCase, Keeps}
 use Rattle.branch.proofs.Entering.{HasClosed}
 use Rattle.branch.proofs.search.enter_case.Given as goal

@@ -1,5 +1,6 @@
 use Rattle.std.proofs.Common.{◌≡◌, length}
-use Rattle.branch.specs.Step.Cases.{IsCase, siblings}
+use Rattle.event_graph.specs.Cases.{siblings}
+use Rattle.branch.specs.Step.Cases.{IsSearchCase}
 use Rattle.branch.specs.Step.Searched.{Keeps}
 use Rattle.branch.specs.Step.Standing.{StandsBelow}
 use Rattle.branch.proofs.search.next_case.Given as goal
@@ -8,7 +9,7 @@ use Rattle.branch.proofs.search.next_case.Given as goal
 abbrev pub invariant-loop-choice : goal.invariant-loop-choice
 invariant-loop-choice l = record {
   others : siblings l.net l.fn.search.cases.chosen ≡ siblings l.net l.search.cases.chosen;
-  case : IsCase l.net l.search.cases.chosen;
+  case : IsSearchCase l.net l.search.cases.chosen;
   below : StandsBelow l.net l.search.cases.chosen l.search.bounds;
   same : Keeps l.net l.fn.search l.search;
   leaves : l.search.leaves ≡ l.fn.search.leaves;

@@ -1,16 +1,21 @@
-use Rattle.std.proofs.Common.{◌≡◌, [], ap, refl, subst, arith}
+use Rattle.std.proofs.Common.{◌≡◌, ◌<◌, [], ap, length, refl, subst, arith}
 use Rattle.event_graph.specs.Proof.{Case}
-use Rattle.branch.specs.Step.Cases.{Chosen, first_of, open_cases, work_left}
+use Rattle.event_graph.specs.Cases.{Chosen, first_of, open_cases}
+use Rattle.branch.specs.Step.Cases.{work_left}
 use Rattle.branch.specs.Step.Searched.{Steps, StepsShort}
-use Rattle.branch.proofs.CaseCounts.{free_room, split_falls}
+use Rattle.event_graph.proofs.Choices.{others_free}
+use Rattle.branch.proofs.CaseCounts.{free_within, split_falls}
 use Rattle.branch.proofs.Entering.{short_none}
 use Rattle.branch.proofs.Results.{if_ok_then, on_err, on_err_then}
 use Rattle.branch.proofs.search.split_case.Goals as goal
 
-pub push-requires-clause-room : goal.push-requires-clause-room
-push-requires-clause-room g c =
-    let room = free_room c.args.net.now c.args.search.now.cases.chosen c.args.number c.requires.case.case c.requires.free in
-    omega (arith, room, c.requires.case.room)
+pub push-requires-clause-constraint : goal.push-requires-clause-constraint
+push-requires-clause-constraint g c =
+    let within : c.args.number < length c.args.net.now.constraints = free_within c.args.net.now c.args.search.now.cases.chosen c.args.number c.requires.free in
+    omega (arith, within, c.requires.case.room)
+
+pub push-requires-clause-free : goal.push-requires-clause-free
+push-requires-clause-free g c = others_free c.args.search.now.cases.chosen c.args.number c.requires.free.may.1
 
 pub returns-clause-lines : goal.returns-clause-lines
 returns-clause-lines g c =

@@ -1,5 +1,5 @@
 use Rattle.std.proofs.Common.{◌≡◌, length}
-use Rattle.cert_checker.specs.Checking.{IsCase, siblings}
+use Rattle.event_graph.specs.Cases.{IsCase, siblings}
 use Rattle.cert_checker.proofs.checker.next_case.Given as goal
 
 -- the other open cases are those of the choices that are left

@@ -1,9 +1,7 @@
 use Rattle.std.proofs.Common.{◌≡◌, true, false, is_some, sym, ap, ◌∙◌, subst}
-use Rattle.cert_checker.specs.Checking.{IsCase}
-use Rattle.cert_checker.specs.Faults.{is_split}
-use Rattle.cert_checker.specs.Step.Chosen.{Chosen}
+use Rattle.event_graph.specs.Cases.{Chosen, IsCase, is_split}
+use Rattle.event_graph.proofs.Choices.{split_cause}
 use Rattle.cert_checker.proofs.Splitting.{split_again, split_case, split_fresh}
-use Rattle.cert_checker.proofs.Telling.{split_cause}
 use Rattle.cert_checker.proofs.checker.split.Goals as goal
 
 pub returns-then-is_some-clause-fault : goal.returns-then-is_some-clause-fault

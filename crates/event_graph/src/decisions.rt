@@ -1,7 +1,8 @@
 //! The choices of a case.
 
-ghost use Rattle.std.specs.Prelude.{◌≡◌, ◌<◌, ℕ, [], ◌∷◌, None, IfOk, IfSome, MatchOption};
-ghost use Rattle.cert_checker.specs.Step.Chosen.{cause_chosen};
+ghost use Rattle.std.specs.Prelude.{◌≡◌, ◌<◌, ◌↔◌, [], ◌∷◌, None, IfOk, IfSome, IsTrue, MatchOption};
+ghost use Rattle.event_graph.specs.Cases.{cause_chosen};
+ghost use Rattle.event_graph.specs.Proof.{Case};
 
 use crate::choice::Choice;
 use itv_base::NoMemory;
@@ -19,7 +20,8 @@ pub struct Decisions {
 }
 
 impl Model for Decisions {
-    ghost use Rattle.cert_checker.specs.Step.Chosen.{Chosen, IsNoted, chosen_in};
+    ghost use Rattle.event_graph.specs.Cases.{Chosen};
+    ghost use Rattle.event_graph.specs.Step.Noted.{IsNoted, chosen_in};
 
     ghost Value = { Chosen };
 
@@ -47,6 +49,13 @@ impl Decisions {
         while self.pop().is_some() {}
     }
 
+    /// Whether there are none.
+    pub fn is_empty(&self) -> bool
+        ensures { IsTrue result ↔ (self.now.chosen ≡ []) }
+    {
+        self.choices.is_empty()
+    }
+
     /// Adds a choice of a constraint of which no cause is chosen.
     pub fn push(&mut self, choice: Choice)
         requires constraint { choice.constraint < self.old.room }
@@ -70,11 +79,22 @@ impl Decisions {
         Some(choice)
     }
 
+    /// The latest choice, if there is one.
+    pub fn top(&self) -> Option<Choice>
+        ensures { MatchOption result (self.now.chosen ≡ [])
+            (λ choice. (below : Case) × (self.now.chosen ≡ choice ∷ below)) }
+    {
+        self.choices.last().copied()
+    }
+
     /// The cause that is chosen of a constraint, if one is.
     pub fn cause_of(&self, constraint: u32) -> Option<u32>
-        requires { constraint < self.now.room }
         ensures { result ≡ cause_chosen self.now.chosen constraint }
     {
-        self.causes[constraint as usize]
+        match self.causes.get(constraint as usize) {
+            Some(cause) => *cause,
+            // Of a constraint beyond the room none is.
+            None => None,
+        }
     }
 }

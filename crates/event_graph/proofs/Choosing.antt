@@ -5,7 +5,8 @@ use Rattle.std.proofs.lemmas.Bool.{cases_eq, eq-eqb, eqb-true, ne_eqb, or_cases,
 use Rattle.std.proofs.lemmas.List.{length-map}
 use Rattle.std.proofs.lemmas.Map.Steps.{length-le_from_distinct_below}
 use Rattle.event_graph.specs.Proof.{Case, Choice}
-use Rattle.cert_checker.specs.Step.Chosen.{AreChoices, IsTable, cause_chosen}
+use Rattle.event_graph.specs.Cases.{cause_chosen}
+use Rattle.event_graph.specs.Step.Noted.{AreChoices, IsTable}
 
 abbrev number_of : Choice → ℕ
 number_of choice = choice.constraint
@@ -43,6 +44,13 @@ length_within room chosen h =
     let few : length (map number_of chosen) ≤ room =
     length-le_from_distinct_below (map number_of chosen) room (distinct room chosen h) (λ number any. below room chosen number h any) in
     omega (arith, length-map chosen number_of)
+
+-- no cause is chosen of a constraint beyond the room
+pub cause_beyond : (room : ℕ) (chosen : Case) (number : ℕ) → AreChoices room chosen → room ≤ number → cause_chosen chosen number ≡ None
+cause_beyond room [] number h beyond = refl
+cause_beyond room (choice ∷ above) number h beyond =
+    let within : choice.constraint < room = h.0 in
+    rw (ne_eqb choice.constraint number (λ same. absurd (omega (arith, same)))) (cause_beyond room above number h.2 beyond)
 
 pub table_pop : (causes : List (Option ℕ)) (chosen : Case) (choice : Choice) → IsTable causes (choice ∷ chosen) → IsTable (set causes choice.constraint None) chosen
 table_pop causes chosen choice table =

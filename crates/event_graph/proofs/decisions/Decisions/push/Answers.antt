@@ -1,8 +1,8 @@
 use Rattle.std.proofs.Common.{◌≡◌, ◌<◌, ◌≤◌, ◌∷◌, None, length, reverse, subst, sym, arith}
 use Rattle.std.proofs.lemmas.List.{length-reverse}
-use Rattle.cert_checker.specs.Step.Chosen.{Chosen, cause_chosen}
-use Rattle.cert_checker.proofs.Choosing.{length_within}
-use Rattle.cert_checker.proofs.decisions.Decisions.push.Goals as goal
+use Rattle.event_graph.specs.Cases.{Chosen, cause_chosen}
+use Rattle.event_graph.proofs.Choosing.{length_within}
+use Rattle.event_graph.proofs.decisions.Decisions.push.Goals as goal
 
 pub push_reserved-requires : goal.push_reserved-requires
 push_reserved-requires c =

@@ -2,7 +2,7 @@
 
 use std::marker::Model;
 
-/// A constraint and one of its causes, by their numbers from 0.
+/// A cause of a constraint that is chosen, by their numbers from 0.
 #[derive(Clone, Copy, Debug, PartialEq, Eq)]
 pub struct Choice {
     pub constraint: u32,
@@ -10,9 +10,9 @@ pub struct Choice {
 }
 
 impl Model for Choice {
-    ghost use Rattle.event_graph.specs.Proof.{Choice as ChoiceOf};
+    ghost use Rattle.event_graph.specs.Proof.{Choice};
 
-    ghost Value = { ChoiceOf };
+    ghost Value = { Choice };
 
     ghost view = { λ c. record { constraint = c.constraint; cause = c.cause } };
 

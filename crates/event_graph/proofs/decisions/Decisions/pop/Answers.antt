@@ -1,9 +1,9 @@
 use Rattle.std.proofs.Common.{◌≡◌, ◌∷◌, [], None, reverse, set, sym, ap, ◌∙◌, subst, arith, length-set}
 use Rattle.std.proofs.lemmas.List.{reverse-append}
 use Rattle.event_graph.specs.Proof.{Choice}
-use Rattle.cert_checker.specs.Step.Chosen.{IsTable}
-use Rattle.cert_checker.proofs.Choosing.{table_pop}
-use Rattle.cert_checker.proofs.decisions.Decisions.pop.Goals as goal
+use Rattle.event_graph.specs.Step.Noted.{IsTable}
+use Rattle.event_graph.proofs.Choosing.{table_pop}
+use Rattle.event_graph.proofs.decisions.Decisions.pop.Goals as goal
 
 pub invariant_of-self-2 : goal.invariant_of-self-2
 invariant_of-self-2 c =

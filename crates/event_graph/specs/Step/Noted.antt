@@ -1,17 +1,8 @@
--- The choices of a case, with a table of them by constraint.
-use Rattle.std.specs.Prelude.{◌≡◌, ◌==◌, ◌<◌, ◌≤◌, ℕ, if◌then◌else◌, List, [], ◌∷◌, length, reverse, Option, Some, None, slice_index_or, vec_capacity}
+-- The choices of a case, noted in a table of them by constraint.
+use Rattle.std.specs.Prelude.{◌≡◌, ◌<◌, ◌≤◌, ℕ, List, [], ◌∷◌, length, reverse, Option, None, slice_index_or, vec_capacity}
+use Rattle.event_graph.specs.Cases.{Chosen, cause_chosen}
 use Rattle.event_graph.specs.Proof.{Case}
-use Rattle.cert_checker.specs.declared.decisions.Decisions.TheInside.{Inside}
-
--- for how many constraints there is a place in the table, and the choices, the latest one first
-pub record Chosen : Type 0 where
-  pub room : ℕ
-  pub chosen : Case
-
--- the cause that is chosen of a constraint, where one is
-abbrev pub cause_chosen : Case → ℕ → Option ℕ
-cause_chosen [] number = None
-cause_chosen (choice ∷ above) number = if choice.constraint == number then Some choice.cause else cause_chosen above number
+use Rattle.event_graph.specs.declared.decisions.Decisions.TheInside.{Inside}
 
 -- each choice is of a constraint below a number, of which no cause is chosen before
 abbrev pub AreChoices : ℕ → Case → Type 0

@@ -1,5 +1,5 @@
 use Rattle.std.proofs.Common.{◌≡◌, length}
-use Rattle.cert_checker.proofs.decisions.Decisions.clear.Given as goal
+use Rattle.event_graph.proofs.decisions.Decisions.clear.Given as goal
 
 -- the table keeps its places
 abbrev pub invariant-loop : goal.invariant-loop

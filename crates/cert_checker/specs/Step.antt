@@ -1,2 +1,0 @@
--- Words of contracts within this crate.
-pub mod Chosen
