@@ -174,7 +174,8 @@ fn step<S: Scribe>(
     ensures places { length best.new.times.items ≡ net.now.events }
     ensures ends { IfOk result (λ end. IfSome end (EndsAs net.now search.new)) }
     ensures advances { IfOk result (λ end. (lines : List ProofLine) × S.Grew scribe.old lines scribe.new
-        × Advances net.now aim search.old search.new best.old best.new trial.new.ray.items lines end) }
+        × Advances net.now aim (record { search = search.old; best = best.old }) (record { search = search.new; best = best.new })
+        trial.new.ray.items lines end) }
     ensures cut { OnErr result ((lines : List ProofLine) × S.WasCut scribe.old lines scribe.new
         × IsCutAfter net.now aim best.old.value search.old.cases.chosen search.old.leaves search.new.leaves lines) }
     ensures within { OnErr result (search.new.leaves ≤ search.new.budget) }

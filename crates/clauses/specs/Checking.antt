@@ -189,10 +189,6 @@ pub record TakesLine (net : Net) (old : Checking) (taken : ClauseLine) (new : Ch
   pub goal : new.goal ≡ old.goal
   pub line : IsLine net old.goal old.state taken new.state
 
--- the line leads nowhere
-abbrev pub RefusesLine : Net → Goal → State → ClauseLine → Type 0
-RefusesLine net goal state line = (next : State) → IsLine net goal state line next → ⊥
-
 -- what a proof and times say of the pair of a goal: the claim is the greatest separation and they attain it, or no times satisfy, or it is open
 abbrev pub IsVerdict : Net → Goal → List ℤ → Verdict → Type 0
 IsVerdict net goal times (Closed value) =

@@ -1,5 +1,5 @@
 -- The names of the events of designs.
-use Rattle.std.proofs.Common.{◌≡◌, ◌<◌, ◌≤◌, ℕ, Bool, true, false, if◌then◌else◌, List, [], ◌∷◌, length, map, cond, nat_lt, All, Option, Some, None, Result, Ok, refl, ap, subst, arith, rules}
+use Rattle.std.proofs.Common.{◌≡◌, ◌<◌, ◌≤◌, ℕ, Bool, true, false, if◌then◌else◌, List, [], ◌∷◌, map, All, Option, Some, None, Result, Ok, refl, ap, subst, arith}
 use Rattle.std.specs.Prelude.{IfSome, IsTrue, ◌==◌, ◌&&◌, is_some, is_none, codes}
 use Rattle.std.proofs.lemmas.Result.{IfOk-at_ok}
 use Rattle.std.proofs.lemmas.List.Elements.{All-append, All-head, All-map, All-nil, All-tail, All-weaker}
@@ -12,7 +12,7 @@ use Rattle.grades.proofs.WholeGrades.{grades_whole}
 use Rattle.itv_base.specs.Characters.{is_name}
 use Rattle.itv_base.specs.Names.{Name}
 use Rattle.itv_base.specs.Outside.{ShelfTold}
-use Rattle.itv_base.specs.declared.limits.TheConstants.{MAX_CONSTRAINTS, MAX_CYCLES, MAX_EVENTS, MAX_ROWS}
+use Rattle.itv_base.specs.declared.limits.TheConstants.{MAX_CYCLES}
 use Rattle.sheet.specs.Contents as sheet
 use Rattle.sheet.specs.declared.mark.Mark.{Mark}
 use Rattle.netlist.specs.Contents.{Contents}
@@ -42,7 +42,7 @@ use Rattle.reading.specs.Opening as openings
 use Rattle.plan.specs.Plan.{NamedSheets, Planned, sheets_on}
 use Rattle.reading.specs.Design.{design_at, drawn_at, grades_in, is_unread, lone_at, lone_plan, netlist_at, plan_at, plain_key, plain_sheet_at, sheets_at, sheets_in, sheets_of_files, tree_in, with_part, with_sheet}
 use Rattle.reading.proofs.Opens.{at_gave, each_keeps, gave, opening_then}
-use Rattle.drawn_names.specs.Law.{DrawnNamesDiffer, DrawnNamesHaveForm, DrawnRangesHaveForm, DrawnRowsAreFew}
+use Rattle.drawn_names.specs.Law.{DrawnNamesDiffer, DrawnNamesHaveForm, DrawnRangesHaveForm}
 use Rattle.drawn_names.proofs.Apart.{AreApart, Every, MarksApart, apart_at, cycles_apart}
 use Rattle.drawn_names.proofs.Rows.{Demands, DemandsDrawn, cycles_hold, link_rows_hold, rows_hold, wires_hold}
 use Rattle.drawn_names.proofs.Steps.{result_then}
@@ -110,12 +110,11 @@ composed_holds netlist sheets d named marked whole is =
       rows = subst (All Demands) rows (link_rows_hold links (wires_hold netlist.parts sheets links netlist.wires named.wires are_links));
     }
 
--- a design was drawn that is named, and passes no limit
+-- a design was drawn that is named
 record IsDrawnFrom (drawn : Drawn) : Type 0 where
   design : Composed
   named : IsNamedDesign design
   draws : drawn_of design ≡ drawn
-  passes : first_passed (counts_of (drawn_of design)) ≡ None
 
 drawn_at_holds : (shelf : ShelfTold) (netlist : Contents) (sheets : NamedSheets) (drawn : Drawn) → IsNamedNetlist netlist → AreMarked sheets
     → Comes shelf (drawn_at netlist sheets) (ready drawn) → IsDrawnFrom drawn
@@ -126,7 +125,7 @@ drawn_at_holds shelf netlist sheets drawn named marked comes =
     let limited : unrolled d ≡ Ok drawn = at_gave shelf Design (λ why. Limits why) _ drawn rest in
     let inside = within_holds (drawn_of d) (first_passed (counts_of (drawn_of d))) drawn limited in
     let both = sheets_hold sheets netlist.parts marked in
-    record { design = d; named = composed_holds netlist (sheets_on sheets netlist.parts) d named both.0 both.1 joined; draws = inside.0; passes = inside.1 }
+    record { design = d; named = composed_holds netlist (sheets_on sheets netlist.parts) d named both.0 both.1 joined; draws = inside.0 }
 
 sheet_by_formed : (grades : Option (List Grade)) (name : Option (List ℕ)) (drawing : Drawing) (found : sheet.Contents) → IfSome grades AreRanges → sheet_by grades name drawing ≡ Ok found → IsFormed found
 sheet_by_formed grades name drawing found ranges read =
@@ -226,24 +225,3 @@ pub drawn_ranges_have_form : DrawnRangesHaveForm
 drawn_ranges_have_form shelf name drawn comes =
     let from = drawn_from shelf name drawn comes in
     subst (λ (x : Drawn). All DemandsDrawn x.rows) from.draws (rows_hold (mark_count from.design.sheets) from.design from.named.whole from.named.rows)
-
-not_first : {X : Type 0} (b : Bool) (x : X) (o : Option X) → cond b (Some x) o ≡ None → (b ≡ false) × (o ≡ None)
-not_first true x o none = absurd (cc none)
-not_first false x o none = (refl, none)
-
-within_limit : (n : ℕ) → nat_lt MAX_ROWS n ≡ false → n ≤ MAX_ROWS
-within_limit n is = search rules
-
--- the third limit is that of rows
-few_rows : (drawn : Drawn) → first_passed (counts_of drawn) ≡ None → length drawn.rows ≤ MAX_ROWS
-few_rows drawn none =
-    let events = not_first (nat_lt MAX_EVENTS drawn.net.events) _ _ none in
-    let constraints = not_first (nat_lt MAX_CONSTRAINTS (length drawn.net.constraints)) _ _ events.1 in
-    let rows = not_first (nat_lt MAX_ROWS (length drawn.rows)) _ _ constraints.1 in
-    within_limit (length drawn.rows) rows.0
-
--- the rows are few
-pub drawn_rows_are_few : DrawnRowsAreFew
-drawn_rows_are_few shelf name drawn comes =
-    let from = drawn_from shelf name drawn comes in
-    subst (λ (x : Drawn). length x.rows ≤ MAX_ROWS) from.draws (few_rows (drawn_of from.design) from.passes)

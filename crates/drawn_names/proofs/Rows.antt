@@ -1,5 +1,5 @@
 -- What rows demand.
-use Rattle.std.proofs.Common.{◌≡◌, ◌<◌, ◌+◌, ℕ, zero, suc, Bool, true, false, if◌then◌else◌, List, [], ◌∷◌, ◌++◌, length, map, All, Option, Some, None, IfSome, unwrap_or, Result, Ok, Err, subst, arith}
+use Rattle.std.proofs.Common.{◌≡◌, ◌<◌, ◌+◌, ℕ, zero, suc, Bool, true, false, if◌then◌else◌, List, [], ◌∷◌, ◌++◌, length, map, All, Option, Some, None, IfSome, unwrap_or, Ok, Err, subst, arith}
 use Rattle.std.specs.List.{cons_option, filter_map}
 use Rattle.std.proofs.lemmas.List.Elements.{All-append, All-cons, All-head, All-map, All-nil, All-push, All-tail, All-weaker}
 use Rattle.itv_base.specs.Range.{Ends, IsRange}
@@ -73,9 +73,6 @@ IsPushed b fault done link last = (if b then Err fault else Ok (done ++ link ∷
 pushed : (b : Bool) (fault : JoinFault) (done last : List Link) (link : Link) → All HasRange done → HasRange link → IsPushed b fault done link last → All HasRange last
 pushed true fault done last link all range is = absurd (cc is)
 pushed false fault done last link all range is = let same : done ++ link ∷ [] ≡ last = cc is in subst (All HasRange) same (All-push HasRange done link all range)
-
-abbrev IsDone : List Link → Result (List Link) JoinFault → Type 0
-IsDone done result = Ok done ≡ result
 
 -- a wire is whole, if it is one
 abbrev pub IsWholeIf : Option Wire → Type 0

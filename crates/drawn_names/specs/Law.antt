@@ -1,7 +1,6 @@
 -- What holds of every network that a design draws.
-use Rattle.std.specs.Prelude.{◌≡◌, ◌<◌, ◌≤◌, ℕ, List, length, All, slice_index_or}
+use Rattle.std.specs.Prelude.{◌≡◌, ◌<◌, ℕ, List, length, All, slice_index_or}
 use Rattle.itv_base.specs.Outside.{ShelfTold}
-use Rattle.itv_base.specs.declared.limits.TheConstants.{MAX_ROWS}
 use Rattle.drawn.specs.Drawn.{Drawn, nameless}
 use Rattle.drawn.specs.declared.row.Row.{Row}
 use Rattle.slack_report.specs.Entry.{IsKind, IsName}
@@ -21,7 +20,3 @@ DrawnNamesDiffer = (shelf : ShelfTold) (name : List ℕ) (drawn : Drawn) → Com
 abbrev pub DrawnRangesHaveForm : Type 0
 DrawnRangesHaveForm =
     (shelf : ShelfTold) (name : List ℕ) (drawn : Drawn) → Comes shelf (design_at name) (ready drawn) → All (λ (row : Row). IsKind row.kind) drawn.rows
-
--- and it has no more rows than the limit
-abbrev pub DrawnRowsAreFew : Type 0
-DrawnRowsAreFew = (shelf : ShelfTold) (name : List ℕ) (drawn : Drawn) → Comes shelf (design_at name) (ready drawn) → length drawn.rows ≤ MAX_ROWS

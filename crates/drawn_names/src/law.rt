@@ -1,6 +1,6 @@
 //! The laws.
 
-ghost use Rattle.drawn_names.specs.Law.{DrawnNamesDiffer, DrawnNamesHaveForm, DrawnRangesHaveForm, DrawnRowsAreFew};
+ghost use Rattle.drawn_names.specs.Law.{DrawnNamesDiffer, DrawnNamesHaveForm, DrawnRangesHaveForm};
 
 /// Each event of a drawn network has a name of its form. The function does nothing; what it ensures holds of all designs.
 pub fn drawn_names_have_form()
@@ -15,9 +15,4 @@ pub fn drawn_names_differ()
 /// What a row of a drawn network demands is a range.
 pub fn drawn_ranges_have_form()
     ensures law { DrawnRangesHaveForm }
-{}
-
-/// A drawn network has no more rows than the limit.
-pub fn drawn_rows_are_few()
-    ensures law { DrawnRowsAreFew }
 {}

@@ -1,9 +1,7 @@
-//! What holds of every network that a design draws: its names, its ranges and the number of its rows.
-//! The contract is four laws, over the definitions alone: so the lines of a report have texts, and read back.
+//! What holds of every network that a design draws: its names and its ranges.
+//! The contract is three laws, over the definitions alone: so the lines of a report have texts, and read back.
 #![tactic(auto)]
 
 mod law;
 
-pub use law::{
-    drawn_names_differ, drawn_names_have_form, drawn_ranges_have_form, drawn_rows_are_few,
-};
+pub use law::{drawn_names_differ, drawn_names_have_form, drawn_ranges_have_form};

@@ -6,11 +6,10 @@ use Rattle.itv_base.specs.Outside.{CutShort, SinkTold, grown}
 use Rattle.itv_base.proofs.Written.{cut_then, grown-append, grown-nil}
 use Rattle.falling.specs.Derivation.{starting_values}
 use Rattle.falling.specs.declared.line.FallLine.{FallLine}
-use Rattle.fall_report.specs.Noting.{SinkGrew, SinkWasCut}
 use Rattle.fall_report.specs.FallText.{fall_text}
 use Rattle.fall_report.specs.Fall.{AreBegun, Job, MayFollow, Place, Reads, at_bound, at_end, at_finding, at_last, at_row, at_rows}
 use Rattle.fall_report.specs.Shows.{first_event}
-use Rattle.fall_report.specs.Step.{Goes, Stopped, Told}
+use Rattle.fall_report.specs.Step.{Goes, SinkGrew, SinkWasCut, Stopped, Told}
 use Rattle.fall_report.specs.Text.{printed}
 use Rattle.fall_report.specs.View.{seen, source}
 

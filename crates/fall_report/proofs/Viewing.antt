@@ -16,7 +16,7 @@ use Rattle.falling.specs.declared.line.FallLine.{FallLine}
 use Rattle.falling.specs.Course.{AreLimits}
 use Rattle.falling.specs.Derivation.{IsDerivation, starting_values}
 use Rattle.falling.specs.Kinds.{negated, negated_times}
-use Rattle.falling.specs.Solving.{AnswersAs, IsDerivationAs, IsNegationOf}
+use Rattle.falling.specs.Solving.{AnswersAs, IsDerivationAs, IsNegationOf, asked_of}
 use Rattle.falling.specs.Turns.{IsNearValue}
 use Rattle.falling.proofs.Bounding.{length-starting}
 use Rattle.falling.proofs.Negating.{all_map, length-mapped, negated_twice, satisfies_turns, time_of-negated}
@@ -75,7 +75,7 @@ near_by_negation net limits to lines values times is_net limited in_to d turn sa
 
 -- the times of an answer that has some, and its number
 pub near_times : (net : Net) (limits : Limits) (negation : Option Net) (from to : EventId) (turns : ℕ) (lines : List FallLine) (times : List ℤ) (ray : List Bool) (fallen : Fallen)
-    → IsNet net → AreLimits net limits → IsNegationOf net negation → from.0 < net.events → to.0 < net.events → AnswersAs negation net from to turns lines times ray fallen
+    → IsNet net → AreLimits net limits → IsNegationOf net negation → from.0 < net.events → to.0 < net.events → AnswersAs negation net (asked_of from to turns) lines times ray fallen
     → HasTimes fallen → All IsNearValue times
 near_times net limits None from to turns lines times ray (Closed value) is_net limited is in_from in_to a has = satisfying_near net from lines times is_net in_from limited.small a.derivation a.satisfies
 near_times net limits None from to turns lines times ray Unbounded is_net limited is in_from in_to a has = satisfying_near net from lines times is_net in_from limited.small a.derivation a.satisfies
@@ -92,7 +92,7 @@ near_at : (values : List ℤ) (event : EventId) (value : ℤ) → event.0 < leng
 near_at values event value within e near = subst IsNearValue e (near event.0 (pos 0) within)
 
 pub near_value : (net : Net) (limits : Limits) (negation : Option Net) (from to : EventId) (turns : ℕ) (lines : List FallLine) (times : List ℤ) (ray : List Bool) (value : ℤ)
-    → IsNet net → AreLimits net limits → IsNegationOf net negation → from.0 < net.events → to.0 < net.events → AnswersAs negation net from to turns lines times ray (Closed value)
+    → IsNet net → AreLimits net limits → IsNegationOf net negation → from.0 < net.events → to.0 < net.events → AnswersAs negation net (asked_of from to turns) lines times ray (Closed value)
     → IsNearValue value
 near_value net limits None from to turns lines times ray value is_net limited is in_from in_to a =
     near_at times to value (subst (λ n. to.0 < n) (sym a.satisfies.count) in_to) a.derived (satisfying_near net from lines times is_net in_from limited.small a.derivation a.satisfies)
@@ -127,7 +127,7 @@ no_events some none = omega arith
 
 -- what is found of a network with events in a view, by the answer on event 0 and itself
 finding_in : (net : Net) (negation : Option Net) (turns : ℕ) (lines : List FallLine) (times : List ℤ) (ray : List Bool) (fallen : Fallen) (view : View) → 0 < net.events
-    → IsNegationOf net negation → AnswersAs negation net first_event first_event turns lines times ray fallen → (HasTimes fallen → All IsNearValue times) → IsViewOf net view
+    → IsNegationOf net negation → AnswersAs negation net (asked_of first_event first_event turns) lines times ray fallen → (HasTimes fallen → All IsNearValue times) → IsViewOf net view
     → IsFinding view net turns lines (told_finding (found_by fallen) times)
 finding_in net None turns lines times ray fallen Negated some is a near v = absurd (one_view net is v)
 finding_in net (Some n) turns lines times ray fallen Plain some is a near v = absurd (one_view net v is.1)
@@ -156,7 +156,7 @@ finding_in net (Some n) turns lines times ray Spent Negated some is a near v = r
 
 -- the same in each view, by at most as many lines as turns
 pub shows_finding : (net : Net) (negation : Option Net) (turns : ℕ) (lines : List FallLine) (times : List ℤ) (ray : List Bool) (fallen : Fallen) → 0 < net.events
-    → IsNegationOf net negation → length lines ≤ turns → AnswersAs negation net first_event first_event turns lines times ray fallen → (HasTimes fallen → All IsNearValue times)
+    → IsNegationOf net negation → length lines ≤ turns → AnswersAs negation net (asked_of first_event first_event turns) lines times ray fallen → (HasTimes fallen → All IsNearValue times)
     → ShowsFinding net turns lines (told_finding (found_by fallen) times)
 shows_finding net negation turns lines times ray fallen some is few a near = (few, λ view v. finding_in net negation turns lines times ray fallen view some is a near v)
 
@@ -212,7 +212,7 @@ shows_empty net turns times is_net none count = (
 
 -- what is found of a network that is consistent
 pub has_found : (net : Net) (negation : Option Net) (turns : ℕ) (lines : List FallLine) (times : List ℤ) (ray : List Bool) (fallen : Fallen)
-    → AnswersAs negation net first_event first_event turns lines times ray fallen → HasFound net (found_by fallen)
+    → AnswersAs negation net (asked_of first_event first_event turns) lines times ray fallen → HasFound net (found_by fallen)
 has_found net None turns lines times ray (Closed value) a = (times, a.satisfies)
 has_found net None turns lines times ray Unbounded a = (times, a.satisfies)
 has_found net None turns lines times ray Inconsistent a = tt
@@ -223,10 +223,10 @@ has_found net (Some n) turns lines times ray Inconsistent a = tt
 has_found net (Some n) turns lines times ray Spent a = tt
 
 pub not_unbounded : (net : Net) (negation : Option Net) (turns : ℕ) (lines : List FallLine) (times : List ℤ) (ray : List Bool) (fallen : Fallen)
-    → AnswersAs negation net first_event first_event turns lines times ray fallen → fallen ≡ Unbounded → ⊥
-not_unbounded net negation turns lines times ray fallen a is = go negation (subst (AnswersAs negation net first_event first_event turns lines times ray) is a)
+    → AnswersAs negation net (asked_of first_event first_event turns) lines times ray fallen → fallen ≡ Unbounded → ⊥
+not_unbounded net negation turns lines times ray fallen a is = go negation (subst (AnswersAs negation net (asked_of first_event first_event turns) lines times ray) is a)
   where
-    go : (negation : Option Net) → AnswersAs negation net first_event first_event turns lines times ray Unbounded → ⊥
+    go : (negation : Option Net) → AnswersAs negation net (asked_of first_event first_event turns) lines times ray Unbounded → ⊥
     go None a = no_ray net first_event times ray a.raised
     go (Some n) a = no_ray net first_event times ray a.raised
 
@@ -274,7 +274,7 @@ module _ (net : Net) (which : Which) (r : Row) (is_net : IsNet net) (in_from : r
 
   -- what an answer on the searched pair of a row says of its bound, where some times satisfy
   pub shows_row : (negation : Option Net) (turns : ℕ) (lines : List FallLine) (times : List ℤ) (ray : List Bool) (fallen : Fallen) (view : View) → IsViewOf net view
-      → IsNegationOf net negation → (some : List ℤ) → Satisfies some net → AnswersAs negation net (source Plain which r) (target Plain which r) turns lines times ray fallen
+      → IsNegationOf net negation → (some : List ℤ) → Satisfies some net → AnswersAs negation net (asked_of (source Plain which r) (target Plain which r) turns) lines times ray fallen
       → (HasTimes fallen → All IsNearValue times) → IsBound view net turns which r lines (told_bound which r.from times ray fallen)
   shows_row None turns lines times ray fallen Negated v is some satisfied a near = absurd (one_view net is v)
   shows_row (Some n) turns lines times ray fallen Plain v is some satisfied a near = absurd (one_view net v is.1)
@@ -312,10 +312,10 @@ module _ (net : Net) (which : Which) (r : Row) (is_net : IsNet net) (in_from : r
   shows_row (Some n) turns lines times ray Spent Negated v is some satisfied a near = record { spent = a.spent; few = a.few }
 
 pub not_inconsistent : (net : Net) (negation : Option Net) (from to : EventId) (turns : ℕ) (lines : List FallLine) (times : List ℤ) (ray : List Bool) (fallen : Fallen) (some : List ℤ)
-    → Satisfies some net → AnswersAs negation net from to turns lines times ray fallen → fallen ≡ Inconsistent → ⊥
-not_inconsistent net negation from to turns lines times ray fallen some satisfied a is = go negation (subst (AnswersAs negation net from to turns lines times ray) is a)
+    → Satisfies some net → AnswersAs negation net (asked_of from to turns) lines times ray fallen → fallen ≡ Inconsistent → ⊥
+not_inconsistent net negation from to turns lines times ray fallen some satisfied a is = go negation (subst (AnswersAs negation net (asked_of from to turns) lines times ray) is a)
   where
-    go : (negation : Option Net) → AnswersAs negation net from to turns lines times ray Inconsistent → ⊥
+    go : (negation : Option Net) → AnswersAs negation net (asked_of from to turns) lines times ray Inconsistent → ⊥
     go None a = a.none some satisfied
     go (Some n) a = a.none some satisfied
 

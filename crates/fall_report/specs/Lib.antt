@@ -1,7 +1,6 @@
 pub mod View
 pub mod FallText
 pub mod Text
-pub mod Noting
 pub mod NotesLaws
 pub mod Shows
 pub mod Fall

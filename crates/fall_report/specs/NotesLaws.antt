@@ -5,7 +5,7 @@ use Rattle.itv_base.specs.Outside.{CutShort, SinkTold, grown}
 use Rattle.itv_base.proofs.Written.{cut_then, grown-append, grown-nil}
 use Rattle.falling.specs.declared.line.FallLine.{FallLine}
 use Rattle.fall_report.specs.FallText.{fall_line_text, fall_text}
-use Rattle.fall_report.specs.Noting.{SinkGrew, SinkWasCut}
+use Rattle.fall_report.specs.Step.{SinkGrew, SinkWasCut}
 
 pub fall_text-append : (xs ys : List FallLine) → fall_text (xs ++ ys) ≡ fall_text xs ++ fall_text ys
 fall_text-append [] ys = refl

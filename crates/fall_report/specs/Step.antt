@@ -10,8 +10,7 @@ use Rattle.falling.specs.declared.answer.Fallen.TheVariants as fallen
 use Rattle.falling.specs.declared.line.FallLine.{FallLine}
 use Rattle.falling.specs.Cap.{cap_limit}
 use Rattle.falling.specs.Derivation.{IsDerivation}
-use Rattle.falling.specs.Solving.{AnswersAs, IsMadeFor, Solving}
-use Rattle.fall_report.specs.Noting.{SinkGrew, SinkWasCut}
+use Rattle.falling.specs.Solving.{AnswersAs, IsMadeFor, Solving, asked_of}
 use Rattle.fall_report.specs.FallText.{fall_text}
 use Rattle.slack_report.specs.declared.words.EndWord.{EndWord}
 use Rattle.slack_report.specs.declared.words.EndWord.TheVariants as endings
@@ -29,6 +28,14 @@ use Rattle.fall_report.specs.Shows.{IsFinding, shown_by}
 use Rattle.fall_report.specs.Text.{Bound, Finding, bound_spent, consistent, finding_spent, inconsistent, closed, printed, unbounded}
 use Rattle.falling.specs.View.{IsViewOf}
 use Rattle.fall_report.specs.View.{moved, seen, source, target}
+
+-- what a sink tells grew by just the texts of the lines
+abbrev pub SinkGrew : SinkTold → List FallLine → SinkTold → Type 0
+SinkGrew old lines new = new ≡ grown old (fall_text lines)
+
+-- it grew by a front of their texts, and its count of faults rose
+abbrev pub SinkWasCut : SinkTold → List FallLine → SinkTold → Type 0
+SinkWasCut old lines new = CutShort old new (fall_text lines)
 
 -- a time is within the greatest cap in absolute value, so that another can be taken from it
 abbrev pub IsNear : ℤ → Type 0
@@ -61,7 +68,7 @@ ShowsFinding net turns lines found = (length lines ≤ turns) × ((view : View) 
 -- what a solver says of the searched pair of a row, by at most as many lines as turns
 abbrev pub AnswersRow : Net → Which → Row → ℕ → List FallLine → Solving → Fallen → Type 0
 AnswersRow net which r turns lines solver answer =
-    (length lines ≤ turns) × AnswersAs solver.negation net (source Plain which r) (target Plain which r) turns lines solver.times solver.ray answer
+    (length lines ≤ turns) × AnswersAs solver.negation net (asked_of (source Plain which r) (target Plain which r) turns) lines solver.times solver.ray answer
 
 -- ---- what is told
 

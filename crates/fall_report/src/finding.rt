@@ -2,7 +2,7 @@
 
 ghost use Rattle.std.specs.Prelude.{◌≡◌, ◌<◌, ℕ, List, IfOk, OnErr};
 ghost use Rattle.falling.specs.declared.line.FallLine.{FallLine};
-ghost use Rattle.falling.specs.Solving.{AnswersAs, IsMadeFor};
+ghost use Rattle.falling.specs.Solving.{AnswersAs, IsMadeFor, asked_of};
 ghost use Rattle.itv_base.specs.Outside.{Puts};
 ghost use Rattle.fall_report.specs.Fall.{Job, at_finding};
 ghost use Rattle.fall_report.specs.Shows.{first_event};
@@ -73,7 +73,7 @@ fn found_by(fallen: Fallen, net: &Network, solver: &Falling) -> Found
     requires events { 0 < net.now.events }
     requires made { IsMadeFor net.now solver.now }
     requires answers { (turns : ℕ) × (lines : List FallLine)
-        × AnswersAs solver.now.negation net.now first_event first_event turns lines solver.now.times solver.now.ray fallen }
+        × AnswersAs solver.now.negation net.now (asked_of first_event first_event turns) lines solver.now.times solver.now.ray fallen }
     ensures found { result ≡ found_by fallen }
     ensures has { HasFound net.now result }
 {

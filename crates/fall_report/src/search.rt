@@ -2,7 +2,7 @@
 
 ghost use Rattle.std.specs.Prelude.{◌≡◌, ◌<◌, ◌≤◌, List, IfOk, OnErr, true, ℤ, length};
 ghost use Rattle.falling.specs.declared.line.FallLine.{FallLine};
-ghost use Rattle.falling.specs.Solving.{AnswersAs, IsDerivationAs, IsMadeFor};
+ghost use Rattle.falling.specs.Solving.{AnswersAs, IsDerivationAs, IsMadeFor, asked_of};
 ghost use Rattle.fall_report.specs.Step.{Tells, WasCut};
 
 use crate::sink_notes::SinkNotes;
@@ -27,7 +27,7 @@ pub fn greatest_of<K: Sink>(
     ensures negation { solver.new.negation ≡ solver.old.negation }
     ensures answers { IfOk result (λ fallen. Tells wanted.cert (K.told sink.old) (K.told sink.new)
         (λ lines. (length lines ≤ wanted.turns)
-        × AnswersAs solver.old.negation net.now from to wanted.turns lines solver.new.times solver.new.ray fallen)) }
+        × AnswersAs solver.old.negation net.now (asked_of from to wanted.turns) lines solver.new.times solver.new.ray fallen)) }
     ensures cut { OnErr result (WasCut wanted.cert (K.told sink.old) (K.told sink.new)
         (λ lines. (length lines ≤ wanted.turns) × (after : List ℤ) × IsDerivationAs solver.old.negation net.now from to lines after)) }
 {
@@ -54,7 +54,7 @@ fn greatest_printing<K: Sink>(
     ensures negation { solver.new.negation ≡ solver.old.negation }
     ensures answers { IfOk result (λ fallen. Tells true (K.told sink.old) (K.told sink.new)
         (λ lines. (length lines ≤ turns)
-        × AnswersAs solver.old.negation net.now from to turns lines solver.new.times solver.new.ray fallen)) }
+        × AnswersAs solver.old.negation net.now (asked_of from to turns) lines solver.new.times solver.new.ray fallen)) }
     ensures cut { OnErr result (WasCut true (K.told sink.old) (K.told sink.new)
         (λ lines. (length lines ≤ turns) × (after : List ℤ) × IsDerivationAs solver.old.negation net.now from to lines after)) }
 {
@@ -79,7 +79,7 @@ fn greatest_quietly(
     ensures made { IsMadeFor net.now solver.new }
     ensures negation { solver.new.negation ≡ solver.old.negation }
     ensures answers { (lines : List FallLine) × (length lines ≤ turns)
-        × AnswersAs solver.old.negation net.now from to turns lines solver.new.times solver.new.ray result }
+        × AnswersAs solver.old.negation net.now (asked_of from to turns) lines solver.new.times solver.new.ray result }
 {
     match solver.greatest(net, from, to, turns, &mut NoNotes) {
         Ok(fallen) => fallen,

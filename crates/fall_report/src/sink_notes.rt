@@ -4,7 +4,7 @@ ghost use Rattle.std.specs.Prelude.{◌≡◌};
 ghost use Rattle.std.proofs.Common.{ap, refl, ◌∙◌};
 ghost use Rattle.itv_base.specs.Outside.{Puts, SinkTold};
 ghost use Rattle.fall_report.specs.FallText.{fall_line_text};
-ghost use Rattle.fall_report.specs.Noting.{SinkGrew, SinkWasCut};
+ghost use Rattle.fall_report.specs.Step.{SinkGrew, SinkWasCut};
 ghost use Rattle.fall_report.specs.NotesLaws.{sink_cut, sink_more, sink_none};
 
 use crate::fall_line::write_line;

@@ -7,6 +7,7 @@ use Rattle.event_graph.specs.Satisfying.{Satisfies}
 use Rattle.event_graph.specs.Times.{separation, time_of}
 use Rattle.falling.specs.declared.answer.Fallen.{Fallen}
 use Rattle.falling.specs.declared.answer.Fallen.TheVariants.{Closed, Unbounded, Inconsistent, Spent}
+use Rattle.falling.specs.declared.asked.Asked.{Asked}
 use Rattle.falling.specs.declared.limits.Limits.{Limits}
 use Rattle.falling.specs.declared.line.FallLine.{FallLine}
 use Rattle.falling.specs.declared.view.View.TheVariants.{Plain, Negated}
@@ -80,10 +81,14 @@ AnswersByNegation net from to turns lines times ray Unbounded = IsUnboundedByNeg
 AnswersByNegation net from to turns lines times ray Inconsistent = IsInconsistentByNegation net to lines
 AnswersByNegation net from to turns lines times ray Spent = HasSpentTurnsByNegation net to turns lines
 
+-- a pair of events and so many lines are asked
+abbrev pub asked_of : EventId → EventId → ℕ → Asked
+asked_of from to turns = record { from = from; to = to; turns = turns }
+
 -- what an answer says of a pair, by whether the negation was solved
-abbrev pub AnswersAs : Option Net → Net → EventId → EventId → ℕ → List FallLine → List ℤ → List Bool → Fallen → Type 0
-AnswersAs None net from to turns lines times ray answer = Answers net from to turns lines times ray answer
-AnswersAs (Some negation) net from to turns lines times ray answer = AnswersByNegation net from to turns lines times ray answer
+abbrev pub AnswersAs : Option Net → Net → Asked → List FallLine → List ℤ → List Bool → Fallen → Type 0
+AnswersAs None net asked lines times ray answer = Answers net asked.from asked.to asked.turns lines times ray answer
+AnswersAs (Some negation) net asked lines times ray answer = AnswersByNegation net asked.from asked.to asked.turns lines times ray answer
 
 -- the lines are a derivation in the network from the from-event, or in the negation from the to-event
 abbrev pub IsDerivationAs : Option Net → Net → EventId → EventId → List FallLine → List ℤ → Type 0

@@ -9,13 +9,15 @@ ghost use Rattle.falling.specs.Cap.{enough_limit, enough_turns};
 ghost use Rattle.falling.specs.Course.{AreLimits};
 ghost use Rattle.falling.specs.Derivation.{IsDerivation};
 ghost use Rattle.falling.specs.Kinds.{IsNegatable, negated, negated_times};
-ghost use Rattle.falling.specs.Solving.{AnswersAs, AnswersByNegation, IsDerivationAs, IsMadeFor, IsNegationOf, solved};
+ghost use Rattle.falling.specs.Solving.{AnswersAs, AnswersByNegation, IsDerivationAs, IsMadeFor, IsNegationOf, asked_of, solved};
 ghost use Rattle.falling.specs.Turns.{IsNearValue};
 ghost use Rattle.falling.specs.View.{IsViewOf};
 
 use crate::agenda::Agenda;
 use crate::answer::{Fallen, Told};
+use crate::asked::Asked;
 use crate::greatest::greatest;
+use crate::guide::Guide;
 use crate::limits::{Limits, limits_of};
 use crate::negation::negation_of;
 use crate::notes::{Notes, NotesFailed};
@@ -32,9 +34,8 @@ use std::marker::Model;
 #[derive(Debug, Drop)]
 pub struct Falling {
     negation: Option<Network>,
-    limits: Limits,
     enough: u128,
-    agenda: Agenda,
+    guide: Guide,
     times: Vec<i64>,
     ray: Vec<bool>,
     turns: u64,
@@ -45,7 +46,7 @@ impl Model for Falling {
 
     ghost Value = { Solving };
 
-    ghost view = { λ f. record { negation = f.negation; limits = f.limits; enough = f.enough; agenda = f.agenda; times = f.times.items; ray = f.ray.items; turns = f.turns } };
+    ghost view = { λ f. record { negation = f.negation; limits = f.guide.limits; enough = f.enough; agenda = f.guide.agenda; times = f.times.items; ray = f.ray.items; turns = f.turns } };
 }
 
 impl Falling {
@@ -60,9 +61,8 @@ impl Falling {
         let count = net.events() as usize;
         Ok(Falling {
             negation,
-            limits,
             enough: enough_for(net, limits),
-            agenda,
+            guide: Guide { limits, agenda },
             times: vec![in alloc; 0; count]?,
             ray: vec![in alloc; false; count]?,
             turns: 0,
@@ -92,7 +92,7 @@ impl Falling {
         requires to { to.0 < net.now.events }
         ensures lines { IfOk result (λ fallen. (lines : List FallLine) × N.Grew notes.old lines notes.new
             × (length lines ≡ self.new.turns)
-            × AnswersAs self.old.negation net.now from to turns lines self.new.times self.new.ray fallen) }
+            × AnswersAs self.old.negation net.now (asked_of from to turns) lines self.new.times self.new.ray fallen) }
         ensures most { OnOk result (self.new.turns ≤ turns) }
         ensures cut { OnErr result ((lines : List FallLine) × N.WasCut notes.old lines notes.new
             × (length lines ≤ turns) × (after : List ℤ) × IsDerivationAs self.old.negation net.now from to lines after) }
@@ -100,14 +100,12 @@ impl Falling {
         ensures made { IsMadeFor net.now self.new }
         ensures negation { self.new.negation ≡ self.old.negation }
     {
+        let asked = Asked { from, to, turns };
         let told = solve(
             net,
             &self.negation,
-            from,
-            to,
-            self.limits,
-            turns,
-            &mut self.agenda,
+            &mut self.guide,
+            asked,
             &mut self.times,
             &mut self.ray,
             notes,
@@ -180,40 +178,34 @@ fn enough_for(net: &Network, limits: Limits) -> u128
 fn solve<N: Notes>(
     net: &Network,
     negation: &Option<Network>,
-    from: EventId,
-    to: EventId,
-    limits: Limits,
-    turns: u64,
-    agenda: &mut Agenda,
+    guide: &mut Guide,
+    asked: Asked,
     times: &mut [i64],
     ray: &mut [bool],
     notes: &mut N,
 ) -> Result<Told, NotesFailed>
     requires negation { IsNegationOf net.now negation.now }
-    requires from { from.0 < net.now.events }
-    requires to { to.0 < net.now.events }
+    requires from { asked.from.0 < net.now.events }
+    requires to { asked.to.0 < net.now.events }
     requires count { length times.old ≡ net.now.events }
     requires ray { length ray.old ≡ net.now.events }
-    requires limits { AreLimits net.now limits }
-    requires agenda { IsAgendaFor (solved net.now negation.now) agenda.old }
+    requires limits { AreLimits net.now guide.old.limits }
+    requires agenda { IsAgendaFor (solved net.now negation.now) guide.old.agenda }
     ensures lines { IfOk result (λ told. (lines : List FallLine) × N.Grew notes.old lines notes.new
         × (length lines ≡ told.turns)
-        × AnswersAs negation.now net.now from to turns lines times.new ray.new told.fallen) }
-    ensures most { IfOk result (λ told. told.turns ≤ turns) }
+        × AnswersAs negation.now net.now asked lines times.new ray.new told.fallen) }
+    ensures most { IfOk result (λ told. told.turns ≤ asked.turns) }
     ensures cut { OnErr result ((lines : List FallLine) × N.WasCut notes.old lines notes.new
-        × (length lines ≤ turns) × (after : List ℤ) × IsDerivationAs negation.now net.now from to lines after) }
+        × (length lines ≤ asked.turns) × (after : List ℤ) × IsDerivationAs negation.now net.now asked.from asked.to lines after) }
     ensures rose { OnErr result (Rose (N.faults notes.old) (N.faults notes.new)) }
     ensures times { length times.new ≡ length times.old }
     ensures ray { length ray.new ≡ length ray.old }
-    ensures agenda { IsAgendaFor (solved net.now negation.now) agenda.new }
+    ensures limits { guide.new.limits ≡ guide.old.limits }
+    ensures agenda { IsAgendaFor (solved net.now negation.now) guide.new.agenda }
 {
     match negation {
-        None => greatest(net, from, to, limits, turns, agenda, times, ray, notes),
-        Some(negation) => {
-            greatest_by_negation(
-                net, negation, from, to, limits, turns, agenda, times, ray, notes,
-            )
-        }
+        None => greatest(net, guide, asked, times, ray, notes),
+        Some(negation) => greatest_by_negation(net, negation, guide, asked, times, ray, notes),
     }
 }
 
@@ -221,37 +213,40 @@ fn solve<N: Notes>(
 fn greatest_by_negation<N: Notes>(
     net: &Network,
     negation: &Network,
-    from: EventId,
-    to: EventId,
-    limits: Limits,
-    turns: u64,
-    agenda: &mut Agenda,
+    guide: &mut Guide,
+    asked: Asked,
     times: &mut [i64],
     ray: &mut [bool],
     notes: &mut N,
 ) -> Result<Told, NotesFailed>
     requires negation { negation.now ≡ negated net.now }
     requires negatable { IsNegatable net.now }
-    requires from { from.0 < net.now.events }
-    requires to { to.0 < net.now.events }
+    requires from { asked.from.0 < net.now.events }
+    requires to { asked.to.0 < net.now.events }
     requires count { length times.old ≡ net.now.events }
     requires ray { length ray.old ≡ net.now.events }
-    requires limits { AreLimits net.now limits }
-    requires agenda { IsAgendaFor negation.now agenda.old }
+    requires limits { AreLimits net.now guide.old.limits }
+    requires agenda { IsAgendaFor negation.now guide.old.agenda }
     ensures lines { IfOk result (λ told. (lines : List FallLine) × N.Grew notes.old lines notes.new
         × (length lines ≡ told.turns)
-        × AnswersByNegation net.now from to turns lines times.new ray.new told.fallen) }
-    ensures most { IfOk result (λ told. told.turns ≤ turns) }
+        × AnswersByNegation net.now asked.from asked.to asked.turns lines times.new ray.new told.fallen) }
+    ensures most { IfOk result (λ told. told.turns ≤ asked.turns) }
     ensures cut { OnErr result ((lines : List FallLine) × N.WasCut notes.old lines notes.new
-        × (length lines ≤ turns) × (after : List ℤ) × IsDerivation (negated net.now) to lines after) }
+        × (length lines ≤ asked.turns) × (after : List ℤ) × IsDerivation (negated net.now) asked.to lines after) }
     ensures rose { OnErr result (Rose (N.faults notes.old) (N.faults notes.new)) }
     ensures times { length times.new ≡ length times.old }
     ensures ray { length ray.new ≡ length ray.old }
-    ensures agenda { IsAgendaFor negation.now agenda.new }
+    ensures limits { guide.new.limits ≡ guide.old.limits }
+    ensures agenda { IsAgendaFor negation.now guide.new.agenda }
 {
     let events = net.events();
     prove!(negation.events() == events);
-    let told = match greatest(negation, to, from, limits, turns, agenda, times, ray, notes) {
+    let turned = Asked {
+        from: asked.to,
+        to: asked.from,
+        turns: asked.turns,
+    };
+    let told = match greatest(negation, guide, turned, times, ray, notes) {
         Ok(told) => told,
         Err(failed) => return Err(failed),
     };

@@ -13,10 +13,11 @@ ghost use Rattle.falling.specs.Fallen.{Answers};
 ghost use Rattle.falling.specs.Kinds.{IsPlain};
 ghost use Rattle.falling.specs.Rays.{HaveAbove};
 
-use crate::agenda::Agenda;
 use crate::answer::{Fallen, Told};
+use crate::asked::Asked;
 use crate::course::{Course, derive};
 use crate::gap::{Level, gap_level};
+use crate::guide::Guide;
 use crate::limits::Limits;
 use crate::notes::{Notes, NotesFailed};
 use event_graph::Network;
@@ -26,40 +27,46 @@ use itv_base::EventId;
 /// are the times that attain it or show it unbounded with the ray.
 pub fn greatest<N: Notes>(
     net: &Network,
-    from: EventId,
-    to: EventId,
-    limits: Limits,
-    turns: u64,
-    agenda: &mut Agenda,
+    guide: &mut Guide,
+    asked: Asked,
     values: &mut [i64],
     ray: &mut [bool],
     notes: &mut N,
 ) -> Result<Told, NotesFailed>
     requires plain { IsPlain net.now }
-    requires from { from.0 < net.now.events }
-    requires to { to.0 < net.now.events }
+    requires from { asked.from.0 < net.now.events }
+    requires to { asked.to.0 < net.now.events }
     requires count { length values.old ≡ net.now.events }
     requires ray { length ray.old ≡ net.now.events }
-    requires limits { AreLimits net.now limits }
-    requires agenda { IsAgendaFor net.now agenda.old }
+    requires limits { AreLimits net.now guide.old.limits }
+    requires agenda { IsAgendaFor net.now guide.old.agenda }
     ensures lines { IfOk result (λ told. (lines : List FallLine) × N.Grew notes.old lines notes.new
         × (length lines ≡ told.turns)
-        × Answers net.now from to turns lines values.new ray.new told.fallen) }
-    ensures most { IfOk result (λ told. told.turns ≤ turns) }
+        × Answers net.now asked.from asked.to asked.turns lines values.new ray.new told.fallen) }
+    ensures most { IfOk result (λ told. told.turns ≤ asked.turns) }
     ensures cut { OnErr result ((lines : List FallLine) × N.WasCut notes.old lines notes.new
-        × (length lines ≤ turns) × (after : List ℤ) × IsDerivation net.now from lines after) }
+        × (length lines ≤ asked.turns) × (after : List ℤ) × IsDerivation net.now asked.from lines after) }
     ensures rose { OnErr result (Rose (N.faults notes.old) (N.faults notes.new)) }
     ensures values { length values.new ≡ length values.old }
     ensures ray { length ray.new ≡ length ray.old }
-    ensures agenda { IsAgendaFor net.now agenda.new }
+    ensures limits { guide.new.limits ≡ guide.old.limits }
+    ensures agenda { IsAgendaFor net.now guide.new.agenda }
 {
     prove!(net.events() as usize == values.len());
-    let descent = match derive(net, from, limits, turns, agenda, values, notes) {
+    let descent = match derive(
+        net,
+        asked.from,
+        guide.limits,
+        asked.turns,
+        &mut guide.agenda,
+        values,
+        notes,
+    ) {
         Ok(descent) => descent,
         Err(failed) => return Err(failed),
     };
     let fallen = match descent.course {
-        Course::Settled => settled(net, to, limits, values, ray),
+        Course::Settled => settled(net, asked.to, guide.limits, values, ray),
         Course::Ended => Fallen::Inconsistent,
         Course::Spent => Fallen::Spent,
     };

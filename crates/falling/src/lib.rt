@@ -9,6 +9,7 @@
 
 mod agenda;
 mod answer;
+mod asked;
 mod check;
 mod checker;
 mod course;
@@ -17,6 +18,7 @@ mod fault;
 mod followers;
 mod gap;
 mod greatest;
+mod guide;
 mod kinds;
 pub mod laws;
 mod limits;

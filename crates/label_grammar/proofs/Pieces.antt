@@ -26,9 +26,6 @@ pub after_cases : {R : Type 0} (o : Option (List ℕ)) (f : List ℕ → R) (oth
 after_cases None f other found e = inr (refl, e)
 after_cases (Some rest) f other found e = inl (rest, refl, e)
 
-after_none : {R : Type 0} (o : Option (List ℕ)) (f : List ℕ → R) (other : R) → o ≡ None → after o f other ≡ other
-after_none o f other e = rw e refl
-
 pub bind_some : {A B : Type 0} (o : Option A) (f : A → Option B) (y : B) → (o >>= f) ≡ Some y → (x : A) × (o ≡ Some x) × (f x ≡ Some y)
 bind_some None f y e = absurd cc
 bind_some (Some x) f y e = (x, refl, e)

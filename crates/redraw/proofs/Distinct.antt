@@ -88,10 +88,6 @@ timed_apart : (times : List ℤ) (es : List EventId) → AreApart es → AllApar
 timed_apart times [] h = tt
 timed_apart times (e ∷ es) h = (timed_every times e es h.0, timed_apart times es h.1)
 
-turned_every : (x : Timed) (ys : List Timed) → Every (λ (y : Timed). TimedApart y x) ys → Every (TimedApart x) ys
-turned_every x [] h = tt
-turned_every x (y ∷ ys) h = (λ e. h.0 (sym e), turned_every x ys h.1)
-
 with_apart : (xs : List Timed) (x : Timed) → Every (TimedApart x) xs → AllApart xs → AllApart (with_timed xs x)
 with_apart [] x h g = (tt, tt)
 with_apart (y ∷ ys) x h g = by_test (int_lt x.time y.time) (with_apart ys x h.1 g.1) where

@@ -3,7 +3,6 @@ use Rattle.std.specs.Prelude.{◌≡◌, ◌<◌, ◌≤◌, ◌-◌, ℕ, ℤ, 
 use Rattle.std.specs.List.{flat_map}
 use Rattle.itv_base.specs.declared.names.EventId.{EventId}
 use Rattle.itv_base.specs.Numerals.{number_text}
-use Rattle.event_graph.specs.Times.{IsTime}
 use Rattle.itv_base.specs.declared.row_kind.RowKind.{RowKind}
 use Rattle.itv_base.specs.declared.row_kind.RowKind.TheVariants as asked
 use Rattle.redraw.specs.declared.stand.Stand.{Stand}
@@ -32,11 +31,6 @@ Follow last (x ∷ xs) = (last.time ≤ℤ x.time) × Follow x xs
 abbrev pub AreInOrder : List Timed → Type 0
 AreInOrder [] = Unit {0}
 AreInOrder (x ∷ xs) = Follow x xs
-
--- an event of so many at most, and its time
-pub record IsTimed (events : ℕ) (x : Timed) : Type 0 where
-  pub event : x.event.0 < events
-  pub time : IsTime x.time
 
 -- ---- where events stand
 

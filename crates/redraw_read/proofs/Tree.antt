@@ -6,10 +6,11 @@ use Rattle.serde_json.specs.Find.{as_str, get}
 use Rattle.serde_json.specs.Read.{of_items, of_json, read}
 use Rattle.near_keys.specs.NearKeys.{near_in_sheet}
 use Rattle.wavejson.specs.declared.lane_text.LaneText.{LaneText}
-use Rattle.wavejson.specs.Drawing.{diagram_of, elements, is_no_string, lane_of, lanes_in, texts_of, unless_empty}
+use Rattle.json_tree.specs.Words.{elements}
+use Rattle.wavejson.specs.Drawing.{diagram_of, is_no_string, lane_of, lanes_in, texts_of, unless_empty}
 use Rattle.redraw.specs.Drawing.{Lane, Sketch}
 use Rattle.redraw.specs.Text.{sketch_text}
-use Rattle.redraw_read.proofs.Json.{IsPlainSketch, json_lane, json_lanes, json_sketch, json_texts, sketch_reads}
+use Rattle.redraw_read.proofs.Json.{IsPlainSketch, json_lanes, json_sketch, json_texts, sketch_reads}
 use Rattle.redraw.proofs.Ordered.{Every}
 
 -- ---- the tree
@@ -31,9 +32,6 @@ sketch_tree sketch = object (member (codes "edge") (array (texts_tree sketch.edg
 tree_of_texts : (texts : List (List ℕ)) → of_items (json_texts texts) ≡ Some (texts_tree texts)
 tree_of_texts [] = refl
 tree_of_texts (text ∷ texts) = ap (option_map (item (string text))) (tree_of_texts texts)
-
-tree_of_lane : (lane : Lane) → of_json (json_lane lane) ≡ Some (lane_tree lane)
-tree_of_lane lane = refl
 
 tree_of_lanes : (lanes : List Lane) → of_items (json_lanes lanes) ≡ Some (lanes_tree lanes)
 tree_of_lanes [] = refl

@@ -3,4 +3,7 @@
 //! more of all satisfying times than what holds.
 #![tactic(auto)]
 
+mod judging;
 pub mod laws;
+
+pub use judging::{is_fail, is_within};

@@ -1,5 +1,5 @@
 -- From each place lines lead to the end of a report.
-use Rattle.std.proofs.Common.{◌≡◌, ◌+◌, ◌≤◌, ℕ, zero, suc, ℤ, pos, Bool, true, false, cond, eqb, List, [], ◌∷◌, length, codes, Some, None, refl, ap, ◌∙◌, arith}
+use Rattle.std.proofs.Common.{◌≡◌, ◌+◌, ℕ, zero, suc, ℤ, pos, Bool, true, false, cond, eqb, List, [], ◌∷◌, length, codes, Some, None, refl, ap, arith}
 use Rattle.std.specs.List.{AllByRecursion}
 use Rattle.std.proofs.lemmas.Bool.{eq-eqb}
 use Rattle.std.proofs.lemmas.List.Elements.{All-from_recursion}
@@ -8,7 +8,6 @@ use Rattle.line_words.specs.Numbers.{IsLong}
 use Rattle.requirements.specs.declared.bound.Bound.{Bound}
 use Rattle.requirements.specs.declared.bound.Bound.TheVariants as bounds
 use Rattle.requirements.specs.declared.verdict.Verdict.TheVariants as verdicts
-use Rattle.itv_base.specs.declared.row_kind.RowKind.{RowKind}
 use Rattle.itv_base.specs.declared.row_kind.RowKind.TheVariants as kinds
 use Rattle.slack_report.specs.declared.words.EndWord.TheVariants as endings
 use Rattle.slack_report.specs.declared.words.FindingWord.TheVariants as findings
@@ -17,8 +16,8 @@ use Rattle.slack_report.specs.declared.words.Which.TheVariants as sorts
 use Rattle.slack_report.specs.declared.place.Place.{Place}
 use Rattle.slack_report.specs.declared.place.Place.TheVariants as at
 use Rattle.slack_report.specs.declared.place.Spot.{Spot}
-use Rattle.slack_report.specs.Entry.{Entry, IsBound, IsEntry, IsName, heading, budget, events, event, proof, finding, times, rows, row, bound, raise, verdict, slack, ending}
-use Rattle.slack_report.specs.Order.{Leads, Steps, after_bound, after_row, after_times, before_event, before_row, events_at, in_row, next}
+use Rattle.slack_report.specs.Entry.{Entry, IsEntry, IsName, heading, budget, events, event, finding, times, rows, row, bound, raise, verdict, slack, ending}
+use Rattle.slack_report.specs.Order.{Leads, Steps, after_bound, after_row, after_times, before_event, before_row, next}
 
 -- lines that lead from a place to the end of a report
 pub record Ends (place : Place) : Type 0 where

@@ -1,7 +1,6 @@
 -- What reading a text tells: the report that it is, or the first line at which it begins none.
-use Rattle.std.proofs.Common.{◌≡◌, ◌+◌, ◌-◌, ◌<◌, ◌≤◌, ℕ, zero, suc, List, [], ◌∷◌, ◌++◌, length, take, Result, Ok, Err, refl, sym, ap, subst, ◌∙◌, arith, inl, inr, append_assoc, append-nil, add-one, ◌⊎◌}
-use Rattle.std.specs.Prelude.{count_by}
-use Rattle.std.specs.List.{flat_map, join_with_byte, slice_split}
+use Rattle.std.proofs.Common.{◌≡◌, ◌+◌, ◌≤◌, ℕ, zero, suc, List, [], ◌∷◌, ◌++◌, length, take, Result, Ok, Err, refl, sym, ap, subst, ◌∙◌, arith, inl, inr, append_assoc, add-one}
+use Rattle.std.specs.List.{flat_map, slice_split}
 use Rattle.std.proofs.lemmas.Bool.{cases_order}
 use Rattle.std.proofs.lemmas.List.Concat.{flat_map-append}
 use Rattle.std.proofs.lemmas.List.Splits.{join_with_byte-slice_split, length-slice_split}
@@ -16,7 +15,7 @@ use Rattle.slack_report.specs.Answer.{IsAnswer, IsLineFault, IsRead}
 use Rattle.slack_report.specs.Entry.{Entry}
 use Rattle.slack_report.specs.Order.{BeginsReport, IsReport, Leads}
 use Rattle.slack_report.specs.Reading.{Read, report_in}
-use Rattle.slack_report.specs.Report.{BeginsReportText, IsFirstWrongLine, IsReportText, first_lines, line_count}
+use Rattle.slack_report.specs.Report.{BeginsReportText, IsFirstWrongLine, first_lines, line_count}
 use Rattle.slack_report.specs.Text.{entry_text, report_text}
 use Rattle.slack_report.proofs.Finishing.{finish}
 use Rattle.slack_report.proofs.PlainLines.{line_laws}

@@ -1,38 +1,29 @@
 -- The words of a line are read, at the place where it stands, as that line, and no others are.
-use Rattle.std.proofs.Common.{◌≡◌, ◌+◌, ◌<◌, ◌≤◌, ℕ, zero, suc, ℤ, Bool, true, false, cond, eqb, ◌&&◌, List, [], ◌∷◌, ◌++◌, map, length, codes, Option, Some, None, option_map, refl, sym, ap, subst, ◌∙◌, arith}
+use Rattle.std.proofs.Common.{◌≡◌, ◌+◌, ◌<◌, ◌≤◌, ℕ, zero, suc, ℤ, Bool, true, false, cond, eqb, ◌&&◌, List, [], ◌∷◌, map, length, codes, Option, Some, None, option_map, refl, sym, ap, subst, ◌∙◌, arith}
 use Rattle.std.specs.Prelude.{All}
 use Rattle.std.proofs.lemmas.Bool.{and_parts, eq-eqb, eqb-true, false_from_ne_true}
 use Rattle.std.proofs.lemmas.List.{length-map}
-use Rattle.std.proofs.lemmas.Option.{cond_some, same_Some}
+use Rattle.std.proofs.lemmas.Option.{same_Some}
 use Rattle.itv_base.specs.Names.{Name}
 use Rattle.itv_base.specs.Numerals.{end_text, number_text, signed_text, value_of}
-use Rattle.itv_base.specs.Range.{Ends, IsRange}
-use Rattle.itv_base.specs.declared.limits.TheConstants.{MAX_BUDGET, MAX_EVENTS, MAX_ROWS}
+use Rattle.itv_base.specs.Range.{IsRange}
+use Rattle.itv_base.specs.declared.limits.TheConstants.{MAX_EVENTS, MAX_ROWS}
 use Rattle.itv_base.proofs.Numerals.{value-text}
-use Rattle.event_graph.specs.Proof.{ProofLine}
-use Rattle.certificate.specs.Text.{IsProofLine, proof_words}
 use Rattle.certificate.specs.Reading.{proof_in}
 use Rattle.certificate.proofs.LineLaws.{proof_inverts}
 use Rattle.line_words.specs.Numbers.{IsLong, IsLongOrOpen, long_in, number_in, open_in}
-use Rattle.line_words.specs.Words.{◌>>=◌, Word, is_word, keyed, many, one, or_else, two, when}
+use Rattle.line_words.specs.Words.{◌>>=◌, Word, is_word, keyed, many, one, two, when}
 use Rattle.line_words.proofs.Inverts.{Inverts, bind_some, either_takes, keyed_inverts, keyed_takes, last_some, many_inverts, map_some, one_inverts, one_takes, or_cases_some, pick_some, two_inverts, when_some, word_is, word_same}
 use Rattle.line_words.proofs.NumberLaws.{long_inverts, number_inverts, open_inverts}
-use Rattle.requirements.specs.declared.bound.Slack.{Slack}
 use Rattle.requirements.specs.declared.bound.Bound.{Bound}
 use Rattle.requirements.specs.declared.bound.Bound.TheVariants as bounds
 use Rattle.requirements.specs.declared.verdict.Verdict.{Verdict}
 use Rattle.requirements.specs.declared.verdict.Verdict.TheVariants as verdicts
 use Rattle.itv_base.specs.declared.row_kind.RowKind.{RowKind}
 use Rattle.itv_base.specs.declared.row_kind.RowKind.TheVariants as kinds
-use Rattle.slack_report.specs.declared.words.EndWord.{EndWord}
-use Rattle.slack_report.specs.declared.words.EndWord.TheVariants as endings
-use Rattle.slack_report.specs.declared.words.FindingWord.{FindingWord}
-use Rattle.slack_report.specs.declared.words.FindingWord.TheVariants as findings
 use Rattle.slack_report.specs.declared.words.Which.{Which}
-use Rattle.slack_report.specs.declared.words.Which.TheVariants as sorts
 use Rattle.slack_report.specs.declared.place.Place.{Place}
 use Rattle.slack_report.specs.declared.place.Place.TheVariants as at
-use Rattle.slack_report.specs.declared.place.Spot.{Spot}
 use Rattle.slack_report.specs.Entry.{Entry, IsBound, IsEntry, IsKind, IsName, heading, budget, events, event, proof, finding, times, rows, row, bound, raise, verdict, slack, ending}
 use Rattle.slack_report.specs.Order.{events_at}
 use Rattle.slack_report.specs.Reading.{ask_in, bound_in, budget_in, demand_in, ending_in, entry_at, finding_in, flags_in, heading_in, name_in, range_in, row_in, times_in, verdict_in}

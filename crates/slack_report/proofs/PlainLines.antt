@@ -1,36 +1,30 @@
 -- Every word of a line is plain, so the line is cut into just its words.
-use Rattle.std.proofs.Common.{◌≡◌, ◌+◌, ◌≤◌, ℕ, Bool, true, false, leb, not, ◌&&◌, eqb, List, [], ◌∷◌, ◌++◌, map, length, codes, Option, Some, None, refl, sym, ap, ◌∙◌, arith}
+use Rattle.std.proofs.Common.{◌≡◌, ◌+◌, ℕ, Bool, true, false, leb, not, ◌&&◌, eqb, List, [], ◌∷◌, ◌++◌, map, length, codes, Option, Some, None, refl, sym, ap, ◌∙◌, arith}
 use Rattle.std.specs.Char.{is_ascii_graphic}
-use Rattle.std.specs.List.{AllByRecursion, list_all}
+use Rattle.std.specs.List.{list_all}
 use Rattle.std.specs.Str.{IsUtf8}
-use Rattle.std.proofs.lemmas.Bool.{and_from, and_parts}
+use Rattle.std.proofs.lemmas.Bool.{and_parts}
 use Rattle.std.proofs.lemmas.Bool.Decides.{nat_tests}
-use Rattle.std.proofs.lemmas.Option.{none-some}
 use Rattle.std.proofs.lemmas.List.Splits.{join_with_byte-slice_split}
-use Rattle.itv_base.specs.Characters.{is_mark, is_name, is_name_byte}
+use Rattle.itv_base.specs.Characters.{is_name_byte}
 use Rattle.itv_base.specs.declared.limits.TheConstants.{MAX_NAME_LEN}
 use Rattle.itv_base.specs.Names.{Name}
 use Rattle.itv_base.specs.Numerals.{end_text, number_text, signed_text}
 use Rattle.itv_base.specs.Range.{Ends}
-use Rattle.certificate.specs.Text.{proof_words}
 use Rattle.certificate.proofs.LineLaws.{proof_plain}
 use Rattle.line_words.specs.Lines.{line_of}
 use Rattle.line_words.specs.Words.{Word, split_words}
 use Rattle.line_words.proofs.Cutting.{IsLine}
 use Rattle.line_words.proofs.Plain.{ArePlain, all_weaker, end_plain, is_plain, join_line, line_is_text, map_plain, number_plain, plain_append, signed_plain, split-join}
-use Rattle.requirements.specs.declared.bound.Bound.{Bound}
 use Rattle.requirements.specs.declared.bound.Bound.TheVariants as bounds
 use Rattle.requirements.specs.declared.verdict.Verdict.TheVariants as verdicts
-use Rattle.itv_base.specs.declared.row_kind.RowKind.{RowKind}
 use Rattle.itv_base.specs.declared.row_kind.RowKind.TheVariants as kinds
 use Rattle.slack_report.specs.declared.words.EndWord.TheVariants as endings
 use Rattle.slack_report.specs.declared.words.FindingWord.TheVariants as findings
 use Rattle.slack_report.specs.declared.words.Which.{Which}
 use Rattle.slack_report.specs.declared.words.Which.TheVariants as sorts
 use Rattle.slack_report.specs.declared.place.Place.{Place}
-use Rattle.slack_report.specs.declared.place.Place.TheVariants as at
-use Rattle.slack_report.specs.declared.place.Spot.{Spot}
-use Rattle.slack_report.specs.Entry.{Entry, IsBound, IsEntry, IsName, heading, budget, events, event, proof, finding, times, rows, row, bound, raise, verdict, slack, ending}
+use Rattle.slack_report.specs.Entry.{Entry, IsEntry, IsName, heading, budget, events, event, proof, finding, times, rows, row, bound, raise, verdict, slack, ending}
 use Rattle.slack_report.specs.declared.words.EndWord.{EndWord}
 use Rattle.slack_report.specs.declared.words.FindingWord.{FindingWord}
 use Rattle.slack_report.specs.Order.{Steps, events_at}

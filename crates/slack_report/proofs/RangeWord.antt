@@ -1,19 +1,18 @@
 -- The word of a range is read as that range, and no other word is.
-use Rattle.std.proofs.Common.{◌≡◌, ◌<◌, ◌≤◌, ℕ, suc, ℤ, pos, negsuc, neg_ℤ, ◌≤ℤ◌, Bool, true, false, not, ◌&&◌, ◌||◌, List, [], ◌∷◌, ◌++◌, codes, Option, Some, None, refl, sym, ap, subst, ◌∙◌, arith}
+use Rattle.std.proofs.Common.{◌≡◌, ℕ, suc, ℤ, pos, negsuc, neg_ℤ, ◌≤ℤ◌, true, false, not, ◌&&◌, List, [], ◌∷◌, ◌++◌, codes, Option, Some, None, refl, ap, subst, ◌∙◌, arith}
 use Rattle.std.specs.Prelude.{IfSome, int_lt}
 use Rattle.std.specs.Char.{is_ascii_digit}
 use Rattle.std.specs.List.{list_all, take_while}
-use Rattle.std.proofs.lemmas.Bool.{and_from, and_parts, le-leb, ltb-false, le-ltb, leb-true, not-true, or_from, or_parts}
-use Rattle.std.proofs.lemmas.Bool.Decides.{nat_tests}
+use Rattle.std.proofs.lemmas.Bool.{and_parts, le-ltb, not-true, or_from, or_parts}
 use Rattle.std.proofs.lemmas.Int.{ints}
-use Rattle.std.proofs.lemmas.Option.{cond_some, same_Some}
+use Rattle.std.proofs.lemmas.Option.{same_Some}
 use Rattle.itv_base.specs.Cuts.{after_while, stripped}
 use Rattle.itv_base.specs.Numerals.{end_text, number_text}
 use Rattle.itv_base.specs.declared.limits.TheConstants.{END_LIMIT}
 use Rattle.itv_base.specs.Range.{Ends, IsEnd, IsRange, has_wide, is_above, is_reversed, is_wide}
 use Rattle.itv_base.proofs.Cuts.{stripped_some}
 use Rattle.itv_base.proofs.Numerals.{digits-text}
-use Rattle.itv_base.proofs.Runs.{front_of_run, rest_of_run, run_whole, stops}
+use Rattle.itv_base.proofs.Runs.{front_of_run, rest_of_run, run_whole}
 use Rattle.line_words.specs.Numbers.{IsLongOrOpen, open_in}
 use Rattle.line_words.specs.Words.{◌>>=◌, Word, is_word, when}
 use Rattle.line_words.proofs.Inverts.{Inverts, bind_some, when_some, word_is}

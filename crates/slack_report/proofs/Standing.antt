@@ -1,28 +1,22 @@
 -- A line that may stand at a place is read there from its words.
-use Rattle.std.proofs.Common.{◌≡◌, ◌+◌, ℕ, Bool, true, false, cond, eqb, List, [], ◌∷◌, codes, Option, Some, None, option_map, refl, sym, ap, subst, ◌∙◌}
+use Rattle.std.proofs.Common.{◌≡◌, ℕ, true, eqb, List, [], ◌∷◌, codes, Some, None, option_map, refl, ap, subst}
 use Rattle.std.proofs.lemmas.Bool.{eqb-true}
 use Rattle.std.proofs.lemmas.Option.{cond_some, same_Some}
 use Rattle.itv_base.specs.Names.{Name}
 use Rattle.certificate.specs.Reading.{proof_in}
-use Rattle.certificate.specs.Text.{IsProofLine}
 use Rattle.certificate.proofs.LineLaws.{proof_inverts}
 use Rattle.line_words.specs.Words.{◌>>=◌, Word, keyed, one, or_else}
 use Rattle.line_words.proofs.Inverts.{bind_some}
 use Rattle.requirements.specs.declared.bound.Bound.{Bound}
-use Rattle.requirements.specs.declared.bound.Bound.TheVariants as bounds
-use Rattle.requirements.specs.declared.verdict.Verdict.TheVariants as verdicts
 use Rattle.itv_base.specs.declared.row_kind.RowKind.{RowKind}
-use Rattle.itv_base.specs.declared.row_kind.RowKind.TheVariants as kinds
-use Rattle.slack_report.specs.declared.words.EndWord.TheVariants as endings
 use Rattle.slack_report.specs.declared.words.FindingWord.{FindingWord}
 use Rattle.slack_report.specs.declared.words.Which.{Which}
 use Rattle.slack_report.specs.declared.words.Which.TheVariants as sorts
 use Rattle.slack_report.specs.declared.place.Place.{Place}
 use Rattle.slack_report.specs.declared.place.Place.TheVariants as at
-use Rattle.slack_report.specs.declared.place.Spot.{Spot}
 use Rattle.slack_report.specs.Entry.{Entry, IsBound, IsEntry, IsName, heading, budget, events, event, proof, finding, times, rows, row, bound, raise, verdict, slack, ending}
 use Rattle.slack_report.specs.Order.{Steps, events_at, is_which, next}
-use Rattle.slack_report.specs.Reading.{bound_in, entry_at, finding_in, step_at, stepped}
+use Rattle.slack_report.specs.Reading.{bound_in, entry_at, finding_in, step_at}
 use Rattle.slack_report.specs.Text.{bound_words, finding_word, which_word, words_of}
 use Rattle.slack_report.proofs.LineLaws.{bound_line, budget_line, ending_line, entry_takes, event_line, events_line, finding_line, raise_line, row_line, rows_line, slack_line, times_line, verdict_line}
 

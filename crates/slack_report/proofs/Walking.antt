@@ -1,5 +1,5 @@
 -- Reading lines one after another, each at its place. Of lines only three laws are used.
-use Rattle.std.proofs.Common.{◌≡◌, ◌+◌, ◌<◌, ◌≤◌, ℕ, zero, suc, Bool, true, false, cond, eqb, ◌&&◌, List, [], ◌∷◌, ◌++◌, length, take, Option, Some, None, Result, Ok, Err, refl, sym, ap, subst, ◌∙◌, arith, append_assoc, append-nil}
+use Rattle.std.proofs.Common.{◌≡◌, ◌<◌, ◌≤◌, ℕ, suc, Bool, true, false, cond, eqb, ◌&&◌, List, [], ◌∷◌, ◌++◌, length, take, Option, Some, None, Ok, Err, refl, sym, ap, subst, ◌∙◌, arith, append_assoc, append-nil}
 use Rattle.std.specs.List.{AllByRecursion, flat_map, join_with_byte, onto_first, slice_split}
 use Rattle.std.proofs.lemmas.Bool.{and_parts, eqb-true}
 use Rattle.std.proofs.lemmas.List.{nil_from_length}
@@ -11,7 +11,7 @@ use Rattle.slack_report.specs.declared.place.Place.{Place}
 use Rattle.slack_report.specs.declared.place.Place.TheVariants as at
 use Rattle.slack_report.specs.Entry.{Entry}
 use Rattle.slack_report.specs.Order.{Leads, Steps}
-use Rattle.slack_report.specs.Reading.{Read, behind_line, is_nothing, last_in, lines_in, step_at, with_line}
+use Rattle.slack_report.specs.Reading.{Read, behind_line, is_nothing, lines_in, step_at, with_line}
 use Rattle.slack_report.specs.Text.{entry_line, entry_text, report_text}
 
 -- What a line that may stand at a place is, and that it is read there.

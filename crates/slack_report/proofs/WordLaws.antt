@@ -1,6 +1,5 @@
 -- Words of one line: each is spelled in one way.
-use Rattle.std.proofs.Common.{◌≡◌, ◌-◌, ◌<◌, ◌≤◌, ℕ, Bool, true, false, ◌&&◌, leb, List, [], ◌∷◌, ◌++◌, codes, Option, Some, None, refl, sym, ap, subst, ◌∙◌, arith}
-use Rattle.std.specs.Char.{is_ascii_digit}
+use Rattle.std.proofs.Common.{◌≡◌, ◌-◌, ◌<◌, ◌≤◌, ℕ, true, ◌&&◌, leb, List, [], ◌∷◌, ◌++◌, codes, Some, refl, ap, subst, ◌∙◌, arith}
 use Rattle.std.specs.List.{list_all, take_while}
 use Rattle.std.specs.Prelude.{length}
 use Rattle.std.proofs.lemmas.Bool.{and_parts, le-leb, leb-true}
@@ -13,7 +12,7 @@ use Rattle.itv_base.specs.declared.limits.TheConstants.{MAX_BUDGET, MAX_CYCLES, 
 use Rattle.itv_base.proofs.Cuts.{stripped_some}
 use Rattle.itv_base.proofs.Runs.{front_of_run, rest_of_run, run_whole}
 use Rattle.line_words.specs.Numbers.{number_in}
-use Rattle.line_words.specs.Words.{◌>>=◌, Word, is_word, when}
+use Rattle.line_words.specs.Words.{◌>>=◌, Word}
 use Rattle.line_words.proofs.Inverts.{Inverts, bind_some, last_some, pick_some, when_some}
 use Rattle.line_words.proofs.NumberLaws.{number_inverts}
 use Rattle.slack_report.specs.declared.words.EndWord.{EndWord}

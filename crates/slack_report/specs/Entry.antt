@@ -1,5 +1,5 @@
 -- The lines of a report, without where they lie in memory, and which numbers and names they may have.
-use Rattle.std.specs.Prelude.{◌≡◌, ◌<◌, ◌≤◌, ℕ, ℤ, List, length, Bool, IsTrue, All, IfSome}
+use Rattle.std.specs.Prelude.{◌≡◌, ◌<◌, ◌≤◌, ℕ, ℤ, List, length, Bool, IsTrue, All}
 use Rattle.itv_base.specs.Characters.{is_mark, is_name}
 use Rattle.itv_base.specs.Names.{Name}
 use Rattle.itv_base.specs.Range.{IsRange}

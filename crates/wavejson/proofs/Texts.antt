@@ -6,12 +6,9 @@ use Rattle.serde_json.specs.Data.{Data}
 use Rattle.serde_json.specs.Find.{as_str, as_array}
 use Rattle.serde_json.specs.View.{view, items_view}
 use Rattle.serde_json.specs.declared.value.Value.{Value}
+use Rattle.json_tree.proofs.Elements.{elements-items_view}
 use Rattle.wavejson.specs.declared.fault.DiagramFault.TheVariants.{EdgeNotText}
-use Rattle.wavejson.specs.Drawing.{elements, is_no_string, texts_of, edge_texts}
-
-pub elements-items_view : (vs : List Value) → elements (items_view vs) ≡ map view vs
-elements-items_view [] = refl
-elements-items_view (v ∷ vs) = ap (λ ds. view v ∷ ds) (elements-items_view vs)
+use Rattle.wavejson.specs.Drawing.{is_no_string, texts_of, edge_texts}
 
 position_or_len-map : {X Y : Type 0} (p : Y → Bool) (f : X → Y) (xs : List X) → position_or_len p (map f xs) ≡ position_or_len (λ x. p (f x)) xs
 position_or_len-map p f [] = refl

@@ -1,24 +1,21 @@
 -- What a WaveJSON tree draws: its lanes, its edge texts and its near keys, or the first fault of the tree.
-use Rattle.std.specs.Prelude.{ℕ, Bool, List, [], ◌∷◌, ◌++◌, Option, Some, None, is_none, ok_or, option_map, option_and_then, Result, Ok, Err, position, filter_map, codes}
+use Rattle.std.specs.Prelude.{ℕ, Bool, List, [], ◌∷◌, ◌++◌, Option, Some, None, is_none, ok_or, option_and_then, Result, Ok, Err, position, filter_map, codes}
 use Rattle.std.specs.Option.{option_map_or}
 use Rattle.serde_json.specs.Data.{Data, null, boolean, number, string, array, object, Items, no_items, item}
 use Rattle.serde_json.specs.Find.{get, as_str, as_array, as_object}
 use Rattle.itv_base.specs.Reading.{◌>>=◌}
+use Rattle.json_tree.specs.Words.{elements, text_at}
 use Rattle.near_keys.specs.NearKeys.{near_in_sheet}
 use Rattle.wavejson.specs.declared.lane_text.LaneText.{LaneText}
 use Rattle.wavejson.specs.declared.fault.DiagramFault.{DiagramFault}
 use Rattle.wavejson.specs.declared.fault.DiagramFault.TheVariants.{NotObject, NoSignal, EdgesNotList, EdgeNotText}
-
--- the text under a key of an object; what is no string counts as absent
-abbrev pub text_at : List ℕ → Data → Option (List ℕ)
-text_at key d = option_and_then as_str (get key d)
 
 -- a text that is not empty
 abbrev pub unless_empty : List ℕ → Option (List ℕ)
 unless_empty [] = None
 unless_empty (byte ∷ bytes) = Some (byte ∷ bytes)
 
--- the lane of an object; an empty name counts as absent too
+-- the lane of an object; what is no string counts as absent, and an empty name too
 abbrev pub lane_of : Data → LaneText
 lane_of d = record {
   name = option_and_then unless_empty (text_at (codes "name") d);
@@ -40,11 +37,6 @@ abbrev mutual
   pub lanes_in : Items → List LaneText
   lanes_in no_items = []
   lanes_in (item d rest) = lanes_at d ++ lanes_in rest
-
--- the elements of an array, as a list
-abbrev pub elements : Items → List Data
-elements no_items = []
-elements (item d rest) = d ∷ elements rest
 
 -- an element that is no string
 abbrev pub is_no_string : Data → Bool
@@ -70,10 +62,6 @@ pub record Drawing : Type 0 where
 -- the elements of `signal`, where it is an array
 abbrev pub signal_of : Data → Option Items
 signal_of tree = option_and_then as_array (get (codes "signal") tree)
-
--- the elements of `edge`, where it is an array
-abbrev pub edges_of : Data → Option (List Data)
-edges_of tree = option_map elements (option_and_then as_array (get (codes "edge") tree))
 
 -- The drawing of a tree, or its first fault. No other key of the tree is read, and of those only the near ones are told.
 abbrev pub diagram_of : Data → Result Drawing DiagramFault

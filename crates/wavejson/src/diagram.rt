@@ -4,8 +4,9 @@ ghost use Rattle.std.specs.Prelude.{◌≡◌, ◌↔◌, ℕ, Some, IsNone, IsO
 ghost use Rattle.serde_json.specs.Find.{get, as_object};
 ghost use Rattle.serde_json.specs.View.{view};
 ghost use Rattle.itv_base.specs.Reading.{Gives};
+ghost use Rattle.json_tree.specs.Words.{list_at};
 ghost use Rattle.wavejson.specs.Fault.{is_memory};
-ghost use Rattle.wavejson.specs.Drawing.{diagram_of, signal_of, edges_of, is_no_string};
+ghost use Rattle.wavejson.specs.Drawing.{diagram_of, signal_of, is_no_string};
 
 use crate::edges::{edge_list, read_texts};
 use crate::fault::DiagramFault;
@@ -71,10 +72,10 @@ pub fn read_diagram(alloc: Global, tree: &Value) -> Result<Diagram, DiagramFault
         ↔ (IsSome (as_object (view tree.now)) × IsNone (signal_of (view tree.now))) }
     ensures edges_not_list { IsErrOf result DiagramFault.EdgesNotList
         ↔ (IsSome (signal_of (view tree.now)) × IsSome (get (codes "edge") (view tree.now))
-        × IsNone (edges_of (view tree.now))) }
+        × IsNone (list_at (codes "edge") (view tree.now))) }
     ensures edge_not_text { (place : ℕ) → (IsErrOf result (DiagramFault.EdgeNotText place)
         ↔ (IsSome (signal_of (view tree.now))
-        × IsSomeAnd (edges_of (view tree.now)) (λ edges. position is_no_string edges ≡ Some place))) }
+        × IsSomeAnd (list_at (codes "edge") (view tree.now)) (λ edges. position is_no_string edges ≡ Some place))) }
 {
     if !tree.is_object() {
         return Err(DiagramFault::NotObject);

@@ -2,9 +2,11 @@
 
 ghost use Rattle.std.specs.Prelude.{◌≡◌, option_and_then, option_map, codes, IfOk};
 ghost use Rattle.serde_json.specs.View.{view};
-ghost use Rattle.wavejson.specs.Drawing.{text_at, unless_empty, lane_of};
+ghost use Rattle.json_tree.specs.Words.{text_at};
+ghost use Rattle.wavejson.specs.Drawing.{unless_empty, lane_of};
 
 use itv_base::{NoMemory, Text};
+use json_tree::text_at;
 use serde_json::Value;
 use std::alloc::Global;
 
@@ -35,12 +37,6 @@ fn name_of(object: &Value) -> Option<&str>
         ≡ option_and_then unless_empty (text_at (codes "name") (view object.now)) }
 {
     text_at(object, "name").filter(|name| !name.is_empty())
-}
-
-fn text_at<'v>(object: &'v Value, key: &str) -> Option<&'v str>
-    ensures { option_map (λ text. text.now) result ≡ text_at key.now (view object.now) }
-{
-    object.get(key).and_then(Value::as_str)
 }
 
 fn owned(alloc: Global, text: Option<&str>) -> Result<Option<Text>, NoMemory>

@@ -24,7 +24,8 @@ use Rattle.drawn.specs.Drawn.{IsRowOf}
 use Rattle.drawn.specs.declared.row.Row.{Row}
 use Rattle.whatif.specs.Session.{IsPairOf}
 use Rattle.whatif.specs.declared.pair.Pair.{Pair}
-use Rattle.whatif_report.specs.Text.{IsNoteOf, IsTimed, last_note}
+use Rattle.whatif_report.specs.Step.{IsNoteOf, IsTimed}
+use Rattle.whatif_report.specs.Text.{last_note}
 use Rattle.whatif_report.specs.Whatif.{pair_of, pairs_of}
 
 -- ---- numbers

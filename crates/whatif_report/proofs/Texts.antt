@@ -16,7 +16,8 @@ use Rattle.slack_report.specs.declared.words.FindingWord.{FindingWord}
 use Rattle.right_report.specs.Right.At.{course_of, is_within}
 use Rattle.edits.specs.declared.edit.RangeEdit.{RangeEdit}
 use Rattle.whatif.specs.Runs.{Note}
-use Rattle.whatif_report.specs.Text.{IsCountFor, found_text, greatest_bound, is_broken, judged_row, judged_rows, judged_words, last_note, least_bound, row_words, rows_text, state_words, states_text}
+use Rattle.whatif_report.specs.Step.{IsCountFor, is_broken}
+use Rattle.whatif_report.specs.Text.{found_text, greatest_bound, judged_row, judged_rows, judged_words, last_note, least_bound, row_words, rows_text, state_words, states_text}
 
 -- ---- the line of a row
 

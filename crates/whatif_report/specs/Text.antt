@@ -1,5 +1,5 @@
 -- The text of job whatif: the states of a network behind edits of its ranges.
-use Rattle.std.specs.Prelude.{◌≡◌, ◌+◌, ◌⊎◌, ℕ, Bool, false, List, [], ◌∷◌, ◌++◌, length, All, codes, Some}
+use Rattle.std.specs.Prelude.{◌+◌, ℕ, List, [], ◌∷◌, ◌++◌, codes, Some}
 use Rattle.itv_base.specs.Numerals.{number_text}
 use Rattle.itv_base.specs.declared.row_kind.RowKind.{RowKind}
 use Rattle.itv_base.specs.declared.row_kind.RowKind.TheVariants as kinds
@@ -9,7 +9,7 @@ use Rattle.branch.specs.declared.answer.Answer.{Answer}
 use Rattle.branch.specs.declared.answer.Answer.TheVariants as answers
 use Rattle.branch.specs.declared.answer.Found.{Found}
 use Rattle.branch.specs.declared.answer.Found.TheVariants as founds
-use Rattle.requirements.specs.Bounds.{HasTimes, reversed}
+use Rattle.requirements.specs.Bounds.{reversed}
 use Rattle.requirements.specs.Verdicts.{verdict_of}
 use Rattle.requirements.specs.declared.bound.Bound.{Bound}
 use Rattle.requirements.specs.declared.bound.Bound.TheVariants as bounds
@@ -18,7 +18,7 @@ use Rattle.slack_report.specs.Text.{bound_words, entry_text, range_word, verdict
 use Rattle.slack_report.specs.declared.words.EndWord.{EndWord}
 use Rattle.slack_report.specs.declared.words.FindingWord.{FindingWord}
 use Rattle.slack_report.specs.declared.words.FindingWord.TheVariants as findings
-use Rattle.right_report.specs.Right.At.{Course, course_of, end_word, is_fail, with_bounds, with_verdict}
+use Rattle.right_report.specs.Right.At.{Course, course_of, end_word, with_bounds, with_verdict}
 use Rattle.edits.specs.declared.edit.RangeEdit.{RangeEdit}
 use Rattle.whatif.specs.Runs.{Note}
 
@@ -82,11 +82,6 @@ states_text number rows (e ∷ edits) (note ∷ notes) =
 
 -- ---- the end
 
--- a requirement is known to be broken; an ask has none
-abbrev pub is_broken : RowKind → Bound → Bound → Bool
-is_broken kinds.Ask least most = false
-is_broken (kinds.Req range) least most = is_fail (verdict_of range least most)
-
 -- what the rows so far and one more come to
 abbrev pub judged_row : Course → RowKind → Bound → Bound → Course
 judged_row course kinds.Ask least most = with_bounds course least most
@@ -114,18 +109,3 @@ abbrev pub whatif_text : List RowKind → Note → List RangeEdit → List Note 
 whatif_text rows first edits notes =
     ended (codes "itv whatif 1") ++ (ended (codes "state 0") ++ (found_text rows first.found first.answers ++ (states_text 1 rows edits notes
     ++ entry_text (ending (ending_of rows (last_note first notes).found (last_note first notes).answers)))))
-
--- ---- what a note is held to
-
--- the numbers of an answer are below 2^61 in absolute value
-abbrev pub IsTimed : Answer → Type 0
-IsTimed answer = HasTimes (greatest_bound answer)
-
--- there are two answers for each row, or none
-abbrev pub IsCountFor : List RowKind → List Answer → Type 0
-IsCountFor rows list = (length list ≡ 0) ⊎ (length list ≡ length rows + length rows)
-
--- a note is of a session of these rows
-pub record IsNoteOf (rows : List RowKind) (note : Note) : Type 0 where
-  pub timed : All IsTimed note.answers
-  pub count : IsCountFor rows note.answers

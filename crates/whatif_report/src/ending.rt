@@ -4,15 +4,17 @@ ghost use Rattle.std.specs.Prelude.{◌≡◌, ◌++◌, ◌||◌, ◌≤◌, Al
 ghost use Rattle.slack_report.specs.Entry.{ending};
 ghost use Rattle.slack_report.specs.Text.{entry_text};
 ghost use Rattle.slack_report.specs.declared.words.FindingWord.{FindingWord};
-ghost use Rattle.right_report.specs.Right.At.{course_of, end_word, is_fail, is_within};
+ghost use Rattle.right_report.specs.Right.At.{course_of, end_word, is_within};
 ghost use Rattle.whatif.specs.declared.session.TheConstants.{MAX_PAIRS};
-ghost use Rattle.whatif_report.specs.Text.{IsCountFor, IsNoteOf, IsTimed, ending_of, found_word, is_broken, judged_rows, last_note};
+ghost use Rattle.whatif_report.specs.Step.{IsCountFor, IsNoteOf, IsTimed, is_broken};
+ghost use Rattle.whatif_report.specs.Text.{ending_of, found_word, judged_rows, last_note};
 
 use crate::rows::both_of;
 use crate::words::add;
 use branch::{Answer, Found};
 use itv_base::{NoMemory, RowKind};
-use requirements::{BothBounds, Bound, Verdict, judge};
+use requirements::{BothBounds, judge};
+use right_report::{is_fail, is_within};
 use slack_report::EndWord;
 use whatif::Note;
 
@@ -105,19 +107,6 @@ fn is_broken(kind: RowKind, both: &BothBounds) -> bool
         RowKind::Ask => false,
         RowKind::Req(range) => is_fail(judge(range, both)),
     }
-}
-
-fn is_fail(word: Verdict) -> bool
-    ensures { result ≡ is_fail word }
-{
-    matches!(word, Verdict::FailHigh | Verdict::FailLow)
-}
-
-// Whether the budget ended the search for a bound.
-fn is_within(bound: Bound) -> bool
-    ensures { result ≡ is_within bound }
-{
-    matches!(bound, Bound::Within { .. })
 }
 
 // The word by a finding, and by what the rows come to.

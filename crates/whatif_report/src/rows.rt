@@ -6,7 +6,8 @@ ghost use Rattle.line_words.specs.Lines.{ended, line_of, spaced};
 ghost use Rattle.requirements.specs.Bounds.{HasTimes};
 ghost use Rattle.slack_report.specs.Text.{bound_words};
 ghost use Rattle.whatif.specs.declared.session.TheConstants.{MAX_PAIRS};
-ghost use Rattle.whatif_report.specs.Text.{IsCountFor, IsTimed, greatest_bound, judged_words, least_bound, row_words, rows_text};
+ghost use Rattle.whatif_report.specs.Step.{IsCountFor, IsTimed};
+ghost use Rattle.whatif_report.specs.Text.{greatest_bound, judged_words, least_bound, row_words, rows_text};
 
 use crate::words::{add, add_bound, add_number, add_spaced, add_verdict};
 use branch::Answer;

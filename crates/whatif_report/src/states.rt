@@ -6,7 +6,8 @@ ghost use Rattle.line_words.specs.Lines.{ended, line_of, spaced};
 ghost use Rattle.slack_report.specs.Entry.{finding};
 ghost use Rattle.slack_report.specs.Text.{entry_text, range_word};
 ghost use Rattle.whatif.specs.declared.session.TheConstants.{MAX_PAIRS};
-ghost use Rattle.whatif_report.specs.Text.{IsNoteOf, cause_word, found_text, found_word, state_words, states_text};
+ghost use Rattle.whatif_report.specs.Step.{IsNoteOf};
+ghost use Rattle.whatif_report.specs.Text.{cause_word, found_text, found_word, state_words, states_text};
 
 use crate::rows::add_rows;
 use crate::words::{add, add_number, add_spaced};

@@ -5,7 +5,8 @@ ghost use Rattle.edits.specs.EditLine.{IsThere};
 ghost use Rattle.jobs.specs.Works.{Works};
 ghost use Rattle.whatif.specs.Session.{IsPairOf};
 ghost use Rattle.whatif.specs.declared.session.TheConstants.{MAX_PAIRS};
-ghost use Rattle.whatif_report.specs.Text.{IsNoteOf, last_note, whatif_text};
+ghost use Rattle.whatif_report.specs.Step.{IsNoteOf};
+ghost use Rattle.whatif_report.specs.Text.{last_note, whatif_text};
 ghost use Rattle.whatif_report.specs.Whatif.{AnswersFor, AnswersFrom, AnswersWhatif, BeginsFor, BeginsWhatif};
 
 use crate::asked::{kinds_of, pairs_of};

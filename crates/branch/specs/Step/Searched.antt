@@ -150,14 +150,19 @@ pub record AreRays (net : Net) (aim : Aim) (times : List ℤ) (ray : List Bool) 
   pub least : aim.known ≤ℤ separation times aim.from aim.to
   pub close : All IsClose times
 
+-- how far a search for a bound of a pair is, and the best times so far
+pub record Progress : Type 0 where
+  pub search : Search
+  pub best : Best
+
 -- what a step of the search for a bound comes to: the next case stands or the search ends, or the pair is unbounded
-abbrev pub Advances : Net → Aim → Search → Search → Best → Best → List Bool → List ProofLine → Option Entry → Type 0
-Advances net aim before now best_before best ray lines (Some entry) =
-    AreBest net aim best
-    × ((earlier : List ProofLine) → IsBoundSearched net aim best_before.value earlier (open_cases net before.cases.chosen) before.leaves
-    → IsBoundSearched net aim best.value (earlier ++ lines) (left_after net now.cases.chosen entry) now.leaves)
-Advances net aim before now best_before best ray lines None =
-    AreRays net aim best.times.items ray × (lines ≡ []) × (now.leaves ≡ before.leaves + 1)
+abbrev pub Advances : Net → Aim → Progress → Progress → List Bool → List ProofLine → Option Entry → Type 0
+Advances net aim before now ray lines (Some entry) =
+    AreBest net aim now.best
+    × ((earlier : List ProofLine) → IsBoundSearched net aim before.best.value earlier (open_cases net before.search.cases.chosen) before.search.leaves
+    → IsBoundSearched net aim now.best.value (earlier ++ lines) (left_after net now.search.cases.chosen entry) now.search.leaves)
+Advances net aim before now ray lines None =
+    AreRays net aim now.best.times.items ray × (lines ≡ []) × (now.search.leaves ≡ before.search.leaves + 1)
 
 -- a search for a bound of a pair was cut short in these lines: they came to a value, and no more cases are counted than they closed
 pub record IsBoundCut (net : Net) (aim : Aim) (leaves : ℕ) (lines : List ProofLine) : Type 0 where

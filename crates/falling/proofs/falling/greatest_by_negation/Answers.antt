@@ -10,16 +10,16 @@ greatest-requires-clause-plain g c = subst IsPlain (sym c.requires.negation) (pl
 
 pub greatest-requires-clause-limits : goal.greatest-requires-clause-limits
 greatest-requires-clause-limits g c =
-    subst (λ (n : Net). AreLimits n c.args.limits) (sym c.requires.negation) (limits_negated c.args.net.now c.args.limits c.requires.limits)
+    subst (λ (n : Net). AreLimits n c.args.guide.now.limits) (sym c.requires.negation) (limits_negated c.args.net.now c.args.guide.now.limits c.requires.limits)
 
 pub turn_round-requires : goal.turn_round-requires
 turn_round-requires g c =
     let lines = c.in-Ok.ensures.lines in
-    let limits : AreLimits c.args.negation.now c.args.limits =
-    subst (λ (n : Net). AreLimits n c.args.limits) (sym c.requires.negation) (limits_negated c.args.net.now c.args.limits c.requires.limits) in
+    let limits : AreLimits c.args.negation.now c.args.guide.now.limits =
+    subst (λ (n : Net). AreLimits n c.args.guide.now.limits) (sym c.requires.negation) (limits_negated c.args.net.now c.args.guide.now.limits c.requires.limits) in
     record {
-      near = near_answer c.args.negation.now c.args.to c.args.from c.args.turns lines.0 c.greatest.new.values c.greatest.new.ray c.in-Ok.told.fallen
-          c.events.ensures.net (subst (λ n. c.args.to.0 < n) (sym (ap (λ (n : Net). n.events) c.requires.negation)) c.requires.to) limits.small
+      near = near_answer c.args.negation.now c.args.asked.to c.args.asked.from c.args.asked.turns lines.0 c.greatest.new.values c.greatest.new.ray c.in-Ok.told.fallen
+          c.events.ensures.net (subst (λ n. c.args.asked.to.0 < n) (sym (ap (λ (n : Net). n.events) c.requires.negation)) c.requires.to) limits.small
           (has_times c.in-Ok.told.fallen c.in-Closed.is) lines.3;
     }
 
@@ -29,7 +29,7 @@ returns-in-Closed-clause-lines g c =
       lines.0,
       lines.1,
       lines.2,
-      turned_answer c.args.negation.now c.args.from c.args.to c.args.turns lines.0 c.greatest.new.values c.turn_round.new.times c.greatest.new.ray c.turn_round.new.ray
+      turned_answer c.args.negation.now c.args.asked.from c.args.asked.to c.args.asked.turns lines.0 c.greatest.new.values c.turn_round.new.times c.greatest.new.ray c.turn_round.new.ray
           c.in-Ok.told.fallen (has_times c.in-Ok.told.fallen c.in-Closed.is) lines.3 c.turn_round.ensures.times c.turn_round.ensures.ray c.args.net.now c.events-events.ensures.net
           c.requires.negation,
     )
@@ -40,6 +40,6 @@ returns-in-Inconsistent-clause-lines g c =
       lines.0,
       lines.1,
       lines.2,
-      other_answer c.args.negation.now c.args.from c.args.to c.args.turns lines.0 c.greatest.new.values c.greatest.new.ray c.in-Ok.told.fallen
+      other_answer c.args.negation.now c.args.asked.from c.args.asked.to c.args.asked.turns lines.0 c.greatest.new.values c.greatest.new.ray c.in-Ok.told.fallen
           (no_times c.in-Ok.told.fallen c.in-Inconsistent.is) lines.3 c.args.net.now c.events-events.ensures.net c.requires.negation,
     )

@@ -1,4 +1,3 @@
-use Rattle.std.proofs.Common.{subst}
 use Rattle.std.proofs.lemmas.Result.{err_from_is_err_and}
 use Rattle.itv_base.proofs.Written.{cut_more, puts_same, puts_then}
 use Rattle.slack_report.proofs.Printing.{demand_is}

@@ -1,5 +1,5 @@
 use Rattle.std.proofs.Common.{◌≡◌, length, All, ap, sym, subst, ◌∙◌}
-use Rattle.whatif_report.specs.Text.{IsNoteOf}
+use Rattle.whatif_report.specs.Step.{IsNoteOf}
 use Rattle.whatif_report.proofs.Noted.{last_is_note, note_is, notes_are}
 use Rattle.whatif_report.proofs.write.states_of.Goals as goal
 

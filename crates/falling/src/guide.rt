@@ -1,0 +1,11 @@
+//! What leads a derivation.
+
+use crate::agenda::Agenda;
+use crate::limits::Limits;
+
+// The numbers of a network, and which of its constraints are to be looked at.
+#[derive(Debug, Drop)]
+pub struct Guide {
+    pub limits: Limits,
+    pub agenda: Agenda,
+}
