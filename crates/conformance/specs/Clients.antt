@@ -1,5 +1,5 @@
 -- What callers of `run` know of files and a sink in memory, from its clauses alone.
-use Rattle.std.specs.Prelude.{◌≡◌, ℕ, Bool, List, [], ◌++◌, Some, None, Ok, codes}
+use Rattle.std.specs.Prelude.{◌≡◌, ℕ, Bool, true, List, [], ◌++◌, Some, None, Ok, codes}
 use Rattle.itv_base.specs.Memory.{MemSink}
 use Rattle.itv_base.specs.Outside.{FailedFor, Files, ShelfTold, file_of}
 use Rattle.design_gen.specs.Files.{design_files}
@@ -20,7 +20,7 @@ use Rattle.reading.specs.Design.{design_at}
 use Rattle.plan.specs.Plan.{Planned}
 use Rattle.reading.specs.Opening.{Comes, ready, refused, told_end, unread}
 use Rattle.reading.specs.Refusal.{refusal_text, unread_text}
-use Rattle.settle_check.specs.Confirm.{IsSettledText}
+use Rattle.settle_report.specs.Settle.{IsSettleText}
 use Rattle.words.specs.Task.{Task, bounds, check, confirm, matrix, settle, taken, task}
 use Rattle.words.specs.Task as tasks
 use Rattle.warnings.specs.Warnings.{warnings_of}
@@ -157,7 +157,7 @@ pub record IsRightFile (files : Files) (report : List ℕ) (drawn : Drawn) : Typ
 pub record IsSettledFile (files : Files) (report : List ℕ) (drawn : Drawn) : Type 0 where
   pub bytes : List ℕ
   pub is_file : file_of files report ≡ Some bytes
-  pub is_settled : IsSettledText drawn bytes
+  pub is_settled : IsSettleText drawn true bytes
 
 -- the file of a name is there, and this is its one wrong line
 pub record IsWrongFile (files : Files) (report : List ℕ) (drawn : Drawn) (line : ℕ) : Type 0 where

@@ -25,7 +25,7 @@ use Rattle.lint_report.specs.Lint.{AnswersLint, BeginsLint}
 use Rattle.matrix_report.specs.Matrix.{AnswersMatrix, BeginsMatrix}
 use Rattle.redraw_report.specs.Redraw.{AnswersRedraw, BeginsRedraw}
 use Rattle.settle_check.specs.Confirm.{AnswersConfirm, BeginsConfirm}
-use Rattle.settle_report.specs.Settle.{AnswersSettle, BeginsSettle}
+use Rattle.settle_report.specs.Settle.{AnswersSettle, IsSettleText}
 use Rattle.report_check.specs.Check.{AnswersCheck, BeginsCheck}
 use Rattle.summary_report.specs.Summary.{AnswersSummary, BeginsSummary}
 use Rattle.edits.specs.EditsFile.{edits_of}
@@ -139,7 +139,7 @@ Answers (ready.Whatif drawn edits budget) answer text = AnswersWhatif drawn budg
 abbrev pub Begins : Ready → List ℕ → Type 0
 Begins (ready.Bounds drawn budget cert) text = BeginsReport drawn budget cert text
 Begins (ready.Fall drawn view budget cert) text = BeginsFall drawn budget cert text
-Begins (ready.Settle drawn budget cert) text = BeginsSettle drawn cert text
+Begins (ready.Settle drawn budget cert) text = IsSettleText drawn cert text
 Begins (ready.Redraw drawn budget) text = BeginsRedraw drawn budget text
 Begins (ready.Why plan drawn budget) text = BeginsWhy (plan_note plan) drawn budget text
 Begins (ready.Brief plan drawn budget) text = BeginsBrief (plan_note plan) drawn budget text

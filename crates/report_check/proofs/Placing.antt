@@ -1,7 +1,6 @@
 -- Names and rows in their places.
-use Rattle.std.proofs.Common.{◌≡◌, ◌+◌, ◌<◌, ℕ, zero, suc, List, [], ◌∷◌, length, ◌^◌, drop, map, Bool, true, false, IsTrue, ◌↔◌, Option, Some, None, option_map, unwrap_or, slice_get, refl, sym, ap, subst, ◌∙◌, arith}
-use Rattle.std.proofs.lemmas.Option.{slice_get-map, slice_get_within}
-use Rattle.std.proofs.lemmas.List.{length-map}
+use Rattle.std.proofs.Common.{◌≡◌, ◌+◌, ◌<◌, ℕ, zero, suc, List, [], ◌∷◌, length, ◌^◌, drop, Bool, true, false, IsTrue, ◌↔◌, Option, Some, None, unwrap_or, slice_get, refl, sym, ap, subst, ◌∙◌, arith}
+use Rattle.std.proofs.lemmas.Option.{slice_get_within}
 use Rattle.itv_base.proofs.Lists.{drop-read}
 use Rattle.itv_base.specs.Names.{Name}
 use Rattle.drawn.specs.Drawn.{Drawn, IsRowOf, name_of, nameless}

@@ -20,14 +20,18 @@ accepted_text = codes "report accepted\n"
 abbrev pub refused_text : ℕ → List ℕ
 refused_text line = codes "report refused at line " ++ (decimal line ++ codes "\n")
 
+-- what is answered and written of bytes that are accepted, or refused by a line
+abbrev pub AnswersBy : Type 0 → (ℕ → Type 0) → Answer → List ℕ → Type 0
+AnswersBy Accepts Refuses AllPass text = Accepts × (text ≡ accepted_text)
+AnswersBy Accepts Refuses SomeFail text = ⊥
+AnswersBy Accepts Refuses Inconsistent text = ⊥
+AnswersBy Accepts Refuses Undecided text = ⊥
+AnswersBy Accepts Refuses CheckRefused text = (line : ℕ) × Refuses line × (text ≡ refused_text line)
+AnswersBy Accepts Refuses DesignRefused text = ⊥
+
 -- what the job answers and writes
 abbrev pub AnswersCheck : Drawn → List ℕ → Answer → List ℕ → Type 0
-AnswersCheck drawn bytes AllPass text = IsAcceptedText drawn bytes × (text ≡ accepted_text)
-AnswersCheck drawn bytes SomeFail text = ⊥
-AnswersCheck drawn bytes Inconsistent text = ⊥
-AnswersCheck drawn bytes Undecided text = ⊥
-AnswersCheck drawn bytes CheckRefused text = (line : ℕ) × IsRefusedText drawn bytes line × (text ≡ refused_text line)
-AnswersCheck drawn bytes DesignRefused text = ⊥
+AnswersCheck drawn bytes answer text = AnswersBy (IsAcceptedText drawn bytes) (IsRefusedText drawn bytes) answer text
 
 -- what it may have begun to write
 abbrev pub BeginsCheck : Drawn → List ℕ → List ℕ → Type 0

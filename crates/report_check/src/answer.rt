@@ -60,8 +60,8 @@ fn put_checked<K: Sink>(checked: Checked, sink: &mut K) -> Result<(), PutFailed>
     }
 }
 
-// Writes the number of the first wrong line.
-fn put_refused<K: Sink>(line: u64, sink: &mut K) -> Result<(), PutFailed>
+/// Writes the number of the first wrong line.
+pub fn put_refused<K: Sink>(line: u64, sink: &mut K) -> Result<(), PutFailed>
     ensures puts { Puts (K.told sink.old) (K.told sink.new) (refused_text line) result }
 {
     let mut digits = Buffer::new();

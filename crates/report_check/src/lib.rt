@@ -13,5 +13,5 @@ mod stage;
 mod times;
 mod walk;
 
-pub use answer::answer_check;
+pub use answer::{answer_check, put_refused};
 pub use check::{Checked, check_report};

@@ -17,8 +17,8 @@ use Rattle.slack_report.specs.declared.words.Which.TheVariants.{Max, Min}
 use Rattle.drawn.specs.Drawn.{IsRowOf}
 use Rattle.drawn.specs.declared.row.Row.{Row}
 use Rattle.settle_report.specs.declared.proof.Proof.{Proof}
-use Rattle.settle_report.specs.Answers.{IsExtreme, IsNumber, IsRefuted, ProvesExtreme, first_event}
-use Rattle.settle_check.specs.Step.{AreRowTimes, claim_of, pair_of}
+use Rattle.settle_report.specs.Answers.{ArePrintedTimes, IsExtreme, IsNumber, IsRefuted, first_event}
+use Rattle.settle_check.specs.Step.{claim_of, pair_of}
 
 -- no satisfying separation of the pair exceeds what the lines prove
 bounds : (view : View) (net : Net) (from to : EventId) (claim : ℤ) (lines : List ProofLine) → IsNet net → from.0 < net.events → to.0 < net.events → claim <ℤ pos (far_line net)
@@ -30,18 +30,15 @@ bounds Negated net from to claim lines is_net in_from in_to near proof times h =
 above : (a b value : ℤ) → (a -ℤ b) ≤ℤ neg_ℤ value → value ≤ℤ (b -ℤ a)
 above a b value h = omega (arith, ints)
 
-extreme : (which : Which) (net : Net) (row : Row) (value : ℤ) (times : List ℤ) → Satisfies times net → separation times row.from row.to ≡ value
-    → ((others : List ℤ) → Satisfies others net → separation others (pair_of which row).from (pair_of which row).to ≤ℤ claim_of which value) → IsExtreme which net row value
-extreme Max net row value times satisfied attained most = record { attained = (times, satisfied, attained); most = most }
-extreme Min net row value times satisfied attained most = record {
-  attained = (times, satisfied, attained);
-  least = λ others h. above (time_of others row.from) (time_of others row.to) value (most others h);
-}
-
-proves_extreme : (which : Which) (net : Net) (row : Row) (value : ℤ) (proof : Proof) → proof.claim ≡ claim_of which value
-    → IsProofAs proof.view net (pair_of which row).from (pair_of which row).to (claim_of which value) proof.lines.items → ProvesExtreme true which net row value proof
-proves_extreme Max net row value proof claimed proves = (claimed, λ wanted. proves)
-proves_extreme Min net row value proof claimed proves = (claimed, λ wanted. proves)
+extreme : (which : Which) (net : Net) (row : Row) (value : ℤ) (times : List ℤ) (proof : Proof) → Satisfies times net → separation times row.from row.to ≡ value
+    → ((others : List ℤ) → Satisfies others net → separation others (pair_of which row).from (pair_of which row).to ≤ℤ claim_of which value)
+    → proof.claim ≡ claim_of which value → IsProofAs proof.view net (pair_of which row).from (pair_of which row).to (claim_of which value) proof.lines.items
+    → IsExtreme true which net row value proof
+extreme Max net row value times proof satisfied attained most claimed proves = (record { attained = (times, satisfied, attained); most = most }, (claimed, λ wanted. proves))
+extreme Min net row value times proof satisfied attained most claimed proves = (
+  record { attained = (times, satisfied, attained); least = λ others h. above (time_of others row.from) (time_of others row.to) value (most others h) },
+  (claimed, λ wanted. proves),
+)
 
 in_from : (which : Which) (net : Net) (row : Row) → IsRowOf net row → (pair_of which row).from.0 < net.events
 in_from Max net row within = within.0
@@ -52,19 +49,17 @@ in_to Max net row within = within.1
 in_to Min net row within = within.0
 
 -- a proof and times that attain its claim show a bound
-pub is_number : (net : Net) (which : Which) (row : Row) (value : ℤ) (times : List ℤ) (proof : Proof) → IsNet net → IsRowOf net row → AreRowTimes net row times
+pub is_number : (net : Net) (which : Which) (row : Row) (value : ℤ) (times : List ℤ) (proof : Proof) → IsNet net → IsRowOf net row → ArePrintedTimes net row.from times
     → separation times row.from row.to ≡ value → proof.claim ≡ claim_of which value → proof.claim <ℤ pos (far_line net)
     → IsProofAs proof.view net (pair_of which row).from (pair_of which row).to proof.claim proof.lines.items → IsNumber true net which row value times proof
 is_number net which row value times proof is_net within printed attained claimed near proves =
     let led : IsProofAs proof.view net (pair_of which row).from (pair_of which row).to (claim_of which value) proof.lines.items =
     subst (λ (claim : ℤ). IsProofAs proof.view net (pair_of which row).from (pair_of which row).to claim proof.lines.items) claimed proves in record {
-      extreme = extreme which net row value times printed.are_times.satisfied attained
+      extreme = extreme which net row value times proof printed.satisfied attained
           (bounds proof.view net (pair_of which row).from (pair_of which row).to (claim_of which value) proof.lines.items is_net (in_from which net row within)
-          (in_to which net row within) (subst (λ (claim : ℤ). claim <ℤ pos (far_line net)) claimed near) led);
-      are_times = printed.are_times;
-      printed = printed.printed;
+          (in_to which net row within) (subst (λ (claim : ℤ). claim <ℤ pos (far_line net)) claimed near) led) claimed led;
+      are_times = printed;
       attained = attained;
-      proves = proves_extreme which net row value proof claimed led;
     }
 
 nothing : (view : View) (net : Net) (event : EventId) (claim : ℤ) (lines : List ProofLine) → IsNet net → event.0 < net.events → claim <ℤ neg_ℤ (pos (far_line net))

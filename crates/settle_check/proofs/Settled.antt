@@ -1,5 +1,5 @@
 -- A row and a whole text, part by part.
-use Rattle.std.proofs.Common.{◌≡◌, ◌≤◌, ℕ, true, List, length, Some, slice_get, sym, subst, ◌∙◌}
+use Rattle.std.proofs.Common.{◌≡◌, ◌≤◌, ℕ, true, List, length, Some, slice_get, refl, sym, subst, ◌∙◌}
 use Rattle.std.proofs.lemmas.List.{take_all}
 use Rattle.std.proofs.lemmas.Option.{same_Some}
 use Rattle.event_graph.specs.Network.{Net}
@@ -8,11 +8,12 @@ use Rattle.slack_report.specs.Entry as line
 use Rattle.slack_report.specs.Text.{entry_text}
 use Rattle.drawn.specs.Drawn.{Drawn, name_of}
 use Rattle.drawn.specs.declared.row.Row.{Row}
+use Rattle.jobs.specs.Ending.{answer_of}
 use Rattle.settle_report.specs.declared.finding.Finding.{Finding}
 use Rattle.settle_report.specs.declared.row.RowFound.{RowFound}
 use Rattle.settle_report.specs.Answers.{AreFound, IsBound, IsFinding, IsPastOf, IsRowFound}
+use Rattle.settle_report.specs.Settle.{IsSettleText}
 use Rattle.settle_report.specs.Text.{behind_text, bound_text, ending_of, finding_text, front_text, judged_text, row_text}
-use Rattle.settle_check.specs.Confirm.{IsSettledText}
 use Rattle.settle_check.specs.Step.{IsBehind}
 use Rattle.settle_check.proofs.Passing.{behind_then}
 
@@ -40,12 +41,16 @@ module _ (drawn : Drawn) (text : List ℕ) where
   pub settled_text : (finding : Finding) (found : List RowFound) (front_end finding_end rows_end behind : ℕ) → IsFinding true drawn.net finding
       → AreFound true drawn.net drawn.rows finding found → IsBehind text 0 (front_text drawn) front_end → IsBehind text front_end (finding_text true finding) finding_end
       → IsBehind text finding_end (behind_text drawn true finding found) rows_end
-      → IsBehind text rows_end (entry_text (line.ending (ending_of drawn.rows finding found))) behind → length text ≤ behind → IsSettledText drawn text
+      → IsBehind text rows_end (entry_text (line.ending (ending_of drawn.rows finding found))) behind → length text ≤ behind → IsSettleText drawn true text
   settled_text finding found front_end finding_end rows_end behind is_finding are_found a b c d whole =
-      let all = behind_then text 0 front_end behind _ _ a (behind_then text front_end finding_end behind _ _ b (behind_then text finding_end rows_end behind _ _ c d)) in record {
-        finding = finding;
-        found = found;
-        is_finding = is_finding;
-        are_found = are_found;
-        is_text = sym (take_all behind text whole) ∙ all.same;
-      }
+      let all = behind_then text 0 front_end behind _ _ a (behind_then text front_end finding_end behind _ _ b (behind_then text finding_end rows_end behind _ _ c d)) in (
+        answer_of (ending_of drawn.rows finding found),
+        record {
+          finding = finding;
+          found = found;
+          is_finding = is_finding;
+          are_found = are_found;
+          is_text = sym (take_all behind text whole) ∙ all.same;
+          is_answer = refl;
+        },
+      )

@@ -8,7 +8,6 @@ use Rattle.falling.specs.Course.{AreLimits}
 use Rattle.falling.specs.Kinds.{negated}
 use Rattle.slack_report.specs.declared.words.Which.{Which}
 use Rattle.slack_report.specs.declared.words.Which.TheVariants.{Max, Min}
-use Rattle.drawn.specs.Drawn.{AreTimes}
 use Rattle.drawn.specs.declared.row.Row.{Row}
 use Rattle.settle_check.specs.declared.draft.Draft.{Draft}
 use Rattle.settle_check.specs.declared.pair.Pair.{Pair}
@@ -35,11 +34,6 @@ pub record AreViewsOf (net : Net) (views : Views) : Type 0 where
 -- times that can be printed and satisfy
 pub record ArePrinted (net : Net) (times : List ℤ) : Type 0 where
   pub satisfied : Satisfies times net
-  pub printed : All IsPrintedTime times
-
--- times that can be printed with a row
-pub record AreRowTimes (net : Net) (row : Row) (times : List ℤ) : Type 0 where
-  pub are_times : AreTimes net row times
   pub printed : All IsPrintedTime times
 
 -- ---- pairs of events

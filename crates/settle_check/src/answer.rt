@@ -1,17 +1,18 @@
 //! The line that tells what becomes of a text.
 
-ghost use Rattle.std.specs.Prelude.{◌≡◌, ◌≤◌, ℕ, List};
-ghost use Rattle.itv_base.specs.Outside.{Puts};
+ghost use Rattle.std.specs.Prelude.{◌≡◌, ◌≤◌, ℕ, List, true};
 ghost use Rattle.jobs.specs.Works.{Works};
 ghost use Rattle.drawn.specs.Drawn.{Drawn};
-ghost use Rattle.settle_check.specs.Confirm.{AnswersConfirm, BeginsConfirm, IsSettledText, accepted_text, refused_text};
+ghost use Rattle.report_check.specs.Check.{accepted_text, refused_text};
+ghost use Rattle.settle_report.specs.Settle.{IsSettleText};
+ghost use Rattle.settle_check.specs.Confirm.{AnswersConfirm, BeginsConfirm};
 
 use crate::confirm::confirm_text;
 use crate::stop::Stop;
 use drawn::DrawnNetwork;
-use itoa::Buffer;
-use itv_base::{PutFailed, Sink, number_text, put_all};
+use itv_base::{PutFailed, Sink};
 use jobs::{Answer, Unanswered};
+use report_check::put_refused;
 use std::alloc::Global;
 
 /// Checks a text of job settle with its proofs against a drawn network, and writes whether it is accepted, or the first line, from 1,
@@ -34,7 +35,7 @@ pub fn answer_confirm<K: Sink>(
 
 // Writes that a text is accepted.
 fn accept<K: Sink>(sink: &mut K) -> Result<Answer, Unanswered>
-    ensures works { (drawn : Drawn) (text : List ℕ) → IsSettledText drawn text
+    ensures works { (drawn : Drawn) (text : List ℕ) → IsSettleText drawn true text
         → Works (AnswersConfirm drawn text) (BeginsConfirm drawn text) (K.told sink.old) (K.told sink.new) result }
 {
     match sink.put(b"report accepted\n") {
@@ -53,14 +54,6 @@ fn refuse<K: Sink>(line: u64, sink: &mut K) -> Result<Answer, Unanswered>
         Ok(()) => Ok(Answer::CheckRefused),
         Err(PutFailed) => Err(Unanswered::PutFailed),
     }
-}
-
-fn put_refused<K: Sink>(line: u64, sink: &mut K) -> Result<(), PutFailed>
-    ensures puts { Puts (K.told sink.old) (K.told sink.new) (refused_text line) result }
-{
-    let mut digits = Buffer::new();
-    let number = number_text(line, &mut digits).as_bytes();
-    put_all(sink, &[b"report refused at line ", number, b"\n"])
 }
 
 // The number of the line, from 1, in which so many bytes are left of a text.

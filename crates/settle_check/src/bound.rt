@@ -7,8 +7,8 @@ ghost use Rattle.requirements.specs.Bounds.{HasTimes};
 ghost use Rattle.drawn.specs.Drawn.{IsRowOf};
 ghost use Rattle.falling.specs.Cap.{far_line};
 ghost use Rattle.settle.specs.Proofs.{IsProofAs};
-ghost use Rattle.settle_report.specs.Answers.{IsBound, bound_of};
-ghost use Rattle.settle_check.specs.Step.{AreRowTimes, AreViewsOf, claim_of, pair_of};
+ghost use Rattle.settle_report.specs.Answers.{ArePrintedTimes, IsBound, bound_of};
+ghost use Rattle.settle_check.specs.Step.{AreViewsOf, claim_of, pair_of};
 
 use crate::pair::Pair;
 use crate::proof::proof_next;
@@ -137,7 +137,7 @@ fn number_of(
     proof: Proof,
 ) -> SettledBound
     requires row { IsRowOf net.now row.now }
-    requires times { AreRowTimes net.now row.now times.items }
+    requires times { ArePrintedTimes net.now row.now.from times.items }
     requires attained { separation times.items row.now.from row.now.to ≡ value }
     requires claim { proof.claim ≡ claim_of which value }
     requires near { proof.claim <ℤ pos (far_line net.now) }

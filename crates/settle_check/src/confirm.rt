@@ -1,7 +1,7 @@
 //! Checking a text from its front to its end.
 
-ghost use Rattle.std.specs.Prelude.{◌≡◌, OnOk};
-ghost use Rattle.settle_check.specs.Confirm.{IsSettledText};
+ghost use Rattle.std.specs.Prelude.{◌≡◌, true, OnOk};
+ghost use Rattle.settle_report.specs.Settle.{IsSettleText};
 
 use crate::compare::{behind_ending, behind_finding, behind_front};
 use crate::finding::finding_next;
@@ -16,7 +16,7 @@ use std::alloc::Global;
 
 /// Checks a text against a drawn network, part by part: what is told is read, checked, written again and compared.
 pub fn confirm_text(alloc: Global, drawn: &DrawnNetwork, text: &[u8]) -> Result<(), Stop>
-    ensures confirmed { OnOk result (IsSettledText drawn.now text.now) }
+    ensures confirmed { OnOk result (IsSettleText drawn.now true text.now) }
 {
     let net = drawn.network();
     let views = Views::new(alloc, net)?;

@@ -4,7 +4,7 @@ ghost use Rattle.std.specs.Prelude.{◌<◌, ◌<ℤ◌, neg_ℤ, pos, true, IfO
 ghost use Rattle.event_graph.specs.Network.{Net};
 ghost use Rattle.falling.specs.Cap.{far_line};
 ghost use Rattle.settle.specs.Proofs.{IsProofAs};
-ghost use Rattle.settle_report.specs.Answers.{AreFirstTimes, IsFinding, first_event};
+ghost use Rattle.settle_report.specs.Answers.{ArePrintedTimes, IsFinding, first_event};
 ghost use Rattle.settle_check.specs.Step.{AreViewsOf};
 
 use crate::pair::Pair;
@@ -55,7 +55,7 @@ fn consistent_next(alloc: Global, net: &Network, reader: &mut Reader<'_>) -> Res
 
 // Whether times can be printed and satisfy, with event 0 at 0.
 fn are_first(net: &Network, times: &[i64]) -> bool
-    ensures first { IsTrue result → AreFirstTimes net.now times.now }
+    ensures first { IsTrue result → ArePrintedTimes net.now first_event times.now }
 {
     are_printed(net, times) && time_of(times, FIRST) == 0
 }

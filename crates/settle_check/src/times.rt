@@ -5,8 +5,9 @@ ghost use Rattle.event_graph.specs.Limits.{IsPrintedTime};
 ghost use Rattle.event_graph.specs.Satisfying.{Satisfies};
 ghost use Rattle.event_graph.specs.Times.{separation, time_of};
 ghost use Rattle.drawn.specs.Drawn.{IsRowOf};
-ghost use Rattle.settle_report.specs.Answers.{Breaks, CanRise};
-ghost use Rattle.settle_check.specs.Step.{ArePrinted, AreRowTimes};
+ghost use Rattle.right_report.specs.Right.Facts.{Breaks};
+ghost use Rattle.settle_report.specs.Answers.{ArePrintedTimes, CanRise};
+ghost use Rattle.settle_check.specs.Step.{ArePrinted};
 
 use crate::reader::Reader;
 use crate::stop::Stop;
@@ -27,7 +28,7 @@ pub fn row_times_next(
     row: &Row,
     reader: &Reader<'_>,
 ) -> Result<Vec<i64>, Stop>
-    ensures times { IfOk result (λ times. AreRowTimes net.now row.now times.items) }
+    ensures times { IfOk result (λ times. ArePrintedTimes net.now row.now.from times.items) }
 {
     let times = reader.times(alloc)?;
     if !are_row_times(net, row, &times) {
@@ -38,7 +39,7 @@ pub fn row_times_next(
 
 // Whether times can be printed with a row.
 fn are_row_times(net: &Network, row: &Row, times: &[i64]) -> bool
-    ensures times { IsTrue result → AreRowTimes net.now row.now times.now }
+    ensures times { IsTrue result → ArePrintedTimes net.now row.now.from times.now }
 {
     are_printed(net, times) && time_of(times, row.from) == 0
 }
@@ -114,7 +115,7 @@ fn separation(row: &Row, times: &[i64]) -> i64
 /// the to-event, and the least with the from-event.
 pub fn can_rise(net: &Network, which: Which, row: &Row, times: &[i64], set: &[bool]) -> bool
     requires row { IsRowOf net.now row.now }
-    requires times { AreRowTimes net.now row.now times.now }
+    requires times { ArePrintedTimes net.now row.now.from times.now }
     ensures raised { IsTrue result → CanRise which net.now row.now times.now set.now }
 {
     if set.len() != net.events() as usize {

@@ -22,7 +22,7 @@ use Rattle.settle.specs.declared.line.ProofLine.{ProofLine}
 use Rattle.settle.specs.Proofs.{line_of as stored_line_of}
 use Rattle.settle_lines.specs.Answer.{IsClauseRead, IsReadAs}
 use Rattle.settle_lines.specs.Reading.{assume_in, basis_in, clause_in, close_in, closing, fall_of, first_number, know_in, know_of, line_in, literal_in, loop_in, loop_of, numbered, short_in, step_in, steps_in}
-use Rattle.settle_lines.specs.Text.{IsBasisName, IsClauseLine, IsLiteralName, IsStepName, SpellsClause, basis_word, clause_line, clause_words, literal_word, step_words}
+use Rattle.settle_lines.specs.Text.{IsBasisName, IsClauseLine, IsLiteralName, IsStepName, SpellsClause, basis_word, clause_words, literal_word, step_words}
 use Rattle.settle_lines.proofs.WordLaws.{basis_inverts, basis_plain, literal_inverts, literal_plain, one_of, short_inverts}
 
 -- ---- steps
@@ -179,7 +179,7 @@ clause_plain (Assume literals) = record { first = codes "assume"; others = map l
 clause_plain Close = record { first = codes "close"; others = []; parts = refl; plain = (refl, tt) }
 
 -- a line is cut into its words
-line_words_are : (line : ClauseLine) → split_words (clause_line line) ≡ clause_words line
+line_words_are : (line : ClauseLine) → split_words (line_of (clause_words line)) ≡ clause_words line
 line_words_are line =
     let w = clause_plain line in
     rw w.parts (split-join w.first w.others w.plain)
@@ -205,7 +205,7 @@ no_clause_line text other = none_at (line_in text) refl
     none_at (Some line) e =
         let spells = text_is_line text line e in
         let w = clause_plain line in
-        let ascii : IsUtf8 (clause_line line) = rw w.parts (line_is_text (w.first ∷ w.others) w.plain) in
+        let ascii : IsUtf8 (line_of (clause_words line)) = rw w.parts (line_is_text (w.first ∷ w.others) w.plain) in
         absurd (other (rw spells.text_is ascii))
 
 -- ---- what is answered

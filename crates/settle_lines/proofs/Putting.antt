@@ -16,7 +16,7 @@ use Rattle.clauses.specs.declared.literal.Literal.{Literal}
 use Rattle.clauses.specs.Lines.{ClauseLine, Fall, Know, Loop}
 use Rattle.settle.specs.declared.line.ProofLine.{ProofLine}
 use Rattle.settle.specs.Proofs.{lines_of, line_of as stored_line_of}
-use Rattle.settle_lines.specs.Text.{basis_word, claim_text, clause_line_text, clause_lines_text, literal_word, proof_text, step_words, view_text}
+use Rattle.settle_lines.specs.Text.{basis_word, claim_text, clause_line_text, literal_word, proof_text, step_words, view_text}
 
 -- ---- texts of three pieces
 
@@ -63,8 +63,8 @@ loop_parts event steps = record { join = many_words (codes "loop") (number_text 
 
 -- the claim that was passed on is the one that was given
 pub proof_parts : (view : View) (claim passed : ℤ) (lines : List ClauseLine) → passed ≡ claim
-    → Parts (view_text view) (claim_text passed) (clause_lines_text lines) (proof_text view claim lines)
-proof_parts view claim passed lines e = record { join = ap (λ z. view_text view ++ (claim_text z ++ clause_lines_text lines)) e }
+    → Parts (view_text view) (claim_text passed) (flat_map clause_line_text lines) (proof_text view claim lines)
+proof_parts view claim passed lines e = record { join = ap (λ z. view_text view ++ (claim_text z ++ flat_map clause_line_text lines)) e }
 
 -- ---- lists by their first element and the others
 
@@ -78,5 +78,5 @@ steps_more steps i d h =
 
 -- the lines from one on
 pub lines_more : (lines : List ProofLine) (i : ℕ) (d line : ProofLine) → i < length lines → line ≡ get_or lines i d
-    → clause_lines_text (lines_of (drop i lines)) ≡ clause_line_text (stored_line_of line) ++ clause_lines_text (lines_of (drop (i + 1) lines))
+    → flat_map clause_line_text (lines_of (drop i lines)) ≡ clause_line_text (stored_line_of line) ++ flat_map clause_line_text (lines_of (drop (i + 1) lines))
 lines_more lines i d line h e = rw (e, add-one, drop-cons lines i d h) refl

@@ -71,21 +71,14 @@ clause_words (Loop event steps) = codes "loop" ∷ number_text event.0 ∷ step_
 clause_words (Assume literals) = codes "assume" ∷ map literal_word literals
 clause_words Close = codes "close" ∷ []
 
--- the line without its end, and with it
-abbrev pub clause_line : ClauseLine → List ℕ
-clause_line line = line_of (clause_words line)
-
+-- the line with its end
 abbrev pub clause_line_text : ClauseLine → List ℕ
-clause_line_text line = ended (clause_line line)
-
--- the text of lines of a proof
-abbrev pub clause_lines_text : List ClauseLine → List ℕ
-clause_lines_text lines = flat_map clause_line_text lines
+clause_line_text line = ended (line_of (clause_words line))
 
 -- the text is that of the line, without its end
 pub record SpellsClause (text : List ℕ) (line : ClauseLine) : Type 0 where
   pub form : IsClauseLine line
-  pub text_is : text ≡ clause_line line
+  pub text_is : text ≡ line_of (clause_words line)
 
 -- ---- what stands before the lines of a proof
 
@@ -103,4 +96,4 @@ claim_text claim = ended (line_of (codes "claim" ∷ signed_text claim ∷ []))
 
 -- the view, the claim and the lines
 abbrev pub proof_text : View → ℤ → List ClauseLine → List ℕ
-proof_text view claim lines = view_text view ++ (claim_text claim ++ clause_lines_text lines)
+proof_text view claim lines = view_text view ++ (claim_text claim ++ flat_map clause_line_text lines)

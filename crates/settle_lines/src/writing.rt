@@ -1,10 +1,11 @@
 //! Writing the lines of a proof by clauses.
 
+ghost use Rattle.std.specs.List.{flat_map};
 ghost use Rattle.std.specs.Prelude.{map};
 ghost use Rattle.itv_base.specs.Outside.{Puts};
 ghost use Rattle.clauses.specs.Lines.{Assume, Fall, Know, Loop};
 ghost use Rattle.settle.specs.Proofs.{line_of, lines_of};
-ghost use Rattle.settle_lines.specs.Text.{claim_text, clause_line_text, clause_lines_text, proof_text, view_text};
+ghost use Rattle.settle_lines.specs.Text.{claim_text, clause_line_text, proof_text, view_text};
 
 use crate::put::{put_basis_end, put_literal, put_literals, put_named, put_steps, put_value};
 use clauses::{Basis, EventFall, Literal, Step};
@@ -51,7 +52,7 @@ fn put_claim<K: Sink>(claim: i64, sink: &mut K) -> Result<(), PutFailed>
 
 // Each line and its end.
 fn put_lines<K: Sink>(lines: &[ProofLine], sink: &mut K) -> Result<(), PutFailed>
-    ensures { Puts (K.told sink.old) (K.told sink.new) (clause_lines_text (lines_of lines.now)) result }
+    ensures { Puts (K.told sink.old) (K.told sink.new) (flat_map clause_line_text (lines_of lines.now)) result }
 {
     for line in lines {
         write_clause_line(line, sink)?;

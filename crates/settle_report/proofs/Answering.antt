@@ -9,7 +9,7 @@ use Rattle.event_graph.specs.Times.{IsTime, separation, time_of}
 use Rattle.event_graph.proofs.Reversing.{least_is_reversed_greatest}
 use Rattle.slack_report.specs.declared.words.Which.{Which}
 use Rattle.slack_report.specs.declared.words.Which.TheVariants.{Max, Min}
-use Rattle.drawn.specs.Drawn.{AreTimes, IsRowOf}
+use Rattle.drawn.specs.Drawn.{IsRowOf}
 use Rattle.drawn.specs.declared.row.Row.{Row}
 use Rattle.settle.specs.declared.found.Found.{Found}
 use Rattle.settle.specs.declared.found.Settled.{Settled}
@@ -19,7 +19,7 @@ use Rattle.settle.specs.Proofs.{IsProofAs}
 use Rattle.settle.specs.Racing.{IsNear}
 use Rattle.settle_report.specs.declared.finding.Finding.TheVariants as findings
 use Rattle.settle_report.specs.declared.proof.Proof.{Proof}
-use Rattle.settle_report.specs.Answers.{AreFirstTimes, CanRise, IsEndless, IsExtreme, IsFinding, IsNumber, IsRefuted, Proves, ProvesExtreme, first_event}
+use Rattle.settle_report.specs.Answers.{ArePrintedTimes, CanRise, IsEndless, IsExtreme, IsFinding, IsNumber, IsRefuted, Proves, first_event}
 use Rattle.settle_report.specs.Step.{IsNearby, moved, shown_by, source, target}
 use Rattle.settle_report.proofs.Moving.{nearby-moved, nearby_times, ray-moved, satisfies-moved, separation-moved, separation_near, zero-moved}
 
@@ -38,7 +38,7 @@ below_none : {k n : ℕ} → k < n → n ≡ 0 → ⊥
 below_none h e = omega arith
 
 -- the times of no events satisfy a network without events
-pub first_empty : (net : Net) → IsNet net → net.events ≡ 0 → AreFirstTimes net []
+pub first_empty : (net : Net) → IsNet net → net.events ≡ 0 → ArePrintedTimes net first_event []
 first_empty net is_net none = record {
   satisfied = record { count = sym none; each = λ k d within. absurd (below_none (is_net.constraints k d within).target none) };
   at_zero = refl;
@@ -47,7 +47,7 @@ first_empty net is_net none = record {
 
 module _ (net : Net) (turns : ℕ) (found : Found) (is_net : IsNet net) (some : 0 < net.events) (f : IsFound net first_event first_event turns found) where
   -- the times that were found satisfy, with event 0 at 0 when they are moved
-  pub first_times : (value : ℤ) → found.answer ≡ Closed value → AreFirstTimes net (moved first_event found.times.items)
+  pub first_times : (value : ℤ) → found.answer ≡ Closed value → ArePrintedTimes net first_event (moved first_event found.times.items)
   first_times value is =
       let a = (says found (Closed value) is f).0 in
       let within : 0 < length found.times.items = subst (λ n. 0 < n) (sym a.satisfies.count) some in record {
@@ -80,10 +80,13 @@ some_times cert net times f = (times.items, f.satisfied)
 neg_twice : (value : ℤ) → neg_ℤ (neg_ℤ value) ≡ value
 neg_twice value = omega (arith, ints)
 
-extreme_of : (net : Net) (which : Which) (row : Row) (value : ℤ) → IsGreatest net (source which row) (target which row) value → IsExtreme which net row (shown_by which value)
-extreme_of net Max row value greatest = greatest
-extreme_of net Min row value greatest =
-    (least_is_reversed_greatest net row.from row.to (neg_ℤ value)).1 (subst (IsGreatest net row.to row.from) (sym (neg_twice value)) greatest)
+extreme_of : (cert : Bool) (net : Net) (which : Which) (row : Row) (value : ℤ) (proof : Proof) → IsGreatest net (source which row) (target which row) value
+    → Proves cert net (source which row) (target which row) value proof → IsExtreme cert which net row (shown_by which value) proof
+extreme_of cert net Max row value proof greatest p = (greatest, p)
+extreme_of cert net Min row value proof greatest p = (
+  (least_is_reversed_greatest net row.from row.to (neg_ℤ value)).1 (subst (IsGreatest net row.to row.from) (sym (neg_twice value)) greatest),
+  subst (λ z. Proves cert net row.to row.from z proof) (sym (neg_twice value)) p,
+)
 
 back : (a b value : ℤ) → (a -ℤ b) ≡ value → (b -ℤ a) ≡ neg_ℤ value
 back a b value e = omega (arith, ints)
@@ -91,11 +94,6 @@ back a b value e = omega (arith, ints)
 attained_by : (which : Which) (row : Row) (times : List ℤ) (value : ℤ) → separation times (source which row) (target which row) ≡ value → separation times row.from row.to ≡ shown_by which value
 attained_by Max row times value e = e
 attained_by Min row times value e = back (time_of times row.from) (time_of times row.to) value e
-
-proves_by : (cert : Bool) (net : Net) (which : Which) (row : Row) (value : ℤ) (proof : Proof) → Proves cert net (source which row) (target which row) value proof
-    → ProvesExtreme cert which net row (shown_by which value) proof
-proves_by cert net Max row value proof p = p
-proves_by cert net Min row value proof p = subst (λ z. Proves cert net row.to row.from z proof) (sym (neg_twice value)) p
 
 can_rise : (net : Net) (which : Which) (row : Row) (times : List ℤ) (ray : List Bool) → IsNet net → IsRay net (source which row) (target which row) times ray
     → CanRise which net row (moved row.from times) ray
@@ -115,8 +113,12 @@ module _ (net : Net) (which : Which) (row : Row) (turns : ℕ) (found : Found) (
   in_times : {times : List ℤ} (event : EventId) → Satisfies times net → event.0 < net.events → event.0 < length times
   in_times event satisfies within = subst (λ n. event.0 < n) (sym satisfies.count) within
 
-  times_are : (times : List ℤ) → Satisfies times net → AreTimes net row (moved row.from times)
-  times_are times satisfies = record { satisfied = satisfies-moved net row.from times is_net satisfies; at_zero = zero-moved row.from times (in_times row.from satisfies is_row.0) }
+  times_are : (times : List ℤ) → Satisfies times net → All IsNearby (moved row.from times) → ArePrintedTimes net row.from (moved row.from times)
+  times_are times satisfies near = record {
+    satisfied = satisfies-moved net row.from times is_net satisfies;
+    at_zero = zero-moved row.from times (in_times row.from satisfies is_row.0);
+    printed = nearby_times (moved row.from times) near;
+  }
 
   -- the times that were found, where there are some
   pub closed_near : (value : ℤ) → found.answer ≡ Closed value → All IsNear found.times.items × (row.from.0 < length found.times.items)
@@ -143,12 +145,10 @@ module _ (net : Net) (which : Which) (row : Row) (turns : ℕ) (found : Found) (
       let times : List ℤ = found.times.items in
       let lines : IsProofAs found.view net (source which row) (target which row) found.claim.value found.lines.items =
       subst (λ z. IsProofAs found.view net (source which row) (target which row) z found.lines.items) (sym both.1) a.proof in record {
-        extreme = extreme_of net which row value a.greatest;
-        are_times = times_are times a.satisfies;
-        printed = nearby_times (moved row.from times) (moved_nearby (closed_near value is));
-        attained = separation-moved row.from row.from row.to times (in_times row.from a.satisfies is_row.0) (in_times row.to a.satisfies is_row.1) ∙ attained_by which row times value a.attained;
-        proves = proves_by cert net which row value proof
+        extreme = extreme_of cert net which row value proof a.greatest
             (subst (λ z. Proves cert net (source which row) (target which row) z proof) both.1 (proves net (source which row) (target which row) lines));
+        are_times = times_are times a.satisfies (moved_nearby (closed_near value is));
+        attained = separation-moved row.from row.from row.to times (in_times row.from a.satisfies is_row.0) (in_times row.to a.satisfies is_row.1) ∙ attained_by which row times value a.attained;
       }
 
   -- the same of what is stored
@@ -164,8 +164,7 @@ module _ (net : Net) (which : Which) (row : Row) (turns : ℕ) (found : Found) (
   is_endless : found.answer ≡ Unbounded → IsEndless net which row (moved row.from found.times.items) found.ray.items
   is_endless is =
       let a = says found Unbounded is f in record {
-        are_times = times_are found.times.items a.satisfies;
-        printed = nearby_times (moved row.from found.times.items) (moved_nearby (unbounded_near is));
+        are_times = times_are found.times.items a.satisfies (moved_nearby (unbounded_near is));
         raised = can_rise net which row found.times.items found.ray.items is_net a.raised;
       }
 

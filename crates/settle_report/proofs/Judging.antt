@@ -8,13 +8,14 @@ use Rattle.event_graph.specs.Times.{separation, time_of}
 use Rattle.requirements.specs.Verdicts.{breaks_high, breaks_low, meets_high, meets_low, verdict_of}
 use Rattle.requirements.specs.declared.bound.Bound.{Bound}
 use Rattle.requirements.specs.declared.verdict.Verdict.TheVariants as verdicts
+use Rattle.right_report.specs.Right.Facts.{Breaks}
 use Rattle.slack_report.specs.declared.words.Which.{Which}
 use Rattle.slack_report.specs.declared.words.Which.TheVariants.{Max, Min}
 use Rattle.drawn.specs.declared.row.Row.{Row}
 use Rattle.settle_report.specs.declared.bound.SettledBound.{SettledBound}
 use Rattle.settle_report.specs.declared.bound.SettledBound.TheVariants as settled
 use Rattle.settle_report.specs.declared.proof.Proof.{Proof}
-use Rattle.settle_report.specs.Answers.{AreBreaking, Breaks, IsNumber, bound_of}
+use Rattle.settle_report.specs.Answers.{IsNumber, IsPast, bound_of}
 use Rattle.settle_report.specs.Step.{ArePast, IsBeyond, shown_by, source, target}
 
 -- ---- which end is broken
@@ -66,7 +67,6 @@ pub number_past : (cert : Bool) (net : Net) (which : Which) (row : Row) (value l
     → limit <ℤ shown_by which value → ArePast net which row limit times
 number_past cert net which row value limit times proof n beyond = record {
   are_times = n.are_times;
-  printed = n.printed;
   past = past_by which row times value limit n.attained beyond;
 }
   where
@@ -87,8 +87,8 @@ under row range limit list e h = subst (λ (low : Option ℤ). IsSomeAnd low (λ
     turn_under : (a b limit : ℤ) → limit <ℤ (a -ℤ b) → (b -ℤ a) <ℤ neg_ℤ limit
     turn_under a b limit h = omega (arith, ints)
 
-pub high_past : (net : Net) (row : Row) (range : Ends) (limit : ℤ) (list : List ℤ) → range.high ≡ Some limit → ArePast net Max row limit list → AreBreaking net row range verdicts.FailHigh list
-high_past net row range limit list e past = record { are_times = past.are_times; printed = past.printed; breaks = above row range limit list e past.past }
+pub high_past : (net : Net) (row : Row) (range : Ends) (limit : ℤ) (list : List ℤ) → range.high ≡ Some limit → ArePast net Max row limit list → IsPast net row range verdicts.FailHigh list
+high_past net row range limit list e past = (past.are_times, above row range limit list e past.past)
 
-pub low_past : (net : Net) (row : Row) (range : Ends) (limit : ℤ) (list : List ℤ) → range.low ≡ Some (neg_ℤ limit) → ArePast net Min row limit list → AreBreaking net row range verdicts.FailLow list
-low_past net row range limit list e past = record { are_times = past.are_times; printed = past.printed; breaks = under row range limit list e past.past }
+pub low_past : (net : Net) (row : Row) (range : Ends) (limit : ℤ) (list : List ℤ) → range.low ≡ Some (neg_ℤ limit) → ArePast net Min row limit list → IsPast net row range verdicts.FailLow list
+low_past net row range limit list e past = (past.are_times, under row range limit list e past.past)

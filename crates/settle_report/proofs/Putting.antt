@@ -4,6 +4,7 @@ use Rattle.std.specs.Bool.{⊤}
 use Rattle.std.specs.Prelude.{Result, if◌then◌else◌}
 use Rattle.itv_base.specs.Outside.{CutShort, Puts, SinkTold, grown}
 use Rattle.itv_base.specs.Range.{Ends}
+use Rattle.itv_base.specs.declared.row_kind.RowKind.TheVariants as kinds
 use Rattle.itv_base.proofs.Written.{cut_more, cut_then, puts_same, puts_then}
 use Rattle.requirements.specs.Slacks.{slack_of}
 use Rattle.requirements.specs.Verdicts.{verdict_of}
@@ -18,7 +19,7 @@ use Rattle.drawn.specs.Drawn.{Drawn}
 use Rattle.settle_report.specs.declared.finding.Finding.{Finding}
 use Rattle.settle_report.specs.declared.row.RowFound.{RowFound}
 use Rattle.settle_report.specs.Answers.{bound_of}
-use Rattle.settle_report.specs.Text.{behind_text, ending_of, finding_text, front_text, settle_text, verdict_text}
+use Rattle.settle_report.specs.Text.{behind_text, ending_of, finding_text, front_text, judged_text, settle_text}
 
 -- ---- a piece fails
 
@@ -46,7 +47,7 @@ put_four old m n o new a b c d whole r e put more third last =
 
 pub verdict_is : (range : Ends) (found : RowFound) (least most : Bound) (word : Verdict) (past : List ℤ) (value : Slack) → least ≡ bound_of found.least → most ≡ bound_of found.greatest
     → word ≡ verdict_of range least most → past ≡ found.past.items → value ≡ slack_of range least most
-    → entry_text (line.verdict word) ++ ((if is_fail word then entry_text (line.times past) else []) ++ entry_text (line.slack value)) ≡ verdict_text range found
+    → entry_text (line.verdict word) ++ ((if is_fail word then entry_text (line.times past) else []) ++ entry_text (line.slack value)) ≡ judged_text (kinds.Req range) found
 verdict_is range found least most word past value is_least is_most is_word is_past is_value = rw (is_word, is_past, is_value, is_least, is_most) refl
 
 pub settle_is : (drawn : Drawn) (cert : Bool) (finding : Finding) (rows found : List RowFound) (word : EndWord) → rows ≡ found → word ≡ ending_of drawn.rows finding found

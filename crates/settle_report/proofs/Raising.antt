@@ -132,8 +132,7 @@ module _ (net : Net) (which : Which) (row : Row) (limit : ℤ) (old : List ℤ) 
         let s_from : (source which row).0 < length new = subst (λ n. (source which row).0 < n) (sym new_count) searched.0 in
         let s_to : (target which row).0 < length new = subst (λ n. (target which row).0 < n) (sym new_count) searched.1 in
         subst (ArePast net which row limit) (sym is) (record {
-          are_times = record { satisfied = satisfies-moved net row.from new is_net sat; at_zero = zero-moved row.from new in_new };
-          printed = moved_times;
+          are_times = record { satisfied = satisfies-moved net row.from new is_net sat; at_zero = zero-moved row.from new in_new; printed = moved_times };
           past = subst (λ z. limit <ℤ z) (sym (separation-moved row.from (source which row) (target which row) new s_from s_to)) r.past;
         })
       where

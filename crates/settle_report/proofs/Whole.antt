@@ -8,7 +8,7 @@ use Rattle.jobs.specs.declared.answer.Answer.{Answer}
 use Rattle.settle_report.specs.declared.finding.Finding.{Finding}
 use Rattle.settle_report.specs.declared.row.RowFound.{RowFound}
 use Rattle.settle_report.specs.Answers.{AreFound, IsFinding}
-use Rattle.settle_report.specs.Settle.{AnswersSettle, BeginsSettle}
+use Rattle.settle_report.specs.Settle.{AnswersSettle, IsSettleText}
 use Rattle.settle_report.specs.Text.{ending_of, settle_text}
 
 module _ (drawn : Drawn) (cert : Bool) (finding : Finding) (found : List RowFound) (f : IsFinding cert drawn.net finding) (a : AreFound cert drawn.net drawn.rows finding found) where
@@ -18,6 +18,6 @@ module _ (drawn : Drawn) (cert : Bool) (finding : Finding) (found : List RowFoun
 
   -- and a front of it begins it
   pub begins_settle : {B E : Type 0} (result : Result B E) (old new : SinkTold) → CutShort old new (settle_text drawn cert finding found)
-      → OnErr result ((text : List ℕ) × BeginsSettle drawn cert text × CutShort old new text)
+      → OnErr result ((text : List ℕ) × IsSettleText drawn cert text × CutShort old new text)
   begins_settle (Ok x) old new cut = tt
   begins_settle (Err e) old new cut = (settle_text drawn cert finding found, (answer_of (ending_of drawn.rows finding found), answers_settle _ refl), cut)

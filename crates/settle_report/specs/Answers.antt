@@ -1,5 +1,5 @@
 -- What is found of a network and of its rows.
-use Rattle.std.specs.Prelude.{◌≡◌, ℤ, pos, neg_ℤ, ◌<ℤ◌, Bool, List, [], ◌∷◌, All, None, IsTrue, IsSomeAnd}
+use Rattle.std.specs.Prelude.{◌≡◌, ℤ, pos, neg_ℤ, ◌<ℤ◌, Bool, List, [], ◌∷◌, All, None, IsTrue}
 use Rattle.itv_base.specs.Range.{Ends}
 use Rattle.itv_base.specs.declared.names.EventId.{EventId}
 use Rattle.itv_base.specs.declared.row_kind.RowKind.{RowKind}
@@ -16,9 +16,9 @@ use Rattle.requirements.specs.declared.bound.Bound.{Bound}
 use Rattle.requirements.specs.declared.bound.Bound.TheVariants as bounds
 use Rattle.requirements.specs.declared.verdict.Verdict.{Verdict}
 use Rattle.requirements.specs.declared.verdict.Verdict.TheVariants as verdicts
+use Rattle.right_report.specs.Right.Facts.{Breaks}
 use Rattle.slack_report.specs.declared.words.Which.{Which}
 use Rattle.slack_report.specs.declared.words.Which.TheVariants.{Max, Min}
-use Rattle.drawn.specs.Drawn.{AreTimes}
 use Rattle.drawn.specs.declared.row.Row.{Row}
 use Rattle.settle_report.specs.declared.finding.Finding.{Finding}
 use Rattle.settle_report.specs.declared.finding.Finding.TheVariants.{Consistent, Inconsistent, Spent}
@@ -31,17 +31,17 @@ use Rattle.settle_report.specs.declared.row.RowFound.{RowFound}
 abbrev pub Proves : Bool → Net → EventId → EventId → ℤ → Proof → Type 0
 Proves cert net from to claim proof = (proof.claim ≡ claim) × (IsTrue cert → IsProofAs proof.view net from to claim proof.lines.items)
 
+-- the printed times satisfy, with an event at 0
+pub record ArePrintedTimes (net : Net) (origin : EventId) (times : List ℤ) : Type 0 where
+  pub satisfied : Satisfies times net
+  pub at_zero : time_of times origin ≡ pos 0
+  pub printed : All IsPrintedTime times
+
 -- ---- the finding
 
--- the proof of the finding is of event 0 and itself
+-- the times of the finding have event 0 at 0, and its proof is of event 0 and itself
 abbrev pub first_event : EventId
 first_event = record { 0 = 0 }
-
--- the printed times satisfy, with event 0 at 0
-pub record AreFirstTimes (net : Net) (times : List ℤ) : Type 0 where
-  pub satisfied : Satisfies times net
-  pub at_zero : time_of times first_event ≡ pos 0
-  pub printed : All IsPrintedTime times
 
 -- no times satisfy, and where proofs are wanted the lines prove a claim below minus the far line
 pub record IsRefuted (cert : Bool) (net : Net) (proof : Proof) : Type 0 where
@@ -51,40 +51,32 @@ pub record IsRefuted (cert : Bool) (net : Net) (proof : Proof) : Type 0 where
 
 -- of a finding that was spent nothing is known
 abbrev pub IsFinding : Bool → Net → Finding → Type 0
-IsFinding cert net (Consistent times) = AreFirstTimes net times.items
+IsFinding cert net (Consistent times) = ArePrintedTimes net first_event times.items
 IsFinding cert net (Inconsistent proof) = IsRefuted cert net proof
 IsFinding cert net Spent = Unit {0}
 
 -- ---- a bound
 
--- the number is the greatest or the least separation of a row
-abbrev pub IsExtreme : Which → Net → Row → ℤ → Type 0
-IsExtreme Max net row value = IsGreatest net row.from row.to value
-IsExtreme Min net row value = IsLeast net row.from row.to value
-
--- where proofs are wanted the lines prove that no separation of the pair exceeds the greatest one, or that none of the reversed pair exceeds minus
--- the least one
-abbrev pub ProvesExtreme : Bool → Which → Net → Row → ℤ → Proof → Type 0
-ProvesExtreme cert Max net row value proof = Proves cert net row.from row.to value proof
-ProvesExtreme cert Min net row value proof = Proves cert net row.to row.from (neg_ℤ value) proof
+-- the number is the greatest or the least separation of a row; where proofs are wanted the lines prove that no separation of the pair exceeds the
+-- greatest one, or that none of the reversed pair exceeds minus the least one
+abbrev pub IsExtreme : Bool → Which → Net → Row → ℤ → Proof → Type 0
+IsExtreme cert Max net row value proof = IsGreatest net row.from row.to value × Proves cert net row.from row.to value proof
+IsExtreme cert Min net row value proof = IsLeast net row.from row.to value × Proves cert net row.to row.from (neg_ℤ value) proof
 
 -- the set can be raised by any number: for a greatest separation with the to-event, and for a least one with the from-event
 abbrev pub CanRise : Which → Net → Row → List ℤ → List Bool → Type 0
 CanRise Max net row times set = IsRay net row.from row.to times set
 CanRise Min net row times set = IsRay net row.to row.from times set
 
--- the number is the bound, the printed times satisfy and attain it with the from-event at 0, and the lines prove it
+-- the number is the bound, as the lines prove, and the printed times satisfy and attain it with the from-event at 0
 pub record IsNumber (cert : Bool) (net : Net) (which : Which) (row : Row) (value : ℤ) (times : List ℤ) (proof : Proof) : Type 0 where
-  pub extreme : IsExtreme which net row value
-  pub are_times : AreTimes net row times
-  pub printed : All IsPrintedTime times
+  pub extreme : IsExtreme cert which net row value proof
+  pub are_times : ArePrintedTimes net row.from times
   pub attained : separation times row.from row.to ≡ value
-  pub proves : ProvesExtreme cert which net row value proof
 
 -- the printed times satisfy with the from-event at 0, and the set can be raised from them
 pub record IsEndless (net : Net) (which : Which) (row : Row) (times : List ℤ) (set : List Bool) : Type 0 where
-  pub are_times : AreTimes net row times
-  pub printed : All IsPrintedTime times
+  pub are_times : ArePrintedTimes net row.from times
   pub raised : CanRise which net row times set
 
 -- of a bound that was spent nothing is known
@@ -104,23 +96,10 @@ bound_of settled.Spent = bounds.Within None None
 abbrev pub verdict_in : Ends → RowFound → Verdict
 verdict_in range found = verdict_of range (bound_of found.least) (bound_of found.greatest)
 
--- the times break the end that a verdict names
-abbrev pub Breaks : Row → Ends → Verdict → List ℤ → Type 0
-Breaks row range verdicts.FailHigh times = IsSomeAnd range.high (λ high. high <ℤ separation times row.from row.to)
-Breaks row range verdicts.FailLow times = IsSomeAnd range.low (λ low. separation times row.from row.to <ℤ low)
-Breaks row range verdicts.Pass times = ⊥
-Breaks row range verdicts.Undecided times = ⊥
-
--- the printed times satisfy with the from-event at 0, and break the end that a verdict names
-pub record AreBreaking (net : Net) (row : Row) (range : Ends) (word : Verdict) (times : List ℤ) : Type 0 where
-  pub are_times : AreTimes net row times
-  pub printed : All IsPrintedTime times
-  pub breaks : Breaks row range word times
-
--- behind a verdict that is a fail stand times that break the requirement
+-- behind a verdict that is a fail stand printed times that satisfy with the from-event at 0, and break the end that it names; behind another none
 abbrev pub IsPast : Net → Row → Ends → Verdict → List ℤ → Type 0
-IsPast net row range verdicts.FailHigh past = AreBreaking net row range verdicts.FailHigh past
-IsPast net row range verdicts.FailLow past = AreBreaking net row range verdicts.FailLow past
+IsPast net row range verdicts.FailHigh past = ArePrintedTimes net row.from past × Breaks row range verdicts.FailHigh past
+IsPast net row range verdicts.FailLow past = ArePrintedTimes net row.from past × Breaks row range verdicts.FailLow past
 IsPast net row range verdicts.Pass past = past ≡ []
 IsPast net row range verdicts.Undecided past = past ≡ []
 

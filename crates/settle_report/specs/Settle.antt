@@ -18,6 +18,6 @@ pub record AnswersSettle (drawn : Drawn) (cert : Bool) (answer : Answer) (text :
   pub is_text : text ≡ settle_text drawn cert finding found
   pub is_answer : answer ≡ answer_of (ending_of drawn.rows finding found)
 
--- What may have been begun: all is found before anything is put, so it is a front of a whole text.
-abbrev pub BeginsSettle : Drawn → Bool → List ℕ → Type 0
-BeginsSettle drawn cert text = (answer : Answer) × AnswersSettle drawn cert answer text
+-- The text is one of the job. It is what may have been begun: all is found before anything is put, so a front of a whole text was.
+abbrev pub IsSettleText : Drawn → Bool → List ℕ → Type 0
+IsSettleText drawn cert text = (answer : Answer) × AnswersSettle drawn cert answer text

@@ -1,17 +1,15 @@
 -- What the steps of job settle promise one another.
 use Rattle.std.specs.Prelude.{◌*◌, ℤ, pos, neg_ℤ, ◌≤ℤ◌, ◌<ℤ◌, Bool, List, All}
 use Rattle.itv_base.specs.declared.names.EventId.{EventId}
-use Rattle.event_graph.specs.Limits.{IsPrintedTime}
 use Rattle.event_graph.specs.Network.{Net}
 use Rattle.event_graph.specs.Times.{separation, shifted, time_of}
 use Rattle.falling.specs.Cap.{cap_limit}
 use Rattle.slack_report.specs.declared.words.Which.{Which}
 use Rattle.slack_report.specs.declared.words.Which.TheVariants.{Max, Min}
-use Rattle.drawn.specs.Drawn.{AreTimes}
 use Rattle.drawn.specs.declared.row.Row.{Row}
 use Rattle.settle_report.specs.declared.bound.SettledBound.{SettledBound}
 use Rattle.settle_report.specs.declared.bound.SettledBound.TheVariants as settled
-use Rattle.settle_report.specs.Answers.{IsBound}
+use Rattle.settle_report.specs.Answers.{ArePrintedTimes, IsBound}
 
 -- times with that of an event taken from all
 abbrev pub moved : EventId → List ℤ → List ℤ
@@ -53,6 +51,5 @@ IsBeyond which settled.Spent limit = ⊥
 
 -- the printed times satisfy with the from-event at 0, and their separation of the searched pair exceeds a limit
 pub record ArePast (net : Net) (which : Which) (row : Row) (limit : ℤ) (times : List ℤ) : Type 0 where
-  pub are_times : AreTimes net row times
-  pub printed : All IsPrintedTime times
+  pub are_times : ArePrintedTimes net row.from times
   pub past : limit <ℤ separation times (source which row) (target which row)

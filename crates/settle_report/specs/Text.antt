@@ -1,6 +1,5 @@
 -- The text of job settle.
 use Rattle.std.specs.Prelude.{◌+◌, ℕ, Bool, true, false, if◌then◌else◌, List, [], ◌∷◌, ◌++◌, length, codes}
-use Rattle.itv_base.specs.Range.{Ends}
 use Rattle.itv_base.specs.declared.row_kind.RowKind.{RowKind}
 use Rattle.itv_base.specs.declared.row_kind.RowKind.TheVariants as kinds
 use Rattle.line_words.specs.Lines.{ended, line_of}
@@ -47,17 +46,13 @@ bound_text cert which (settled.Closed value times proof) = shown_text cert proof
 bound_text cert which (settled.Unbounded times ray) = entry_text (line.bound which bounds.Unbounded) ++ (entry_text (line.times times.items) ++ entry_text (line.raise ray.items))
 bound_text cert which settled.Spent = ended (line_of (which_word which ∷ codes "spent" ∷ []))
 
--- the verdict on a requirement, times that break it if it is a fail, and the slack
-abbrev pub verdict_text : Ends → RowFound → List ℕ
-verdict_text range found =
+-- the verdict on a requirement, times that break it if it is a fail, and the slack; a row that only asks has none
+abbrev pub judged_text : RowKind → RowFound → List ℕ
+judged_text kinds.Ask found = []
+judged_text (kinds.Req range) found =
     entry_text (line.verdict (verdict_in range found))
     ++ ((if is_fail (verdict_in range found) then entry_text (line.times found.past.items) else [])
     ++ entry_text (line.slack (slack_of range (bound_of found.least) (bound_of found.greatest))))
-
--- a row that only asks has none
-abbrev pub judged_text : RowKind → RowFound → List ℕ
-judged_text kinds.Ask found = []
-judged_text (kinds.Req range) found = verdict_text range found
 
 -- a row of a number
 abbrev pub row_text : Drawn → Bool → ℕ → Row → RowFound → List ℕ

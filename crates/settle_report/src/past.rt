@@ -3,9 +3,8 @@
 ghost use Rattle.std.specs.Prelude.{◌≡◌, neg_ℤ, All, Some, IfOk};
 ghost use Rattle.itv_base.specs.Range.{IsEnd};
 ghost use Rattle.event_graph.specs.Bounds.{IsRay};
-ghost use Rattle.event_graph.specs.Limits.{IsPrintedTime};
 ghost use Rattle.event_graph.specs.Network.{IsNet};
-ghost use Rattle.drawn.specs.Drawn.{AreTimes, IsRowOf};
+ghost use Rattle.drawn.specs.Drawn.{IsRowOf};
 ghost use Rattle.requirements.specs.Verdicts.{verdict_of};
 ghost use Rattle.settle_report.specs.Answers.{IsEndless, IsPast, IsPastOf, bound_of};
 ghost use Rattle.settle_report.specs.Step.{ArePast, IsBeyond, IsFoundBound, IsNearby};

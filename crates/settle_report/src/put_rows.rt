@@ -8,7 +8,7 @@ ghost use Rattle.slack_report.specs.Entry.{rows, times};
 ghost use Rattle.slack_report.specs.Text.{entry_text};
 ghost use Rattle.drawn.specs.Drawn.{IsRowOf};
 ghost use Rattle.settle_report.specs.Answers.{AreFound, AreRowsFound, bound_of};
-ghost use Rattle.settle_report.specs.Text.{behind_text, judged_text, row_text, rows_text, verdict_text};
+ghost use Rattle.settle_report.specs.Text.{behind_text, judged_text, row_text, rows_text};
 
 use crate::bound::both_of;
 use crate::finding::Finding;
@@ -129,7 +129,7 @@ fn put_verdict<K: Sink>(
 ) -> Result<(), PutFailed>
     requires greatest { HasTimes (bound_of found.now.greatest) }
     requires least { HasTimes (bound_of found.now.least) }
-    ensures puts { Puts (K.told sink.old) (K.told sink.new) (verdict_text range found.now) result }
+    ensures puts { Puts (K.told sink.old) (K.told sink.new) (judged_text (RowKind.Req range) found.now) result }
 {
     let both = both_of(&found.least, &found.greatest);
     let word = judge(range, &both);

@@ -4,7 +4,7 @@ ghost use Rattle.std.specs.Prelude.{◌≡◌, ℕ, List, IfOk, OnErr};
 ghost use Rattle.itv_base.specs.Outside.{CutShort, Puts, grown};
 ghost use Rattle.jobs.specs.Works.{Works};
 ghost use Rattle.settle_report.specs.Answers.{AreFound, IsFinding};
-ghost use Rattle.settle_report.specs.Settle.{AnswersSettle, BeginsSettle};
+ghost use Rattle.settle_report.specs.Settle.{AnswersSettle, IsSettleText};
 ghost use Rattle.settle_report.specs.Text.{ending_of, front_text, settle_text};
 
 use crate::ending::ending_of;
@@ -32,7 +32,7 @@ pub fn write_settle<K: Sink>(
     cert: bool,
     sink: &mut K,
 ) -> Result<Answer, Unanswered>
-    ensures works { Works (AnswersSettle drawn.now cert) (BeginsSettle drawn.now cert) (K.told sink.old) (K.told sink.new) result }
+    ensures works { Works (AnswersSettle drawn.now cert) (IsSettleText drawn.now cert) (K.told sink.old) (K.told sink.new) result }
 {
     let found = find_network(alloc, drawn, Wanted { turns, cert })?;
     let mut buffer = LineBuffer::new(alloc, LINE_ROOM)?;
@@ -72,7 +72,7 @@ fn put_found<K: Sink>(
     requires finding { IsFinding cert drawn.now.net found.now.finding }
     requires rows { AreFound cert drawn.now.net drawn.now.rows found.now.finding found.now.rows.items }
     ensures answers { IfOk result (λ answer. (text : List ℕ) × AnswersSettle drawn.now cert answer text × (K.told sink.new ≡ grown (K.told sink.old) text)) }
-    ensures begins { OnErr result ((text : List ℕ) × BeginsSettle drawn.now cert text × CutShort (K.told sink.old) (K.told sink.new) text) }
+    ensures begins { OnErr result ((text : List ℕ) × IsSettleText drawn.now cert text × CutShort (K.told sink.old) (K.told sink.new) text) }
 {
     let word = ending_of(drawn, &found.finding, &found.rows);
     put_text(drawn, cert, found, word, buffer, sink)?;

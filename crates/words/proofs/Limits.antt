@@ -10,7 +10,7 @@ use Rattle.clap.specs.declared.error.kind.ErrorKind.{ErrorKind}
 use Rattle.clap.specs.declared.error.kind.ErrorKind.TheVariants.{DisplayHelp}
 use Rattle.itv_base.specs.declared.limits.TheConstants.{DEFAULT_BUDGET, MAX_BUDGET, MAX_SELF_SIZE}
 use Rattle.words.specs.Command.{command}
-use Rattle.words.specs.Task.{IsBudget, IsSize, IsWithinLimits, KeepsLimits, Task, answer_by, answer_for, bounds, bounds_of, brief, brief_of, budget_of, check, check_of, confirm, confirm_of, fall, fall_of, generated, generated_of, lint, lint_of, matrix, matrix_of, number_in, redraw, redraw_of, refusal_for, settle, settle_of, size_of, taken, task_named, task_of, wants_proofs, whatif, whatif_of, why, why_of}
+use Rattle.words.specs.Task.{IsBudget, IsSize, IsWithinLimits, KeepsLimits, Task, answer_by, answer_for, bounds, brief, budget_of, check, confirm, fall, generated, generated_of, lint, matrix, matrix_of, number_in, reading, redraw, refusal_for, searching, searching_only, settle, size_of, taken, task_named, task_of, wants_proofs, whatif, whatif_of, why}
 use Rattle.words.proofs.Numbers.{number_limits}
 
 budget_limits : (given : Option Text) → IfSome (option_map_or (number_in MAX_BUDGET) given (Some DEFAULT_BUDGET)) IsBudget
@@ -40,15 +40,11 @@ matrix_limits : (design : Option Text) → IfSome (option_map matrix design) IsW
 matrix_limits None = tt
 matrix_limits (Some d) = tt
 
-check_limits : (design report : Option Text) → IfSome (option_and_then (λ (d : Text). option_map (check d) report) design) IsWithinLimits
-check_limits None report = tt
-check_limits (Some d) None = tt
-check_limits (Some d) (Some r) = tt
-
-confirm_limits : (design report : Option Text) → IfSome (option_and_then (λ (d : Text). option_map (confirm d) report) design) IsWithinLimits
-confirm_limits None report = tt
-confirm_limits (Some d) None = tt
-confirm_limits (Some d) (Some r) = tt
+reading_limits : (job : Text → Text → Task) (design report : Option Text) → ((d r : Text) → IsWithinLimits (job d r))
+    → IfSome (option_and_then (λ (d : Text). option_map (job d) report) design) IsWithinLimits
+reading_limits job None report within = tt
+reading_limits job (Some d) None within = tt
+reading_limits job (Some d) (Some r) within = within d r
 
 generated_limits : (size budget : Option ℕ) → IfSome size IsSize → IfSome budget IsBudget → IfSome (option_and_then (λ (s : ℕ). option_map (generated s) budget) size) IsWithinLimits
 generated_limits None budget sized within = tt
@@ -70,18 +66,18 @@ named_limits : (rows : List Row) (name : Option Text) → IfSome (option_and_the
 named_limits rows None = tt
 named_limits rows (Some name) =
     let budgets : IfSome (budget_of rows) IsBudget = budget_limits (first_of (codes "budget") rows) in
-    by_name (bytes_eq name (codes "bounds")) (bounds_of rows) _ (searching_limits bounds (wants_proofs rows) (first_of (codes "design") rows) (budget_of rows) (λ d b within. within) budgets)
+    by_name (bytes_eq name (codes "bounds")) (searching bounds rows) _ (searching_limits bounds (wants_proofs rows) (first_of (codes "design") rows) (budget_of rows) (λ d b within. within) budgets)
     (by_name (bytes_eq name (codes "matrix")) (matrix_of rows) _ (matrix_limits (first_of (codes "design") rows))
-    (by_name (bytes_eq name (codes "check")) (check_of rows) _ (check_limits (first_of (codes "design") rows) (first_of (codes "report") rows))
+    (by_name (bytes_eq name (codes "check")) (reading check rows) _ (reading_limits check (first_of (codes "design") rows) (first_of (codes "report") rows) (λ d r. tt))
     (by_name (bytes_eq name (codes "self")) (generated_of rows) _ (generated_limits (size_of rows) (budget_of rows) (size_limits (first_of (codes "size") rows)) budgets)
-    (by_name (bytes_eq name (codes "fall")) (fall_of rows) _ (searching_limits fall (wants_proofs rows) (first_of (codes "design") rows) (budget_of rows) (λ d b within. within) budgets)
-    (by_name (bytes_eq name (codes "redraw")) (redraw_of rows) _ (searching_limits (λ d b proofs. redraw d b) (wants_proofs rows) (first_of (codes "design") rows) (budget_of rows) (λ d b within. within) budgets)
+    (by_name (bytes_eq name (codes "fall")) (searching fall rows) _ (searching_limits fall (wants_proofs rows) (first_of (codes "design") rows) (budget_of rows) (λ d b within. within) budgets)
+    (by_name (bytes_eq name (codes "redraw")) (searching_only redraw rows) _ (searching_limits (λ d b proofs. redraw d b) (wants_proofs rows) (first_of (codes "design") rows) (budget_of rows) (λ d b within. within) budgets)
     (by_name (bytes_eq name (codes "whatif")) (whatif_of rows) _ (whatif_limits (first_of (codes "design") rows) (first_of (codes "edits") rows) (budget_of rows) budgets)
-    (by_name (bytes_eq name (codes "settle")) (settle_of rows) _ (searching_limits settle (wants_proofs rows) (first_of (codes "design") rows) (budget_of rows) (λ d b within. within) budgets)
-    (by_name (bytes_eq name (codes "confirm")) (confirm_of rows) _ (confirm_limits (first_of (codes "design") rows) (first_of (codes "report") rows))
-    (by_name (bytes_eq name (codes "why")) (why_of rows) _ (searching_limits (λ d b proofs. why d b) (wants_proofs rows) (first_of (codes "design") rows) (budget_of rows) (λ d b within. within) budgets)
-    (by_name (bytes_eq name (codes "brief")) (brief_of rows) _ (searching_limits (λ d b proofs. brief d b) (wants_proofs rows) (first_of (codes "design") rows) (budget_of rows) (λ d b within. within) budgets)
-    (by_name (bytes_eq name (codes "lint")) (lint_of rows) None (searching_limits (λ d b proofs. lint d b) (wants_proofs rows) (first_of (codes "design") rows) (budget_of rows) (λ d b within. within) budgets) tt)))))))))))
+    (by_name (bytes_eq name (codes "settle")) (searching settle rows) _ (searching_limits settle (wants_proofs rows) (first_of (codes "design") rows) (budget_of rows) (λ d b within. within) budgets)
+    (by_name (bytes_eq name (codes "confirm")) (reading confirm rows) _ (reading_limits confirm (first_of (codes "design") rows) (first_of (codes "report") rows) (λ d r. tt))
+    (by_name (bytes_eq name (codes "why")) (searching_only why rows) _ (searching_limits (λ d b proofs. why d b) (wants_proofs rows) (first_of (codes "design") rows) (budget_of rows) (λ d b within. within) budgets)
+    (by_name (bytes_eq name (codes "brief")) (searching_only brief rows) _ (searching_limits (λ d b proofs. brief d b) (wants_proofs rows) (first_of (codes "design") rows) (budget_of rows) (λ d b within. within) budgets)
+    (by_name (bytes_eq name (codes "lint")) (searching_only lint rows) None (searching_limits (λ d b proofs. lint d b) (wants_proofs rows) (first_of (codes "design") rows) (budget_of rows) (λ d b within. within) budgets) tt)))))))))))
 
 task_limits : (task : Option Task) → IfSome task IsWithinLimits → KeepsLimits (answer_for task)
 task_limits None within = tt

@@ -55,40 +55,16 @@ wants_proofs rows = option_map_or (λ text. bytes_eq text (codes "true")) (first
 abbrev pub searching : (Text → ℕ → Bool → Task) → List Row → Option Task
 searching job rows = option_and_then (λ design. option_map (λ budget. job design budget (wants_proofs rows)) (budget_of rows)) (first_of (codes "design") rows)
 
-abbrev pub bounds_of : List Row → Option Task
-bounds_of rows = searching bounds rows
-
-abbrev pub fall_of : List Row → Option Task
-fall_of rows = searching fall rows
-
-abbrev pub settle_of : List Row → Option Task
-settle_of rows = searching settle rows
-
 -- a job with the design's name and the budget; whether proofs are wanted is passed over
 abbrev pub searching_only : (Text → ℕ → Task) → List Row → Option Task
 searching_only job rows = searching (λ design budget proofs. job design budget) rows
 
-abbrev pub redraw_of : List Row → Option Task
-redraw_of rows = searching_only redraw rows
-
-abbrev pub why_of : List Row → Option Task
-why_of rows = searching_only why rows
-
-abbrev pub brief_of : List Row → Option Task
-brief_of rows = searching_only brief rows
-
-abbrev pub lint_of : List Row → Option Task
-lint_of rows = searching_only lint rows
-
 abbrev pub matrix_of : List Row → Option Task
 matrix_of rows = option_map matrix (first_of (codes "design") rows)
 
-abbrev pub check_of : List Row → Option Task
-check_of rows = option_and_then (λ design. option_map (check design) (first_of (codes "report") rows)) (first_of (codes "design") rows)
-
--- the same for a text of job settle
-abbrev pub confirm_of : List Row → Option Task
-confirm_of rows = option_and_then (λ design. option_map (confirm design) (first_of (codes "report") rows)) (first_of (codes "design") rows)
+-- a job with the design's name and the report's
+abbrev pub reading : (Text → Text → Task) → List Row → Option Task
+reading job rows = option_and_then (λ design. option_map (job design) (first_of (codes "report") rows)) (first_of (codes "design") rows)
 
 abbrev pub generated_of : List Row → Option Task
 generated_of rows = option_and_then (λ size. option_map (generated size) (budget_of rows)) (size_of rows)
@@ -100,18 +76,18 @@ whatif_of rows =
 -- the task of a job of this name, where all that it needs is there; what it does not need is passed over
 abbrev pub task_named : List Row → Text → Option Task
 task_named rows name =
-    if bytes_eq name (codes "bounds") then bounds_of rows
+    if bytes_eq name (codes "bounds") then searching bounds rows
     else (if bytes_eq name (codes "matrix") then matrix_of rows
-    else (if bytes_eq name (codes "check") then check_of rows
+    else (if bytes_eq name (codes "check") then reading check rows
     else (if bytes_eq name (codes "self") then generated_of rows
-    else (if bytes_eq name (codes "fall") then fall_of rows
-    else (if bytes_eq name (codes "redraw") then redraw_of rows
+    else (if bytes_eq name (codes "fall") then searching fall rows
+    else (if bytes_eq name (codes "redraw") then searching_only redraw rows
     else (if bytes_eq name (codes "whatif") then whatif_of rows
-    else (if bytes_eq name (codes "settle") then settle_of rows
-    else (if bytes_eq name (codes "confirm") then confirm_of rows
-    else (if bytes_eq name (codes "why") then why_of rows
-    else (if bytes_eq name (codes "brief") then brief_of rows
-    else (if bytes_eq name (codes "lint") then lint_of rows
+    else (if bytes_eq name (codes "settle") then searching settle rows
+    else (if bytes_eq name (codes "confirm") then reading confirm rows
+    else (if bytes_eq name (codes "why") then searching_only why rows
+    else (if bytes_eq name (codes "brief") then searching_only brief rows
+    else (if bytes_eq name (codes "lint") then searching_only lint rows
     else None)))))))))))
 
 abbrev pub task_of : List Row → Option Task

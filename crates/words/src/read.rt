@@ -5,7 +5,7 @@ ghost use Rattle.clap.specs.Matches.{found_of};
 ghost use Rattle.clap.specs.Values.{kind_of};
 ghost use Rattle.clap.specs.Walk.{first_of, rows_of};
 ghost use Rattle.clap.specs.declared.error.kind.ErrorKind.{ErrorKind};
-ghost use Rattle.words.specs.Task.{KeepsLimits, answer_for, bounds_of, brief_of, budget_of, check_of, confirm_of, fall_of, generated_of, lint_of, matrix_of, number_in, redraw_of, refusal_for, settle_of, size_of, taken, task_named, task_of, wants_proofs, whatif_of, why_of};
+ghost use Rattle.words.specs.Task.{KeepsLimits, answer_for, bounds, brief, budget_of, check, confirm, fall, generated_of, lint, matrix_of, number_in, reading, redraw, refusal_for, searching, searching_only, settle, size_of, taken, task_named, task_of, wants_proofs, whatif_of, why};
 ghost use Rattle.words.specs.View.{answer_view, task_view};
 
 use crate::command::command;
@@ -89,7 +89,7 @@ fn task_named<'a>(matches: &ArgMatches<'a>, name: &str) -> Option<Task<'a>>
 }
 
 fn bounds_task<'a>(matches: &ArgMatches<'a>) -> Option<Task<'a>>
-    ensures { option_map task_view result ≡ bounds_of (rows_of (found_of matches.now)) }
+    ensures { option_map task_view result ≡ searching bounds (rows_of (found_of matches.now)) }
 {
     let design = text_of(matches, "design")?;
     let budget = budget_of(matches)?;
@@ -101,7 +101,7 @@ fn bounds_task<'a>(matches: &ArgMatches<'a>) -> Option<Task<'a>>
 }
 
 fn fall_task<'a>(matches: &ArgMatches<'a>) -> Option<Task<'a>>
-    ensures { option_map task_view result ≡ fall_of (rows_of (found_of matches.now)) }
+    ensures { option_map task_view result ≡ searching fall (rows_of (found_of matches.now)) }
 {
     let design = text_of(matches, "design")?;
     let budget = budget_of(matches)?;
@@ -113,7 +113,7 @@ fn fall_task<'a>(matches: &ArgMatches<'a>) -> Option<Task<'a>>
 }
 
 fn settle_task<'a>(matches: &ArgMatches<'a>) -> Option<Task<'a>>
-    ensures { option_map task_view result ≡ settle_of (rows_of (found_of matches.now)) }
+    ensures { option_map task_view result ≡ searching settle (rows_of (found_of matches.now)) }
 {
     let design = text_of(matches, "design")?;
     let budget = budget_of(matches)?;
@@ -125,7 +125,7 @@ fn settle_task<'a>(matches: &ArgMatches<'a>) -> Option<Task<'a>>
 }
 
 fn redraw_task<'a>(matches: &ArgMatches<'a>) -> Option<Task<'a>>
-    ensures { option_map task_view result ≡ redraw_of (rows_of (found_of matches.now)) }
+    ensures { option_map task_view result ≡ searching_only redraw (rows_of (found_of matches.now)) }
 {
     let design = text_of(matches, "design")?;
     let budget = budget_of(matches)?;
@@ -133,7 +133,7 @@ fn redraw_task<'a>(matches: &ArgMatches<'a>) -> Option<Task<'a>>
 }
 
 fn why_task<'a>(matches: &ArgMatches<'a>) -> Option<Task<'a>>
-    ensures { option_map task_view result ≡ why_of (rows_of (found_of matches.now)) }
+    ensures { option_map task_view result ≡ searching_only why (rows_of (found_of matches.now)) }
 {
     let design = text_of(matches, "design")?;
     let budget = budget_of(matches)?;
@@ -141,7 +141,7 @@ fn why_task<'a>(matches: &ArgMatches<'a>) -> Option<Task<'a>>
 }
 
 fn brief_task<'a>(matches: &ArgMatches<'a>) -> Option<Task<'a>>
-    ensures { option_map task_view result ≡ brief_of (rows_of (found_of matches.now)) }
+    ensures { option_map task_view result ≡ searching_only brief (rows_of (found_of matches.now)) }
 {
     let design = text_of(matches, "design")?;
     let budget = budget_of(matches)?;
@@ -149,7 +149,7 @@ fn brief_task<'a>(matches: &ArgMatches<'a>) -> Option<Task<'a>>
 }
 
 fn lint_task<'a>(matches: &ArgMatches<'a>) -> Option<Task<'a>>
-    ensures { option_map task_view result ≡ lint_of (rows_of (found_of matches.now)) }
+    ensures { option_map task_view result ≡ searching_only lint (rows_of (found_of matches.now)) }
 {
     let design = text_of(matches, "design")?;
     let budget = budget_of(matches)?;
@@ -164,7 +164,7 @@ fn matrix_task<'a>(matches: &ArgMatches<'a>) -> Option<Task<'a>>
 }
 
 fn check_task<'a>(matches: &ArgMatches<'a>) -> Option<Task<'a>>
-    ensures { option_map task_view result ≡ check_of (rows_of (found_of matches.now)) }
+    ensures { option_map task_view result ≡ reading check (rows_of (found_of matches.now)) }
 {
     let design = text_of(matches, "design")?;
     let report = text_of(matches, "report")?;
@@ -172,7 +172,7 @@ fn check_task<'a>(matches: &ArgMatches<'a>) -> Option<Task<'a>>
 }
 
 fn confirm_task<'a>(matches: &ArgMatches<'a>) -> Option<Task<'a>>
-    ensures { option_map task_view result ≡ confirm_of (rows_of (found_of matches.now)) }
+    ensures { option_map task_view result ≡ reading confirm (rows_of (found_of matches.now)) }
 {
     let design = text_of(matches, "design")?;
     let report = text_of(matches, "report")?;

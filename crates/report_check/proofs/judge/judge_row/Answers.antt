@@ -1,6 +1,5 @@
-use Rattle.std.proofs.Common.{◌≡◌, ◌≤◌, ap, length, drop, map, arith, subst}
+use Rattle.std.proofs.Common.{◌≡◌, ◌≤◌, ap, length, drop, arith, subst}
 use Rattle.std.proofs.Math.ListN.{drop_of_length-le}
-use Rattle.std.proofs.lemmas.List.{length-map}
 use Rattle.event_graph.proofs.EdgesMet.{All-found}
 use Rattle.slack_report.specs.Items.{item_view}
 use Rattle.right_report.specs.Right.At.{at_end}

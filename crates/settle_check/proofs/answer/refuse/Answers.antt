@@ -1,6 +1,6 @@
 use Rattle.std.proofs.Common.{refl}
 use Rattle.jobs.specs.declared.answer.Answer.TheVariants.{CheckRefused}
-use Rattle.settle_check.specs.Confirm.{refused_text}
+use Rattle.report_check.specs.Check.{refused_text}
 use Rattle.settle_check.proofs.answer.refuse.Goals as goal
 
 pub returns-in-Err : goal.returns-in-Err

@@ -1,9 +1,9 @@
 use Rattle.std.proofs.Common.{subst, sym}
-use Rattle.settle_report.specs.Answers.{AreFirstTimes}
+use Rattle.settle_report.specs.Answers.{ArePrintedTimes, first_event}
 use Rattle.settle_report.proofs.Answering.{first_times}
 use Rattle.settle_report.proofs.finding.finding_of.Goals as goal
 
 pub returns-in-Closed : goal.returns-in-Closed
 returns-in-Closed c =
     let f = c.requires.found in
-    record { finding = subst (AreFirstTimes c.args.net.now) (sym c.moved.ensures.moved) (first_times c.args.net.now f.0 c.args.found c.events-events.ensures.net c.requires.events f.1 _ c.in-Closed.is) }
+    record { finding = subst (ArePrintedTimes c.args.net.now first_event) (sym c.moved.ensures.moved) (first_times c.args.net.now f.0 c.args.found c.events-events.ensures.net c.requires.events f.1 _ c.in-Closed.is) }
