@@ -36,8 +36,3 @@ AnswersCheck drawn bytes answer text = AnswersBy (IsAcceptedText drawn bytes) (I
 -- what it may have begun to write
 abbrev pub BeginsCheck : Drawn → List ℕ → List ℕ → Type 0
 BeginsCheck drawn bytes text = (answer : Answer) × AnswersCheck drawn bytes answer text
-
--- the line that tells what becomes of a report
-abbrev pub checked_text : Checked → List ℕ
-checked_text Accepted = accepted_text
-checked_text (Refused line) = refused_text line

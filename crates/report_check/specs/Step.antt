@@ -3,3 +3,4 @@ pub mod Stages
 pub mod Groups
 pub mod Walks
 pub mod Bounds
+pub mod Texts

@@ -4,7 +4,8 @@ ghost use Rattle.std.specs.Prelude.{ℕ, List};
 ghost use Rattle.itv_base.specs.Outside.{Puts};
 ghost use Rattle.jobs.specs.Works.{Works};
 ghost use Rattle.drawn.specs.Drawn.{Drawn};
-ghost use Rattle.report_check.specs.Check.{AnswersCheck, BeginsCheck, IsCheckOf, checked_text, refused_text};
+ghost use Rattle.report_check.specs.Check.{AnswersCheck, BeginsCheck, IsCheckOf, refused_text};
+ghost use Rattle.report_check.specs.Step.Texts.{checked_text};
 
 use crate::check::{Checked, check_report};
 use drawn::DrawnNetwork;

@@ -2,13 +2,14 @@
 
 ghost use Rattle.std.specs.Prelude.{◌≡◌, ◌<◌, ◌^◌, length};
 ghost use Rattle.requirements.specs.Bounds.{HasTimes};
-ghost use Rattle.right_report.specs.Right.At.{behind_bound, behind_finding, behind_past, behind_verdict, bounded, course_of, end_word, is_fail, is_within, which_of, with_bounds, with_verdict};
+ghost use Rattle.right_report.specs.Right.At.{behind_bound, behind_finding, behind_past, behind_verdict, bounded, course_of, end_word, which_of, with_bounds, with_verdict};
 ghost use Rattle.drawn.specs.Drawn.{Drawn};
 ghost use Rattle.report_check.specs.Step.Stages.{AreBounded, Fits, IsSide, IsTelling, at_of, course_told, side_told, telling_of};
 
 use drawn::Row;
 use itv_base::{Range, RowKind};
 use requirements::{BothBounds, Bound, Verdict};
+use right_report::{is_fail, is_within};
 use slack_report::{EndWord, FindingWord, Which};
 
 /// What the word at the end goes by: the finding, whether some verdict was a fail, and whether some bound was left open.
@@ -131,24 +132,6 @@ impl Course {
             FindingWord::Inconsistent => EndWord::Inconsistent,
             FindingWord::Unsettled => EndWord::Undecided,
         }
-    }
-}
-
-fn is_within(value: Bound) -> bool
-    ensures within { result ≡ is_within value }
-{
-    match value {
-        Bound::Closed(_) | Bound::Unbounded => false,
-        Bound::Within { .. } => true,
-    }
-}
-
-fn is_fail(word: Verdict) -> bool
-    ensures fail { result ≡ is_fail word }
-{
-    match word {
-        Verdict::FailHigh | Verdict::FailLow => true,
-        Verdict::Pass | Verdict::Undecided => false,
     }
 }
 

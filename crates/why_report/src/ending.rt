@@ -2,7 +2,7 @@
 
 ghost use Rattle.std.specs.Prelude.{◌≡◌, ◌||◌, length};
 ghost use Rattle.slack_report.specs.declared.words.FindingWord.{FindingWord};
-ghost use Rattle.right_report.specs.Right.At.{course_of, end_word, is_fail, is_within};
+ghost use Rattle.right_report.specs.Right.At.{course_of, end_word};
 ghost use Rattle.explained.specs.Answers.{AreFound, bound_of, word_of};
 ghost use Rattle.why_report.specs.Text.{ending_of, with_row, with_rows};
 
@@ -11,7 +11,8 @@ use drawn::DrawnNetwork;
 use explained::{Finding, RowFound};
 use itv_base::RowKind;
 use jobs::row_at;
-use requirements::{Bound, Verdict, judge};
+use requirements::judge;
+use right_report::{is_fail, is_within};
 use slack_report::{EndWord, FindingWord};
 
 /// The word of a finding.
@@ -82,20 +83,6 @@ fn either(first: bool, second: bool) -> bool
     ensures { result ≡ (first || second) }
 {
     first || second
-}
-
-// Whether a search left a bound open.
-fn is_within(bound: Bound) -> bool
-    ensures { result ≡ is_within bound }
-{
-    matches!(bound, Bound::Within { .. })
-}
-
-// Whether a verdict says that a requirement is broken.
-fn is_fail(word: Verdict) -> bool
-    ensures { result ≡ is_fail word }
-{
-    matches!(word, Verdict::FailHigh | Verdict::FailLow)
 }
 
 // The word behind a finding, by what the rows come to.
