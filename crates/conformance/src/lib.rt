@@ -4,19 +4,19 @@
 #![tactic(auto)]
 
 mod clients;
-mod job_clients;
 mod derived_bounds;
-mod written_labels;
+mod job_clients;
 mod kept_proofs;
 pub mod laws;
+mod written_labels;
 
 pub use clients::{
     bounds_of, end_of, fall_of, front_of, refusal_of, report_of, run_twice, unread_of, untouched_of,
 };
+pub use derived_bounds::bound_of;
 pub use job_clients::{
     briefed_of, checked_of, confirmed_of, explained_of, matrix_of, redrawn_of, report_said,
     self_of, settled_of, warned_of,
 };
-pub use derived_bounds::bound_of;
-pub use written_labels::written_again;
 pub use kept_proofs::kept_proof;
+pub use written_labels::written_again;
