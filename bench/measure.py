@@ -9,8 +9,8 @@ Rust program, their ratio, what became of the two answers, and for searches the 
 job bounds, of job fall and of z3, and what both jobs say; for settles those of job settle, of the same search as a plain Rust program, of job bounds
 and of z3, and what job settle says. That of a design that is read alone has the seconds of job matrix, which
 reads and draws it and then refuses it for its number of events, and those of a report without a row. For edits it has the seconds of job
-whatif without an edit and with 100, of one edit beyond reading and the first state, the ratio of that to a run without an edit, and how many
-bounds the edits kept and searched anew."""
+whatif from scratch on the network that 100 edits lead to, and with these edits, of one edit beyond reading and the first state, the ratio of that
+to the run from scratch, and how many bounds the edits kept and searched anew."""
 import os
 import re
 import shutil
@@ -213,27 +213,48 @@ def constraint_of(report, name):
 
 
 # The ranges of a slave's causes: the first one decides its greatest separation.
-EDITED = ((2000, 9000), (3000, 7000))
+RANGES = ((2000, 9000), (3000, 7000))
+
+# Each change of a slave is two edits, one for each cycle.
+EDITS = 100
 
 
-def measure_edits(program, name, files, parts, cause):
-    """Job whatif on a bus, with an edit of the range of a cause of each of some slaves in turn, 100 in all."""
-    with tempfile.TemporaryDirectory() as folder:
+def edits_of_one(cause, count):
+    """The slaves and their new ranges: the range of one slave grows and is set back, and then that of the next one."""
+    low, high = RANGES[cause]
+    return [(k // 2 % count, low, high + (500 if k % 2 == 0 else 0)) for k in range(EDITS // 2)]
+
+
+def edits_of_all(cause, count):
+    """The slaves and their new ranges: slave after slave gets a range of its own, which stays."""
+    low, high = RANGES[cause]
+    return [(k % count, low, high + 10 * (k + 1)) for k in range(EDITS // 2)]
+
+
+def measure_edits(program, name, size, asked, cause, edits):
+    """Job whatif on a bus whose slaves' ranges are edited in both cycles, beside a run from scratch of the network that the edits lead to."""
+    files = networks.bus_asked(size, asked)
+    ends = [RANGES[cause]] * asked
+    for slave, low, high in edits:
+        ends[slave] = (low, high)
+    with tempfile.TemporaryDirectory() as folder, tempfile.TemporaryDirectory() as other:
         lay_out(files, folder)
+        lay_out(networks.bus_edited(size, asked, cause, ends) | {"none": ""}, other)
         report = subprocess.run([program, "--cert", "main.json"], cwd=folder, capture_output=True, text=True).stdout
-        numbers = [constraint_of(report, f"{part}.a@0") for part in parts]
-        low, high = EDITED[cause]
-        lines = [f"set {numbers[k % len(numbers)]}.{cause} [{low},{high + 10 * (k + 1)}]\n" for k in range(100)]
+        numbers = [[constraint_of(report, f"S{k}.a@{cycle}") for cycle in range(2)] for k in range(asked)]
+        lines = [f"set {number}.{cause} [{low},{high}]\n" for slave, low, high in edits for number in numbers[slave]]
         lay_out({"none": "", "edits": "".join(lines)}, folder)
         whatif = [program, "--job", "whatif", "main.json", "--edits"]
         alone, first = seconds(whatif + ["none"], folder)
         edited, text = seconds(whatif + ["edits"], folder)
+        scratch, last = seconds(whatif + ["none"], other)
         counts = [tuple(map(int, pair)) for pair in re.findall(r" kept (\d+) searched (\d+)$", text.decode(), flags=re.M)]
-        if len(counts) != 100 or not first.endswith(b"end pass\n"):
+        rows = lambda out: re.findall(r"^row .*$", out.decode(), flags=re.M)
+        if len(counts) != EDITS or not first.endswith(b"end pass\n") or rows(text)[-len(rows(last)) :] != rows(last):
             sys.exit(f"{name}: {text[:200]}")
-        each = (edited - alone) / 100
-        kept, searched = sum(k for k, _ in counts) / 100, sum(s for _, s in counts) / 100
-        row([name, show(alone), show(edited), f"{1000 * each:.2f} ms", f"1 / {alone / each:.0f}", f"{kept:.1f}", f"{searched:.1f}"])
+        each = (edited - alone) / EDITS
+        kept, searched = sum(k for k, _ in counts) / EDITS, sum(s for _, s in counts) / EDITS
+        row([name, show(scratch), show(edited), f"{1000 * each:.2f} ms", f"1 / {scratch / each:.0f}", f"{kept:.1f}", f"{searched:.1f}"])
 
 
 def main():
@@ -264,11 +285,12 @@ def main():
         for name, files in networks.readings():
             measure_reading(program, name, files)
     if which in ("edits", "all"):
-        row(["design", "no edit", "100 edits", "an edit", "of a run without", "kept", "searched"])
+        row(["design and edits", "from scratch", "100 edits", "an edit", "of a run from scratch", "kept", "searched"])
         for size, asked in ((16, 16), (64, 31)):
             for cause, kind in enumerate(("that decides", "that does not decide")):
-                name = f"bus, size {size}, {asked} slaves asked, a range {kind}"
-                measure_edits(program, name, networks.bus_asked(size, asked), [f"S{k}" for k in range(asked)], cause)
+                for edits, what in ((edits_of_one, "one slave's range"), (edits_of_all, "a range of each slave")):
+                    name = f"bus, size {size}, {asked} slaves asked, {what} {kind}"
+                    measure_edits(program, name, size, asked, cause, edits(cause, asked))
 
 
 if __name__ == "__main__":

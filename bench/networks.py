@@ -167,6 +167,18 @@ def bus_asked(size, asked):
     return files | {"main.json": json.dumps(main), "quiet.json": json.dumps(quiet)}
 
 
+def bus_edited(size, asked, cause, ranges):
+    """The same with a range of its own for a cause of each of the first slaves, which each get a sheet of their own."""
+    files = bus_asked(size, asked)
+    main, sheet = json.loads(files["main.json"]), json.loads(files["slave.json"])
+    for k, (low, high) in enumerate(ranges):
+        own = json.loads(json.dumps(sheet))
+        own["edge"][cause] = own["edge"][cause].split("[")[0] + f"[{low},{high}]"
+        main["parts"][k + 1]["sheet"] = f"slave{k}.json"
+        files[f"slave{k}.json"] = json.dumps(own)
+    return files | {"main.json": json.dumps(main)}
+
+
 def bus_network(size):
     """The same bus as its network: 2 cycles, marks of M (c, r), of each slave (c, q, a), of Z (c, d)."""
     per = 3 * size + 4
