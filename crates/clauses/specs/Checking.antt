@@ -28,7 +28,7 @@ use Rattle.clauses.specs.declared.literal.Literal.{Literal}
 use Rattle.clauses.specs.declared.shape.Shape.{Shape}
 use Rattle.clauses.specs.declared.way.Way.{Way}
 use Rattle.clauses.specs.Clauses.{Clause, IsClause, literal_edge}
-use Rattle.clauses.specs.Lines.{Block, ClauseLine, Falls, Forces, Frame, Goal, IsEnded, IsLine, IsNear, IsNearWalk, IsRefused, Leads, State, Walk, Walks, lowest, starting, starting_walk, stepped}
+use Rattle.clauses.specs.Lines.{Block, ClauseLine, Falls, Forces, Frame, Goal, IsEnded, IsLine, IsNear, IsNearWalk, IsOver, IsRefused, Leads, State, Walk, Walks, lowest, starting, starting_walk, stepped}
 
 -- there is a clause of the basis, with this target and these numbers of literals and ways
 abbrev pub HasShape : Net → List Clause → Basis → Shape → Type 0
@@ -195,3 +195,11 @@ IsVerdict net goal times (Closed value) =
     (value ≡ goal.claim) × IsGreatest net goal.from goal.to value × Satisfies times net × (separation times goal.from goal.to ≡ value)
 IsVerdict net goal times Inconsistent = IsInconsistent net
 IsVerdict net goal times Open = Unit {0}
+
+-- nothing is said: where the lines are a proof, the claim is not below minus the far line, and where it is below that line the times don't both
+-- satisfy and attain it
+abbrev pub SaysNothing : Net → Checking → List ℤ → Type 0
+SaysNothing net check times =
+    IsOver net check.goal check.state
+    → (check.goal.claim <ℤ check.limits.lowest → ⊥)
+    × (check.goal.claim <ℤ check.limits.far → Satisfies times net → separation times check.goal.from check.goal.to ≡ check.goal.claim → ⊥)

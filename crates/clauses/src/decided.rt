@@ -3,8 +3,8 @@
 ghost use Rattle.std.specs.Prelude.{◌≡◌, ◌↔◌, ◌<◌, ◌<ℤ◌, IsTrue, All, length};
 ghost use Rattle.event_graph.specs.Satisfying.{Satisfies};
 ghost use Rattle.event_graph.specs.Times.{IsTime, separation};
-ghost use Rattle.clauses.specs.declared.decided.Verdict.TheVariants.{Closed};
-ghost use Rattle.clauses.specs.Checking.{IsChecking, IsVerdict};
+ghost use Rattle.clauses.specs.declared.decided.Verdict.TheVariants.{Closed, Open};
+ghost use Rattle.clauses.specs.Checking.{IsChecking, IsVerdict, SaysNothing};
 
 use crate::checker::ClauseChecker;
 use crate::claim::Claim;
@@ -23,12 +23,13 @@ pub enum Verdict {
 
 /// What a checker and times, in picoseconds and one per event, say of the pair of its goal. The greatest separation is
 /// closed where the lines are a proof with a claim below the far line, and the times satisfy and attain it. No times
-/// satisfy where the lines are a proof with a claim below minus the far line.
+/// satisfy where the lines are a proof with a claim below minus the far line. In every other case nothing is said.
 pub fn decide(net: &Network, checker: &ClauseChecker, times: &[i64]) -> Verdict
     requires checking { IsChecking net.now checker.now }
     requires count { length times.now ≡ net.now.events }
     requires times { All IsTime times.now }
     ensures verdict { IsVerdict net.now checker.now.goal times.now result }
+    ensures nothing { result ≡ Open → SaysNothing net.now checker.now times.now }
 {
     let _events = net.events();
     if !checker.is_over(net) {
@@ -72,8 +73,8 @@ fn attains(net: &Network, checker: &ClauseChecker, times: &[i64]) -> bool
     requires checking { IsChecking net.now checker.now }
     requires count { length times.now ≡ net.now.events }
     requires times { All IsTime times.now }
-    ensures satisfies { IsTrue result → Satisfies times.now net.now }
-    ensures attained { IsTrue result → separation times.now checker.now.goal.from checker.now.goal.to ≡ checker.now.goal.claim }
+    ensures attains { IsTrue result ↔ (Satisfies times.now net.now
+        × (separation times.now checker.now.goal.from checker.now.goal.to ≡ checker.now.goal.claim)) }
 {
     is_separation(times, checker.from(), checker.to(), checker.claim())
         && net.broken(times).is_none()

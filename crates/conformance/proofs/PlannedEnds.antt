@@ -174,6 +174,13 @@ module _ (call : Call) (files : Files) (budget : ℕ) (plan : Planned) (drawn : 
       → (text : List ℕ) × AnswersBrief (plan_note plan) drawn budget (answer_of end.0) text × (call.sink_after ≡ grown call.sink_before text)
   brief_wrote result means end = planned_wrote tasks.brief (λ p b. given.Brief p.0 p.1 b) (λ design b. refl) (λ design b. refl) call files budget plan drawn told asks result means end
 
+  pub brief_decides : (result : Outcome) → Means call result → result ≡ ends.Undecided → budget < cause_choices drawn.net.constraints
+  brief_decides result means e =
+      let m = answered_by call result answers.Undecided (λ same. cc same) means e in
+      let a = brief_said answers.Undecided m in
+      below_choices (cause_choices drawn.net.constraints) budget
+      (λ enough. let (settled, all) = a.settles enough in settled_end drawn.rows a.finding a.found settled all a.is_answer)
+
 -- ---- job lint
 
 -- where a design passes there is no warning

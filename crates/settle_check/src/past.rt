@@ -11,7 +11,8 @@ use drawn::Row;
 use event_graph::Network;
 use itv_base::{Range, RowKind};
 use requirements::{Verdict, judge};
-use settle_report::{SettledBound, both_of, is_fail};
+use right_report::is_fail;
+use settle_report::{SettledBound, both_of};
 use std::alloc::Global;
 
 /// The times that stand next with a row of these bounds: such as break its requirement, where the verdict is a fail, or else none. The

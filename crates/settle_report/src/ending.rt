@@ -2,17 +2,18 @@
 
 ghost use Rattle.std.specs.Prelude.{◌≡◌, ◌||◌, Bool};
 ghost use Rattle.slack_report.specs.declared.words.FindingWord.{FindingWord};
-ghost use Rattle.right_report.specs.Right.At.{course_of, end_word, is_within};
+ghost use Rattle.right_report.specs.Right.At.{course_of, end_word};
 ghost use Rattle.settle_report.specs.Answers.{AreFound, AreRowsFound, bound_of};
 ghost use Rattle.settle_report.specs.Text.{ending_of, with_row, with_rows};
 
 use crate::bound::both_of;
 use crate::finding::Finding;
-use crate::row::{RowFound, is_fail};
+use crate::row::RowFound;
 use drawn::DrawnNetwork;
 use itv_base::RowKind;
 use jobs::row_at;
-use requirements::{Bound, judge};
+use requirements::judge;
+use right_report::{is_fail, is_within};
 use slack_report::EndWord;
 
 /// The word at the end, by what was found of the network and of each row.
@@ -72,13 +73,6 @@ fn either(first: bool, second: bool) -> bool
     ensures { result ≡ (first || second) }
 {
     first || second
-}
-
-// Whether a search left a bound open.
-fn is_within(bound: Bound) -> bool
-    ensures { result ≡ is_within bound }
-{
-    matches!(bound, Bound::Within { .. })
 }
 
 // The word behind a consistent finding, by what the rows come to.

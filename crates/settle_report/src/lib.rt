@@ -24,5 +24,5 @@ pub use finding::Finding;
 pub use proof::Proof;
 pub use put_bounds::{put_bound, put_finding};
 pub use put_rows::put_judged;
-pub use row::{RowFound, is_fail};
+pub use row::RowFound;
 pub use write::{put_front, write_settle};

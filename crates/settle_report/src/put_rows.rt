@@ -13,12 +13,13 @@ ghost use Rattle.settle_report.specs.Text.{behind_text, judged_text, row_text, r
 use crate::bound::both_of;
 use crate::finding::Finding;
 use crate::put_bounds::put_bound;
-use crate::row::{RowFound, is_fail};
+use crate::row::RowFound;
 use drawn::{DrawnNetwork, Row};
 use itv_base::{PutFailed, Range, RowKind, Sink};
 use jobs::{put_row, row_at};
 use line_words::LineBuffer;
 use requirements::{Verdict, judge, slack};
+use right_report::is_fail;
 use slack_report::{Item, Which, write_item};
 
 /// Puts how many rows there are and what was found of each, behind a consistent finding; behind another one nothing.

@@ -1,7 +1,7 @@
 use Rattle.std.proofs.Common.{refl}
 use Rattle.itv_base.specs.Memory.{shelf_told, sink_told}
 use Rattle.itv_cli.specs.Run.{Call, call_of}
-use Rattle.conformance.proofs.PlannedEnds.{brief_wrote}
+use Rattle.conformance.proofs.PlannedEnds.{brief_decides, brief_wrote}
 use Rattle.conformance.proofs.Telling.{sink_bytes}
 use Rattle.conformance.proofs.job_clients.briefed_of.Goals as goal
 
@@ -12,4 +12,5 @@ returns c =
       wrote = λ budget plan drawn asks end.
           let (text, is, wrote) = brief_wrote call c.args.shelf.now.files budget plan drawn refl asks c.run.result c.run.ensures.means end in
           (text, is, sink_bytes c.args.sink.now c.run.new.sink text wrote);
+      decides = λ budget plan drawn asks e. brief_decides call c.args.shelf.now.files budget plan drawn refl asks c.run.result c.run.ensures.means e;
     }
