@@ -19,8 +19,10 @@ use Rattle.event_graph.specs.Satisfying.{Breaks, Holds, IsFirstBroken, Satisfies
 use Rattle.event_graph.proofs.ByEdges.{holds_by_edges}
 use Rattle.event_graph.proofs.EdgesMet.{All-found, at_some, found_below, met_if_some}
 use Rattle.branch.specs.declared.choice_edge.ChoiceEdge.{ChoiceEdge}
-use Rattle.branch.specs.ChoiceEdges.{HasChoiceEnds, IsBetween, IsEdgeBroken, given_edge}
-use Rattle.branch.specs.Splits.{AreAscending, AreBetween, AreSplits, BreaksEach, HasChoiceEdges, HasNumber, IsFirstOf, IsMetAt, IsSplitOf, MeetsSome, Splitting}
+use Rattle.branch.specs.ChoiceEdges.{HasChoiceEnds, given_edge}
+use Rattle.branch.specs.Step.Breaking.{IsBetween, IsEdgeBroken}
+use Rattle.branch.specs.Splits.{AreAscending, AreSplits, HasChoiceEdges, HasNumber, IsSplitOf, Splitting}
+use Rattle.branch.specs.Step.Breaking.{AreBetween, BreaksEach, IsFirstOf, IsMetAt, MeetsSome}
 use Rattle.branch.specs.declared.distances.Wanted.TheVariants.{Open}
 use Rattle.branch.specs.Step.Cases.{IsFree, IsSplittable}
 use Rattle.branch.specs.Step.Edges.{choice_name, side_of}

@@ -1,11 +1,11 @@
 -- The edges that choices give, as the search keeps them.
-use Rattle.std.specs.Prelude.{◌≡◌, ◌<◌, ℕ, ℤ, List, Option, Some, IfSome, IsSomeAnd, option_map, slice_get}
+use Rattle.std.specs.Prelude.{◌≡◌, ℕ, Option, Some, option_map, slice_get}
 use Rattle.itv_base.specs.declared.names.EventId.{EventId}
 use Rattle.itv_base.specs.declared.names.RuleKind.{RuleKind}
 use Rattle.itv_base.specs.declared.names.RuleKind.TheVariants.{Lin, Late, Early}
 use Rattle.event_graph.specs.declared.cause.Cause.{Cause}
 use Rattle.event_graph.specs.declared.edge.Edge.{Edge}
-use Rattle.event_graph.specs.Edges.{Meets, edge}
+use Rattle.event_graph.specs.Edges.{edge}
 use Rattle.event_graph.specs.Network.{Constraint, Net}
 use Rattle.branch.specs.declared.choice_edge.ChoiceEdge.{ChoiceEdge}
 use Rattle.branch.specs.Step.Edges.{choice_name}
@@ -24,16 +24,3 @@ HasChoiceEnds Early target cause c = (c.from ≡ target) × (c.to ≡ cause)
 pub record IsChoiceEdge (net : Net) (constraint cause : ℕ) (c : ChoiceEdge) : Type 0 where
   pub gives : edge net (choice_name net (record { constraint = constraint; cause = cause })) ≡ given_edge c
   pub ends : (k : Constraint) (x : Cause) → slice_get net.constraints constraint ≡ Some k → slice_get k.causes cause ≡ Some x → HasChoiceEnds k.kind k.target x.event c
-
--- it is between events of so many
-pub record IsBetween (events : ℕ) (c : ChoiceEdge) : Type 0 where
-  pub from : c.from.0 < events
-  pub to : c.to.0 < events
-
--- the times break it
-abbrev pub IsEdgeBroken : List ℤ → ChoiceEdge → Type 0
-IsEdgeBroken times c = IsSomeAnd (given_edge c) (λ (e : Edge). Meets times e → ⊥)
-
--- the times meet it, or it is open
-abbrev pub IsEdgeMet : List ℤ → ChoiceEdge → Type 0
-IsEdgeMet times c = IfSome (given_edge c) (Meets times)

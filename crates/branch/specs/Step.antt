@@ -5,3 +5,4 @@ pub mod Standing
 pub mod Searched
 pub mod Inside
 pub mod Looking
+pub mod Breaking

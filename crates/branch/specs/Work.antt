@@ -7,6 +7,7 @@ use Rattle.event_graph.specs.Limits.{reach_limit}
 use Rattle.diff_bounds.specs.Standing.{Standing}
 use Rattle.diff_bounds.specs.Standing.{IsMadeFor as IsBoundsFor}
 use Rattle.branch.specs.Splits.{AreSplits, Splitting}
+use Rattle.branch.specs.declared.work.TheConstants.{MAX_START}
 
 -- the bounds, for how many constraints there is room, the constraints that can be split, the known times, where there are some, the times and the events to raise that the last search
 -- for a bound left, and how many cases the last search closed
@@ -34,6 +35,10 @@ IsClose time = (neg_ℤ (pos reach_limit) ≤ℤ time) × (time ≤ℤ pos (8 * 
 -- a separation is no less than that of known times can be, which are times that bounds tell
 abbrev pub IsReached : ℤ → Type 0
 IsReached value = neg_ℤ (pos (3 * reach_limit)) ≤ℤ value
+
+-- the separation of times that a search starts from
+abbrev pub IsStart : ℤ → Type 0
+IsStart value = (neg_ℤ MAX_START ≤ℤ value) × (value ≤ℤ MAX_START)
 
 -- the separation of a pair in the known times
 abbrev pub known_separation : View → EventId → EventId → ℤ

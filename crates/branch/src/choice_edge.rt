@@ -3,7 +3,8 @@
 ghost use Rattle.std.specs.Prelude.{◌≡◌, ◌-ℤ◌, IsSome, MatchBool, All, length};
 ghost use Rattle.event_graph.specs.Network.{cause_at};
 ghost use Rattle.event_graph.specs.Times.{IsTime};
-ghost use Rattle.branch.specs.ChoiceEdges.{IsBetween, IsChoiceEdge, IsEdgeBroken, IsEdgeMet};
+ghost use Rattle.branch.specs.ChoiceEdges.{IsChoiceEdge};
+ghost use Rattle.branch.specs.Step.Breaking.{IsBetween, IsEdgeBroken, IsEdgeMet};
 
 use crate::levels::name_of;
 use event_graph::{Choice, Network};

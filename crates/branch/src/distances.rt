@@ -2,7 +2,8 @@
 
 ghost use Rattle.std.specs.Prelude.{◌≡◌, ◌<◌, ◌≤◌, ◌⊎◌, IfOk, IfSome, IsTrue, MatchOption, All, Some, [], ◌∷◌, length};
 ghost use Rattle.event_graph.specs.Times.{IsTime};
-ghost use Rattle.branch.specs.Splits.{AreBetween, AreSplits, IsFirstOf, MeetsSome};
+ghost use Rattle.branch.specs.Splits.{AreSplits};
+ghost use Rattle.branch.specs.Step.Breaking.{AreBetween, IsFirstOf, MeetsSome};
 ghost use Rattle.branch.specs.Step.Looking.{CanLookFor, IsFound, IsWanted};
 
 use crate::splittable::Splittable;

@@ -20,4 +20,4 @@ mod work;
 
 pub use answer::{Answer, Found, Root};
 pub use event_graph::{Quiet, Scribe, ScribeFailed};
-pub use work::{Work, find, greatest, root_bound};
+pub use work::{MAX_START, Work, find, greatest, greatest_from, root_bound};

@@ -3,8 +3,9 @@
 ghost use Rattle.std.specs.Prelude.{◌≡◌, ◌<◌, IfOk, IfSome, IsSome, MatchBool, MatchOption, All, Some, None, length, slice_get};
 ghost use Rattle.event_graph.specs.Times.{IsTime};
 ghost use Rattle.branch.specs.declared.choice_edge.ChoiceEdge.{ChoiceEdge as ChoiceEdgeOf};
-ghost use Rattle.branch.specs.ChoiceEdges.{IsBetween};
-ghost use Rattle.branch.specs.Splits.{BreaksEach, HasChoiceEdges, MeetsSome};
+ghost use Rattle.branch.specs.Step.Breaking.{IsBetween};
+ghost use Rattle.branch.specs.Splits.{HasChoiceEdges};
+ghost use Rattle.branch.specs.Step.Breaking.{BreaksEach, MeetsSome};
 
 use crate::choice_edge::ChoiceEdge;
 use event_graph::Network;

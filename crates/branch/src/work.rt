@@ -1,6 +1,6 @@
 //! The working memory of the searches.
 
-ghost use Rattle.std.specs.Prelude.{◌≡◌, ◌<◌, ◌≤ℤ◌, ◌↔◌, ℤ, List, All, IsTrue, IsSome, IsSomeAnd, IfOk, IfSome, OnOk, OnErr, Ok, Some, None};
+ghost use Rattle.std.specs.Prelude.{◌≡◌, ◌<◌, ◌≤ℤ◌, ◌↔◌, ℤ, List, All, IsTrue, IsSome, IsSomeAnd, IfOk, IfSome, OnOk, OnErr, Ok, Some, None, length};
 ghost use Rattle.itv_base.specs.Outside.{Rose};
 ghost use Rattle.event_graph.specs.Proof.{Bound, Nothing, ProofLine};
 ghost use Rattle.event_graph.specs.Satisfying.{Satisfies};
@@ -9,7 +9,7 @@ ghost use Rattle.branch.specs.Answers.{Answers, Finds, IsCounted, IsRoot, IsRoot
 ghost use Rattle.event_graph.specs.Reading.{AtEachSplit};
 ghost use Rattle.branch.specs.Lines.{IsAccepted};
 ghost use Rattle.branch.specs.Needed.{IsNeededToBound, IsNeededToFind};
-ghost use Rattle.branch.specs.Work.{IsClose, IsMadeFor, IsReached, known_separation};
+ghost use Rattle.branch.specs.Work.{IsClose, IsMadeFor, IsReached, IsStart, known_separation};
 
 use crate::answer::{Answer, Found, Root};
 use crate::best::{Aim, Best};
@@ -20,9 +20,13 @@ use crate::search::Search;
 use crate::trial::Trial;
 use diff_bounds::Bounds;
 use event_graph::{Decisions, Network, Scribe, ScribeFailed};
-use itv_base::{EventId, NoMemory};
+use itv_base::{END_LIMIT, EventId, MAX_EVENTS, NoMemory};
 use std::alloc::Global;
 use std::marker::Model;
+
+/// The greatest separation, in picoseconds and in absolute value, of times that a search starts from. No separation of times that
+/// [`find`] finds is greater.
+pub const MAX_START: i64 = 3 * END_LIMIT * MAX_EVENTS as i64;
 
 /// The working memory of the searches on one network. It keeps the times that the last [`find`] found, which are the known times,
 /// and what the last search answered.
@@ -94,7 +98,8 @@ impl Work {
     /// The known times in picoseconds, one per event.
     pub fn known(&self) -> &[i64]
         requires { IsSome self.now.known }
-        ensures { self.now.known ≡ Some result.now }
+        ensures known { self.now.known ≡ Some result.now }
+        ensures close { All IsClose result.now }
     {
         &self.known
     }
@@ -188,16 +193,71 @@ pub fn greatest<S: Scribe>(
 {
     let known = separation_of(&work.known, from, to);
     work.best.take(known, &work.known);
-    let aim = Aim { from, to, known };
     bound_pair(
         net,
         &mut work.search,
         &mut work.trial,
         &mut work.best,
-        aim,
+        Aim { from, to, known },
         budget,
         scribe,
     )
+}
+
+/// Finds the greatest separation of a pair of events like [`greatest`], by a search that starts from given times in place of the known
+/// ones. The nearer their separation is to the greatest, the fewer cases are split. The known times stay.
+pub fn greatest_from<S: Scribe>(
+    work: &mut Work,
+    net: &Network,
+    from: EventId,
+    to: EventId,
+    times: &[i64],
+    budget: u64,
+    scribe: &mut S,
+) -> Result<Answer, ScribeFailed>
+    requires made { IsMadeFor net.now work.old }
+    requires times { Satisfies times.now net.now }
+    requires close { All IsClose times.now }
+    requires start { IsStart (separation times.now from to) }
+    requires from { from.0 < net.now.events }
+    requires to { to.0 < net.now.events }
+    requires budget { 0 < budget }
+    ensures made { IsMadeFor net.now work.new }
+    ensures known { work.new.known ≡ work.old.known }
+    ensures lines { IfOk result (λ answer. (lines : List ProofLine) × S.Grew scribe.old lines scribe.new
+        × Answers (record { net = net.now; from = from; to = to; budget = budget }) (evidence lines work.new) answer
+        × AtEachSplit net.now (IsNeededToBound net.now from to (separation times.now from to)) lines) }
+    ensures count { IsCounted net.now budget work.new.leaves }
+    ensures times { OnOk result (Satisfies work.new.times net.now) }
+    ensures close { OnOk result (All IsClose work.new.times) }
+    ensures reached { OnOk result (IsReached (separation work.new.times from to)) }
+    ensures least { OnOk result (separation times.now from to ≤ℤ separation work.new.times from to) }
+    ensures cut { OnErr result ((lines : List ProofLine) × S.WasCut scribe.old lines scribe.new
+        × ((value : ℤ) × IsAccepted net.now (Bound from to value) lines)
+        × AtEachSplit net.now (IsNeededToBound net.now from to (separation times.now from to)) lines) }
+    ensures rose { OnErr result (Rose (S.faults scribe.old) (S.faults scribe.new)) }
+{
+    let known = close_separation(times, from, to);
+    work.best.take(known, times);
+    bound_pair(
+        net,
+        &mut work.search,
+        &mut work.trial,
+        &mut work.best,
+        Aim { from, to, known },
+        budget,
+        scribe,
+    )
+}
+
+// The separation of two events in close times.
+fn close_separation(times: &[i64], from: EventId, to: EventId) -> i64
+    requires from { from.0 < length times.now }
+    requires to { to.0 < length times.now }
+    requires close { All IsClose times.now }
+    ensures { result ≡ separation times.now from to }
+{
+    times[to.0 as usize] - times[from.0 as usize]
 }
 
 /// The root bound of a pair of events: its greatest separation over the times that meet the always-edges alone. It leaves the known

@@ -18,9 +18,10 @@ use Rattle.branch.specs.declared.answer.Answer.{Answer}
 use Rattle.branch.specs.declared.answer.Answer.TheVariants.{Closed, Unbounded, Enclosed}
 use Rattle.whatif.specs.declared.bound.TheConstants.{MAX_KEPT_EDGES, MAX_KEPT_LINES}
 use Rattle.whatif.specs.declared.pair.Pair.{Pair}
-use Rattle.whatif.specs.Keeping.{KeeperGrew, Keeping, KeptOn}
+use Rattle.whatif.specs.Step.Keeping.{KeeperGrew, Keeping, KeptOn}
 use Rattle.whatif.specs.Laws.{IsSettledAnswer, SettledBoundsAgree}
-use Rattle.whatif.specs.Session.{left_by, pair_search, HasProof, IsRightBound, IsSearched, KeepsProof, KeptBound, MayKeep, MayKeepAs, kept_of}
+use Rattle.whatif.specs.Session.{left_by, pair_search, HasProof, IsRightBound, IsSearched, KeepsProof, KeptBound, MayKeep, MayKeepAs}
+use Rattle.whatif.specs.Step.Bounds.{kept_of}
 
 -- ---- a bound that is kept
 

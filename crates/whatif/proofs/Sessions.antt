@@ -12,7 +12,8 @@ use Rattle.branch.specs.declared.answer.Found.TheVariants.{Consistent, Inconsist
 use Rattle.whatif.specs.declared.change.Change.{Change}
 use Rattle.whatif.specs.declared.pair.Pair.{Pair}
 use Rattle.whatif.specs.declared.session.TheConstants.{MAX_PAIRS}
-use Rattle.whatif.specs.Session.{AreSettled, AttainsKnown, HasPlaces, IsCloseBound, IsPairIn, IsPairOf, IsRight, IsRightBound, IsRightFinding, IsSearched, IsSettled, IsSound, KeptBound, MayKeepFrom, View, both_ways}
+use Rattle.whatif.specs.Session.{AreSettled, AttainsKnown, HasPlaces, IsPairOf, IsRight, IsRightBound, IsRightFinding, IsSearched, IsSettled, IsSound, KeptBound, MayKeepFrom, View, both_ways}
+use Rattle.whatif.specs.Step.Bounds.{IsCloseBound, IsPairIn}
 use Rattle.whatif.proofs.Bounds.{kept_right}
 use Rattle.whatif.proofs.Settled.{settled_all, settled_same}
 

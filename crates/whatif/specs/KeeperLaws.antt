@@ -6,7 +6,7 @@ use Rattle.std.proofs.Math.Nat.{le-add_right, le_trans}
 use Rattle.std.proofs.lemmas.List.Sums.{sum_by-append}
 use Rattle.event_graph.specs.Proof.{ProofLine}
 use Rattle.certificate.specs.Scribing.{FitsTree, edge_count}
-use Rattle.whatif.specs.Keeping.{KeeperGrew, KeeperWasCut, Keeping, KeptOn}
+use Rattle.whatif.specs.Step.Keeping.{KeeperGrew, KeeperWasCut, Keeping, KeptOn}
 
 -- lines that fit with more behind them fit by themselves
 front_fits : (line_room edge_room : ℕ) (xs ys : List ProofLine) → FitsTree line_room edge_room (xs ++ ys) → FitsTree line_room edge_room xs

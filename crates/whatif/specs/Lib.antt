@@ -1,5 +1,5 @@
-pub mod Keeping
 pub mod KeeperLaws
 pub mod Session
 pub mod Runs
 pub mod Laws
+pub mod Step

@@ -82,12 +82,6 @@ pub record IsRightBound (net : Net) (budget : ℕ) (b : KeptBound) : Type 0 wher
   pub close : All IsClose b.times
   pub proof : KeepsProof net b.pair b.proof b.answer
 
--- what is kept of the lines of a search, by its answer: those of a closed bound
-abbrev pub kept_of : Answer → Option (List ProofLine) → Option (List ProofLine)
-kept_of (Closed value) lines = lines
-kept_of Unbounded lines = None
-kept_of (Enclosed upper attained) lines = None
-
 -- there is a time and a flag for each of so many events
 pub record HasPlaces (events : ℕ) (b : KeptBound) : Type 0 where
   pub times : length b.times ≡ events
@@ -119,13 +113,6 @@ pub record View : Type 0 where
 -- the pair is of events below a number
 abbrev pub IsPairOf : ℕ → Pair → Type 0
 IsPairOf events pair = (pair.from.0 < events) × (pair.to.0 < events)
-
-abbrev pub IsPairIn : ℕ → KeptBound → Type 0
-IsPairIn events b = IsPairOf events b.pair
-
--- the times of the bound are below 2^58 in absolute value
-abbrev pub IsCloseBound : KeptBound → Type 0
-IsCloseBound b = All IsClose b.times
 
 -- the finding is right, and so is each bound where the finding is consistent
 pub record IsRight (s : View) : Type 0 where

@@ -1,18 +1,23 @@
 //! The bound of one pair, as a session keeps it.
 
-ghost use Rattle.std.specs.Prelude.{◌≡◌, ◌<◌, ◌↔◌, [], All, IfOk, IsSomeAnd, IsTrue, length, option_map, unwrap_or};
+ghost use Rattle.std.specs.Prelude.{◌≡◌, ◌<◌, ◌↔◌, List, [], All, IfOk, IfSome, IsSomeAnd, IsTrue, length, of_z, option_map, to_z, unwrap_or, w64};
 ghost use Rattle.std.specs.Option.{option_copied};
-ghost use Rattle.event_graph.specs.Proof.{Bound, IsProof};
+ghost use Rattle.event_graph.specs.Proof.{Bound, IsProof, ProofLine};
 ghost use Rattle.event_graph.specs.Satisfying.{Satisfies};
+ghost use Rattle.event_graph.specs.Times.{separation};
+ghost use Rattle.branch.specs.Answers.{evidence};
 ghost use Rattle.branch.specs.Work.{IsClose, IsMadeFor};
 ghost use Rattle.branch.specs.declared.answer.Answer.TheVariants as answers;
+ghost use Rattle.branch.specs.declared.answer.Found.TheVariants as findings;
 ghost use Rattle.certificate.specs.Scribing.{Tree};
-ghost use Rattle.whatif.specs.Session.{HasPlaces, IsKept, IsPairOf, IsSearched, MayKeep, kept_of};
+ghost use Rattle.whatif.specs.Session.{HasPlaces, IsKept, IsPairOf, IsSearched, MayKeep};
+ghost use Rattle.whatif.specs.Step.Bounds.{IsBetterStart, IsCloseBound, IsPairSearched, kept_of};
+ghost use Rattle.whatif.specs.Step.Keeping.{KeeperGrew};
 
 use crate::keeper::Keeper;
 use crate::pair::Pair;
 use crate::proving::is_proof;
-use branch::{Answer, Work, greatest};
+use branch::{Answer, Found, MAX_START, Work, greatest, greatest_from};
 use cert_checker::{Checker, Goal};
 use certificate::TreeScribe;
 use event_graph::{Network, ScribeFailed};
@@ -113,33 +118,99 @@ impl KeptBound {
         }
     }
 
-    /// Searches it anew, from the known times of the working memory.
-    pub fn search(&mut self, net: &Network, work: &mut Work, budget: u64)
+    /// Searches it anew, where the finding was this one before. The search starts from the times that the bound has, where they are a
+    /// start no worse than the known times of the working memory, and from the known times everywhere else.
+    pub fn search(&mut self, net: &Network, work: &mut Work, budget: u64, was: Found)
         requires pair { IsPairOf net.now.events self.old.pair }
         requires places { HasPlaces net.now.events self.old }
         requires made { IsMadeFor net.now work.old }
         requires known { IsSomeAnd work.old.known (λ times. Satisfies times net.now) }
+        requires close { was ≡ findings.Consistent → IsCloseBound self.old }
         requires budget { 0 < budget }
         ensures made { IsMadeFor net.now work.new }
         ensures known { work.new.known ≡ work.old.known }
         ensures searched { IsSearched net.now budget (unwrap_or work.old.known []) self.old self.new }
         ensures places { HasPlaces net.now.events self.new }
     {
-        let Pair { from, to } = self.pair;
         self.keeper.begin();
-        match greatest(work, net, from, to, budget, &mut self.keeper) {
-            Ok(answer) => {
-                self.answer = answer;
-                self.times.copy_from_slice(work.times());
-                take_ray(&mut self.ray, answer, work.ray());
-                keep_by(&mut self.keeper, answer);
-            }
-            Err(ScribeFailed) => {
-                // A keeper never fails.
-                unreachable!()
-            }
+        let starts = is_start(net, was, self.pair, &self.times, work.known());
+        let answer = search_pair(
+            net,
+            work,
+            self.pair,
+            starts.then_some(&self.times),
+            budget,
+            &mut self.keeper,
+        );
+        self.answer = answer;
+        self.times.copy_from_slice(work.times());
+        take_ray(&mut self.ray, answer, work.ray());
+        keep_by(&mut self.keeper, answer);
+    }
+}
+
+// Searches the greatest separation of a pair, from these times or else from the known ones.
+fn search_pair(
+    net: &Network,
+    work: &mut Work,
+    pair: Pair,
+    start: Option<&[i64]>,
+    budget: u64,
+    keeper: &mut Keeper,
+) -> Answer
+    requires pair { IsPairOf net.now.events pair }
+    requires made { IsMadeFor net.now work.old }
+    requires known { IsSomeAnd work.old.known (λ times. Satisfies times net.now) }
+    requires start { IfSome start (λ times. IsBetterStart net.now pair (unwrap_or work.old.known []) times.now) }
+    requires budget { 0 < budget }
+    ensures made { IsMadeFor net.now work.new }
+    ensures known { work.new.known ≡ work.old.known }
+    ensures searched { (lines : List ProofLine) × KeeperGrew keeper.old lines keeper.new
+        × IsPairSearched net.now pair budget (unwrap_or work.old.known []) (evidence lines work.new) result }
+{
+    let Pair { from, to } = pair;
+    let searched = match start {
+        Some(times) => greatest_from(work, net, from, to, times, budget, keeper),
+        None => greatest(work, net, from, to, budget, keeper),
+    };
+    match searched {
+        Ok(answer) => answer,
+        Err(ScribeFailed) => {
+            // A keeper never fails.
+            unreachable!()
         }
     }
+}
+
+// Whether times of a bound are a start no worse than the known times, where the finding was this one before.
+fn is_start(net: &Network, was: Found, pair: Pair, times: &[i64], known: &[i64]) -> bool
+    requires pair { IsPairOf net.now.events pair }
+    requires places { length times.now ≡ net.now.events }
+    requires known { Satisfies known.now net.now }
+    requires known_close { All IsClose known.now }
+    requires close { was ≡ findings.Consistent → All IsClose times.now }
+    ensures { IsTrue result → IsBetterStart net.now pair known.now times.now }
+{
+    match was {
+        Found::Consistent => {
+            let own = separation_of(times, pair);
+            separation_of(known, pair) <= own
+                && -MAX_START <= own
+                && own <= MAX_START
+                && net.broken(times).is_none()
+        }
+        Found::Inconsistent | Found::Unsettled => false,
+    }
+}
+
+// The separation of a pair in close times.
+fn separation_of(times: &[i64], pair: Pair) -> i64
+    requires pair { IsPairOf (length times.now) pair }
+    requires close { All IsClose times.now }
+    ensures value { result ≡ separation times.now pair.from pair.to }
+    ensures passed { to_z w64 (of_z w64 result) ≡ result }
+{
+    times[pair.to.0 as usize] - times[pair.from.0 as usize]
 }
 
 // Whether the lines are there and are a proof of a bound.

@@ -4,7 +4,7 @@ ghost use Rattle.std.specs.Prelude.{◌≡◌, [], IfOk, None, Some, option_map}
 ghost use Rattle.std.specs.Option.{option_copied};
 ghost use Rattle.certificate.specs.Scribing.{Tree};
 ghost use Rattle.whatif.specs.KeeperLaws.{keeper_cut, keeper_more, keeper_none};
-ghost use Rattle.whatif.specs.Keeping.{KeeperGrew, KeeperWasCut};
+ghost use Rattle.whatif.specs.Step.Keeping.{KeeperGrew, KeeperWasCut};
 
 use certificate::TreeScribe;
 use event_graph::{Scribe, ScribeFailed};
@@ -20,7 +20,7 @@ pub struct Keeper {
 }
 
 impl Model for Keeper {
-    ghost use Rattle.whatif.specs.Keeping.{Keeping, unless_full};
+    ghost use Rattle.whatif.specs.Step.Keeping.{Keeping, unless_full};
 
     ghost Value = { Keeping };
 

@@ -5,7 +5,8 @@ ghost use Rattle.std.specs.Option.{option_copied};
 ghost use Rattle.event_graph.specs.Network.{IsNet, cause_at, with_range};
 ghost use Rattle.branch.specs.Work.{IsMadeFor};
 ghost use Rattle.branch.specs.declared.answer.Found.TheVariants as findings;
-ghost use Rattle.whatif.specs.Session.{AttainsKnown, HasPlaces, IsEditFault, IsEdited, IsKeptOf, IsPairIn, IsPairOf, IsRight, IsRightFinding, IsSessionFault, IsSettled, KeptBound, answers_of, both_ways, bound_at};
+ghost use Rattle.whatif.specs.Session.{AttainsKnown, HasPlaces, IsEditFault, IsEdited, IsKeptOf, IsPairOf, IsRight, IsRightFinding, IsSessionFault, IsSettled, KeptBound, answers_of, both_ways, bound_at};
+ghost use Rattle.whatif.specs.Step.Bounds.{IsPairIn};
 ghost use Rattle.whatif.specs.declared.change.Change.{Change};
 ghost use Rattle.whatif.specs.declared.settling.TheConstants.{MAX_BOUNDS};
 

@@ -4,7 +4,8 @@ ghost use Rattle.std.specs.Prelude.{◌≡◌, ◌<◌, ◌≤◌, ◌↔◌, []
 ghost use Rattle.event_graph.specs.Satisfying.{Satisfies};
 ghost use Rattle.branch.specs.Work.{IsMadeFor};
 ghost use Rattle.branch.specs.declared.answer.Found.TheVariants as findings;
-ghost use Rattle.whatif.specs.Session.{AreSettled, HasPlaces, IsCloseBound, IsPairIn, IsRightFinding, IsSearched, IsSettled, MayKeepFrom};
+ghost use Rattle.whatif.specs.Session.{AreSettled, HasPlaces, IsRightFinding, IsSearched, IsSettled, MayKeepFrom};
+ghost use Rattle.whatif.specs.Step.Bounds.{IsCloseBound, IsPairIn};
 ghost use Rattle.whatif.specs.declared.settling.TheConstants.{MAX_BOUNDS};
 
 use crate::bound::KeptBound;
@@ -120,7 +121,7 @@ fn settle_bounds(
         if keeps(net, checker, was, &bounds[k]) {
             change.kept += 1;
         } else {
-            bounds[k].search(net, work, budget);
+            bounds[k].search(net, work, budget, was);
             change.searched += 1;
         }
     }

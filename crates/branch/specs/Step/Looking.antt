@@ -5,7 +5,8 @@ use Rattle.event_graph.specs.Proof.{Case}
 use Rattle.event_graph.specs.Times.{IsTime}
 use Rattle.branch.specs.declared.distances.Wanted.{Wanted}
 use Rattle.branch.specs.declared.distances.Wanted.TheVariants.{Broken, Open}
-use Rattle.branch.specs.Splits.{AreBetween, BreaksEach, HasNumber, Splitting}
+use Rattle.branch.specs.Splits.{HasNumber, Splitting}
+use Rattle.branch.specs.Step.Breaking.{AreBetween, BreaksEach}
 
 -- the edges of some constraints can be read against the times, where those that they break are looked for
 abbrev pub CanLookFor : Wanted → List Splitting → Type 0

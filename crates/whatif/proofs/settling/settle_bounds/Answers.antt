@@ -3,7 +3,8 @@ use Rattle.std.specs.Prelude.{unwrap_or}
 use Rattle.std.proofs.lemmas.Bool.{both_ways}
 use Rattle.std.proofs.lemmas.List.{length-set}
 use Rattle.std.proofs.lemmas.List.Elements.{All-set}
-use Rattle.whatif.specs.Session.{HasPlaces, IsCloseBound, IsPairIn, IsSearched, KeptBound, MayKeepFrom}
+use Rattle.whatif.specs.Session.{HasPlaces, IsSearched, KeptBound, MayKeepFrom}
+use Rattle.whatif.specs.Step.Bounds.{IsCloseBound, IsPairIn}
 use Rattle.whatif.proofs.Settled.{as_before, same_here, settles, settles_kept}
 use Rattle.whatif.proofs.settling.settle_bounds.Goals as goal
 use Rattle.whatif.proofs.settling.settle_bounds.Goals.{then-keeps, else-keeps}

@@ -1,5 +1,5 @@
 use Rattle.std.proofs.Common.{◌≡◌, ◌∙◌}
-use Rattle.branch.specs.Splits.{MeetsSome}
+use Rattle.branch.specs.Step.Breaking.{MeetsSome}
 use Rattle.branch.proofs.ListWalks.{within_more}
 use Rattle.branch.proofs.distances.Distances.first_broken.Goals as goal
 

@@ -1,5 +1,5 @@
 use Rattle.std.specs.List.{AllWithin}
-use Rattle.branch.specs.Splits.{MeetsSome}
+use Rattle.branch.specs.Step.Breaking.{MeetsSome}
 use Rattle.branch.proofs.distances.Distances.first_broken.Given as goal
 
 -- the times meet some choice edge of each constraint so far

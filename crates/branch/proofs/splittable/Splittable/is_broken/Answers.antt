@@ -1,6 +1,6 @@
 use Rattle.std.proofs.Common.{◌≡◌, ◌∙◌, ap}
 use Rattle.std.proofs.lemmas.List.{get_or_default}
-use Rattle.branch.specs.ChoiceEdges.{IsEdgeBroken}
+use Rattle.branch.specs.Step.Breaking.{IsEdgeBroken}
 use Rattle.branch.specs.Splits.{Splitting}
 use Rattle.branch.proofs.ListWalks.{within_more}
 use Rattle.branch.proofs.splittable.Splittable.is_broken.Goals as goal

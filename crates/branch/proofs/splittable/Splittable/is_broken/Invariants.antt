@@ -1,5 +1,5 @@
 use Rattle.std.specs.List.{AllWithin}
-use Rattle.branch.specs.ChoiceEdges.{IsEdgeBroken}
+use Rattle.branch.specs.Step.Breaking.{IsEdgeBroken}
 use Rattle.branch.proofs.splittable.Splittable.is_broken.Given as goal
 
 -- the times break the edges so far

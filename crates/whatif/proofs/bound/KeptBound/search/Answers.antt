@@ -3,7 +3,7 @@ use Rattle.std.specs.Prelude.{unwrap_or}
 use Rattle.std.specs.Vec.{with_items}
 use Rattle.std.proofs.lemmas.List.{with_items_is}
 use Rattle.branch.specs.declared.answer.Answer.TheVariants.{Unbounded}
-use Rattle.whatif.specs.Keeping.{Keeping}
+use Rattle.whatif.specs.Step.Keeping.{Keeping}
 use Rattle.whatif.specs.Session.{IsSearched, KeptBound}
 use Rattle.whatif.proofs.Bounds.{searched_is}
 use Rattle.whatif.proofs.bound.KeptBound.search.Goals as goal

@@ -1,7 +1,8 @@
 use Rattle.std.proofs.Common.{◌≡◌, length, All, ◌∙◌, ap, sym, subst, arith}
 use Rattle.std.proofs.lemmas.List.{with_items_is}
 use Rattle.event_graph.specs.Network.{Net}
-use Rattle.whatif.specs.Session.{IsPairIn, IsPairOf, View}
+use Rattle.whatif.specs.Session.{IsPairOf, View}
+use Rattle.whatif.specs.Step.Bounds.{IsPairIn}
 use Rattle.whatif.proofs.Sessions.{count_bounds, pairs_in, sound_behind}
 use Rattle.whatif.proofs.session.Session.edit.Goals as goal
 

@@ -2,7 +2,8 @@ use Rattle.std.proofs.Common.{◌≤◌, length, All, ◌∙◌, ap, sym, subst,
 use Rattle.std.proofs.lemmas.List.{with_items_is}
 use Rattle.event_graph.specs.Network.{Net}
 use Rattle.whatif.specs.declared.session.TheConstants.{MAX_PAIRS}
-use Rattle.whatif.specs.Session.{IsPairIn, IsPairOf}
+use Rattle.whatif.specs.Session.{IsPairOf}
+use Rattle.whatif.specs.Step.Bounds.{IsPairIn}
 use Rattle.whatif.proofs.Sessions.{attains_begun, count_bounds, pairs_in, sound_begun}
 use Rattle.whatif.proofs.session.Session.new.Goals as goal
 

@@ -1,0 +1,46 @@
+-- What times break and meet of the constraints that a case can be split on, by their choice edges.
+use Rattle.std.specs.Prelude.{◌≡◌, ◌<◌, ℕ, ℤ, List, length, All, Any, IfSome, IsSomeAnd, slice_get, slice_index_or}
+use Rattle.std.specs.List.{AllWithin}
+use Rattle.event_graph.specs.declared.edge.Edge.{Edge}
+use Rattle.event_graph.specs.Edges.{Meets}
+use Rattle.event_graph.specs.Network.{Net}
+use Rattle.event_graph.specs.Satisfying.{Holds}
+use Rattle.branch.specs.declared.choice_edge.ChoiceEdge.{ChoiceEdge}
+use Rattle.branch.specs.ChoiceEdges.{given_edge}
+use Rattle.branch.specs.Splits.{Splitting}
+
+-- a choice edge is between events of so many
+pub record IsBetween (events : ℕ) (c : ChoiceEdge) : Type 0 where
+  pub from : c.from.0 < events
+  pub to : c.to.0 < events
+
+-- the times break it
+abbrev pub IsEdgeBroken : List ℤ → ChoiceEdge → Type 0
+IsEdgeBroken times c = IsSomeAnd (given_edge c) (λ (e : Edge). Meets times e → ⊥)
+
+-- the times meet it, or it is open
+abbrev pub IsEdgeMet : List ℤ → ChoiceEdge → Type 0
+IsEdgeMet times c = IfSome (given_edge c) (Meets times)
+
+-- the choice edges of some constraints are between events of so many
+abbrev pub AreBetween : ℕ → List Splitting → Type 0
+AreBetween events splits = All (λ (s : Splitting). All (IsBetween events) s.edges) splits
+
+-- the times break each choice edge
+abbrev pub BreaksEach : List ℤ → Splitting → Type 0
+BreaksEach times s = All (IsEdgeBroken times) s.edges
+
+-- the times meet some choice edge
+abbrev pub MeetsSome : List ℤ → Splitting → Type 0
+MeetsSome times s = Any (IsEdgeMet times) s.edges
+
+-- the first of some constraints each of whose choice edges the times break has this number
+pub record IsFirstOf (times : List ℤ) (splits : List Splitting) (number : ℕ) : Type 0 where
+  pub place : ℕ
+  pub within : place < length splits
+  pub broken : (d : Splitting) → ((slice_index_or splits place d).number ≡ number) × BreaksEach times (slice_index_or splits place d)
+  pub earlier : AllWithin (MeetsSome times) splits 0 place
+
+-- the times meet the constraint of a number, if it is there
+abbrev pub IsMetAt : List ℤ → Net → ℕ → Type 0
+IsMetAt times net number = IfSome (slice_get net.constraints number) (Holds times)

@@ -1,0 +1,45 @@
+-- Searches for the bounds of a session.
+use Rattle.std.specs.Prelude.{ℕ, ℤ, ◌≤ℤ◌, List, All, Option, None}
+use Rattle.event_graph.specs.Network.{Net}
+use Rattle.event_graph.specs.Proof.{ProofLine}
+use Rattle.event_graph.specs.Reading.{AtEachSplit}
+use Rattle.event_graph.specs.Satisfying.{Satisfies}
+use Rattle.event_graph.specs.Times.{separation}
+use Rattle.branch.specs.Answers.{Answers, Evidence}
+use Rattle.branch.specs.Needed.{IsNeededToBound}
+use Rattle.branch.specs.Work.{IsClose, IsStart}
+use Rattle.branch.specs.declared.answer.Answer.{Answer}
+use Rattle.branch.specs.declared.answer.Answer.TheVariants.{Closed, Unbounded, Enclosed}
+use Rattle.whatif.specs.declared.pair.Pair.{Pair}
+use Rattle.whatif.specs.Session.{IsPairOf, KeptBound, pair_search}
+
+-- what is kept of the lines of a search, by its answer: those of a closed bound
+abbrev pub kept_of : Answer → Option (List ProofLine) → Option (List ProofLine)
+kept_of (Closed value) lines = lines
+kept_of Unbounded lines = None
+kept_of (Enclosed upper attained) lines = None
+
+-- the pair of a bound is of events below a number
+abbrev pub IsPairIn : ℕ → KeptBound → Type 0
+IsPairIn events b = IsPairOf events b.pair
+
+-- each time of the bound is within eight times the reach of a path
+abbrev pub IsCloseBound : KeptBound → Type 0
+IsCloseBound b = All IsClose b.times
+
+-- a search for the bound of a pair may start from these times, and they are no worse a start than the known times
+pub record IsBetterStart (net : Net) (pair : Pair) (known times : List ℤ) : Type 0 where
+  pub satisfies : Satisfies times net
+  pub close : All IsClose times
+  pub start : IsStart (separation times pair.from pair.to)
+  pub least : separation known pair.from pair.to ≤ℤ separation times pair.from pair.to
+
+-- a search for the bound of a pair left this, where it started from satisfying times whose separation is no less than that of the known ones
+pub record IsPairSearched (net : Net) (pair : Pair) (budget : ℕ) (known : List ℤ) (left : Evidence) (answer : Answer) : Type 0 where
+  pub start : List ℤ
+  pub started : Satisfies start net
+  pub answers : Answers (pair_search net pair budget) left answer
+  pub needed : AtEachSplit net (IsNeededToBound net pair.from pair.to (separation start pair.from pair.to)) left.lines
+  pub satisfies : Satisfies left.times net
+  pub close : All IsClose left.times
+  pub least : separation known pair.from pair.to ≤ℤ separation left.times pair.from pair.to
