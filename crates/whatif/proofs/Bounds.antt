@@ -21,7 +21,7 @@ use Rattle.whatif.specs.declared.pair.Pair.{Pair}
 use Rattle.whatif.specs.Step.Keeping.{KeeperGrew, Keeping, KeptOn}
 use Rattle.whatif.specs.Laws.{IsSettledAnswer, SettledBoundsAgree}
 use Rattle.whatif.specs.Session.{left_by, pair_search, HasProof, IsRightBound, IsSearched, KeepsProof, KeptBound, MayKeep, MayKeepAs}
-use Rattle.whatif.specs.Step.Bounds.{kept_of}
+use Rattle.whatif.specs.Step.Bounds.{IsPairSearched, kept_of}
 
 -- ---- a bound that is kept
 
@@ -78,7 +78,7 @@ kept_right old net budget b right may = record {
 
 -- ---- a bound that is searched
 
--- what a search keeps of the lines of a closed bound
+-- what a search that started from some times keeps of the lines of a closed bound
 closed_keeps : (net : Net) (pair : Pair) (known : List ℤ) (value : ℤ) (lines : List ProofLine) (now : Option (List ProofLine))
     → KeptOn MAX_KEPT_LINES MAX_KEPT_EDGES (Some []) lines now → IsProof net (Bound pair.from pair.to value) lines → Satisfies known net
     → AtEachSplit net (IsNeededToBound net pair.from pair.to (separation known pair.from pair.to)) lines → HasProof net pair value now
@@ -121,14 +121,12 @@ known_satisfies net None h = absurd h
 known_satisfies net (Some times) h = h
 
 -- what a bound is behind a search that a keeper took the lines of
-pub searched_is : (net : Net) (budget leaves : ℕ) (old : KeptBound) (known : Option (List ℤ)) (times : List ℤ) (ray kept_ray : List Bool) (answer : Answer) (begun grown last : Keeping)
+pub searched_is : (net : Net) (budget leaves : ℕ) (old : KeptBound) (known times : List ℤ) (ray kept_ray : List Bool) (answer : Answer) (begun grown last : Keeping)
     (lines : List ProofLine) → begun.lines ≡ Some [] → begun.line_room ≡ MAX_KEPT_LINES → begun.edge_room ≡ MAX_KEPT_EDGES → KeeperGrew begun lines grown
-    → Answers (pair_search net old.pair budget) (left_by lines leaves times ray) answer
-    → AtEachSplit net (IsNeededToBound net old.pair.from old.pair.to (separation (unwrap_or known []) old.pair.from old.pair.to)) lines
-    → IsSomeAnd known (λ ts. Satisfies ts net) → (answer ≡ Unbounded → kept_ray ≡ ray) → Satisfies times net → All IsClose times
-    → separation (unwrap_or known []) old.pair.from old.pair.to ≤ℤ separation times old.pair.from old.pair.to → last ≡ record grown { lines = kept_of answer grown.lines }
-    → IsSearched net budget (unwrap_or known []) old (record { pair = old.pair; answer = answer; times = times; ray = kept_ray; proof = last.lines })
-searched_is net budget leaves old known times ray kept_ray answer begun grown last lines empty line_room edge_room grew is needed satisfies same satisfies_now close least is_last =
+    → IsPairSearched net old.pair budget known (left_by lines leaves times ray) answer → (answer ≡ Unbounded → kept_ray ≡ ray)
+    → last ≡ record grown { lines = kept_of answer grown.lines }
+    → IsSearched net budget known old (record { pair = old.pair; answer = answer; times = times; ray = kept_ray; proof = last.lines })
+searched_is net budget leaves old known times ray kept_ray answer begun grown last lines empty line_room edge_room grew is same is_last =
     let rooms : KeptOn MAX_KEPT_LINES MAX_KEPT_EDGES (Some []) lines grown.lines =
     subst (λ o. KeptOn MAX_KEPT_LINES MAX_KEPT_EDGES o lines grown.lines) empty
     (subst (λ n. KeptOn MAX_KEPT_LINES n begun.lines lines grown.lines) edge_room
@@ -137,13 +135,13 @@ searched_is net budget leaves old known times ray kept_ray answer begun grown la
     record {
       pair = refl;
       right = record {
-        answers = (lines, leaves, answers_with net budget old.pair times ray kept_ray answer lines leaves same is);
-        satisfies = satisfies_now;
-        close = close;
+        answers = (lines, leaves, answers_with net budget old.pair times ray kept_ray answer lines leaves same is.answers);
+        satisfies = is.satisfies;
+        close = is.close;
         proof = subst (λ o. KeepsProof net old.pair o answer) (sym lines_are)
-            (search_keeps net budget old.pair (unwrap_or known []) times ray answer lines leaves grown.lines rooms is (known_satisfies net known satisfies) needed);
+            (search_keeps net budget old.pair is.start times ray answer lines leaves grown.lines rooms is.answers is.started is.needed);
       };
-      least = least;
+      least = is.least;
     }
 
 -- times of a search are within what is asked of times

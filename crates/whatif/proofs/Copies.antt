@@ -1,5 +1,5 @@
 -- A network that is copied constraint by constraint.
-use Rattle.std.proofs.Common.{◌≡◌, ◌<◌, ◌+◌, ℕ, length, take, Option, Some, None, slice_get, refl, sym, ap, ◌∙◌}
+use Rattle.std.proofs.Common.{◌≡◌, ◌+◌, ℕ, take, Option, Some, None, slice_get, refl, sym, ap, ◌∙◌}
 use Rattle.std.specs.Prelude.{IsSomeAnd}
 use Rattle.event_graph.specs.Network.{Constraint, Net, with_constraint}
 use Rattle.event_graph.proofs.EdgesMet.{take_next}

@@ -1,12 +1,13 @@
 //! The bound of one pair, as a session keeps it.
 
-ghost use Rattle.std.specs.Prelude.{◌≡◌, ◌<◌, ◌↔◌, List, [], All, IfOk, IfSome, IsSomeAnd, IsTrue, length, of_z, option_map, to_z, unwrap_or, w64};
+ghost use Rattle.std.specs.Prelude.{◌≡◌, ◌<◌, ◌≤ℤ◌, ◌*◌, ◌↔◌, List, [], All, IfOk, IfSome, IsSomeAnd, IsTrue, length, neg_ℤ, option_map, pos, unwrap_or};
 ghost use Rattle.std.specs.Option.{option_copied};
+ghost use Rattle.event_graph.specs.Limits.{reach_limit};
 ghost use Rattle.event_graph.specs.Proof.{Bound, IsProof, ProofLine};
 ghost use Rattle.event_graph.specs.Satisfying.{Satisfies};
 ghost use Rattle.event_graph.specs.Times.{separation};
 ghost use Rattle.branch.specs.Answers.{evidence};
-ghost use Rattle.branch.specs.Work.{IsClose, IsMadeFor};
+ghost use Rattle.branch.specs.Work.{IsClose, IsMadeFor, IsStart};
 ghost use Rattle.branch.specs.declared.answer.Answer.TheVariants as answers;
 ghost use Rattle.branch.specs.declared.answer.Found.TheVariants as findings;
 ghost use Rattle.certificate.specs.Scribing.{Tree};
@@ -193,14 +194,18 @@ fn is_start(net: &Network, was: Found, pair: Pair, times: &[i64], known: &[i64])
 {
     match was {
         Found::Consistent => {
-            let own = separation_of(times, pair);
-            separation_of(known, pair) <= own
-                && -MAX_START <= own
-                && own <= MAX_START
+            is_no_worse(separation_of(times, pair), separation_of(known, pair))
                 && net.broken(times).is_none()
         }
         Found::Inconsistent | Found::Unsettled => false,
     }
+}
+
+// Whether a search may start from times with this separation, which is no less than a known one.
+fn is_no_worse(own: i64, known: i64) -> bool
+    ensures { IsTrue result → IsStart own × (known ≤ℤ own) }
+{
+    known <= own && -MAX_START <= own && own <= MAX_START
 }
 
 // The separation of a pair in close times.
@@ -208,7 +213,8 @@ fn separation_of(times: &[i64], pair: Pair) -> i64
     requires pair { IsPairOf (length times.now) pair }
     requires close { All IsClose times.now }
     ensures value { result ≡ separation times.now pair.from pair.to }
-    ensures passed { to_z w64 (of_z w64 result) ≡ result }
+    ensures low { neg_ℤ (pos (9 * reach_limit)) ≤ℤ result }
+    ensures high { result ≤ℤ pos (9 * reach_limit) }
 {
     times[pair.to.0 as usize] - times[pair.from.0 as usize]
 }

@@ -30,6 +30,13 @@ search-requires-clause-pair c =
     c.args.bounds.now c.loop-k.bounds c.loop-k.k c.loop-k.change.kept c.loop-k.change.searched c.index-bounds-k-else-keeps.result c.loop-k.invariant.6))
     (c.requires.pairs c.loop-k.k c.index-bounds-k-else-keeps.result within)
 
+pub search-requires-clause-close : goal.search-requires-clause-close
+search-requires-clause-close c consistent =
+    let within : c.loop-k.k < length c.args.bounds.now = omega (arith, c.loop-k-test.true, c.loop-k.invariant.3) in
+    subst IsCloseBound (sym (as_before (MayKeepFrom c.args.was c.args.net.now) (IsSearched c.args.net.now c.args.budget (unwrap_or c.args.work.now.known []))
+    c.args.bounds.now c.loop-k.bounds c.loop-k.k c.loop-k.change.kept c.loop-k.change.searched c.index-bounds-k-else-keeps.result c.loop-k.invariant.6))
+    (c.requires.close consistent c.loop-k.k c.index-bounds-k-else-keeps.result within)
+
 pub loop-k-preserved : goal.loop-k-preserved
 loop-k-preserved c =
     let May : KeptBound → Type 0 = MayKeepFrom c.args.was c.args.net.now in
