@@ -43,7 +43,7 @@ fn label_note(version: u32, label: &str) -> &str
 
 // The note of a label of version 1.
 fn plain_note(label: &str) -> &str
-    ensures { result.now ≡ note_by (judged version_1 (label_of ends_of label.now)) }
+    ensures { result.now ≡ note_by (judged (λ ends. Some ends) (label_of ends_of label.now)) }
 {
     match read_label(label) {
         Ok(label) => printed(label.note),
@@ -53,7 +53,7 @@ fn plain_note(label: &str) -> &str
 
 // The note of a label of version 2.
 fn graded_note(label: &str) -> &str
-    ensures { result.now ≡ note_by (judged version_2 (label_of span_of label.now)) }
+    ensures { result.now ≡ note_by (judged fixed_ends (label_of span_of label.now)) }
 {
     match read_label2(label) {
         Ok(label) => printed(label.note),

@@ -175,14 +175,14 @@ resolved_whole n grade label whole proper =
 -- what is read of a label is whole
 label_whole : (labels : Labels) → AreWholeLabels labels → (n : ℕ) (text : List ℕ) → IfOk (label_in labels n text) IsWholeLabel
 label_whole plain whole n text =
-    told_whole IsWholeLabel n (judged version_1 (label_of ends_of text)) (plain_whole (judged version_1 (label_of ends_of text)) (judged_is_proper version_1 ends_of ends_invert text))
+    told_whole IsWholeLabel n (judged (λ ends. Some ends) (label_of ends_of text)) (plain_whole (judged (λ ends. Some ends) (label_of ends_of text)) (judged_is_proper version_1 ends_of ends_invert text))
   where
     plain_whole : (label : Result (LooseLabel Ends) LabelFault) → IfOk label (IsProper version_1) → IfOk label IsWholeLabel
     plain_whole (Err fault) proper = tt
     plain_whole (Ok label) proper = record { shift = proper.loose.shift; range = range_whole label.ends (proper_range label proper) }
 label_whole (graded grade) whole n text =
-    IfOk-bind (IsProper version_2) IsWholeLabel (told n (judged version_2 (label_of span_of text))) _
-    (told_whole (IsProper version_2) n (judged version_2 (label_of span_of text)) (judged_is_proper version_2 span_of spans_invert text)) (λ label proper. resolved_whole n grade label whole proper)
+    IfOk-bind (IsProper version_2) IsWholeLabel (told n (judged fixed_ends (label_of span_of text))) _
+    (told_whole (IsProper version_2) n (judged fixed_ends (label_of span_of text)) (judged_is_proper version_2 span_of spans_invert text)) (λ label proper. resolved_whole n grade label whole proper)
 
 -- ---- edges
 
