@@ -1,6 +1,6 @@
 //! Reading a label.
 
-ghost use Rattle.std.specs.Prelude.{◌≡◌, ◌↔◌, IfOk, IsOkAnd, IsErrOf, option_map};
+ghost use Rattle.std.specs.Prelude.{◌≡◌, ◌↔◌, Some, IfOk, IsOkAnd, IsErrOf, option_map};
 ghost use Rattle.itv_base.specs.Range.{Ends};
 ghost use Rattle.label_grammar.specs.Label.{LooseLabel, label_view, version_1, IsProper, spelling};
 ghost use Rattle.label_grammar.specs.Reading.{ends_of, label_of};

@@ -1,7 +1,7 @@
 //! Reading a label of version 2.
 
 ghost use Rattle.std.specs.Prelude.{◌≡◌, ◌↔◌, Some, Ok, Err, IfOk, IsOkAnd, IsErrOf, MatchResult, option_map};
-ghost use Rattle.label_grammar.specs.Label.{LooseLabel, Span as SpanSeen, label2_view, span_view, version_2, IsProper, spelling};
+ghost use Rattle.label_grammar.specs.Label.{LooseLabel, Span as SpanSeen, fixed_ends, label2_view, span_view, version_2, IsProper, spelling};
 ghost use Rattle.label_grammar.specs.Reading.{span_of, label_of};
 ghost use Rattle.label_grammar.specs.Step.Form.{written_view, judged_span};
 ghost use Rattle.label_grammar.specs.Answer.{judged, Gives, IsUnspelled, SpellsWideEnd, SpellsReversedEnds};

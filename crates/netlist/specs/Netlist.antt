@@ -13,7 +13,7 @@ use Rattle.label_grammar.specs.declared.label.LabelFault.{LabelFault}
 use Rattle.label_grammar.specs.Answer.{judged}
 use Rattle.itv_base.specs.Characters.{is_name}
 use Rattle.itv_base.specs.Cuts.{is_full_stop}
-use Rattle.label_grammar.specs.Label.{LooseLabel, version_1}
+use Rattle.label_grammar.specs.Label.{LooseLabel}
 use Rattle.label_grammar.specs.Reading.{ends_of, label_of}
 use Rattle.label_grammar.specs.Wire.{PartMark, WireSeen, comment, timing, malformed, wire_of}
 use Rattle.netlist.specs.declared.fault.NetlistFault.{NetlistFault}

@@ -1,11 +1,11 @@
 -- The notes of edges and of wires, as they are printed: what a label says in plain words behind all else. Parts, edges and wires are
 -- numbered from 0.
-use Rattle.std.specs.Prelude.{ℕ, Bool, ◌&&◌, ◌==◌, nat_le, if◌then◌else◌, List, [], Option, find, option_and_then, unwrap_or, slice_get, Result, Ok, Err}
+use Rattle.std.specs.Prelude.{ℕ, Bool, ◌&&◌, ◌==◌, nat_le, if◌then◌else◌, List, [], Option, Some, find, option_and_then, unwrap_or, slice_get, Result, Ok, Err}
 use Rattle.std.specs.List.{list_all}
 use Rattle.std.specs.Option.{option_map_or}
 use Rattle.std.specs.Str.{bytes_eq}
 use Rattle.label_grammar.specs.declared.label.LabelFault.{LabelFault}
-use Rattle.label_grammar.specs.Label.{LooseLabel, version_1, version_2}
+use Rattle.label_grammar.specs.Label.{LooseLabel, fixed_ends}
 use Rattle.label_grammar.specs.Reading.{ends_of, span_of, label_of}
 use Rattle.label_grammar.specs.Answer.{judged}
 use Rattle.label_grammar.specs.Edge.{EdgeSeen, edge_of}

@@ -1,10 +1,10 @@
 //! The notes of edges and of wires.
 
-ghost use Rattle.std.specs.Prelude.{◌≡◌, ◌&&◌, nat_le};
+ghost use Rattle.std.specs.Prelude.{◌≡◌, ◌&&◌, Some, nat_le};
 ghost use Rattle.std.specs.List.{list_all};
 ghost use Rattle.std.specs.Option.{option_copied};
 ghost use Rattle.label_grammar.specs.Answer.{judged};
-ghost use Rattle.label_grammar.specs.Label.{version_1, version_2};
+ghost use Rattle.label_grammar.specs.Label.{fixed_ends};
 ghost use Rattle.label_grammar.specs.Reading.{ends_of, label_of, span_of};
 ghost use Rattle.plan.specs.Notes.{edge_note, is_printed, is_printed_byte, label_note, note_by, printed, wire_note};
 

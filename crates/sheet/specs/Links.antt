@@ -9,7 +9,7 @@ use Rattle.itv_base.specs.declared.names.RuleKind.TheVariants as rules
 use Rattle.label_grammar.specs.declared.label.Kind.{Kind}
 use Rattle.label_grammar.specs.declared.label.Kind.TheVariants.{Lin, Late, Early, Req, Ask}
 use Rattle.label_grammar.specs.declared.label.LabelFault.{LabelFault}
-use Rattle.label_grammar.specs.Label.{LooseLabel, Span, fixed, named, version_1, version_2}
+use Rattle.label_grammar.specs.Label.{LooseLabel, Span, fixed, named, fixed_ends}
 use Rattle.label_grammar.specs.Reading.{ends_of, span_of, label_of}
 use Rattle.label_grammar.specs.Answer.{judged}
 use Rattle.label_grammar.specs.Edge.{EdgeSeen, comment, timing, malformed, edge_of}
