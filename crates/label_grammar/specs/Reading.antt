@@ -74,7 +74,9 @@ name_from name rest = if is_name name then Some (named name, rest) else None
 
 -- a space, a dollar sign and the name of a parameter, or the ends
 unfoldable pub span_of : List ℕ → Option (Span × List ℕ)
-span_of text = after (stripped (codes " $") text) (λ rest. name_from (take_while is_name_byte rest) (after_while is_name_byte rest)) (ends_of text >>= λ ends. Some (fixed ends.0, ends.1))
+span_of text =
+    after (stripped (codes " $") text) (λ rest. name_from (take_while is_name_byte rest) (after_while is_name_byte rest))
+    (ends_of text >>= λ ends. Some (fixed ends.0, ends.1))
 
 -- what tells the ends, as a version reads it; an ask has nothing that does
 unfoldable pub told_of : {E : Type 0} → (List ℕ → Option (E × List ℕ)) → Bool → List ℕ → Option (Option E × List ℕ)
