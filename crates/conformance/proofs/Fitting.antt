@@ -18,7 +18,9 @@ use Rattle.reading.specs.declared.place.Place.TheVariants as places
 use Rattle.reading.specs.declared.refusal.Refusal.{Refusal}
 use Rattle.reading.specs.declared.refusal.Refusal.TheVariants as refusals
 use Rattle.plan.specs.Plan.{NamedSheets, sheets_on}
-use Rattle.reading.specs.Design.{design_at, drawn_at, grades_in, is_unread, lone_at, netlist_at, plain_sheet_at, plan_at, sheets_at, sheets_in, sheets_of_files, tree_at, tree_planned, tree_in, with_part, with_sheet}
+use Rattle.reading.specs.Design.{design_at, drawn_at, grades_in, is_unread, lone_at, netlist_at, plan_at, sheets_at, sheets_in, sheets_of_files, tree_at, tree_planned, tree_in, with_part, with_sheet}
+use Rattle.reading.specs.Step.Lone.{plain_sheet_at}
+use Rattle.reading.proofs.LoneSheets.{lone_is}
 use Rattle.compose.specs.Compose.{composed_on}
 use Rattle.compose.specs.Sheets.{key_of}
 use Rattle.grades.specs.Grades.{grades_of}
@@ -128,7 +130,7 @@ module _ (files : Files) (short : (name : List ℕ) → IfSome (file_of files na
       (λ drawing. fits_at place refusals.Sheet (sheet_of plain drawing) (λ fault e. cc e))
 
   fits_lone : (name : List ℕ) (tree : Data) → Fits (told_end files (lone_at name tree))
-  fits_lone name tree = fits_then (plain_sheet_at (places.File 0) tree) _ (fits_plain (places.File 0) tree) (λ sheet. tt)
+  fits_lone name tree = subst (λ reading. Fits (told_end files reading)) (sym (lone_is name tree)) (fits_then (plain_sheet_at (places.File 0) tree) _ (fits_plain (places.File 0) tree) (λ sheet. tt))
 
   fits_netlist : (tree : Data) → Fits (told_end files (netlist_at tree))
   fits_netlist tree =

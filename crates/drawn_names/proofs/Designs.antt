@@ -40,7 +40,9 @@ use Rattle.reading.specs.declared.refusal.Refusal.TheVariants.{Diagram, Grades, 
 use Rattle.reading.specs.Opening.{Comes, at, each, gives, ready}
 use Rattle.reading.specs.Opening as openings
 use Rattle.plan.specs.Plan.{NamedSheets, Planned, sheets_on}
-use Rattle.reading.specs.Design.{design_at, drawn_at, grades_in, is_unread, lone_at, lone_plan, netlist_at, plan_at, plain_key, plain_sheet_at, sheets_at, sheets_in, sheets_of_files, tree_in, with_part, with_sheet}
+use Rattle.reading.specs.Design.{design_at, drawn_at, grades_in, is_unread, lone_at, netlist_at, plan_at, sheets_at, sheets_in, sheets_of_files, tree_in, with_part, with_sheet}
+use Rattle.reading.specs.Step.Lone.{lone_plan, plain_key, plain_sheet_at}
+use Rattle.reading.proofs.LoneSheets.{lone_is}
 use Rattle.reading.proofs.Opens.{at_gave, each_keeps, gave, opening_then}
 use Rattle.drawn_names.specs.Law.{DrawnNamesDiffer, DrawnNamesHaveForm, DrawnRangesHaveForm}
 use Rattle.drawn_names.proofs.Apart.{AreApart, Every, MarksApart, apart_at, cycles_apart}
@@ -173,7 +175,7 @@ record IsNamedPlan (plan : Planned) : Type 0 where
 
 lone_at_holds : (shelf : ShelfTold) (name : List ℕ) (tree : Data) (plan : Planned) → Comes shelf (lone_at name tree) (ready plan) → IsNamedPlan plan
 lone_at_holds shelf name tree plan comes =
-    let (found, first, rest) = opening_then shelf (plain_sheet_at (File 0) tree) _ plan comes in
+    let (found, first, rest) = opening_then shelf (plain_sheet_at (File 0) tree) _ plan (subst (λ reading. Comes shelf reading (ready plan)) (lone_is name tree) comes) in
     subst IsNamedPlan (gave shelf (lone_plan name found) plan rest)
     (record { netlist = lone_holds name; sheets = with_sheet_holds [] (plain_key name) found (All-nil HoldsMarks) (plain_sheet_holds shelf (File 0) tree found first) })
 

@@ -56,15 +56,10 @@ whole_at key d = option_and_then whole_of (get key d)
 -- an end: null is open, and else it is a whole number
 abbrev pub end_of : Data → Option (Option ℤ)
 end_of null = Some None
-end_of (boolean b) = None
 end_of (number n) = option_map (λ value. Some value) (as_i64 n)
-end_of (string s) = None
-end_of (array ds) = None
-end_of (object ms) = None
+end_of d = None
 
 -- two ends, of a list of two
 abbrev pub ends_by : List Data → Option Ends
-ends_by [] = None
-ends_by (low ∷ []) = None
 ends_by (low ∷ high ∷ []) = option_and_then (λ l. option_map (λ h. record { low = l; high = h }) (end_of high)) (end_of low)
-ends_by (low ∷ high ∷ more ∷ rest) = None
+ends_by ds = None

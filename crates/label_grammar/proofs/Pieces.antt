@@ -12,7 +12,7 @@ use Rattle.itv_base.specs.Characters.{is_name, is_name_byte}
 use Rattle.itv_base.specs.Cuts.{stripped, after, after_while}
 use Rattle.itv_base.specs.Numerals.{end_text, signed_text, number_text, is_numeral, value_of}
 use Rattle.label_grammar.specs.Label.{Span, fixed, named, Version, version_1, version_2, has_span_form, kind_text, shift_text, tag_text, ends_text, span_text, told_text, note_text}
-use Rattle.label_grammar.specs.Reading.{◌>>=◌, first_kind, kind_of, shift_from, shift_of, tag_from, tag_of, number_from, number_of, end_of, ends_of, name_from, fixed_of, span_of, told_of, note_of}
+use Rattle.label_grammar.specs.Reading.{◌>>=◌, first_kind, kind_of, shift_from, shift_of, tag_from, tag_of, number_from, number_of, end_of, ends_of, name_from, span_of, told_of, note_of}
 use Rattle.itv_base.proofs.Cuts.{stripped_some}
 use Rattle.itv_base.proofs.Runs.{stops, front_of_run, rest_of_run, run_whole}
 use Rattle.itv_base.proofs.Numbers.{numeral_is}
@@ -240,7 +240,7 @@ ends_again ends rest =
 span_takes : (text rest : List ℕ) (span : Span) → span_of text ≡ Some (span, rest) → (text ≡ span_text span ++ rest) × (has_span_form span ≡ true)
 unfolding span_of
 span_takes text rest span e =
-    elim (after_cases (stripped (codes " $") text) (λ r. name_from (take_while is_name_byte r) (after_while is_name_byte r)) (fixed_of text) (Some (span, rest)) e) [
+    elim (after_cases (stripped (codes " $") text) (λ r. name_from (take_while is_name_byte r) (after_while is_name_byte r)) (ends_of text >>= λ ends. Some (fixed ends.0, ends.1)) (Some (span, rest)) e) [
       | inl found ↦ (
           let name = take_while is_name_byte found.0 in
           let g = cond_some (is_name name) (named name, after_while is_name_byte found.0) (span, rest) found.2 in

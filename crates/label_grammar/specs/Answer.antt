@@ -1,17 +1,18 @@
 -- What is answered to the text of a label.
-use Rattle.std.specs.Prelude.{◌≡◌, ◌≢◌, ℕ, true, false, if◌then◌else◌, List, Option, Some, None, Result, Ok, Err}
+use Rattle.std.specs.Prelude.{◌≡◌, ◌≢◌, ℕ, true, false, if◌then◌else◌, List, Option, Some, None, option_and_then, Result, Ok, Err}
+use Rattle.std.specs.Option.{option_map_or}
+use Rattle.itv_base.specs.Range.{Ends, has_wide, is_reversed}
 use Rattle.label_grammar.specs.declared.label.LabelFault.{LabelFault}
 use Rattle.label_grammar.specs.declared.label.LabelFault.TheVariants.{BadLabel, TooWide, EmptyRange}
 use Rattle.label_grammar.specs.Label.{LooseLabel, Version, IsLoose, has_wide_end, has_reversed_ends, spelling}
 
--- a label that is spelled right is refused for an end that is too wide, and then for ends that are the wrong way round
-abbrev pub judged_label : {E : Type 0} → Version E → LooseLabel E → Result (LooseLabel E) LabelFault
-judged_label v l = if has_wide_end v l then Err TooWide else (if has_reversed_ends v l then Err EmptyRange else Ok l)
-
--- a text that spells no label is refused first
-abbrev pub judged : {E : Type 0} → Version E → Option (LooseLabel E) → Result (LooseLabel E) LabelFault
-judged v None = Err BadLabel
-judged v (Some l) = judged_label v l
+-- A text that spells no label is refused first, then a label that tells an end that is too wide, and then one with its ends the wrong
+-- way round. Only ends that it tells outright are looked at.
+abbrev pub judged : {E : Type 0} → (E → Option Ends) → Option (LooseLabel E) → Result (LooseLabel E) LabelFault
+judged outright None = Err BadLabel
+judged outright (Some l) =
+    if option_map_or has_wide (option_and_then outright l.ends) false then Err TooWide
+    else (if option_map_or is_reversed (option_and_then outright l.ends) false then Err EmptyRange else Ok l)
 
 -- the answer, without where its texts lie in memory, is what was judged
 abbrev pub Gives : {R E : Type 0} → (R → LooseLabel E) → Result R LabelFault → Result (LooseLabel E) LabelFault → Type 0

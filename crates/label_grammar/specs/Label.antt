@@ -44,11 +44,8 @@ label2_view l = record { kind = l.kind; shift = l.shift; tag = option_copied l.t
 
 -- whether a label only asks
 abbrev pub is_ask : Kind → Bool
-is_ask Lin = false
-is_ask Late = false
-is_ask Early = false
-is_ask Req = false
 is_ask Ask = true
+is_ask kind = false
 
 -- ---- versions
 
@@ -145,6 +142,10 @@ abbrev pub note_text : Option (List ℕ) → List ℕ
 note_text None = []
 note_text (Some note) = codes " " ++ note
 
--- the text of a label
+-- the text of a label, of which the ends are told by such a text
+abbrev pub spelled : {E : Type 0} → (E → List ℕ) → LooseLabel E → List ℕ
+spelled text l = kind_text l.kind ++ (shift_text l.shift ++ (tag_text l.tag ++ (told_text text l.ends ++ note_text l.note)))
+
+-- the text of a label of a version
 abbrev pub spelling : {E : Type 0} → Version E → LooseLabel E → List ℕ
-spelling v l = kind_text l.kind ++ (shift_text l.shift ++ (tag_text l.tag ++ (told_text v.text l.ends ++ note_text l.note)))
+spelling v l = spelled v.text l

@@ -72,21 +72,16 @@ ends_of text = do
 abbrev pub name_from : List ℕ → List ℕ → Option (Span × List ℕ)
 name_from name rest = if is_name name then Some (named name, rest) else None
 
-abbrev pub fixed_of : List ℕ → Option (Span × List ℕ)
-fixed_of text = do
-  ends ← ends_of text
-  Some (fixed ends.0, ends.1)
-
 -- a space, a dollar sign and the name of a parameter, or the ends
 unfoldable pub span_of : List ℕ → Option (Span × List ℕ)
-span_of text = after (stripped (codes " $") text) (λ rest. name_from (take_while is_name_byte rest) (after_while is_name_byte rest)) (fixed_of text)
+span_of text =
+    after (stripped (codes " $") text) (λ rest. name_from (take_while is_name_byte rest) (after_while is_name_byte rest))
+    (ends_of text >>= λ ends. Some (fixed ends.0, ends.1))
 
 -- what tells the ends, as a version reads it; an ask has nothing that does
 unfoldable pub told_of : {E : Type 0} → (List ℕ → Option (E × List ℕ)) → Bool → List ℕ → Option (Option E × List ℕ)
 told_of tell true text = Some (None, text)
-told_of tell false text = do
-  told ← tell text
-  Some (Some told.0, told.1)
+told_of tell false text = tell text >>= λ told. Some (Some told.0, told.1)
 
 -- what is left is nothing, or a space and a note
 unfoldable pub note_of : List ℕ → Option (Option (List ℕ))

@@ -37,9 +37,8 @@ part_mark_of word = part_mark_from (before_first is_full_stop word) (after_first
 
 -- a wire from its two words, each of which has to name a mark of a part
 abbrev pub wire_between : Option PartMark → Option PartMark → List ℕ → WireSeen
-wire_between None to label = malformed
-wire_between (Some from) None label = malformed
 wire_between (Some from) (Some to) label = timing from to label
+wire_between from to label = malformed
 
 -- a wire from its two words and its label
 abbrev pub wire_from : List ℕ → List ℕ → List ℕ → WireSeen

@@ -54,12 +54,9 @@ lane_keys = codes "name" ∷ codes "wave" ∷ codes "node" ∷ []
 -- those of the lanes of an element of `signal`, which is a lane, a group of elements, or passed over
 abbrev mutual
   pub near_at : Data → List (List ℕ)
-  near_at null = []
-  near_at (boolean b) = []
-  near_at (number n) = []
-  near_at (string s) = []
   near_at (array group) = near_within group
   near_at (object members) = near_keys lane_keys (object members)
+  near_at d = []
 
   pub near_within : Items → List (List ℕ)
   near_within no_items = []

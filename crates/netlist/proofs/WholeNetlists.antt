@@ -140,7 +140,7 @@ labelled_whole n from to (Ok label) proper = record { shift = proper.loose.shift
 seen_whole : (n : ℕ) (seen : WireSeen) → IfOk (seen_wire n seen) IsWholeIfAny
 seen_whole n comment = tt
 seen_whole n malformed = tt
-seen_whole n (timing from to label) = labelled_whole n from to (judged version_1 (label_of ends_of label)) (judged_is_proper version_1 ends_of ends_invert label)
+seen_whole n (timing from to label) = labelled_whole n from to (judged (λ ends. Some ends) (label_of ends_of label)) (judged_is_proper version_1 ends_of ends_invert label)
 
 wire_whole : (n : ℕ) (d : Data) → IfOk (wire_at n d) IsWholeIfAny
 wire_whole n d =

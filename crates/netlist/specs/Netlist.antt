@@ -13,7 +13,7 @@ use Rattle.label_grammar.specs.declared.label.LabelFault.{LabelFault}
 use Rattle.label_grammar.specs.Answer.{judged}
 use Rattle.itv_base.specs.Characters.{is_name}
 use Rattle.itv_base.specs.Cuts.{is_full_stop}
-use Rattle.label_grammar.specs.Label.{LooseLabel, version_1}
+use Rattle.label_grammar.specs.Label.{LooseLabel}
 use Rattle.label_grammar.specs.Reading.{ends_of, label_of}
 use Rattle.label_grammar.specs.Wire.{PartMark, WireSeen, comment, timing, malformed, wire_of}
 use Rattle.netlist.specs.declared.fault.NetlistFault.{NetlistFault}
@@ -68,10 +68,8 @@ abbrev pub grade_of : ℕ → Data → Option (Option (List ℕ))
 grade_of version d = if version == 2 then name_if (get (codes "grade") d) else Some None
 
 abbrev pub part_by : Option (List ℕ) → Option (List ℕ) → Option (Option (List ℕ)) → Option code.Part
-part_by None sheet grade = None
-part_by (Some name) None grade = None
-part_by (Some name) (Some sheet) None = None
 part_by (Some name) (Some sheet) (Some grade) = if is_name name then Some (record { name = name; sheet = sheet; grade = grade }) else None
+part_by name sheet grade = None
 
 -- an object with a name of a part's form, a text for its sheet and, in version 2, a grade of a name's form or none
 unfoldable pub part_of : ℕ → Data → Option code.Part
@@ -144,14 +142,10 @@ net_of n d = do
   Ok (record { pins = pins; delay = delay })
 
 abbrev pub with_net : ℕ → List JoinedPins → Data → Result (List JoinedPins) NetlistFault
-with_net n done d = do
-  net ← net_of n d
-  Ok (done ++ net ∷ [])
+with_net n done d = net_of n d >>= λ net. Ok (done ++ net ∷ [])
 
 unfoldable pub nets_of : Data → Result (List JoinedPins) NetlistFault
-nets_of tree = do
-  listed ← list_if (get (codes "nets") tree) NetsNotList
-  walk with_net 0 [] listed
+nets_of tree = list_if (get (codes "nets") tree) NetsNotList >>= walk with_net 0 []
 
 -- ---- wires
 
@@ -171,29 +165,21 @@ labelled n from to (Ok label) = Ok (Some (record {
 abbrev pub seen_wire : ℕ → WireSeen → Result (Option Wire) NetlistFault
 seen_wire n comment = Ok None
 seen_wire n malformed = Err (Edge n)
-seen_wire n (timing from to label) = labelled n from to (judged version_1 (label_of ends_of label))
+seen_wire n (timing from to label) = labelled n from to (judged (λ ends. Some ends) (label_of ends_of label))
 
 -- what the text of wire n says: nothing where it is a comment
 abbrev pub wire_at : ℕ → Data → Result (Option Wire) NetlistFault
-wire_at n d = do
-  text ← ok_or (as_str d) (Edge n)
-  seen_wire n (wire_of text)
+wire_at n d = ok_or (as_str d) (Edge n) >>= λ text. seen_wire n (wire_of text)
 
 abbrev pub with_wire : ℕ → List (Option Wire) → Data → Result (List (Option Wire)) NetlistFault
-with_wire n done d = do
-  wire ← wire_at n d
-  Ok (done ++ wire ∷ [])
+with_wire n done d = wire_at n d >>= λ wire. Ok (done ++ wire ∷ [])
 
 unfoldable pub wires_of : Data → Result (List (Option Wire)) NetlistFault
-wires_of tree = do
-  listed ← list_if (get (codes "edges") tree) EdgesNotList
-  walk with_wire 0 [] listed
+wires_of tree = list_if (get (codes "edges") tree) EdgesNotList >>= walk with_wire 0 []
 
 -- the texts of the wires as they are written, comments among them
 unfoldable pub edges_of : Data → Result (List (List ℕ)) NetlistFault
-edges_of tree = do
-  listed ← list_if (get (codes "edges") tree) EdgesNotList
-  Ok (filter_map as_str listed)
+edges_of tree = list_if (get (codes "edges") tree) EdgesNotList >>= λ listed. Ok (filter_map as_str listed)
 
 -- ---- the whole
 
@@ -211,12 +197,5 @@ netlist_of tree = do
 
 -- the netlist that the sheet of a name stands for: one part in one cycle, of version 1; it has no keys
 abbrev pub lone_netlist : List ℕ → Contents
-lone_netlist sheet = record {
-  version = 1;
-  cycles = 1;
-  parts = record { name = codes "U"; sheet = sheet; grade = None } ∷ [];
-  nets = [];
-  wires = [];
-  edges = [];
-  near = [];
-}
+lone_netlist sheet =
+    record { version = 1; cycles = 1; parts = record { name = codes "U"; sheet = sheet; grade = None } ∷ []; nets = []; wires = []; edges = []; near = [] }

@@ -1,11 +1,11 @@
 -- The notes of edges and of wires, as they are printed: what a label says in plain words behind all else. Parts, edges and wires are
 -- numbered from 0.
-use Rattle.std.specs.Prelude.{ℕ, Bool, ◌&&◌, ◌==◌, nat_le, if◌then◌else◌, List, [], Option, find, option_and_then, unwrap_or, slice_get, Result, Ok, Err}
+use Rattle.std.specs.Prelude.{ℕ, Bool, ◌&&◌, ◌==◌, nat_le, if◌then◌else◌, List, [], Option, Some, find, option_and_then, unwrap_or, slice_get, Result, Ok, Err}
 use Rattle.std.specs.List.{list_all}
 use Rattle.std.specs.Option.{option_map_or}
 use Rattle.std.specs.Str.{bytes_eq}
 use Rattle.label_grammar.specs.declared.label.LabelFault.{LabelFault}
-use Rattle.label_grammar.specs.Label.{LooseLabel, version_1, version_2}
+use Rattle.label_grammar.specs.Label.{LooseLabel, fixed_ends}
 use Rattle.label_grammar.specs.Reading.{ends_of, span_of, label_of}
 use Rattle.label_grammar.specs.Answer.{judged}
 use Rattle.label_grammar.specs.Edge.{EdgeSeen, edge_of}
@@ -40,23 +40,21 @@ note_by (Err fault) = []
 
 -- the note of a label, by the version
 abbrev pub label_note : ℕ → List ℕ → List ℕ
-label_note version label = if version == 2 then note_by (judged version_2 (label_of span_of label)) else note_by (judged version_1 (label_of ends_of label))
+label_note version label = if version == 2 then note_by (judged fixed_ends (label_of span_of label)) else note_by (judged (λ ends. Some ends) (label_of ends_of label))
 
 -- ---- edges and wires
 
 abbrev pub edge_seen_note : ℕ → EdgeSeen → List ℕ
-edge_seen_note version edges.comment = []
 edge_seen_note version (edges.timing from to label) = label_note version label
-edge_seen_note version edges.malformed = []
+edge_seen_note version edge = []
 
 -- the note of the text of an edge of a sheet; a comment has none
 abbrev pub edge_note : ℕ → List ℕ → List ℕ
 edge_note version text = edge_seen_note version (edge_of text)
 
 abbrev pub wire_seen_note : WireSeen → List ℕ
-wire_seen_note wires.comment = []
 wire_seen_note (wires.timing from to label) = label_note 1 label
-wire_seen_note wires.malformed = []
+wire_seen_note wire = []
 
 -- the note of the text of a wire, whose label is always one of version 1; a comment has none
 abbrev pub wire_note : List ℕ → List ℕ
@@ -79,7 +77,6 @@ part_note plan name n = option_map_or (edge_note plan.netlist.version) (edge_nam
 -- The note of what draws a cause or a row, by the name of the part: that of an edge of its sheet, or that of a wire. Lanes and pins
 -- have none.
 abbrev pub plan_note : Planned → List ℕ → Origin → List ℕ
-plan_note plan part (Lane n) = []
 plan_note plan part (Edge n) = part_note plan part n
-plan_note plan part (Pin net pin) = []
 plan_note plan part (Wire n) = option_map_or wire_note (slice_get plan.netlist.edges n) []
+plan_note plan part origin = []

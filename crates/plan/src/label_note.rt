@@ -1,10 +1,10 @@
 //! The notes of edges and of wires.
 
-ghost use Rattle.std.specs.Prelude.{◌≡◌, ◌&&◌, nat_le};
+ghost use Rattle.std.specs.Prelude.{◌≡◌, ◌&&◌, Some, nat_le};
 ghost use Rattle.std.specs.List.{list_all};
 ghost use Rattle.std.specs.Option.{option_copied};
 ghost use Rattle.label_grammar.specs.Answer.{judged};
-ghost use Rattle.label_grammar.specs.Label.{version_1, version_2};
+ghost use Rattle.label_grammar.specs.Label.{fixed_ends};
 ghost use Rattle.label_grammar.specs.Reading.{ends_of, label_of, span_of};
 ghost use Rattle.plan.specs.Notes.{edge_note, is_printed, is_printed_byte, label_note, note_by, printed, wire_note};
 
@@ -43,7 +43,7 @@ fn label_note(version: u32, label: &str) -> &str
 
 // The note of a label of version 1.
 fn plain_note(label: &str) -> &str
-    ensures { result.now ≡ note_by (judged version_1 (label_of ends_of label.now)) }
+    ensures { result.now ≡ note_by (judged (λ ends. Some ends) (label_of ends_of label.now)) }
 {
     match read_label(label) {
         Ok(label) => printed(label.note),
@@ -53,7 +53,7 @@ fn plain_note(label: &str) -> &str
 
 // The note of a label of version 2.
 fn graded_note(label: &str) -> &str
-    ensures { result.now ≡ note_by (judged version_2 (label_of span_of label.now)) }
+    ensures { result.now ≡ note_by (judged fixed_ends (label_of span_of label.now)) }
 {
     match read_label2(label) {
         Ok(label) => printed(label.note),

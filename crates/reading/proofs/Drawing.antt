@@ -23,8 +23,9 @@ use Rattle.reading.specs.declared.refusal.Refusal.TheVariants.{Netlist, Joins, L
 use Rattle.reading.specs.declared.stop.Stop.{Stop}
 use Rattle.reading.specs.Opening.{◌>>=◌, at, gives, Comes, ready}
 use Rattle.plan.specs.Plan.{NamedSheets, Planned}
-use Rattle.reading.specs.Design.{drawn_at, lone_at, lone_plan, netlist_at, plain_key, sheets_of_files, tree_planned, with_sheet}
+use Rattle.reading.specs.Design.{drawn_at, lone_at, netlist_at, sheets_of_files, tree_planned, with_sheet}
 use Rattle.reading.specs.Step.{Opens, stop_of}
+use Rattle.reading.specs.Step.Lone.{lone_plan, plain_key}
 use Rattle.reading.proofs.Opens.{at_ok, at_err, comes_then, opens_stop, opens_then, opens_up}
 
 module _ (told : ShelfTold) (netlist : Contents) (sheets : SheetMap) where

@@ -5,3 +5,4 @@ pub mod FileSteps
 pub mod Drawing
 pub mod WideNumbers
 pub mod Lines
+pub mod LoneSheets

@@ -21,7 +21,8 @@ use Rattle.reading.specs.declared.place.Place.TheVariants.{File}
 use Rattle.reading.specs.declared.refusal.Refusal.TheVariants.{Diagram, Sheet}
 use Rattle.reading.specs.Opening.{gives, at, each, Comes, ready, ◌>>=◌}
 use Rattle.plan.specs.Plan.{NamedSheets, sheet_among}
-use Rattle.reading.specs.Design.{grades_in, is_unread, plain_key, sheets_at, sheets_in, sheets_of_files, tree_in, with_part, with_sheet}
+use Rattle.reading.specs.Design.{grades_in, is_unread, sheets_at, sheets_in, sheets_of_files, tree_in, with_part, with_sheet}
+use Rattle.reading.specs.Step.Lone.{plain_key}
 use Rattle.reading.proofs.Opens.{gave, opening_then, each_keeps, each_brings}
 
 -- the sheet of a key is among the sheets

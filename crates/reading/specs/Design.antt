@@ -10,8 +10,7 @@ use Rattle.wavejson.specs.Drawing.{Drawing, diagram_of}
 use Rattle.grades.specs.declared.grade.Grade.{Grade}
 use Rattle.grades.specs.Grades.{grades_of}
 use Rattle.sheet.specs.Contents as sheet
-use Rattle.sheet.specs.Links.{plain}
-use Rattle.sheet.specs.Sheet.{sheet_by, sheet_of}
+use Rattle.sheet.specs.Sheet.{sheet_by}
 use Rattle.netlist.specs.declared.part.Part.{Part}
 use Rattle.netlist.specs.Contents.{Contents}
 use Rattle.netlist.specs.Netlist.{netlist_of, lone_netlist, sheet_names}
@@ -85,25 +84,11 @@ sheets_of_files netlist names = each (sheets_in netlist) 1 [] names
 
 -- ---- plans
 
--- the key of a sheet without a grade
-abbrev pub plain_key : List ℕ → SheetKey
-plain_key name = record { sheet = name; grade = None }
-
--- the sheet that a tree draws in version 1
-abbrev pub plain_sheet_at : Place → Data → Opening sheet.Contents
-plain_sheet_at place tree = do
-  drawing ← at place Diagram (diagram_of tree)
-  at place Sheet (sheet_of plain drawing)
-
--- a lone sheet as the one part of a netlist
-abbrev pub lone_plan : List ℕ → sheet.Contents → Planned
-lone_plan name sheet = record { netlist = lone_netlist name; sheets = with_sheet [] (plain_key name) sheet }
-
--- the plan of a lone sheet
+-- the plan of a lone sheet, which is the one part of a netlist
 abbrev pub lone_at : List ℕ → Data → Opening Planned
 lone_at name tree = do
-  sheet ← plain_sheet_at (File 0) tree
-  gives (lone_plan name sheet)
+  sheets ← sheets_at (lone_netlist name) 0 [] name tree
+  gives (record { netlist = lone_netlist name; sheets = sheets })
 
 -- The plan of a netlist: the sheets that it names are fetched in the order in which they are first mentioned, as files 1, 2 and so on.
 abbrev pub netlist_at : Data → Opening Planned

@@ -49,83 +49,61 @@ limit_name limit.SearchCells = codes "SearchCells"
 limit_name limit.MatrixEvents = codes "MatrixEvents"
 limit_name limit.SessionRows = codes "SessionRows"
 
-abbrev pub diagram_fault_words : DiagramFault → List Word
-diagram_fault_words diagram.NotObject = codes "NotObject" ∷ []
-diagram_fault_words diagram.NoSignal = codes "NoSignal" ∷ []
-diagram_fault_words diagram.EdgesNotList = codes "EdgesNotList" ∷ []
-diagram_fault_words (diagram.EdgeNotText n) = codes "EdgeNotText" ∷ number_text n ∷ []
-diagram_fault_words diagram.NoMemory = []
-
-abbrev pub sheet_fault_words : SheetFault → List Word
-sheet_fault_words (sheet.BadNode lane) = codes "BadNode" ∷ number_text lane ∷ []
-sheet_fault_words (sheet.DoubleMark mark) = codes "DoubleMark" ∷ (mark ∷ []) ∷ []
-sheet_fault_words (sheet.DoublePin lane) = codes "DoublePin" ∷ number_text lane ∷ []
-sheet_fault_words (sheet.BadEdge n) = codes "BadEdge" ∷ number_text n ∷ []
-sheet_fault_words (sheet.Label n fault) = codes "Label" ∷ number_text n ∷ label_fault_name fault ∷ []
-sheet_fault_words (sheet.NoMark n mark) = codes "NoMark" ∷ number_text n ∷ (mark ∷ []) ∷ []
-sheet_fault_words (sheet.TooManyCauses n) = codes "TooManyCauses" ∷ number_text n ∷ []
-sheet_fault_words sheet.NoGrade = codes "NoGrade" ∷ []
-sheet_fault_words (sheet.NoParam n) = codes "NoParam" ∷ number_text n ∷ []
-sheet_fault_words sheet.NoMemory = []
-
-abbrev pub grades_fault_words : GradesFault → List Word
-grades_fault_words grades.Grades = codes "Grades" ∷ []
-grades_fault_words (grades.Limits grade parameter fault) = codes "Limits" ∷ number_text grade ∷ number_text parameter ∷ range_fault_name fault ∷ []
-grades_fault_words grades.NoMemory = []
-
-abbrev pub netlist_fault_words : NetlistFault → List Word
-netlist_fault_words netlist.NotObject = codes "NotObject" ∷ []
-netlist_fault_words netlist.Version = codes "Version" ∷ []
-netlist_fault_words netlist.Cycles = codes "Cycles" ∷ []
-netlist_fault_words netlist.PartsNotList = codes "PartsNotList" ∷ []
-netlist_fault_words (netlist.TooManyParts count) = codes "TooManyParts" ∷ number_text count ∷ []
-netlist_fault_words (netlist.Part n) = codes "Part" ∷ number_text n ∷ []
-netlist_fault_words (netlist.DoublePart n) = codes "DoublePart" ∷ number_text n ∷ []
-netlist_fault_words (netlist.TooManySheets count) = codes "TooManySheets" ∷ number_text count ∷ []
-netlist_fault_words netlist.NetsNotList = codes "NetsNotList" ∷ []
-netlist_fault_words (netlist.Net n) = codes "Net" ∷ number_text n ∷ []
-netlist_fault_words (netlist.Delay n fault) = codes "Delay" ∷ number_text n ∷ range_fault_name fault ∷ []
-netlist_fault_words netlist.EdgesNotList = codes "EdgesNotList" ∷ []
-netlist_fault_words (netlist.Edge n) = codes "Edge" ∷ number_text n ∷ []
-netlist_fault_words (netlist.Label n fault) = codes "Label" ∷ number_text n ∷ label_fault_name fault ∷ []
-netlist_fault_words netlist.NoMemory = []
-
-abbrev pub join_fault_words : JoinFault → List Word
-join_fault_words (join.NoPart net pin) = codes "NoPart" ∷ number_text net ∷ number_text pin ∷ []
-join_fault_words (join.NoPin net pin) = codes "NoPin" ∷ number_text net ∷ number_text pin ∷ []
-join_fault_words (join.MarkCounts net pin driver other) = codes "MarkCounts" ∷ number_text net ∷ number_text pin ∷ number_text driver ∷ number_text other ∷ []
-join_fault_words (join.KindsDiffer net pin mark) = codes "KindsDiffer" ∷ number_text net ∷ number_text pin ∷ number_text mark ∷ []
-join_fault_words (join.WireNoPart wire) = codes "WireNoPart" ∷ number_text wire ∷ []
-join_fault_words (join.WireNoMark wire) = codes "WireNoMark" ∷ number_text wire ∷ []
-join_fault_words (join.TooManyCauses wire) = codes "TooManyCauses" ∷ number_text wire ∷ []
-join_fault_words join.NoMemory = []
-
-abbrev pub limit_fault_words : UnrollFault → List Word
-limit_fault_words (unroll.TooMany passed count) = codes "TooMany" ∷ limit_name passed ∷ number_text count ∷ []
-limit_fault_words unroll.NoMemory = []
-
--- the fault of a file of edits; a line is told by its number from 1
-abbrev pub edits_fault_words : EditsFault → List Word
-edits_fault_words edits.TooLong = codes "TooLong" ∷ []
-edits_fault_words (edits.TooMany count) = codes "TooMany" ∷ number_text count ∷ []
-edits_fault_words (edits.Line n) = codes "Line" ∷ number_text n ∷ []
-edits_fault_words (edits.Range n fault) = codes "Range" ∷ number_text n ∷ range_fault_name fault ∷ []
-edits_fault_words (edits.NoSuch n) = codes "NoSuch" ∷ number_text n ∷ []
-edits_fault_words edits.NoMemory = []
-
--- the words of the fault of a refusal
+-- The words of the fault of a refusal. A line of a file of edits is told by its number from 1.
 abbrev pub fault_words : Refusal → List Word
 fault_words TooLong = codes "TooLong" ∷ []
 fault_words NotJson = codes "NotJson" ∷ []
-fault_words (Diagram fault) = diagram_fault_words fault
-fault_words (Grades fault) = grades_fault_words fault
-fault_words (Sheet fault) = sheet_fault_words fault
-fault_words (Netlist fault) = netlist_fault_words fault
-fault_words (Joins fault) = join_fault_words fault
-fault_words (Limits fault) = limit_fault_words fault
+fault_words (Diagram diagram.NotObject) = codes "NotObject" ∷ []
+fault_words (Diagram diagram.NoSignal) = codes "NoSignal" ∷ []
+fault_words (Diagram diagram.EdgesNotList) = codes "EdgesNotList" ∷ []
+fault_words (Diagram (diagram.EdgeNotText n)) = codes "EdgeNotText" ∷ number_text n ∷ []
+fault_words (Diagram diagram.NoMemory) = []
+fault_words (Grades grades.Grades) = codes "Grades" ∷ []
+fault_words (Grades (grades.Limits grade parameter fault)) = codes "Limits" ∷ number_text grade ∷ number_text parameter ∷ range_fault_name fault ∷ []
+fault_words (Grades grades.NoMemory) = []
+fault_words (Sheet (sheet.BadNode lane)) = codes "BadNode" ∷ number_text lane ∷ []
+fault_words (Sheet (sheet.DoubleMark mark)) = codes "DoubleMark" ∷ (mark ∷ []) ∷ []
+fault_words (Sheet (sheet.DoublePin lane)) = codes "DoublePin" ∷ number_text lane ∷ []
+fault_words (Sheet (sheet.BadEdge n)) = codes "BadEdge" ∷ number_text n ∷ []
+fault_words (Sheet (sheet.Label n fault)) = codes "Label" ∷ number_text n ∷ label_fault_name fault ∷ []
+fault_words (Sheet (sheet.NoMark n mark)) = codes "NoMark" ∷ number_text n ∷ (mark ∷ []) ∷ []
+fault_words (Sheet (sheet.TooManyCauses n)) = codes "TooManyCauses" ∷ number_text n ∷ []
+fault_words (Sheet sheet.NoGrade) = codes "NoGrade" ∷ []
+fault_words (Sheet (sheet.NoParam n)) = codes "NoParam" ∷ number_text n ∷ []
+fault_words (Sheet sheet.NoMemory) = []
+fault_words (Netlist netlist.NotObject) = codes "NotObject" ∷ []
+fault_words (Netlist netlist.Version) = codes "Version" ∷ []
+fault_words (Netlist netlist.Cycles) = codes "Cycles" ∷ []
+fault_words (Netlist netlist.PartsNotList) = codes "PartsNotList" ∷ []
+fault_words (Netlist (netlist.TooManyParts count)) = codes "TooManyParts" ∷ number_text count ∷ []
+fault_words (Netlist (netlist.Part n)) = codes "Part" ∷ number_text n ∷ []
+fault_words (Netlist (netlist.DoublePart n)) = codes "DoublePart" ∷ number_text n ∷ []
+fault_words (Netlist (netlist.TooManySheets count)) = codes "TooManySheets" ∷ number_text count ∷ []
+fault_words (Netlist netlist.NetsNotList) = codes "NetsNotList" ∷ []
+fault_words (Netlist (netlist.Net n)) = codes "Net" ∷ number_text n ∷ []
+fault_words (Netlist (netlist.Delay n fault)) = codes "Delay" ∷ number_text n ∷ range_fault_name fault ∷ []
+fault_words (Netlist netlist.EdgesNotList) = codes "EdgesNotList" ∷ []
+fault_words (Netlist (netlist.Edge n)) = codes "Edge" ∷ number_text n ∷ []
+fault_words (Netlist (netlist.Label n fault)) = codes "Label" ∷ number_text n ∷ label_fault_name fault ∷ []
+fault_words (Netlist netlist.NoMemory) = []
+fault_words (Joins (join.NoPart net pin)) = codes "NoPart" ∷ number_text net ∷ number_text pin ∷ []
+fault_words (Joins (join.NoPin net pin)) = codes "NoPin" ∷ number_text net ∷ number_text pin ∷ []
+fault_words (Joins (join.MarkCounts net pin driver other)) = codes "MarkCounts" ∷ number_text net ∷ number_text pin ∷ number_text driver ∷ number_text other ∷ []
+fault_words (Joins (join.KindsDiffer net pin mark)) = codes "KindsDiffer" ∷ number_text net ∷ number_text pin ∷ number_text mark ∷ []
+fault_words (Joins (join.WireNoPart wire)) = codes "WireNoPart" ∷ number_text wire ∷ []
+fault_words (Joins (join.WireNoMark wire)) = codes "WireNoMark" ∷ number_text wire ∷ []
+fault_words (Joins (join.TooManyCauses wire)) = codes "TooManyCauses" ∷ number_text wire ∷ []
+fault_words (Joins join.NoMemory) = []
+fault_words (Limits (unroll.TooMany passed count)) = codes "TooMany" ∷ limit_name passed ∷ number_text count ∷ []
+fault_words (Limits unroll.NoMemory) = []
 fault_words (Mixed late early) = codes "Mixed" ∷ number_text late ∷ number_text early ∷ []
 fault_words (Wide row) = codes "Wide" ∷ number_text row ∷ []
-fault_words (Edits fault) = edits_fault_words fault
+fault_words (Edits edits.TooLong) = codes "TooLong" ∷ []
+fault_words (Edits (edits.TooMany count)) = codes "TooMany" ∷ number_text count ∷ []
+fault_words (Edits (edits.Line n)) = codes "Line" ∷ number_text n ∷ []
+fault_words (Edits (edits.Range n fault)) = codes "Range" ∷ number_text n ∷ range_fault_name fault ∷ []
+fault_words (Edits (edits.NoSuch n)) = codes "NoSuch" ∷ number_text n ∷ []
+fault_words (Edits edits.NoMemory) = []
 
 -- the line of a refusal
 unfoldable pub refusal_text : Place → Refusal → List ℕ

@@ -6,6 +6,7 @@ use Rattle.reading.specs.declared.refusal.Refusal.{Refusal}
 use Rattle.reading.specs.declared.stop.Stop.{Stop}
 use Rattle.reading.specs.declared.stop.Stop.TheVariants.{Refused, ReadFault, NoMemory}
 use Rattle.reading.specs.Opening.{Opening, ready, refused, unread, Ends}
+pub mod Lone
 pub mod Word
 
 -- What a step of a reading answers, seen by a view: the end that its reading came to, with what this leaves of the shelf. Want of

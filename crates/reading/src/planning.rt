@@ -3,8 +3,9 @@
 ghost use Rattle.std.specs.Prelude.{◌≡◌, ◌&&◌, IfOk, is_some, is_none, codes};
 ghost use Rattle.serde_json.specs.Find.{get, as_object};
 ghost use Rattle.serde_json.specs.View.{view};
-ghost use Rattle.reading.specs.Design.{lone_at, lone_plan, netlist_at, plain_key, plan_at};
+ghost use Rattle.reading.specs.Design.{lone_at, netlist_at, plan_at};
 ghost use Rattle.reading.specs.Step.{Opens, Reads};
+ghost use Rattle.reading.specs.Step.Lone.{lone_plan, plain_key};
 
 use crate::file::open_tree;
 use crate::place::Place;

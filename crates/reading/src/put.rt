@@ -6,7 +6,7 @@ ghost use Rattle.itv_base.specs.Numerals.{number_text};
 ghost use Rattle.itv_base.specs.Outside.{Puts};
 ghost use Rattle.line_words.specs.Lines.{spaced};
 ghost use Rattle.reading.specs.Place.{place_words};
-ghost use Rattle.reading.specs.Refusal.{diagram_fault_words, edits_fault_words, fault_words, grades_fault_words, join_fault_words, label_fault_name, limit_fault_words, limit_name, netlist_fault_words, range_fault_name, refusal_text, sheet_fault_words, unread_text};
+ghost use Rattle.reading.specs.Refusal.{fault_words, label_fault_name, limit_name, range_fault_name, refusal_text, unread_text};
 ghost use Rattle.reading.specs.Step.Word.{spelled};
 
 use self::Word::{Count, Number, Text};
@@ -119,7 +119,7 @@ fn put_fault<K: Sink>(why: Refusal, sink: &mut K) -> Result<(), PutFailed>
 }
 
 fn put_diagram_fault<K: Sink>(fault: DiagramFault, sink: &mut K) -> Result<(), PutFailed>
-    ensures { Puts (K.told sink.old) (K.told sink.new) (flat_map spaced (diagram_fault_words fault)) result }
+    ensures { Puts (K.told sink.old) (K.told sink.new) (flat_map spaced (fault_words (Refusal.Diagram fault))) result }
 {
     match fault {
         DiagramFault::NotObject => put_words(&[Text(b"NotObject")], sink),
@@ -131,7 +131,7 @@ fn put_diagram_fault<K: Sink>(fault: DiagramFault, sink: &mut K) -> Result<(), P
 }
 
 fn put_sheet_fault<K: Sink>(fault: SheetFault, sink: &mut K) -> Result<(), PutFailed>
-    ensures { Puts (K.told sink.old) (K.told sink.new) (flat_map spaced (sheet_fault_words fault)) result }
+    ensures { Puts (K.told sink.old) (K.told sink.new) (flat_map spaced (fault_words (Refusal.Sheet fault))) result }
 {
     match fault {
         SheetFault::BadNode(lane) => put_words(&[Text(b"BadNode"), Number(lane)], sink),
@@ -154,7 +154,7 @@ fn put_sheet_fault<K: Sink>(fault: SheetFault, sink: &mut K) -> Result<(), PutFa
 }
 
 fn put_grades_fault<K: Sink>(fault: GradesFault, sink: &mut K) -> Result<(), PutFailed>
-    ensures { Puts (K.told sink.old) (K.told sink.new) (flat_map spaced (grades_fault_words fault)) result }
+    ensures { Puts (K.told sink.old) (K.told sink.new) (flat_map spaced (fault_words (Refusal.Grades fault))) result }
 {
     match fault {
         GradesFault::Grades => put_words(&[Text(b"Grades")], sink),
@@ -172,7 +172,7 @@ fn put_grades_fault<K: Sink>(fault: GradesFault, sink: &mut K) -> Result<(), Put
 }
 
 fn put_netlist_fault<K: Sink>(fault: NetlistFault, sink: &mut K) -> Result<(), PutFailed>
-    ensures { Puts (K.told sink.old) (K.told sink.new) (flat_map spaced (netlist_fault_words fault)) result }
+    ensures { Puts (K.told sink.old) (K.told sink.new) (flat_map spaced (fault_words (Refusal.Netlist fault))) result }
 {
     match fault {
         NetlistFault::NotObject => put_words(&[Text(b"NotObject")], sink),
@@ -206,7 +206,7 @@ fn put_netlist_fault<K: Sink>(fault: NetlistFault, sink: &mut K) -> Result<(), P
 }
 
 fn put_join_fault<K: Sink>(fault: JoinFault, sink: &mut K) -> Result<(), PutFailed>
-    ensures { Puts (K.told sink.old) (K.told sink.new) (flat_map spaced (join_fault_words fault)) result }
+    ensures { Puts (K.told sink.old) (K.told sink.new) (flat_map spaced (fault_words (Refusal.Joins fault))) result }
 {
     match fault {
         JoinFault::NoPart(net, pin) => put_words(
@@ -241,7 +241,7 @@ fn put_join_fault<K: Sink>(fault: JoinFault, sink: &mut K) -> Result<(), PutFail
 }
 
 fn put_limit_fault<K: Sink>(fault: UnrollFault, sink: &mut K) -> Result<(), PutFailed>
-    ensures { Puts (K.told sink.old) (K.told sink.new) (flat_map spaced (limit_fault_words fault)) result }
+    ensures { Puts (K.told sink.old) (K.told sink.new) (flat_map spaced (fault_words (Refusal.Limits fault))) result }
 {
     match fault {
         UnrollFault::TooMany { limit, count } => put_words(
@@ -253,7 +253,7 @@ fn put_limit_fault<K: Sink>(fault: UnrollFault, sink: &mut K) -> Result<(), PutF
 }
 
 fn put_edits_fault<K: Sink>(fault: EditsFault, sink: &mut K) -> Result<(), PutFailed>
-    ensures { Puts (K.told sink.old) (K.told sink.new) (flat_map spaced (edits_fault_words fault)) result }
+    ensures { Puts (K.told sink.old) (K.told sink.new) (flat_map spaced (fault_words (Refusal.Edits fault))) result }
 {
     match fault {
         EditsFault::TooLong => put_words(&[Text(b"TooLong")], sink),

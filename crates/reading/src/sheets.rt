@@ -8,9 +8,10 @@ ghost use Rattle.itv_base.specs.Reading.{Gives};
 ghost use Rattle.sheet.specs.Fault.{is_memory};
 ghost use Rattle.sheet.specs.Sheet.{sheet_by};
 ghost use Rattle.netlist.specs.Netlist.{sheet_names};
-ghost use Rattle.reading.specs.Design.{grades_in, plain_sheet_at, sheets_at, sheets_in, sheets_of_files, with_part, with_sheet};
+ghost use Rattle.reading.specs.Design.{grades_in, sheets_at, sheets_in, sheets_of_files, with_part, with_sheet};
 ghost use Rattle.reading.specs.Opening.{at, each};
 ghost use Rattle.reading.specs.Step.{Opens, Reads};
+ghost use Rattle.reading.specs.Step.Lone.{plain_sheet_at};
 ghost use Rattle.reading.specs.declared.refusal.Refusal.TheVariants as refusals;
 
 use crate::file::open_tree;

@@ -5,7 +5,7 @@ use Rattle.itv_base.specs.Names.{Name}
 use Rattle.itv_base.specs.Range.{Ends}
 use Rattle.label_grammar.specs.declared.label.Kind.{Kind}
 use Rattle.label_grammar.specs.declared.label.Kind.TheVariants.{Lin, Req}
-use Rattle.label_grammar.specs.Label.{LooseLabel, spelling, version_1}
+use Rattle.label_grammar.specs.Label.{LooseLabel, ends_text, spelled}
 use Rattle.itv_base.specs.declared.row_kind.RowKind.{RowKind}
 use Rattle.itv_base.specs.declared.row_kind.RowKind.TheVariants as asked
 use Rattle.slack_report.specs.Text.{name_word}
@@ -84,7 +84,7 @@ range_label kind ends = record { kind = kind; shift = 0; tag = None; ends = Some
 
 -- an edge from a mark to a mark
 abbrev pub edge_text : ℕ → ℕ → LooseLabel Ends → List ℕ
-edge_text from to label = from ∷ (codes "->" ++ (to ∷ (codes " " ++ spelling version_1 label)))
+edge_text from to label = from ∷ (codes "->" ++ (to ∷ (codes " " ++ spelled ends_text label)))
 
 abbrev pub exactly : ℤ → Ends
 exactly distance = record { low = Some distance; high = Some distance }

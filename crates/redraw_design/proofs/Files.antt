@@ -3,6 +3,7 @@ use Rattle.std.proofs.Common.{◌≡◌, ◌≤◌, ◌<◌, ◌+◌, ℕ, List,
 use Rattle.std.specs.Option.{option_map_or}
 use Rattle.std.specs.Str.{is_utf8}
 use Rattle.std.proofs.lemmas.List.{take_all}
+use Rattle.std.proofs.lemmas.Slice.Eq.{bytes_eq-Decides}
 use Rattle.serde_json.specs.Data.{Data}
 use Rattle.serde_json.specs.Read.{read}
 use Rattle.itv_base.specs.Names.{Name}
@@ -14,7 +15,8 @@ use Rattle.compose.proofs.Keys.{same_key_itself}
 use Rattle.netlist.specs.Netlist.{lone_netlist}
 use Rattle.drawn.specs.Drawn.{Drawn}
 use Rattle.unroll.specs.Drawn.{drawn_of}
-use Rattle.reading.specs.Design.{design_at, drawn_at, plain_key, tree_at, tree_planned, with_sheet}
+use Rattle.reading.specs.Design.{design_at, drawn_at, tree_at, tree_planned, with_sheet}
+use Rattle.reading.specs.Step.Lone.{plain_key}
 use Rattle.reading.specs.declared.place.Place.TheVariants.{File}
 use Rattle.reading.specs.Opening.{Opening, gives, ◌>>=◌, ready, told_end, unread, within_limit}
 use Rattle.redraw.specs.declared.stand.Stand.{Stand}
@@ -41,7 +43,7 @@ pub tree_gives : (name : EventId → Name) (from to : EventId) (ends : Ends) (ss
     → Every (λ (lane : Lane). 0 < length lane.name) (sketch_of name from to ends ss).lanes
     → tree_drawn file (sketch_tree (sketch_of name from to ends ss)) ≡ gives (drawn_of (design_drawn (sheet_drawn name from to ends ss)))
 tree_gives name from to ends ss file h long =
-    rw (diagram_is (sketch_of name from to ends ss) long, sheet_is name from to ends ss h) (sheet_gives name from to ends ss file h)
+    rw ((bytes_eq-Decides file file).1 refl, diagram_is (sketch_of name from to ends ss) long, sheet_is name from to ends ss h) (sheet_gives name from to ends ss file h)
 
 -- ---- the file
 

@@ -1,6 +1,6 @@
 -- Every sheet that is read is whole.
 use Rattle.std.proofs.Common.{◌≡◌, ℕ, ◌+◌, ◌-◌, ◌<◌, ◌≤◌, ◌≢◌, Bool, true, false, cond, nat_eq, ◌==◌, List, [], ◌∷◌, ◌++◌, length, map, ltb, take, All, Option, Some, None, IfSome, position, Result, Ok, Err, IfOk, refl, sym, ◌∙◌, ap, append_assoc, append-nil, length-append, unwrap_or, arith}
-use Rattle.std.specs.Prelude.{ok_or, option_map}
+use Rattle.std.specs.Prelude.{ok_or, option_and_then, option_map}
 use Rattle.std.specs.Str.{bytes_eq}
 use Rattle.std.proofs.lemmas.Int.{ints}
 use Rattle.std.specs.Cmp.{IsEquivalence}
@@ -41,7 +41,7 @@ use Rattle.label_grammar.specs.Label.{IsProper}
 use Rattle.label_grammar.proofs.Pieces.{ends_invert, spans_invert}
 use Rattle.label_grammar.proofs.Proper.{judged_is_proper, proper_range, proper_span}
 use Rattle.sheet.specs.Lanes.{Numbered, first_repeated, follows_rule, has_bad_node, lane_marks, lane_order, order_named, mark_at, marks_of, node_of, numbered, numbered_from, order_of, order_rules, pin_named, pin_of, pins_of}
-use Rattle.sheet.specs.Links.{Labels, plain, graded, told, param_range, span_ends, resolved, label_in, Link, group_rule, is_full, joins, labelled, link_of, link_rows, link_rules, link_to, links_of, number_of, open_ends, row_by, rule_opened, seen_link, source_of, is_cause, with_edge, with_link}
+use Rattle.sheet.specs.Links.{Labels, plain, graded, told, span_ends, resolved, label_in, Link, group_rule, is_full, joins, labelled, link_of, link_rows, link_rules, link_to, links_of, number_of, open_ends, row_by, rule_opened, seen_link, source_of, is_cause, with_edge, with_link}
 use Rattle.sheet.specs.Sheet.{grade_named, read_marks, read_pins, sheet_at, sheet_by, sheet_of}
 use Rattle.sheet.specs.Whole.{AreWholeLabels, IsWhole, IsWholeRow, IsWholeRule, IsWholeSource}
 use Rattle.itv_base.proofs.Faults.{IfOk-bind, IfOk-unless, IfOk-walk}
@@ -152,7 +152,7 @@ told_whole P n (Ok label) whole = whole
 told_whole P n (Err fault) whole = tt
 
 -- what a grade gives for the name of a parameter is a range
-param_whole : (n : ℕ) (grade : Option Grade) (name : List ℕ) → IfSome grade HasRanges → IfOk (param_range n grade name) IsRange
+param_whole : (n : ℕ) (grade : Option Grade) (name : List ℕ) → IfSome grade HasRanges → IfOk (ok_or (option_and_then (λ g. range_in g name) grade) (NoParam n)) IsRange
 param_whole n None name whole = tt
 param_whole n (Some grade) name whole = found (range_in grade name) (range_in_whole grade name whole)
   where
@@ -165,7 +165,7 @@ span_whole : (n : ℕ) (grade : Option Grade) (span : Option Span) → IfSome gr
 span_whole n grade None whole proper = tt
 span_whole n grade (Some (fixed ends)) whole proper = proper
 span_whole n grade (Some (named name)) whole proper =
-    IfOk-bind IsRange (λ ends. IfSome ends IsRange) (param_range n grade name) _ (param_whole n grade name whole) (λ range is. is)
+    IfOk-bind IsRange (λ ends. IfSome ends IsRange) (ok_or (option_and_then (λ g. range_in g name) grade) (NoParam n)) _ (param_whole n grade name whole) (λ range is. is)
 
 resolved_whole : (n : ℕ) (grade : Option Grade) (label : LooseLabel Span) → IfSome grade HasRanges → IsProper version_2 label → IfOk (resolved n grade label) IsWholeLabel
 resolved_whole n grade label whole proper =
@@ -175,14 +175,14 @@ resolved_whole n grade label whole proper =
 -- what is read of a label is whole
 label_whole : (labels : Labels) → AreWholeLabels labels → (n : ℕ) (text : List ℕ) → IfOk (label_in labels n text) IsWholeLabel
 label_whole plain whole n text =
-    told_whole IsWholeLabel n (judged version_1 (label_of ends_of text)) (plain_whole (judged version_1 (label_of ends_of text)) (judged_is_proper version_1 ends_of ends_invert text))
+    told_whole IsWholeLabel n (judged (λ ends. Some ends) (label_of ends_of text)) (plain_whole (judged (λ ends. Some ends) (label_of ends_of text)) (judged_is_proper version_1 ends_of ends_invert text))
   where
     plain_whole : (label : Result (LooseLabel Ends) LabelFault) → IfOk label (IsProper version_1) → IfOk label IsWholeLabel
     plain_whole (Err fault) proper = tt
     plain_whole (Ok label) proper = record { shift = proper.loose.shift; range = range_whole label.ends (proper_range label proper) }
 label_whole (graded grade) whole n text =
-    IfOk-bind (IsProper version_2) IsWholeLabel (told n (judged version_2 (label_of span_of text))) _
-    (told_whole (IsProper version_2) n (judged version_2 (label_of span_of text)) (judged_is_proper version_2 span_of spans_invert text)) (λ label proper. resolved_whole n grade label whole proper)
+    IfOk-bind (IsProper version_2) IsWholeLabel (told n (judged fixed_ends (label_of span_of text))) _
+    (told_whole (IsProper version_2) n (judged fixed_ends (label_of span_of text)) (judged_is_proper version_2 span_of spans_invert text)) (λ label proper. resolved_whole n grade label whole proper)
 
 -- ---- edges
 

@@ -88,9 +88,8 @@ order_of origin first count =
 
 -- a lane with a name and a wave is in order, and draws the rules of that
 abbrev pub order_named : Numbered → Option (List ℕ) → Option (List ℕ) → List SheetRule
-order_named l None wave = []
-order_named l (Some name) None = []
 order_named l (Some name) (Some wave) = order_of (Lane l.number) l.first l.count
+order_named l name wave = []
 
 abbrev pub lane_order : Numbered → List SheetRule
 lane_order l = order_named l l.lane.name l.lane.wave

@@ -9,7 +9,7 @@ use Rattle.itv_base.specs.declared.names.RuleKind.TheVariants as rules
 use Rattle.label_grammar.specs.declared.label.Kind.{Kind}
 use Rattle.label_grammar.specs.declared.label.Kind.TheVariants.{Lin, Late, Early, Req, Ask}
 use Rattle.label_grammar.specs.declared.label.LabelFault.{LabelFault}
-use Rattle.label_grammar.specs.Label.{LooseLabel, Span, fixed, named, version_1, version_2}
+use Rattle.label_grammar.specs.Label.{LooseLabel, Span, fixed, named, fixed_ends}
 use Rattle.label_grammar.specs.Reading.{ends_of, span_of, label_of}
 use Rattle.label_grammar.specs.Answer.{judged}
 use Rattle.label_grammar.specs.Edge.{EdgeSeen, comment, timing, malformed, edge_of}
@@ -38,17 +38,11 @@ abbrev pub told : {E : Type 0} → ℕ → Result (LooseLabel E) LabelFault → 
 told n (Ok label) = Ok label
 told n (Err fault) = Err (Label n fault)
 
--- the range that the grade gives for the parameter that edge n names
-abbrev pub param_range : ℕ → Option Grade → List ℕ → Result Ends SheetFault
-param_range n grade name = ok_or (option_and_then (λ g. range_in g name) grade) (NoParam n)
-
--- the ends of a span of edge n
+-- the ends of a span of edge n; those of a parameter are the range that the grade gives for it
 abbrev pub span_ends : ℕ → Option Grade → Option Span → Result (Option Ends) SheetFault
 span_ends n grade None = Ok None
 span_ends n grade (Some (fixed ends)) = Ok (Some ends)
-span_ends n grade (Some (named name)) = do
-  range ← param_range n grade name
-  Ok (Some range)
+span_ends n grade (Some (named name)) = ok_or (option_and_then (λ g. range_in g name) grade) (NoParam n) >>= λ range. Ok (Some range)
 
 -- the label of edge n with its ends
 abbrev pub resolved : ℕ → Option Grade → LooseLabel Span → Result (LooseLabel Ends) SheetFault
@@ -58,8 +52,8 @@ resolved n grade label = do
 
 -- what the label of edge n says
 abbrev pub label_in : Labels → ℕ → List ℕ → Result (LooseLabel Ends) SheetFault
-label_in plain n text = told n (judged version_1 (label_of ends_of text))
-label_in (graded grade) n text = told n (judged version_2 (label_of span_of text)) >>= resolved n grade
+label_in plain n text = told n (judged (λ ends. Some ends) (label_of ends_of text))
+label_in (graded grade) n text = told n (judged fixed_ends (label_of span_of text)) >>= resolved n grade
 
 -- ---- one edge
 
@@ -129,9 +123,7 @@ with_link n done (Some link) = if is_full done link then Err (TooManyCauses n) e
 
 -- the links with the text of edge n read behind them
 abbrev pub with_edge : Labels → List Mark → ℕ → List Link → List ℕ → Result (List Link) SheetFault
-with_edge labels marks n done text = do
-  link ← link_of labels marks n text
-  with_link n done link
+with_edge labels marks n done text = link_of labels marks n text >>= with_link n done
 
 -- the links of all edges
 abbrev pub links_of : Labels → List Mark → List (List ℕ) → Result (List Link) SheetFault
@@ -154,18 +146,15 @@ abbrev pub rule_opened : List Link → List Link → Link → Kind → Option Sh
 rule_opened links before link Lin = Some (record { kind = rules.Lin; target = link.to; causes = source_of link ∷ [] })
 rule_opened links before link Late = if list_any (joins link) before then None else Some (group_rule rules.Late links link)
 rule_opened links before link Early = if list_any (joins link) before then None else Some (group_rule rules.Early links link)
-rule_opened links before link Req = None
-rule_opened links before link Ask = None
+rule_opened links before link kind = None
 
 abbrev pub link_rules : List Link → List SheetRule
 link_rules links = filter_map (λ at. rule_opened links (take at.0 links) at.1 at.1.label.kind) (enumerate_from 0 links)
 
 abbrev pub row_by : Link → Kind → Option SheetRow
-row_by link Lin = None
-row_by link Late = None
-row_by link Early = None
 row_by link Req = Some (record { kind = asked.Req (unwrap_or link.label.ends open_ends); from = link.from; to = link.to; shift = link.label.shift; origin = link.origin })
 row_by link Ask = Some (record { kind = asked.Ask; from = link.from; to = link.to; shift = link.label.shift; origin = link.origin })
+row_by link kind = None
 
 -- a row for each link that asks for a separation or demands a range of it
 abbrev pub link_rows : List Link → List SheetRow

@@ -30,14 +30,7 @@ sheet_of labels drawing = do
   marks ← read_marks drawing.lanes
   pins ← read_pins drawing.lanes
   links ← links_of labels marks drawing.edges
-  Ok (record {
-    marks = marks;
-    pins = pins;
-    rules = order_rules drawing.lanes ++ link_rules links;
-    rows = link_rows links;
-    edges = drawing.edges;
-    near = drawing.near;
-  })
+  Ok (record { marks = marks; pins = pins; rules = order_rules drawing.lanes ++ link_rules links; rows = link_rows links; edges = drawing.edges; near = drawing.near })
 
 -- the grade of a name, if one is named
 abbrev pub grade_named : List Grade → Option (List ℕ) → Result (Option Grade) SheetFault
@@ -46,9 +39,7 @@ grade_named grades (Some name) = ok_or (option_map (λ grade. Some grade) (grade
 
 -- The sheet of a drawing at a grade or at none, where its labels are those of version 2. A grade that is not there is told first.
 unfoldable pub sheet_at : List Grade → Option (List ℕ) → Drawing → Result Contents SheetFault
-sheet_at grades name drawing = do
-  grade ← grade_named grades name
-  sheet_of (graded grade) drawing
+sheet_at grades name drawing = grade_named grades name >>= λ grade. sheet_of (graded grade) drawing
 
 -- the sheet of a drawing in version 1, where there are no grades, and in version 2 at a grade of these or at none
 abbrev pub sheet_by : Option (List Grade) → Option (List ℕ) → Drawing → Result Contents SheetFault

@@ -17,21 +17,14 @@ unless_empty (byte ∷ bytes) = Some (byte ∷ bytes)
 
 -- the lane of an object; what is no string counts as absent, and an empty name too
 abbrev pub lane_of : Data → LaneText
-lane_of d = record {
-  name = option_and_then unless_empty (text_at (codes "name") d);
-  wave = text_at (codes "wave") d;
-  node = text_at (codes "node") d;
-}
+lane_of d = record { name = option_and_then unless_empty (text_at (codes "name") d); wave = text_at (codes "wave") d; node = text_at (codes "node") d }
 
 -- The lanes of an element of `signal`: an object is a lane, an array is a group of elements, and all else is passed over.
 abbrev mutual
   pub lanes_at : Data → List LaneText
-  lanes_at null = []
-  lanes_at (boolean b) = []
-  lanes_at (number n) = []
-  lanes_at (string s) = []
   lanes_at (array group) = lanes_in group
   lanes_at (object members) = lane_of (object members) ∷ []
+  lanes_at d = []
 
   -- the lanes of the elements, in order
   pub lanes_in : Items → List LaneText
