@@ -12,8 +12,8 @@ use Rattle.event_graph.specs.Network.{IsNet, Net}
 use Rattle.event_graph.specs.Satisfying.{Satisfies}
 use Rattle.event_graph.specs.Times.{raised, separation, shifted, time_of}
 use Rattle.event_graph.proofs.Shifting.{shift_keeps_satisfying}
-use Rattle.fall_report.specs.Step.{IsNear}
 use Rattle.fall_report.specs.View.{moved}
+use Rattle.falling.specs.Cap.{IsNearValue}
 
 -- ---- times that are moved
 
@@ -84,23 +84,23 @@ moved_all origin times out i are done =
 
 -- ---- as the code reads and stores them
 
-fits_near : (time : ℤ) → IsNear time → FitsSigned w64 time
+fits_near : (time : ℤ) → IsNearValue time → FitsSigned w64 time
 fits_near (pos n) near = record { sfits = omega (arith, ints, near.0, near.1) }
 fits_near (negsuc n) near = record { sfits = omega (arith, ints, near.0, near.1) }
 
-read_near : (time : ℤ) → IsNear time → to_z w64 (of_z w64 time) ≡ time
+read_near : (time : ℤ) → IsNearValue time → to_z w64 (of_z w64 time) ≡ time
 read_near time near = to_z-of_z w64 time (fits_near time near)
 
 -- the next time is moved, which is there and near as they all are
-pub moved_next : (origin : EventId) (times out : List ℤ) (i : ℕ) (at value : ℤ) → AreMoved origin times i out → i < length times → origin.0 < length times → All IsNear times
+pub moved_next : (origin : EventId) (times out : List ℤ) (i : ℕ) (at value : ℤ) → AreMoved origin times i out → i < length times → origin.0 < length times → All IsNearValue times
     → at ≡ time_of times origin → FitsSigned w64 value → value ≡ to_z w64 (of_z w64 (get_or times i (pos 0))) -ℤ to_z w64 (of_z w64 at)
     → AreMoved origin times (i + 1) (set out i (to_z w64 (of_z w64 value)))
 moved_next origin times out i at value are within in_origin near at_is fits is =
     let here : to_z w64 (of_z w64 (get_or times i (pos 0))) ≡ get_or times i (pos 0) = read_near (get_or times i (pos 0)) (near i (pos 0) within) in
-    let origin_at : to_z w64 (of_z w64 at) ≡ time_of times origin = read_near at (subst IsNear (sym at_is) (near origin.0 (pos 0) in_origin)) ∙ at_is in
+    let origin_at : to_z w64 (of_z w64 at) ≡ time_of times origin = read_near at (subst IsNearValue (sym at_is) (near origin.0 (pos 0) in_origin)) ∙ at_is in
     subst (λ (stored : ℤ). AreMoved origin times (i + 1) (set out i stored)) (sym (to_z-of_z w64 value fits))
     (moved_more origin times out i value are within (is ∙ ap (λ z. z -ℤ to_z w64 (of_z w64 at)) here ∙ ap (λ z. get_or times i (pos 0) -ℤ z) origin_at))
 
 -- a near value is stored as it is
-pub near_stored : (value : ℤ) → IsNear value → IsNear (to_z w64 (of_z w64 value))
-near_stored value near = subst IsNear (sym (read_near value near)) near
+pub near_stored : (value : ℤ) → IsNearValue value → IsNearValue (to_z w64 (of_z w64 value))
+near_stored value near = subst IsNearValue (sym (read_near value near)) near

@@ -17,7 +17,6 @@ use Rattle.falling.specs.Course.{AreLimits}
 use Rattle.falling.specs.Derivation.{IsDerivation, starting_values}
 use Rattle.falling.specs.Kinds.{negated, negated_times}
 use Rattle.falling.specs.Solving.{AnswersAs, IsDerivationAs, IsNegationOf, asked_of}
-use Rattle.falling.specs.Turns.{IsNearValue}
 use Rattle.falling.proofs.Bounding.{length-starting}
 use Rattle.falling.proofs.Negating.{all_map, length-mapped, negated_twice, satisfies_turns, time_of-negated}
 use Rattle.falling.proofs.NegatedNets.{HasTimes, limits_negated, satisfying_near}
@@ -33,6 +32,7 @@ use Rattle.fall_report.specs.Shows.{CanRise, IsBound, IsExtreme, IsFinding, firs
 use Rattle.fall_report.specs.Step.{BeginsFrom, HasFound, ShowsFinding, found_by, told_bound, told_finding}
 use Rattle.fall_report.specs.Text.{consistent}
 use Rattle.falling.specs.View.{IsViewOf}
+use Rattle.falling.specs.Cap.{IsNearValue}
 use Rattle.fall_report.specs.View.{moved, seen, source, target, times_seen}
 use Rattle.fall_report.proofs.Moving.{ray-moved, satisfies-moved, separation-moved, zero-moved}
 use Rattle.fall_report.proofs.Negation.{is_net_negated}

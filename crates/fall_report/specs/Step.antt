@@ -1,5 +1,5 @@
 -- What the steps of job fall promise one another.
-use Rattle.std.specs.Prelude.{◌≡◌, ◌≤◌, ◌||◌, ◌+◌, ℕ, ℤ, pos, neg_ℤ, ◌≤ℤ◌, Bool, false, true, if◌then◌else◌, List, ◌++◌, length, Result, Ok, Err}
+use Rattle.std.specs.Prelude.{◌≡◌, ◌≤◌, ◌||◌, ◌+◌, ℕ, ℤ, Bool, false, true, if◌then◌else◌, List, ◌++◌, length, Result, Ok, Err}
 use Rattle.std.specs.List.{concat}
 use Rattle.itv_base.specs.declared.names.EventId.{EventId}
 use Rattle.itv_base.specs.Outside.{CutShort, SinkTold, grown}
@@ -8,7 +8,7 @@ use Rattle.event_graph.specs.Satisfying.{Satisfies}
 use Rattle.falling.specs.declared.answer.Fallen.{Fallen}
 use Rattle.falling.specs.declared.answer.Fallen.TheVariants as fallen
 use Rattle.falling.specs.declared.line.FallLine.{FallLine}
-use Rattle.falling.specs.Cap.{cap_limit}
+use Rattle.falling.specs.Cap.{IsNearValue}
 use Rattle.falling.specs.Derivation.{IsDerivation}
 use Rattle.falling.specs.Solving.{AnswersAs, IsMadeFor, Solving, asked_of}
 use Rattle.fall_report.specs.FallText.{fall_text}
@@ -36,10 +36,6 @@ SinkGrew old lines new = new ≡ grown old (fall_text lines)
 -- it grew by a front of their texts, and its count of faults rose
 abbrev pub SinkWasCut : SinkTold → List FallLine → SinkTold → Type 0
 SinkWasCut old lines new = CutShort old new (fall_text lines)
-
--- a time is within the greatest cap in absolute value, so that another can be taken from it
-abbrev pub IsNear : ℤ → Type 0
-IsNear time = (neg_ℤ (pos cap_limit) ≤ℤ time) × (time ≤ℤ pos cap_limit)
 
 -- the memory is made for a network
 pub record IsSet (net : Net) (desk : Desk) : Type 0 where

@@ -2,8 +2,8 @@
 
 ghost use Rattle.std.specs.Prelude.{◌≡◌, ◌<◌, ◌-ℤ◌, All, length};
 ghost use Rattle.event_graph.specs.Times.{time_of};
-ghost use Rattle.fall_report.specs.Step.{IsNear};
 ghost use Rattle.fall_report.specs.View.{moved};
+ghost use Rattle.falling.specs.Cap.{IsNearValue};
 
 use itv_base::EventId;
 
@@ -11,7 +11,7 @@ use itv_base::EventId;
 pub fn take_moved(out: &mut [i64], times: &[i64], origin: EventId)
     requires count { length out.old ≡ length times.now }
     requires event { origin.0 < length times.now }
-    requires near { All IsNear times.now }
+    requires near { All IsNearValue times.now }
     ensures taken { out.new ≡ moved origin times.now }
 {
     let at = time_of(times, origin);
@@ -30,8 +30,8 @@ fn time_of(times: &[i64], event: EventId) -> i64
 
 // How long a time is after an origin.
 fn since(origin: i64, time: i64) -> i64
-    requires origin { IsNear origin }
-    requires time { IsNear time }
+    requires origin { IsNearValue origin }
+    requires time { IsNearValue time }
     ensures { result ≡ time -ℤ origin }
 {
     time - origin

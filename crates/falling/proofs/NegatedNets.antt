@@ -14,13 +14,13 @@ use Rattle.falling.specs.declared.answer.Fallen.{Fallen}
 use Rattle.falling.specs.declared.answer.Fallen.TheVariants.{Closed, Inconsistent, Spent, Unbounded}
 use Rattle.falling.specs.declared.line.FallLine.{FallLine}
 use Rattle.falling.specs.declared.limits.Limits.{Limits}
-use Rattle.falling.specs.Cap.{cap, cap_limit, end_size, widest_end, widest_of, widest_of_causes}
+use Rattle.falling.specs.Cap.{IsNearValue, cap, cap_limit, end_size, widest_end, widest_of, widest_of_causes}
 use Rattle.falling.specs.Course.{AreLimits}
 use Rattle.falling.specs.Derivation.{IsDerivation}
 use Rattle.falling.specs.Fallen.{Answers, IsClosedAt, IsShownInconsistent, IsShownUnbounded}
-use Rattle.falling.specs.Kinds.{IsNegatable, IsPlain, negated, negated_cause, negated_constraint, negated_times}
+use Rattle.falling.specs.Kinds.{IsPlain, negated, negated_cause, negated_constraint, negated_times}
+use Rattle.falling.specs.Step.Kinds.{IsNegatable}
 use Rattle.falling.specs.Solving.{AnswersByNegation, IsClosedByNegation, IsInconsistentByNegation, IsUnboundedByNegation}
-use Rattle.falling.specs.Turns.{IsNearValue}
 use Rattle.falling.proofs.Bounding.{ended_is_inconsistent}
 use Rattle.falling.proofs.Choosing.{first_choice-negated}
 use Rattle.falling.proofs.Deriving.{derived_most, near_values}

@@ -5,12 +5,12 @@ ghost use Rattle.itv_base.specs.Outside.{Rose};
 ghost use Rattle.event_graph.specs.Network.{Net};
 ghost use Rattle.falling.specs.declared.line.FallLine.{FallLine};
 ghost use Rattle.falling.specs.Agenda.{IsAgendaFor};
-ghost use Rattle.falling.specs.Cap.{enough_limit, enough_turns};
+ghost use Rattle.falling.specs.Cap.{IsNearValue, enough_limit, enough_turns};
 ghost use Rattle.falling.specs.Course.{AreLimits};
 ghost use Rattle.falling.specs.Derivation.{IsDerivation};
-ghost use Rattle.falling.specs.Kinds.{IsNegatable, negated, negated_times};
+ghost use Rattle.falling.specs.Kinds.{negated, negated_times};
+ghost use Rattle.falling.specs.Step.Kinds.{IsNegatable};
 ghost use Rattle.falling.specs.Solving.{AnswersAs, AnswersByNegation, IsDerivationAs, IsMadeFor, IsNegationOf, asked_of, solved};
-ghost use Rattle.falling.specs.Turns.{IsNearValue};
 ghost use Rattle.falling.specs.View.{IsViewOf};
 
 use crate::agenda::Agenda;

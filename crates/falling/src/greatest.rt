@@ -7,11 +7,12 @@ ghost use Rattle.event_graph.specs.Times.{time_of};
 ghost use Rattle.falling.specs.declared.answer.Fallen.TheVariants.{Closed};
 ghost use Rattle.falling.specs.declared.line.FallLine.{FallLine};
 ghost use Rattle.falling.specs.Agenda.{IsAgendaFor};
-ghost use Rattle.falling.specs.Course.{AreLimits, HasSettled};
+ghost use Rattle.falling.specs.Course.{AreLimits};
+ghost use Rattle.falling.specs.Step.Course.{HasSettled};
 ghost use Rattle.falling.specs.Derivation.{IsDerivation};
 ghost use Rattle.falling.specs.Fallen.{Answers};
 ghost use Rattle.falling.specs.Kinds.{IsPlain};
-ghost use Rattle.falling.specs.Rays.{HaveAbove};
+ghost use Rattle.falling.specs.Step.Rays.{HaveAbove};
 
 use crate::answer::{Fallen, Told};
 use crate::asked::Asked;

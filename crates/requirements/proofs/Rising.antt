@@ -10,7 +10,8 @@ use Rattle.std.proofs.lemmas.Option.{slice_get_within}
 use Rattle.itv_base.specs.declared.names.EventId.{EventId}
 use Rattle.event_graph.specs.Times.{IsTime, raised, separation}
 use Rattle.event_graph.proofs.Rays.{separation-raised}
-use Rattle.requirements.specs.Raising.{RaisesPast, not_negative, rise_past}
+use Rattle.requirements.specs.Raising.{RaisesPast}
+use Rattle.requirements.specs.Step.Raising.{not_negative, rise_past}
 
 -- an event behind those that were looked at has its time yet
 pub time_yet : (set : List Bool) (by : ℕ) (times : List ℤ) (i : ℕ) (d : ℤ) → get_or (raised (take i set) by times) i d ≡ get_or times i d

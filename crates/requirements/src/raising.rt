@@ -2,7 +2,8 @@
 
 ghost use Rattle.std.specs.Prelude.{◌≡◌, ◌<◌, ◌+◌, ◌^◌, pos, ◌+ℤ◌, ◌-ℤ◌, ◌<ℤ◌, ◌≤ℤ◌, neg_ℤ, true, false, length, All, Some, slice_get};
 ghost use Rattle.event_graph.specs.Times.{IsTime, raised, time_of};
-ghost use Rattle.requirements.specs.Raising.{RaisesPast, not_negative, rise_past};
+ghost use Rattle.requirements.specs.Raising.{RaisesPast};
+ghost use Rattle.requirements.specs.Step.Raising.{not_negative, rise_past};
 
 use itv_base::EventId;
 

@@ -14,8 +14,8 @@ use Rattle.event_graph.specs.Satisfying.{Satisfies}
 use Rattle.event_graph.specs.Times.{IsTime, raised, separation, shifted, time_of}
 use Rattle.event_graph.proofs.Shifting.{shift_keeps_satisfying}
 use Rattle.falling.proofs.Negating.{all_map}
+use Rattle.falling.specs.Cap.{IsNearValue}
 use Rattle.requirements.proofs.Rising.{read_time}
-use Rattle.settle.specs.Racing.{IsNear}
 use Rattle.settle_report.specs.Step.{IsNearby, moved}
 
 -- ---- moving one time after another
@@ -100,16 +100,16 @@ ray-moved net origin from to times set is_net ray = record {
 
 -- ---- how large they are
 
-near_time : (time : ℤ) → IsNear time → IsTime time
+near_time : (time : ℤ) → IsNearValue time → IsTime time
 near_time time near = (omega (arith, ints, near.0, near.1), omega (arith, ints, near.0, near.1))
 
-pub near_times : (times : List ℤ) → All IsNear times → All IsTime times
-near_times times near = All-weaker IsNear IsTime near_time times near
+pub near_times : (times : List ℤ) → All IsNearValue times → All IsTime times
+near_times times near = All-weaker IsNearValue IsTime near_time times near
 
-pub nearby-moved : (origin : EventId) (times : List ℤ) → origin.0 < length times → All IsNear times → All IsNearby (moved origin times)
+pub nearby-moved : (origin : EventId) (times : List ℤ) → origin.0 < length times → All IsNearValue times → All IsNearby (moved origin times)
 nearby-moved origin times within near =
-    let at : IsNear (time_of times origin) = near origin.0 (pos 0) within in
-    all_map (λ (time : ℤ). time +ℤ neg_ℤ (time_of times origin)) IsNear IsNearby times
+    let at : IsNearValue (time_of times origin) = near origin.0 (pos 0) within in
+    all_map (λ (time : ℤ). time +ℤ neg_ℤ (time_of times origin)) IsNearValue IsNearby times
     (λ value h. (omega (arith, ints, h.0, h.1, at.0, at.1), omega (arith, ints, h.0, h.1, at.0, at.1))) near
 
 nearby_printed : (time : ℤ) → IsNearby time → IsPrintedTime time
@@ -125,11 +125,11 @@ pub printed_times : (times : List ℤ) → All IsPrintedTime times → All IsTim
 printed_times times printed = All-weaker IsPrintedTime IsTime printed_time times printed
 
 -- two near times are a time apart
-pub separation_near : (from to : EventId) (times : List ℤ) (value : ℤ) → from.0 < length times → to.0 < length times → All IsNear times → separation times from to ≡ value → IsTime value
+pub separation_near : (from to : EventId) (times : List ℤ) (value : ℤ) → from.0 < length times → to.0 < length times → All IsNearValue times → separation times from to ≡ value → IsTime value
 separation_near from to times value in_from in_to near e =
-    let a : IsNear (time_of times from) = near from.0 (pos 0) in_from in
-    let b : IsNear (time_of times to) = near to.0 (pos 0) in_to in
+    let a : IsNearValue (time_of times from) = near from.0 (pos 0) in_from in
+    let b : IsNearValue (time_of times to) = near to.0 (pos 0) in_to in
     apart (time_of times from) (time_of times to) value a b e
   where
-    apart : (a b value : ℤ) → IsNear a → IsNear b → (b -ℤ a) ≡ value → IsTime value
+    apart : (a b value : ℤ) → IsNearValue a → IsNearValue b → (b -ℤ a) ≡ value → IsTime value
     apart a b value na nb e = (omega (arith, ints, na.0, na.1, nb.0, nb.1, e), omega (arith, ints, na.0, na.1, nb.0, nb.1, e))

@@ -1,6 +1,6 @@
 use Rattle.std.proofs.Common.{◌≡◌, ap, ◌∙◌}
 use Rattle.event_graph.specs.Times.{raised, separation}
-use Rattle.requirements.specs.Raising.{rise_past}
+use Rattle.requirements.specs.Step.Raising.{rise_past}
 use Rattle.requirements.proofs.Rising.{raises_past, read_time}
 use Rattle.requirements.proofs.raising.raise_past.Goals as goal
 
