@@ -5,6 +5,7 @@ use Rattle.itv_base.specs.declared.names.EventId.{EventId}
 use Rattle.itv_base.specs.Outside.{CutShort, SinkTold, grown}
 use Rattle.event_graph.specs.Network.{IsNet, Net}
 use Rattle.event_graph.specs.Satisfying.{Satisfies}
+use Rattle.event_graph.specs.Times.{moved}
 use Rattle.falling.specs.declared.answer.Fallen.{Fallen}
 use Rattle.falling.specs.declared.answer.Fallen.TheVariants as fallen
 use Rattle.falling.specs.declared.line.FallLine.{FallLine}
@@ -27,7 +28,7 @@ use Rattle.fall_report.specs.Fall.{AreBegun, Job, Place, Reads, Telling, at_end,
 use Rattle.fall_report.specs.Shows.{IsFinding, shown_by}
 use Rattle.fall_report.specs.Text.{Bound, Finding, bound_spent, consistent, finding_spent, inconsistent, closed, printed, unbounded}
 use Rattle.falling.specs.View.{IsViewOf}
-use Rattle.fall_report.specs.View.{moved, seen, source, target}
+use Rattle.fall_report.specs.View.{seen, source, target}
 
 -- what a sink tells grew by just the texts of the lines
 abbrev pub SinkGrew : SinkTold → List FallLine → SinkTold → Type 0

@@ -31,7 +31,3 @@ target Negated which r = source Plain which r
 abbrev pub times_seen : View → List ℤ → List ℤ
 times_seen Plain values = values
 times_seen Negated values = negated_times values
-
--- times with that of an event taken from all
-abbrev pub moved : EventId → List ℤ → List ℤ
-moved origin times = shifted times (neg_ℤ (time_of times origin))

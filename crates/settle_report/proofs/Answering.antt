@@ -5,8 +5,9 @@ use Rattle.itv_base.specs.declared.names.EventId.{EventId}
 use Rattle.event_graph.specs.Bounds.{IsGreatest, IsRay}
 use Rattle.event_graph.specs.Network.{IsNet, Net}
 use Rattle.event_graph.specs.Satisfying.{Satisfies}
-use Rattle.event_graph.specs.Times.{IsTime, separation, time_of}
+use Rattle.event_graph.specs.Times.{IsTime, moved, separation, time_of}
 use Rattle.event_graph.proofs.Reversing.{least_is_reversed_greatest}
+use Rattle.event_graph.proofs.Moving.{ray-moved, satisfies-moved, separation-moved, zero-moved}
 use Rattle.slack_report.specs.declared.words.Which.{Which}
 use Rattle.slack_report.specs.declared.words.Which.TheVariants.{Max, Min}
 use Rattle.drawn.specs.Drawn.{IsRowOf}
@@ -19,8 +20,8 @@ use Rattle.settle.specs.Proofs.{IsProofAs}
 use Rattle.settle_report.specs.declared.finding.Finding.TheVariants as findings
 use Rattle.settle_report.specs.declared.proof.Proof.{Proof}
 use Rattle.settle_report.specs.Answers.{ArePrintedTimes, CanRise, IsEndless, IsExtreme, IsFinding, IsNumber, IsRefuted, Proves, first_event}
-use Rattle.settle_report.specs.Step.{IsNearby, moved, shown_by, source, target}
-use Rattle.settle_report.proofs.Moving.{nearby-moved, nearby_times, ray-moved, satisfies-moved, separation-moved, separation_near, zero-moved}
+use Rattle.settle_report.specs.Step.{IsNearby, shown_by, source, target}
+use Rattle.settle_report.proofs.Moving.{nearby-moved, nearby_times, separation_near}
 use Rattle.falling.specs.Cap.{IsNearValue}
 
 says : {net : Net} {from to : EventId} {turns : ℕ} (found : Found) (answer : Settled) → found.answer ≡ answer → IsFound net from to turns found → Says net from to turns found answer

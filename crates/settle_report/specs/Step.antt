@@ -11,10 +11,6 @@ use Rattle.settle_report.specs.declared.bound.SettledBound.{SettledBound}
 use Rattle.settle_report.specs.declared.bound.SettledBound.TheVariants as settled
 use Rattle.settle_report.specs.Answers.{ArePrintedTimes, IsBound}
 
--- times with that of an event taken from all
-abbrev pub moved : EventId → List ℤ → List ℤ
-moved origin times = shifted times (neg_ℤ (time_of times origin))
-
 -- the pair whose greatest separation is searched for a bound of a row: for a least bound the reversed one
 abbrev pub source : Which → Row → EventId
 source Max row = row.from

@@ -1,10 +1,5 @@
-use Rattle.fall_report.proofs.Moving.{moved_all, moved_next}
+use Rattle.fall_report.proofs.Moving.{near_times}
 use Rattle.fall_report.proofs.times.take_moved.Goals as goal
 
-pub loop-event-preserved : goal.loop-event-preserved
-loop-event-preserved c =
-    moved_next c.args.origin c.args.times.now c.loop-event.out c.loop-event.event c.time_of-at.result c.since.result c.loop-event.invariant c.loop-event-test.true c.requires.event c.requires.near
-    c.time_of-at.ensures (record { sfits = c.since.type_inv }) c.since.ensures
-
-pub returns : goal.returns
-returns c = record { taken = moved_all c.args.origin c.args.times.now c.loop-event.out c.loop-event.event c.loop-event.invariant c.loop-event-test.false }
+pub move_all-requires-clause-times : goal.move_all-requires-clause-times
+move_all-requires-clause-times c = near_times c.args.times.now c.requires.near
