@@ -17,7 +17,8 @@ use Rattle.falling.specs.declared.line.FallLine.{FallLine}
 use Rattle.falling.specs.Course.{AreLimits}
 use Rattle.falling.specs.Derivation.{IsDerivation, starting_values}
 use Rattle.falling.specs.Kinds.{negated, negated_times}
-use Rattle.falling.specs.Solving.{AnswersAs, IsDerivationAs, IsNegationOf, asked_of}
+use Rattle.falling.specs.Fallen.{asked_of}
+use Rattle.falling.specs.Solving.{AnswersAs, IsDerivationAs, IsNegationOf}
 use Rattle.falling.proofs.Bounding.{length-starting}
 use Rattle.falling.proofs.Negating.{all_map, length-mapped, negated_twice, satisfies_turns, time_of-negated}
 use Rattle.falling.proofs.NegatedNets.{HasTimes, limits_negated, satisfying_near}

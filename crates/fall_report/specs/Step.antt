@@ -11,7 +11,8 @@ use Rattle.falling.specs.declared.answer.Fallen.TheVariants as fallen
 use Rattle.falling.specs.declared.line.FallLine.{FallLine}
 use Rattle.falling.specs.Cap.{IsNearValue}
 use Rattle.falling.specs.Derivation.{IsDerivation}
-use Rattle.falling.specs.Solving.{AnswersAs, IsMadeFor, Solving, asked_of}
+use Rattle.falling.specs.Fallen.{asked_of}
+use Rattle.falling.specs.Solving.{AnswersAs, IsMadeFor, Solving}
 use Rattle.fall_report.specs.FallText.{fall_text}
 use Rattle.slack_report.specs.declared.words.EndWord.{EndWord}
 use Rattle.slack_report.specs.declared.words.EndWord.TheVariants as endings
