@@ -9,7 +9,6 @@ use Rattle.event_graph.specs.Times.{moved}
 use Rattle.falling.specs.declared.answer.Fallen.{Fallen}
 use Rattle.falling.specs.declared.answer.Fallen.TheVariants as fallen
 use Rattle.falling.specs.declared.line.FallLine.{FallLine}
-use Rattle.falling.specs.Cap.{IsNearValue}
 use Rattle.falling.specs.Derivation.{IsDerivation}
 use Rattle.falling.specs.Fallen.{asked_of}
 use Rattle.falling.specs.Solving.{AnswersAs, IsMadeFor, Solving}

@@ -1,8 +1,7 @@
 -- What a view says: the network that is solved, where a derivation starts and ends, and what its values say of the network.
-use Rattle.std.specs.Prelude.{ℤ, neg_ℤ, List}
+use Rattle.std.specs.Prelude.{ℤ, List}
 use Rattle.itv_base.specs.declared.names.EventId.{EventId}
 use Rattle.event_graph.specs.Network.{Net}
-use Rattle.event_graph.specs.Times.{shifted, time_of}
 use Rattle.falling.specs.Kinds.{negated, negated_times}
 use Rattle.slack_report.specs.declared.words.Which.{Which}
 use Rattle.slack_report.specs.declared.words.Which.TheVariants.{Max, Min}

@@ -1,6 +1,5 @@
 //! Writing a line of a derivation.
 
-ghost use Rattle.std.specs.Prelude.{◌≡◌};
 ghost use Rattle.itv_base.specs.Outside.{Puts};
 ghost use Rattle.falling.specs.declared.line.Reason.TheVariants.{ByEdge, ByLatest};
 ghost use Rattle.fall_report.specs.FallText.{fall_line_text};

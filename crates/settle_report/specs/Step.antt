@@ -2,7 +2,7 @@
 use Rattle.std.specs.Prelude.{◌*◌, ℤ, pos, neg_ℤ, ◌≤ℤ◌, ◌<ℤ◌, Bool, List, All}
 use Rattle.itv_base.specs.declared.names.EventId.{EventId}
 use Rattle.event_graph.specs.Network.{Net}
-use Rattle.event_graph.specs.Times.{separation, shifted, time_of}
+use Rattle.event_graph.specs.Times.{separation}
 use Rattle.falling.specs.Cap.{cap_limit}
 use Rattle.slack_report.specs.declared.words.Which.{Which}
 use Rattle.slack_report.specs.declared.words.Which.TheVariants.{Max, Min}
