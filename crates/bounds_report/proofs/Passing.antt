@@ -124,9 +124,6 @@ module _ (net : Net) (pair : Pair) (which : Which) (limit : ℤ) (old : List ℤ
   pub new_times : All IsTime new
   new_times k d h = all_or IsTime new k (pos 0) d h (raised_time (get_or new k (pos 0)) (raised_all k (in_old k h)))
 
-  pub new_origin : IsTime (time_of new pair.from)
-  new_origin = raised_time (time_of new pair.from) (raised_all pair.from.0 (subst (λ n. pair.from.0 < n) old_count kept.from))
-
   pub raise_done : (list : List ℤ) → list ≡ shifted new (neg_ℤ (time_of new pair.from)) → ArePast net pair which limit list
   raise_done list is =
       let by : ℤ = neg_ℤ (time_of new pair.from) in

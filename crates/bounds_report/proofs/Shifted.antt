@@ -1,11 +1,7 @@
 -- Times with one number added to all of them, and some of them raised.
-use Rattle.std.proofs.Common.{◌≡◌, ◌<◌, ◌≤◌, ◌+◌, ℕ, zero, suc, ℤ, pos, neg_ℤ, ◌+ℤ◌, ◌-ℤ◌, Bool, true, false, List, [], ◌∷◌, ◌++◌, length, get_or, take, drop, All, refl, sym, subst, ap, ◌∙◌, add-one, arith}
+use Rattle.std.proofs.Common.{◌≡◌, ◌<◌, ◌+◌, ℕ, zero, suc, ℤ, pos, neg_ℤ, ◌+ℤ◌, ◌-ℤ◌, Bool, List, [], ◌∷◌, length, get_or, All, refl, sym, subst, ◌∙◌, arith}
 use Rattle.std.proofs.Math.ListN.{set}
-use Rattle.std.proofs.Common.{w64}
-use Rattle.std.specs.Prelude.{FitsSigned}
-use mir.Val.{to_z, of_z}
-use Rattle.requirements.proofs.Rising.{read_time}
-use Rattle.std.proofs.lemmas.Int.{ints, to_z-of_z}
+use Rattle.std.proofs.lemmas.Int.{ints}
 use Rattle.std.proofs.lemmas.List.{get_or-map, length-map}
 use Rattle.itv_base.specs.declared.names.EventId.{EventId}
 use Rattle.branch.specs.Work.{IsClose}
@@ -14,35 +10,9 @@ use Rattle.event_graph.specs.Limits.{IsPrintedTime}
 use Rattle.event_graph.specs.Network.{IsNet, Net}
 use Rattle.event_graph.specs.Satisfying.{Satisfies}
 use Rattle.event_graph.specs.Times.{IsTime, raised, separation, shifted, time_of}
+use Rattle.event_graph.proofs.Moving.{raised-shifted}
 use Rattle.event_graph.proofs.Shifting.{satisfies_same}
 use Rattle.bounds_report.specs.Step.Kept.{AreNearby, IsNearby, IsShiftedTo}
-
--- ---- shifting one by one
-
--- the first ones are shifted, and the others are as they were
-abbrev pub shifted_front : ℕ → List ℤ → ℤ → List ℤ
-shifted_front i times by = shifted (take i times) by ++ drop i times
-
-pub front_yet : (times : List ℤ) (by : ℤ) (i : ℕ) (d : ℤ) → get_or (shifted_front i times by) i d ≡ get_or times i d
-front_yet times by zero d = refl
-front_yet [] by (suc i) d = refl
-front_yet (time ∷ times) by (suc i) d = front_yet times by i d
-
-pub front_more : (times : List ℤ) (by : ℤ) (i : ℕ) (d : ℤ) → i < length times → set (shifted_front i times by) i (get_or times i d +ℤ by) ≡ shifted_front (suc i) times by
-front_more [] by i d h = absurd (omega arith)
-front_more (time ∷ times) by zero d h = refl
-front_more (time ∷ times) by (suc i) d h = ap (λ ts. (time +ℤ by) ∷ ts) (front_more times by i d (omega arith))
-
-pub front_whole : (times : List ℤ) (by : ℤ) (i : ℕ) → length times ≤ i → shifted_front i times by ≡ shifted times by
-front_whole [] by zero h = refl
-front_whole [] by (suc i) h = refl
-front_whole (time ∷ times) by zero h = absurd (omega arith)
-front_whole (time ∷ times) by (suc i) h = ap (λ ts. (time +ℤ by) ∷ ts) (front_whole times by i (omega arith))
-
-pub front_length : (times : List ℤ) (by : ℤ) (i : ℕ) → length (shifted_front i times by) ≡ length times
-front_length times by zero = refl
-front_length [] by (suc i) = refl
-front_length (time ∷ times) by (suc i) = ap suc (front_length times by i)
 
 -- ---- separations
 
@@ -108,15 +78,6 @@ times_nearby times origin near in' at k d within =
 
 -- ---- raising
 
-pub raised-shifted : (set : List Bool) (n : ℕ) (times : List ℤ) (by : ℤ) → raised set n (shifted times by) ≡ shifted (raised set n times) by
-raised-shifted [] n times by = refl
-raised-shifted (is_in ∷ set) n [] by = refl
-raised-shifted (true ∷ set) n (time ∷ times) by = cons_eq ((time +ℤ by) +ℤ pos n) ((time +ℤ pos n) +ℤ by) _ _ (omega (arith, ints)) (raised-shifted set n times by)
-  where
-    cons_eq : (a b : ℤ) (xs ys : List ℤ) → a ≡ b → xs ≡ ys → a ∷ xs ≡ b ∷ ys
-    cons_eq a b xs ys e f = cc (e, f)
-raised-shifted (false ∷ set) n (time ∷ times) by = ap (λ ts. (time +ℤ by) ∷ ts) (raised-shifted set n times by)
-
 -- a ray is one when its times are shifted
 pub ray-shifted : (net : Net) (from to : EventId) (times : List ℤ) (set : List Bool) (by : ℤ) → IsNet net → IsRay net from to times set → IsRay net from to (shifted times by) set
 ray-shifted net from to times set by is_net ray = record {
@@ -125,25 +86,3 @@ ray-shifted net from to times set by is_net ray = record {
   lacks = ray.lacks;
   satisfies = λ n. subst (λ ts. Satisfies ts net) (sym (raised-shifted set n times by)) (satisfies-shifted net (raised set n times) by is_net (ray.satisfies n));
 }
-
--- the next time that is to be shifted is known yet
-front_read : (times now : List ℤ) (by : ℤ) (i : ℕ) → All IsTime times → now ≡ shifted_front i times by → i < length times → to_z w64 (of_z w64 (get_or now i (pos 0))) ≡ get_or times i (pos 0)
-front_read times now by i known is h =
-    let e : get_or now i (pos 0) ≡ get_or times i (pos 0) = ap (λ (ts : List ℤ). get_or ts i (pos 0)) is ∙ front_yet times by i (pos 0) in
-    rw e (read_time (get_or times i (pos 0)) (known i (pos 0) h))
-
-pub front_known : (times now : List ℤ) (by : ℤ) (i : ℕ) → All IsTime times → now ≡ shifted_front i times by → i < length times → IsTime (to_z w64 (of_z w64 (get_or now i (pos 0))))
-front_known times now by i known is h = subst IsTime (sym (front_read times now by i known is h)) (known i (pos 0) h)
-
-pub front_step : (times now : List ℤ) (origin value : ℤ) (i : ℕ) → All IsTime times → now ≡ shifted_front i times (neg_ℤ origin) → i < length times
-    → value ≡ to_z w64 (of_z w64 (get_or now i (pos 0))) -ℤ origin → FitsSigned w64 value
-    → set now i (to_z w64 (of_z w64 value)) ≡ shifted_front (i + 1) times (neg_ℤ origin)
-front_step times now origin value i known is h v fits =
-    let e : value ≡ get_or times i (pos 0) +ℤ neg_ℤ origin = v ∙ minus (get_or times i (pos 0)) (to_z w64 (of_z w64 (get_or now i (pos 0)))) origin (front_read times now (neg_ℤ origin) i known is h) in
-    rw (to_z-of_z w64 value fits, e, add-one, is) (front_more times (neg_ℤ origin) i (pos 0) h)
-  where
-    minus : (time read origin : ℤ) → read ≡ time → (read -ℤ origin) ≡ time +ℤ neg_ℤ origin
-    minus time read origin e = omega (arith, ints)
-
-pub front_done : (times now : List ℤ) (origin read : ℤ) (i : ℕ) → read ≡ origin → now ≡ shifted_front i times (neg_ℤ read) → length times ≤ i → now ≡ shifted times (neg_ℤ origin)
-front_done times now origin read i e is h = is ∙ front_whole times (neg_ℤ read) i h ∙ ap (λ z. shifted times (neg_ℤ z)) e

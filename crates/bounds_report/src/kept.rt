@@ -4,7 +4,7 @@ ghost use Rattle.std.specs.Prelude.{◌≡◌, ◌<◌, All, IfOk, length};
 ghost use Rattle.bounds_report.specs.Step.Kept.{IsShiftedTo};
 ghost use Rattle.branch.specs.Work.{IsClose};
 
-use crate::times::{shift, time_of};
+use event_graph::move_all;
 use itv_base::{EventId, NoMemory};
 use std::alloc::Global;
 
@@ -35,7 +35,6 @@ pub fn take_times(out: &mut [i64], times: &[i64], origin: EventId)
     requires close { All IsClose times.now }
     ensures taken { IsShiftedTo origin times.now out.new }
 {
-    let at = time_of(times, origin);
     out.copy_from_slice(times);
-    shift(out, at);
+    move_all(out, origin);
 }

@@ -16,7 +16,6 @@ mod rows;
 mod search;
 mod summary;
 mod tally;
-mod times;
 mod verdict;
 mod wanted;
 mod write;

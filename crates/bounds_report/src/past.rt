@@ -17,8 +17,7 @@ ghost use Rattle.bounds_report.specs.Step.Told.{Goes};
 use crate::desk::Desk;
 use crate::kept::Kept;
 use crate::pair::{Extreme, Pair};
-use crate::times::{shift, time_of};
-use event_graph::Network;
+use event_graph::{Network, move_all};
 use itv_base::{PutFailed, Range, Sink};
 use line_words::LineBuffer;
 use requirements::{BothBounds, Bound, Verdict, raise_past};
@@ -164,6 +163,5 @@ fn raise(which: Which, limit: i64, pair: Pair, net: &Network, times: &mut [i64],
 {
     let searched = pair.searched(which);
     raise_past(times, set, searched.from, searched.to, limit);
-    let at = time_of(times, pair.from);
-    shift(times, at);
+    move_all(times, pair.from);
 }

@@ -23,7 +23,8 @@ use drawn::{DrawnNetwork, Row};
 use event_graph::Network;
 use itv_base::{PutFailed, RowKind, Sink};
 use jobs::put_row;
-use requirements::{BothBounds, Bound, Verdict};
+use requirements::{BothBounds, Verdict};
+use right_report::is_within;
 use slack_report::{FindingWord, Which};
 
 /// Tells a row: what is asked, both bounds, and the verdict if a range is demanded.
@@ -97,16 +98,6 @@ fn is_left_open(both: &BothBounds) -> bool
     ensures { result ≡ (is_within both.now.least || is_within both.now.greatest) }
 {
     is_within(both.least) || is_within(both.greatest)
-}
-
-// Whether a bound was left open.
-fn is_within(bound: Bound) -> bool
-    ensures { result ≡ is_within bound }
-{
-    match bound {
-        Bound::Closed(_) | Bound::Unbounded => false,
-        Bound::Within { .. } => true,
-    }
 }
 
 // Tells both bounds of a pair.

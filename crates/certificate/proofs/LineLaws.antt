@@ -24,10 +24,12 @@ use Rattle.std.proofs.lemmas.List.Splits.{join_with_byte-slice_split}
 use Rattle.certificate.specs.declared.fault.LineFault.{LineFault}
 use Rattle.certificate.specs.declared.fault.LineFault.TheVariants.{BadLine, NoMemory}
 use Rattle.certificate.specs.declared.line.OwnedLine.{OwnedLine}
-use Rattle.certificate.specs.Answer.{IsLineRead, IsReadAs}
+use Rattle.certificate.specs.Answer.{IsReadAs}
+use Rattle.certificate.specs.Step.Answer.{IsLineRead}
 use Rattle.certificate.specs.Owned.{line_view}
 use Rattle.certificate.specs.Text.{IsEdgeName, IsProofLine, Spells, edge_word, proof_line, proof_words, side_letter}
-use Rattle.certificate.specs.Reading.{cause_in, edge_in, line_in, proof_in, side_in}
+use Rattle.certificate.specs.Reading.{cause_in, edge_in, proof_in, side_in}
+use Rattle.certificate.specs.Step.Reading.{line_in}
 
 -- ---- edges
 

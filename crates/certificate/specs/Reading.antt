@@ -7,7 +7,7 @@ use Rattle.itv_base.specs.declared.names.EdgeName.{EdgeName}
 use Rattle.itv_base.specs.declared.names.Side.{Side}
 use Rattle.itv_base.specs.declared.names.Side.TheVariants.{Lower, Upper}
 use Rattle.event_graph.specs.Proof.{Loop, Path, ProofLine, Split}
-use Rattle.line_words.specs.Words.{◌>>=◌, Word, is_word, keyed, many, one, or_else, split_words, when}
+use Rattle.line_words.specs.Words.{◌>>=◌, Word, is_word, keyed, many, one, or_else, when}
 use Rattle.line_words.specs.Numbers.{number_in}
 
 abbrev pub side_in : Word → Option Side
@@ -27,7 +27,3 @@ edge_in word =
 unfoldable pub proof_in : List Word → Option ProofLine
 proof_in words =
     or_else (option_map Split (keyed (codes "split") (one (number_in (2 ^ 32 - 1))) words)) (or_else (option_map Path (keyed (codes "path") (many edge_in) words)) (option_map Loop (keyed (codes "loop") (many edge_in) words)))
-
--- the line of a proof that a text is, without its end
-abbrev pub line_in : List ℕ → Option ProofLine
-line_in text = proof_in (split_words text)

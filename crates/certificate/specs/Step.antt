@@ -1,2 +1,4 @@
 -- Words of private contracts.
 pub mod Stored
+pub mod Answer
+pub mod Reading

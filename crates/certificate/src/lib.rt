@@ -17,4 +17,4 @@ pub use line::OwnedLine;
 pub use reading::{proof_in, read_line};
 pub use sink_scribe::SinkScribe;
 pub use tree_scribe::TreeScribe;
-pub use writing::write_line;
+pub use writing::{put_edge, side_letter, write_line};

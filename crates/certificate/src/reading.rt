@@ -5,9 +5,11 @@ ghost use Rattle.event_graph.specs.Proof.{ProofLine};
 ghost use Rattle.line_words.specs.Numbers.{number_in};
 ghost use Rattle.line_words.specs.Views.{texts};
 ghost use Rattle.line_words.specs.Words.{keyed, many, one};
-ghost use Rattle.certificate.specs.Answer.{IsLineRead, IsReadAs};
+ghost use Rattle.certificate.specs.Answer.{IsReadAs};
+ghost use Rattle.certificate.specs.Step.Answer.{IsLineRead};
 ghost use Rattle.certificate.specs.Owned.{line_view};
-ghost use Rattle.certificate.specs.Reading.{cause_in, edge_in, line_in, proof_in, side_in};
+ghost use Rattle.certificate.specs.Reading.{cause_in, edge_in, proof_in, side_in};
+ghost use Rattle.certificate.specs.Step.Reading.{line_in};
 ghost use Rattle.certificate.specs.Text.{Spells};
 
 use crate::fault::LineFault;

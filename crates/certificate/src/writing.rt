@@ -13,8 +13,9 @@ use itoa::Buffer;
 use itv_base::{EdgeName, PutFailed, Side, Sink, number_text, put_all};
 use line_words::put_words;
 
-fn side_letter(side: Side) -> &'static [u8]
-    ensures { result.now ≡ side_letter side }
+/// The letter of a side, as it stands in the name of an edge.
+pub fn side_letter(side: Side) -> &'static [u8]
+    ensures letter { result.now ≡ side_letter side }
 {
     match side {
         Side::Upper => b"u",
@@ -22,9 +23,9 @@ fn side_letter(side: Side) -> &'static [u8]
     }
 }
 
-// A space and an edge.
-fn put_edge<K: Sink>(edge: EdgeName, sink: &mut K) -> Result<(), PutFailed>
-    ensures { Puts (K.told sink.old) (K.told sink.new) (spaced (edge_word edge)) result }
+/// Puts a space and an edge. Where a put failed a front of them was put, and the sink's count of faults rose.
+pub fn put_edge<K: Sink>(edge: EdgeName, sink: &mut K) -> Result<(), PutFailed>
+    ensures puts { Puts (K.told sink.old) (K.told sink.new) (spaced (edge_word edge)) result }
 {
     let mut constraint = Buffer::new();
     let mut cause = Buffer::new();

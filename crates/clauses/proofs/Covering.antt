@@ -13,7 +13,8 @@ use Rattle.falling.proofs.Bounding.{AreAbove, past_end, set_at, some_and}
 use Rattle.clauses.specs.declared.basis.Step.{Step}
 use Rattle.clauses.specs.declared.literal.Literal.{Literal}
 use Rattle.clauses.specs.declared.way.Way.{Way}
-use Rattle.clauses.specs.Clauses.{Clause, HoldsClause, HoldsLiteral, IsInWay, literal_edge, opposite}
+use Rattle.clauses.specs.Clauses.{Clause, literal_edge, opposite}
+use Rattle.clauses.specs.Step.Clauses.{HoldsClause, HoldsLiteral, IsInWay}
 use Rattle.clauses.specs.Lines.{Assume, Block, ClauseLine, Close, Fall, Falls, Forces, Frame, Goal, IsEnded, IsLine, IsLoop, IsRefused, Know, Leads, Loop, State, StepsTo, Walk, Walks, frame_in, loop_clause, refuting, starting_walk, with_frame_in, with_others}
 use Rattle.clauses.proofs.Anys.{any_element, any_left, any_none, any_right, any_weaker}
 use Rattle.clauses.proofs.Between.{IsBetween}

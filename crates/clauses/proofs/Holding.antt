@@ -18,7 +18,8 @@ use Rattle.falling.proofs.Negating.{any_map}
 use Rattle.clauses.specs.declared.basis.Basis.{Basis}
 use Rattle.clauses.specs.declared.basis.Basis.TheVariants.{ByEdge, BySide, ByLatest, ByEarliest, ByKept}
 use Rattle.clauses.specs.declared.literal.Literal.{Literal}
-use Rattle.clauses.specs.Clauses.{Clause, HoldsClause, HoldsLiteral, IsClause, IsInWay, edge_as, edge_way, end_or_zero, high_way, literal_edge, opposite, side_literals}
+use Rattle.clauses.specs.Clauses.{Clause, IsClause, edge_as, edge_way, end_or_zero, high_way, literal_edge, opposite, side_literals}
+use Rattle.clauses.specs.Step.Clauses.{HoldsClause, HoldsLiteral, IsInWay}
 use Rattle.clauses.proofs.Anys.{any_beside, any_head}
 use Rattle.clauses.proofs.Literals.{either_literal}
 

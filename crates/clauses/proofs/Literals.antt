@@ -10,7 +10,8 @@ use Rattle.event_graph.specs.Times.{time_of}
 use Rattle.falling.proofs.Near.{below_or_not}
 use Rattle.falling.proofs.Negating.{any_map}
 use Rattle.clauses.specs.declared.literal.Literal.{Literal}
-use Rattle.clauses.specs.Clauses.{HoldsClause, HoldsLiteral, edge_as, literal_edge, opposite}
+use Rattle.clauses.specs.Clauses.{edge_as, literal_edge, opposite}
+use Rattle.clauses.specs.Step.Clauses.{HoldsClause, HoldsLiteral}
 use Rattle.clauses.specs.Lines.{refuting}
 use Rattle.clauses.proofs.Anys.{all_or_any}
 

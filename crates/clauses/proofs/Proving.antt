@@ -9,7 +9,7 @@ use Rattle.falling.proofs.Bounding.{some_and, start_above}
 use Rattle.falling.proofs.Near.{below_or_not}
 use Rattle.falling.proofs.NegatedNets.{inconsistent_from, widest-negated}
 use Rattle.falling.proofs.Negating.{satisfies_turns, separation-negated}
-use Rattle.clauses.specs.Clauses.{HoldsClause, HoldsLiteral}
+use Rattle.clauses.specs.Step.Clauses.{HoldsClause, HoldsLiteral}
 use Rattle.clauses.specs.Lines.{Assume, ClauseLine, Close, Fall, Goal, IsClauseProof, IsEnded, IsLine, Know, Loop, State, starting}
 use Rattle.clauses.specs.Laws.{ClaimCanRise, ClauseProofBounds, ClauseProofOfNothing, NegatedProofBounds, NegatedProofOfNothing, ProofAndTimesClose, claiming}
 use Rattle.clauses.proofs.Anys.{all_none}

@@ -4,7 +4,7 @@ use Rattle.std.proofs.lemmas.Int.{ints}
 use Rattle.itv_base.specs.declared.names.EventId.{EventId}
 use Rattle.event_graph.specs.Times.{time_of}
 use Rattle.clauses.specs.declared.way.Way.{Way}
-use Rattle.clauses.specs.Clauses.{IsInWay}
+use Rattle.clauses.specs.Step.Clauses.{IsInWay}
 use Rattle.clauses.specs.Lines.{way_after, with_others, with_way}
 use Rattle.clauses.proofs.Anys.{any_cases, any_head, any_none, any_tail}
 

@@ -1,13 +1,12 @@
 -- Clauses: what satisfying times meet, one way or another.
-use Rattle.std.specs.Prelude.{◌≡◌, ◌⊎◌, ℕ, suc, ℤ, pos, neg_ℤ, ◌+ℤ◌, ◌-ℤ◌, ◌≤ℤ◌, Bool, true, false, not, List, [], ◌∷◌, map, All, Any, Option, Some, None, IsSome, IsSomeAnd, option_map, slice_get}
+use Rattle.std.specs.Prelude.{◌≡◌, ℕ, suc, ℤ, pos, neg_ℤ, ◌-ℤ◌, Bool, true, false, not, List, [], ◌∷◌, map, All, Option, Some, None, IsSome, IsSomeAnd, option_map, slice_get}
 use Rattle.itv_base.specs.declared.names.EventId.{EventId}
 use Rattle.itv_base.specs.declared.names.RuleKind.TheVariants.{Late, Early}
 use Rattle.itv_base.specs.declared.names.Side.TheVariants.{Lower}
 use Rattle.event_graph.specs.declared.cause.Cause.{Cause}
 use Rattle.event_graph.specs.declared.edge.Edge.{Edge}
-use Rattle.event_graph.specs.Edges.{IsAlways, Meets, edge}
+use Rattle.event_graph.specs.Edges.{IsAlways, edge}
 use Rattle.event_graph.specs.Network.{Constraint, Net}
-use Rattle.event_graph.specs.Times.{time_of}
 use Rattle.clauses.specs.declared.basis.Basis.{Basis}
 use Rattle.clauses.specs.declared.basis.Basis.TheVariants.{ByEdge, BySide, ByLatest, ByEarliest, ByKept}
 use Rattle.clauses.specs.declared.literal.Literal.{Literal}
@@ -34,18 +33,6 @@ pub record Clause : Type 0 where
   pub literals : List Literal
   pub target : EventId
   pub ways : List Way
-
--- the times meet the edge of a literal
-abbrev pub HoldsLiteral : Net → List ℤ → Literal → Type 0
-HoldsLiteral net times l = IsSomeAnd (literal_edge net l) (Meets times)
-
--- the target comes no later than the way allows
-abbrev pub IsInWay : List ℤ → EventId → Way → Type 0
-IsInWay times target way = time_of times target ≤ℤ (time_of times way.from +ℤ way.weight)
-
--- the times meet a clause
-abbrev pub HoldsClause : Net → List ℤ → Clause → Type 0
-HoldsClause net times c = Any (HoldsLiteral net times) c.literals ⊎ Any (IsInWay times c.target) c.ways
 
 -- an edge bounds its to-event
 abbrev pub edge_way : Edge → Way

@@ -15,7 +15,7 @@ use Rattle.trail.specs.Stack.{empty_stamp}
 use Rattle.diff_bounds.specs.declared.falling.Run.{Run}
 use Rattle.diff_bounds.specs.Labels.{HasFallen, IsAmong, IsWithin, Scope, is_lower, labels_from, number, parents_from, stamp_at}
 use Rattle.event_graph.specs.Limits.{weight_limit}
-use Rattle.diff_bounds.specs.Limits.{IsNear, fall_limit}
+use Rattle.diff_bounds.specs.Step.Limits.{IsNear, fall_limit}
 use Rattle.diff_bounds.specs.Settled.{AreNear}
 use Rattle.diff_bounds.specs.Step.Falling.{HasRun, IsRunning, KeepsRuns, Undercuts, fallen_stamp, fresh, height, natural_part, total_height}
 use Rattle.diff_bounds.proofs.Climbs.{ChangesAt}

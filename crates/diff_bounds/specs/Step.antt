@@ -6,3 +6,4 @@ pub mod Poised
 pub mod Walking
 pub mod Timing
 pub mod Guessing
+pub mod Limits

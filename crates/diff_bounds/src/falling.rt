@@ -4,7 +4,7 @@ ghost use Rattle.std.specs.Prelude.{◌≡◌, ◌+◌, ◌*◌, ◌<◌, ◌≤
 ghost use Rattle.diff_bounds.specs.Arcs.{AreAlwaysArcs, AreChosenArcs, IsArc};
 ghost use Rattle.diff_bounds.specs.Labels.{HaveSettled, IsAmong, IsWithin, is_lower, labels_from, stamp_at};
 ghost use Rattle.event_graph.specs.Limits.{weight_limit};
-ghost use Rattle.diff_bounds.specs.Limits.{IsNear};
+ghost use Rattle.diff_bounds.specs.Step.Limits.{IsNear};
 ghost use Rattle.diff_bounds.specs.Step.Chosen.{StartsAt};
 ghost use Rattle.diff_bounds.specs.Step.Falling.{AllDone, Closes, Falls, IsAmongFrom, IsDone, IsDoneFrom, IsPlaced, IsRunning, Relaxes, RunsOn, scope_of};
 ghost use Rattle.diff_bounds.specs.Step.Waiting.{Pushes};

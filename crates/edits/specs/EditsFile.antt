@@ -1,8 +1,7 @@
 -- Files of edits: a line for each, with a line end.
-use Rattle.std.specs.Prelude.{◌≡◌, ◌<◌, ◌+◌, ◌-◌, ◌==◌, ℕ, Bool, true, false, nat_lt, if◌then◌else◌, List, [], ◌∷◌, length, Option, Some, None, slice_get, count_by, Result, Ok, Err}
+use Rattle.std.specs.Prelude.{◌+◌, ◌-◌, ◌==◌, ℕ, Bool, true, false, nat_lt, if◌then◌else◌, List, [], ◌∷◌, length, slice_get, count_by, Result, Ok, Err}
 use Rattle.std.specs.Option.{option_map_or}
-use Rattle.std.specs.List.{after_first, before_first, position_or_len, slice_split}
-use denote.Ref.{Bor}
+use Rattle.std.specs.List.{slice_split}
 use Rattle.itv_base.specs.Reading.{◌>>=◌}
 use Rattle.line_words.specs.Lines.{is_feed}
 use Rattle.event_graph.specs.Network.{Net}
@@ -42,8 +41,3 @@ is_memory (Line n) = false
 is_memory (Range n fault) = false
 is_memory (NoSuch n) = false
 is_memory NoMemory = true
-
--- the first line of a text, and the text behind the end of that line, or none where no line ends
-abbrev pub Cuts : List ℕ → Option (Bor (List ℕ) × Bor (List ℕ)) → Type 0
-Cuts text None = position_or_len is_feed text ≡ length text
-Cuts text (Some parts) = (position_or_len is_feed text < length text) × (parts.0.now ≡ before_first is_feed text) × (parts.1.now ≡ after_first is_feed text)

@@ -1,3 +1,4 @@
 pub mod EditLine
 pub mod EditsFile
 pub mod Laws
+pub mod Step

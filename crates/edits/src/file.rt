@@ -5,7 +5,8 @@ ghost use Rattle.std.specs.List.{position_or_len, slice_split};
 ghost use Rattle.itv_base.specs.Reading.{Gives};
 ghost use Rattle.line_words.specs.Lines.{is_feed};
 ghost use Rattle.edits.specs.EditLine.{IsThere};
-ghost use Rattle.edits.specs.EditsFile.{Cuts, edits_from, edits_of, is_ended, is_memory, line_count};
+ghost use Rattle.edits.specs.EditsFile.{edits_from, edits_of, is_ended, is_memory, line_count};
+ghost use Rattle.edits.specs.Step.EditsFile.{Cuts};
 ghost use Rattle.edits.specs.declared.edit.RangeEdit.{RangeEdit};
 
 use crate::edit::{Edits, RangeEdit};

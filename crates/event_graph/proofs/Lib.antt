@@ -1,5 +1,7 @@
 pub mod Products
 pub mod Shifting
+pub mod MovingOn
+pub mod Moving
 pub mod Rays
 pub mod Reversing
 pub mod EdgesMet

@@ -14,6 +14,10 @@ separation times from to = time_of times to -ℤ time_of times from
 abbrev pub shifted : List ℤ → ℤ → List ℤ
 shifted times by = map (λ time. time +ℤ by) times
 
+-- the times with that of an event taken from all
+abbrev pub moved : EventId → List ℤ → List ℤ
+moved origin times = shifted times (neg_ℤ (time_of times origin))
+
 -- the times with a number added to those of a set of events, which has a flag for each event
 abbrev pub raised : List Bool → ℕ → List ℤ → List ℤ
 raised [] by times = times

@@ -14,6 +14,7 @@ mod line;
 mod network;
 mod push_fault;
 mod scribe;
+mod times;
 
 pub use by_event::ByEvent;
 pub use cause::Cause;
@@ -24,3 +25,4 @@ pub use line::Line;
 pub use network::Network;
 pub use push_fault::PushFault;
 pub use scribe::{Quiet, Scribe, ScribeFailed};
+pub use times::{move_all, time_of};

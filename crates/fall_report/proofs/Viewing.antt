@@ -7,8 +7,9 @@ use Rattle.event_graph.specs.Bounds.{IsGreatest, IsRay}
 use Rattle.event_graph.specs.Limits.{IsPrintedTime}
 use Rattle.event_graph.specs.Network.{IsNet, Net}
 use Rattle.event_graph.specs.Satisfying.{Satisfies}
-use Rattle.event_graph.specs.Times.{separation, time_of}
+use Rattle.event_graph.specs.Times.{moved, separation, time_of}
 use Rattle.event_graph.proofs.Reversing.{least_is_reversed_greatest}
+use Rattle.event_graph.proofs.Moving.{ray-moved, satisfies-moved, separation-moved, zero-moved}
 use Rattle.falling.specs.declared.answer.Fallen.{Fallen}
 use Rattle.falling.specs.declared.answer.Fallen.TheVariants.{Closed, Unbounded, Inconsistent, Spent}
 use Rattle.falling.specs.declared.limits.Limits.{Limits}
@@ -16,8 +17,8 @@ use Rattle.falling.specs.declared.line.FallLine.{FallLine}
 use Rattle.falling.specs.Course.{AreLimits}
 use Rattle.falling.specs.Derivation.{IsDerivation, starting_values}
 use Rattle.falling.specs.Kinds.{negated, negated_times}
-use Rattle.falling.specs.Solving.{AnswersAs, IsDerivationAs, IsNegationOf, asked_of}
-use Rattle.falling.specs.Turns.{IsNearValue}
+use Rattle.falling.specs.Fallen.{asked_of}
+use Rattle.falling.specs.Solving.{AnswersAs, IsDerivationAs, IsNegationOf}
 use Rattle.falling.proofs.Bounding.{length-starting}
 use Rattle.falling.proofs.Negating.{all_map, length-mapped, negated_twice, satisfies_turns, time_of-negated}
 use Rattle.falling.proofs.NegatedNets.{HasTimes, limits_negated, satisfying_near}
@@ -33,8 +34,8 @@ use Rattle.fall_report.specs.Shows.{CanRise, IsBound, IsExtreme, IsFinding, firs
 use Rattle.fall_report.specs.Step.{BeginsFrom, HasFound, ShowsFinding, found_by, told_bound, told_finding}
 use Rattle.fall_report.specs.Text.{consistent}
 use Rattle.falling.specs.View.{IsViewOf}
-use Rattle.fall_report.specs.View.{moved, seen, source, target, times_seen}
-use Rattle.fall_report.proofs.Moving.{ray-moved, satisfies-moved, separation-moved, zero-moved}
+use Rattle.falling.specs.Cap.{IsNearValue}
+use Rattle.fall_report.specs.View.{seen, source, target, times_seen}
 use Rattle.fall_report.proofs.Negation.{is_net_negated}
 
 -- ---- views

@@ -5,7 +5,7 @@ use Rattle.event_graph.specs.Bounds.{IsGreatest, IsInconsistent, IsLeast, IsRay}
 use Rattle.event_graph.specs.Limits.{IsPrintedTime}
 use Rattle.event_graph.specs.Network.{Net}
 use Rattle.event_graph.specs.Satisfying.{Satisfies}
-use Rattle.event_graph.specs.Times.{separation, time_of}
+use Rattle.event_graph.specs.Times.{moved, separation, time_of}
 use Rattle.falling.specs.Cap.{enough_turns}
 use Rattle.falling.specs.Course.{IsSpent}
 use Rattle.falling.specs.Derivation.{IsDerivation, IsEnded}
@@ -15,7 +15,7 @@ use Rattle.slack_report.specs.declared.words.Which.TheVariants.{Max, Min}
 use Rattle.drawn.specs.declared.row.Row.{Row}
 use Rattle.drawn.specs.Drawn.{AreTimes}
 use Rattle.falling.specs.declared.view.View.{View}
-use Rattle.fall_report.specs.View.{moved, seen, source, target, times_seen}
+use Rattle.fall_report.specs.View.{seen, source, target, times_seen}
 use Rattle.fall_report.specs.Text.{Bound, Finding, bound_spent, consistent, finding_spent, inconsistent, closed, unbounded}
 
 -- the derivation of the finding starts at event 0

@@ -1,16 +1,17 @@
 -- What the steps of job fall promise one another.
-use Rattle.std.specs.Prelude.{◌≡◌, ◌≤◌, ◌||◌, ◌+◌, ℕ, ℤ, pos, neg_ℤ, ◌≤ℤ◌, Bool, false, true, if◌then◌else◌, List, ◌++◌, length, Result, Ok, Err}
+use Rattle.std.specs.Prelude.{◌≡◌, ◌≤◌, ◌||◌, ◌+◌, ℕ, ℤ, Bool, false, true, if◌then◌else◌, List, ◌++◌, length, Result, Ok, Err}
 use Rattle.std.specs.List.{concat}
 use Rattle.itv_base.specs.declared.names.EventId.{EventId}
 use Rattle.itv_base.specs.Outside.{CutShort, SinkTold, grown}
 use Rattle.event_graph.specs.Network.{IsNet, Net}
 use Rattle.event_graph.specs.Satisfying.{Satisfies}
+use Rattle.event_graph.specs.Times.{moved}
 use Rattle.falling.specs.declared.answer.Fallen.{Fallen}
 use Rattle.falling.specs.declared.answer.Fallen.TheVariants as fallen
 use Rattle.falling.specs.declared.line.FallLine.{FallLine}
-use Rattle.falling.specs.Cap.{cap_limit}
 use Rattle.falling.specs.Derivation.{IsDerivation}
-use Rattle.falling.specs.Solving.{AnswersAs, IsMadeFor, Solving, asked_of}
+use Rattle.falling.specs.Fallen.{asked_of}
+use Rattle.falling.specs.Solving.{AnswersAs, IsMadeFor, Solving}
 use Rattle.fall_report.specs.FallText.{fall_text}
 use Rattle.slack_report.specs.declared.words.EndWord.{EndWord}
 use Rattle.slack_report.specs.declared.words.EndWord.TheVariants as endings
@@ -27,7 +28,7 @@ use Rattle.fall_report.specs.Fall.{AreBegun, Job, Place, Reads, Telling, at_end,
 use Rattle.fall_report.specs.Shows.{IsFinding, shown_by}
 use Rattle.fall_report.specs.Text.{Bound, Finding, bound_spent, consistent, finding_spent, inconsistent, closed, printed, unbounded}
 use Rattle.falling.specs.View.{IsViewOf}
-use Rattle.fall_report.specs.View.{moved, seen, source, target}
+use Rattle.fall_report.specs.View.{seen, source, target}
 
 -- what a sink tells grew by just the texts of the lines
 abbrev pub SinkGrew : SinkTold → List FallLine → SinkTold → Type 0
@@ -36,10 +37,6 @@ SinkGrew old lines new = new ≡ grown old (fall_text lines)
 -- it grew by a front of their texts, and its count of faults rose
 abbrev pub SinkWasCut : SinkTold → List FallLine → SinkTold → Type 0
 SinkWasCut old lines new = CutShort old new (fall_text lines)
-
--- a time is within the greatest cap in absolute value, so that another can be taken from it
-abbrev pub IsNear : ℤ → Type 0
-IsNear time = (neg_ℤ (pos cap_limit) ≤ℤ time) × (time ≤ℤ pos cap_limit)
 
 -- the memory is made for a network
 pub record IsSet (net : Net) (desk : Desk) : Type 0 where

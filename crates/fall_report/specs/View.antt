@@ -1,8 +1,7 @@
 -- What a view says: the network that is solved, where a derivation starts and ends, and what its values say of the network.
-use Rattle.std.specs.Prelude.{ℤ, neg_ℤ, List}
+use Rattle.std.specs.Prelude.{ℤ, List}
 use Rattle.itv_base.specs.declared.names.EventId.{EventId}
 use Rattle.event_graph.specs.Network.{Net}
-use Rattle.event_graph.specs.Times.{shifted, time_of}
 use Rattle.falling.specs.Kinds.{negated, negated_times}
 use Rattle.slack_report.specs.declared.words.Which.{Which}
 use Rattle.slack_report.specs.declared.words.Which.TheVariants.{Max, Min}
@@ -31,7 +30,3 @@ target Negated which r = source Plain which r
 abbrev pub times_seen : View → List ℤ → List ℤ
 times_seen Plain values = values
 times_seen Negated values = negated_times values
-
--- times with that of an event taken from all
-abbrev pub moved : EventId → List ℤ → List ℤ
-moved origin times = shifted times (neg_ℤ (time_of times origin))

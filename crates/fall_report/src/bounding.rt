@@ -4,11 +4,12 @@ ghost use Rattle.std.specs.Prelude.{◌≡◌, ◌<◌, ℕ, ℤ, Bool, List, If
 ghost use Rattle.event_graph.specs.Satisfying.{Satisfies};
 ghost use Rattle.falling.specs.declared.line.FallLine.{FallLine};
 ghost use Rattle.falling.specs.Solving.{IsMadeFor};
+ghost use Rattle.falling.specs.Cap.{IsNearValue};
 ghost use Rattle.itv_base.specs.Outside.{Puts};
 ghost use Rattle.drawn.specs.Drawn.{IsRowOf};
 ghost use Rattle.fall_report.specs.Fall.{Job, Telling, at_bound, behind_bound};
 ghost use Rattle.fall_report.specs.Shows.{shown_by};
-ghost use Rattle.fall_report.specs.Step.{AnswersRow, BeginsFrom, Goes, IsJobOf, IsSet, IsNear, Tells, WasCut, told_bound, was_spent};
+ghost use Rattle.fall_report.specs.Step.{AnswersRow, BeginsFrom, Goes, IsJobOf, IsSet, Tells, WasCut, told_bound, was_spent};
 ghost use Rattle.fall_report.specs.Text.{bound_spent, bound_text, closed, unbounded};
 ghost use Rattle.fall_report.specs.View.{source};
 
@@ -115,7 +116,7 @@ fn put_bound<K: Sink>(
 
 // The number of a bound whose searched pair has a greatest separation.
 fn shown_by(which: Which, value: i64) -> i64
-    requires near { IsNear value }
+    requires near { IsNearValue value }
     ensures { result ≡ shown_by which value }
 {
     match which {

@@ -1,14 +1,13 @@
 //! Writing a line of a derivation.
 
-ghost use Rattle.std.specs.Prelude.{◌≡◌};
 ghost use Rattle.itv_base.specs.Outside.{Puts};
 ghost use Rattle.falling.specs.declared.line.Reason.TheVariants.{ByEdge, ByLatest};
-ghost use Rattle.certificate.specs.Text.{side_letter};
 ghost use Rattle.fall_report.specs.FallText.{fall_line_text};
 
+use certificate::side_letter;
 use falling::{FallLine, Reason};
 use itoa::Buffer;
-use itv_base::{EdgeName, EventId, PutFailed, Side, Sink, number_text, put_all, signed_text};
+use itv_base::{EdgeName, EventId, PutFailed, Sink, number_text, put_all, signed_text};
 
 /// Writes a line of a derivation and its end: `fall` with the event, the value in picoseconds and the edge, or
 /// `late` with the event, the value and the number of the constraint. Where a put failed a front of it was
@@ -78,14 +77,4 @@ fn put_late<K: Sink>(
             b"\n",
         ],
     )
-}
-
-// The letter of a side of an edge.
-fn side_letter(side: Side) -> &'static [u8]
-    ensures { result.now ≡ side_letter side }
-{
-    match side {
-        Side::Upper => b"u",
-        Side::Lower => b"l",
-    }
 }

@@ -2,7 +2,8 @@
 
 ghost use Rattle.std.specs.Prelude.{◌≡◌, ◌<◌, ℕ, List, IfOk, OnErr};
 ghost use Rattle.falling.specs.declared.line.FallLine.{FallLine};
-ghost use Rattle.falling.specs.Solving.{AnswersAs, IsMadeFor, asked_of};
+ghost use Rattle.falling.specs.Fallen.{asked_of};
+ghost use Rattle.falling.specs.Solving.{AnswersAs, IsMadeFor};
 ghost use Rattle.itv_base.specs.Outside.{Puts};
 ghost use Rattle.fall_report.specs.Fall.{Job, at_finding};
 ghost use Rattle.fall_report.specs.Shows.{first_event};

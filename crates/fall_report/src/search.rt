@@ -2,7 +2,8 @@
 
 ghost use Rattle.std.specs.Prelude.{◌≡◌, ◌<◌, ◌≤◌, List, IfOk, OnErr, true, ℤ, length};
 ghost use Rattle.falling.specs.declared.line.FallLine.{FallLine};
-ghost use Rattle.falling.specs.Solving.{AnswersAs, IsDerivationAs, IsMadeFor, asked_of};
+ghost use Rattle.falling.specs.Fallen.{asked_of};
+ghost use Rattle.falling.specs.Solving.{AnswersAs, IsDerivationAs, IsMadeFor};
 ghost use Rattle.fall_report.specs.Step.{Tells, WasCut};
 
 use crate::sink_notes::SinkNotes;

@@ -7,10 +7,12 @@ use Rattle.event_graph.specs.Network.{IsNet, Net}
 use Rattle.event_graph.specs.Times.{time_of}
 use Rattle.falling.specs.declared.line.FallLine.{FallLine}
 use Rattle.falling.specs.Cap.{enough_turns, far_line, widest_end}
-use Rattle.falling.specs.Course.{HasEnded, HasSettled, IsSpent}
+use Rattle.falling.specs.Course.{IsSpent}
+use Rattle.falling.specs.Step.Course.{HasEnded, HasSettled}
 use Rattle.falling.specs.Fallen.{HasSpentTurns, IsClosedAt, IsShownInconsistent, IsShownUnbounded}
 use Rattle.falling.specs.Kinds.{IsPlain}
-use Rattle.falling.specs.Rays.{HaveAbove, IsApartBy, IsGapAt}
+use Rattle.falling.specs.Rays.{IsApartBy, IsGapAt}
+use Rattle.falling.specs.Step.Rays.{HaveAbove}
 use Rattle.falling.proofs.Bounding.{ended_is_inconsistent}
 use Rattle.falling.proofs.Climbing.{level_below_far}
 use Rattle.falling.proofs.Closing.{gap_is_ray, settled_closes}

@@ -4,7 +4,7 @@ use Rattle.std.proofs.lemmas.Int.{ints}
 use Rattle.std.proofs.lemmas.Bool.{cases_eq}
 use Rattle.event_graph.specs.Network.{Net}
 use Rattle.falling.specs.Cap.{cap, cap_limit, far_line, widest_end}
-use Rattle.falling.specs.Rays.{IsClimbed, IsStepTo, above}
+use Rattle.falling.specs.Step.Rays.{IsClimbed, IsStepTo, above}
 use Rattle.falling.proofs.Within.{room_below}
 
 -- a truth as a number

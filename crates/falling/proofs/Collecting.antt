@@ -7,8 +7,9 @@ use Rattle.itv_base.specs.declared.names.RuleKind.TheVariants.{Lin, Late, Early}
 use Rattle.event_graph.specs.declared.cause.Cause.{Cause}
 use Rattle.event_graph.specs.Network.{Constraint, IsCauseCount, IsConstraint, IsNet, Net, cause_at, cause_count_of, linear, with_constraint}
 use Rattle.event_graph.proofs.EdgesMet.{All-found, found_below}
-use Rattle.falling.specs.Kinds.{AreNegatedCauses, negated, negated_cause, negated_constraint, negated_kind}
-use Rattle.falling.specs.Turns.{IsKind}
+use Rattle.falling.specs.Kinds.{negated, negated_cause, negated_constraint, negated_kind}
+use Rattle.falling.specs.Step.Kinds.{AreNegatedCauses}
+use Rattle.falling.specs.Step.Turns.{IsKind}
 use Rattle.falling.proofs.Between.{mapped_some}
 use Rattle.falling.proofs.Negating.{all_map, length-mapped}
 use Rattle.falling.proofs.Tried.{cause_of_at, kind_of}

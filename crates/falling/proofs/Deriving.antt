@@ -6,10 +6,10 @@ use Rattle.itv_base.specs.declared.names.EventId.{EventId}
 use Rattle.event_graph.specs.Network.{IsNet, Net}
 use Rattle.event_graph.specs.Times.{time_of}
 use Rattle.falling.specs.declared.line.FallLine.{FallLine}
-use Rattle.falling.specs.Cap.{cap, cap_limit, far_line}
-use Rattle.falling.specs.Course.{Ends, HasEnded, HasSettled, IsSpent}
+use Rattle.falling.specs.Cap.{IsNearValue, cap, cap_limit, far_line}
+use Rattle.falling.specs.Course.{IsSpent}
+use Rattle.falling.specs.Step.Course.{Ends, HasEnded, HasSettled}
 use Rattle.falling.specs.Derivation.{IsAllowed, IsDerivation, IsEnded, IsSettled, Leads, fallen, starting_values}
-use Rattle.falling.specs.Turns.{IsNearValue}
 use Rattle.falling.proofs.Bounding.{length-starting, replicated, set_at}
 use Rattle.falling.proofs.Closing.{start_source}
 use Rattle.falling.proofs.Counting.{due_within, least_of, start_most}

@@ -10,11 +10,11 @@ use Rattle.std.proofs.lemmas.List.{get_or-replicate, get_or-set_other, get_or_pa
 use Rattle.std.proofs.lemmas.List.Sums.{sum_by-set}
 use Rattle.std.proofs.lemmas.Nat.{and_le_l}
 use Rattle.std.proofs.lemmas.Nat.Bits.{bit_at-trailing_zeros, bit_at-zero, bit_at_clear_other, bit_at_clear_same, bit_at_ones, bit_at_set_other, bit_at_set_same}
-use Rattle.falling.specs.Agenda.{IsFirstPending, IsPending}
+use Rattle.falling.specs.Step.Agenda.{IsFirstPending, IsPending}
 use Rattle.std.specs.Vec.{with_items}
 use Rattle.itv_base.specs.declared.limits.TheConstants.{MAX_CONSTRAINTS}
 use Rattle.falling.specs.declared.pending.Pending.TheInside.{Inside}
-use Rattle.falling.specs.Words.{AreEmpty, HasStart}
+use Rattle.falling.specs.Step.Words.{AreEmpty, HasStart}
 
 -- a word with the bit of a number
 abbrev pub with_flag : ℕ → ℕ → ℕ

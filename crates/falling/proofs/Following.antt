@@ -12,7 +12,8 @@ use Rattle.event_graph.specs.Edges.{edge}
 use Rattle.event_graph.specs.Network.{IsNet, Net, cause_count_of}
 use Rattle.event_graph.specs.EventLists.{at_event}
 use Rattle.event_graph.proofs.EventLists.{each_at, empty_at, set_at}
-use Rattle.falling.specs.Agenda.{AreFollowers, AreLists, Grows, HasCause, HasName}
+use Rattle.falling.specs.Agenda.{AreFollowers, AreLists, HasName}
+use Rattle.falling.specs.Step.Agenda.{Grows, HasCause}
 use Rattle.falling.proofs.Between.{then_some}
 use Rattle.falling.proofs.Tried.{cause_below}
 

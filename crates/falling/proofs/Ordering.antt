@@ -10,7 +10,7 @@ use Rattle.event_graph.specs.Network.{Net}
 use Rattle.falling.specs.declared.line.FallLine.{FallLine}
 use Rattle.falling.specs.declared.line.Reason.{Reason}
 use Rattle.falling.specs.declared.line.Reason.TheVariants.{ByEdge, ByLatest}
-use Rattle.falling.specs.Turns.{IsBefore, IsFirstOf, IsFirstOnSide, IsKind, IsSideTried, IsTried, constraint_of, latest_rank, side_rank}
+use Rattle.falling.specs.Step.Turns.{IsBefore, IsFirstOf, IsFirstOnSide, IsKind, IsSideTried, IsTried, constraint_of, latest_rank, side_rank}
 
 -- two sides of a constraint have two places, and neither is that of the latest line
 same_side : (kind : RuleKind) (a b : Side) → side_rank kind a ≡ side_rank kind b → a ≡ b

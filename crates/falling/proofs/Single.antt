@@ -14,7 +14,7 @@ use Rattle.event_graph.specs.Times.{time_of}
 use Rattle.event_graph.proofs.EdgesMet.{cause_of}
 use Rattle.falling.specs.declared.line.Reason.TheVariants.{ByEdge, ByLatest}
 use Rattle.falling.specs.Derivation.{IsLatestHigh}
-use Rattle.falling.specs.Turns.{IsConstraintTried, IsKind, IsSideTried, IsTried}
+use Rattle.falling.specs.Step.Turns.{IsConstraintTried, IsKind, IsSideTried, IsTried}
 use Rattle.falling.proofs.Bounding.{some_and}
 use Rattle.falling.proofs.Settling.{IsMost, at_is, is_some, latest_one, none_all}
 use Rattle.falling.proofs.Tried.{kind_of}

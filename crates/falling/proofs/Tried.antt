@@ -15,7 +15,7 @@ use Rattle.event_graph.proofs.EdgesMet.{All-found, cause_of}
 use Rattle.falling.specs.declared.line.Reason.{Reason}
 use Rattle.falling.specs.declared.line.Reason.TheVariants.{ByEdge, ByLatest}
 use Rattle.falling.specs.Derivation.{IsLatestHigh, IsSettled}
-use Rattle.falling.specs.Turns.{HasOpenHigh, IsConstraintTried, IsHighOf, IsKind, IsLatestValue, IsSideTried, IsTried, constraint_of}
+use Rattle.falling.specs.Step.Turns.{HasOpenHigh, IsConstraintTried, IsHighOf, IsKind, IsLatestValue, IsSideTried, IsTried, constraint_of}
 use Rattle.falling.proofs.Between.{mapped_some, then_some}
 use Rattle.falling.proofs.Bounding.{some_and}
 

@@ -3,7 +3,8 @@ use Rattle.std.proofs.Common.{◌≡◌, ℕ, Option, Some, None, Ok, refl}
 use Rattle.itv_base.specs.declared.names.RuleKind.TheVariants.{Late, Early}
 use Rattle.event_graph.specs.Network.{Net}
 use Rattle.falling.specs.declared.view.View.TheVariants.{Plain, Negated}
-use Rattle.falling.specs.Kinds.{IsNegatable, IsPlain, first_choice}
+use Rattle.falling.specs.Kinds.{IsPlain, first_choice}
+use Rattle.falling.specs.Step.Kinds.{IsNegatable}
 use Rattle.falling.specs.View.{IsViewOf, view_by}
 
 pub plain_view : (net : Net) → IsViewOf net Plain → IsPlain net

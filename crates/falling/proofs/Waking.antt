@@ -17,9 +17,10 @@ use Rattle.event_graph.specs.Times.{time_of}
 use Rattle.falling.specs.declared.line.FallLine.{FallLine}
 use Rattle.falling.specs.declared.line.Reason.TheVariants.{ByEdge, ByLatest}
 use Rattle.event_graph.specs.EventLists.{at_event}
-use Rattle.falling.specs.Agenda.{Agenda, AreOthersTried, IsAgendaFor, IsPending}
+use Rattle.falling.specs.Agenda.{Agenda, IsAgendaFor}
+use Rattle.falling.specs.Step.Agenda.{AreOthersTried, IsPending}
 use Rattle.falling.specs.Derivation.{IsLatestHigh}
-use Rattle.falling.specs.Turns.{IsConstraintTried, IsFirstOf, IsTried, IsTurnLine}
+use Rattle.falling.specs.Step.Turns.{IsConstraintTried, IsFirstOf, IsTried, IsTurnLine}
 use Rattle.falling.proofs.Bounding.{some_and}
 use Rattle.falling.proofs.Settling.{at_is}
 

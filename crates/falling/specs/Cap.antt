@@ -1,5 +1,5 @@
 -- The numbers, in picoseconds, that a solver starts from and ends at.
-use Rattle.std.specs.Prelude.{◌+◌, ◌*◌, ℕ, ℤ, unsigned_abs, max, List, [], ◌∷◌, Option, Some, None}
+use Rattle.std.specs.Prelude.{◌+◌, ◌*◌, ℕ, ℤ, pos, neg_ℤ, ◌≤ℤ◌, unsigned_abs, max, List, [], ◌∷◌, Option, Some, None}
 use Rattle.itv_base.specs.declared.limits.TheConstants.{MAX_EVENTS}
 use Rattle.event_graph.specs.declared.cause.Cause.{Cause}
 use Rattle.event_graph.specs.Limits.{weight_limit}
@@ -39,6 +39,10 @@ enough_turns net = net.events * (3 * net.events * (widest_end net + 1) + 1)
 -- no cap is greater, and so no value
 abbrev pub cap_limit : ℕ
 cap_limit = 2 * MAX_EVENTS * (weight_limit + 1)
+
+-- a value is within the greatest cap in absolute value, so that an end of a range can be added to it, and another value be taken from it
+abbrev pub IsNearValue : ℤ → Type 0
+IsNearValue value = (neg_ℤ (pos cap_limit) ≤ℤ value) × (value ≤ℤ pos cap_limit)
 
 -- no number of turns that is enough is greater
 abbrev pub enough_limit : ℕ

@@ -1,14 +1,12 @@
 -- How a derivation goes.
-use Rattle.std.specs.Prelude.{◌≡◌, ◌⊎◌, ◌≤◌, ℕ, ℤ, pos, neg_ℤ, ◌<ℤ◌, List, length}
+use Rattle.std.specs.Prelude.{◌≡◌, ◌≤◌, ℕ, ℤ, pos, neg_ℤ, List, length}
 use Rattle.itv_base.specs.declared.names.EventId.{EventId}
 use Rattle.event_graph.specs.Limits.{weight_limit}
 use Rattle.event_graph.specs.Network.{Net}
-use Rattle.falling.specs.declared.course.Course.{Course}
-use Rattle.falling.specs.declared.course.Course.TheVariants.{Settled, Ended, Spent}
 use Rattle.falling.specs.declared.limits.Limits.{Limits}
 use Rattle.falling.specs.declared.line.FallLine.{FallLine}
 use Rattle.falling.specs.Cap.{cap, cap_limit, far_line, widest_end}
-use Rattle.falling.specs.Derivation.{IsAllowed, IsDerivation, IsEnded, IsSettled}
+use Rattle.falling.specs.Derivation.{IsAllowed, IsDerivation, IsEnded}
 
 -- the cap and the far line of a network, and the limits that they keep to
 pub record AreLimits (net : Net) (limits : Limits) : Type 0 where
@@ -19,32 +17,9 @@ pub record AreLimits (net : Net) (limits : Limits) : Type 0 where
   pub small : cap net ≤ cap_limit
   pub small_width : widest_end net ≤ weight_limit
 
--- the line brings the source below 0, or its event below the lowest value
-abbrev pub Ends : FallLine → EventId → ℤ → Type 0
-Ends line from lowest = ((line.event ≡ from) × (line.value <ℤ pos 0)) ⊎ (line.value <ℤ lowest)
-
--- the lines are a derivation to the values, which has not ended, and no line is allowed
-pub record HasSettled (net : Net) (from : EventId) (turns : ℕ) (lines : List FallLine) (values : List ℤ) : Type 0 where
-  pub derivation : IsDerivation net from lines values
-  pub not_ended : IsEnded net from values → ⊥
-  pub settled : IsSettled net values
-  pub count : length lines ≤ turns
-
--- the lines are a derivation that ends
-pub record HasEnded (net : Net) (from : EventId) (turns : ℕ) (lines : List FallLine) (values : List ℤ) : Type 0 where
-  pub derivation : IsDerivation net from lines values
-  pub ended : IsEnded net from values
-  pub count : length lines ≤ turns
-
 -- the lines are a derivation of as many lines as turns that has not ended, and one more is allowed
 pub record IsSpent (net : Net) (from : EventId) (turns : ℕ) (lines : List FallLine) (values : List ℤ) : Type 0 where
   pub derivation : IsDerivation net from lines values
   pub not_ended : IsEnded net from values → ⊥
   pub count : length lines ≡ turns
   pub more : (line : FallLine) × IsAllowed net values line
-
--- how a derivation of at most so many turns went
-abbrev pub IsCourse : Net → EventId → ℕ → List FallLine → List ℤ → Course → Type 0
-IsCourse net from turns lines values Settled = HasSettled net from turns lines values
-IsCourse net from turns lines values Ended = HasEnded net from turns lines values
-IsCourse net from turns lines values Spent = IsSpent net from turns lines values

@@ -7,6 +7,7 @@ use Rattle.event_graph.specs.Satisfying.{Satisfies}
 use Rattle.event_graph.specs.Times.{separation, time_of}
 use Rattle.falling.specs.declared.answer.Fallen.{Fallen}
 use Rattle.falling.specs.declared.answer.Fallen.TheVariants.{Closed, Unbounded, Inconsistent, Spent}
+use Rattle.falling.specs.declared.asked.Asked.{Asked}
 use Rattle.falling.specs.declared.line.FallLine.{FallLine}
 use Rattle.falling.specs.Cap.{enough_turns}
 use Rattle.falling.specs.Course.{IsSpent}
@@ -36,9 +37,13 @@ pub record HasSpentTurns (net : Net) (from : EventId) (turns : ℕ) (lines : Lis
   pub spent : IsSpent net from turns lines values
   pub few : turns < enough_turns net
 
+-- a pair of events and so many lines are asked
+abbrev pub asked_of : EventId → EventId → ℕ → Asked
+asked_of from to turns = record { from = from; to = to; turns = turns }
+
 -- what an answer says of a pair of a plain network
-abbrev pub Answers : Net → EventId → EventId → ℕ → List FallLine → List ℤ → List Bool → Fallen → Type 0
-Answers net from to turns lines times ray (Closed value) = IsClosedAt net from to value lines times
-Answers net from to turns lines times ray Unbounded = IsShownUnbounded net from to lines times ray
-Answers net from to turns lines times ray Inconsistent = IsShownInconsistent net from lines
-Answers net from to turns lines times ray Spent = HasSpentTurns net from turns lines times
+abbrev pub Answers : Net → Asked → List FallLine → List ℤ → List Bool → Fallen → Type 0
+Answers net asked lines times ray (Closed value) = IsClosedAt net asked.from asked.to value lines times
+Answers net asked lines times ray Unbounded = IsShownUnbounded net asked.from asked.to lines times ray
+Answers net asked lines times ray Inconsistent = IsShownInconsistent net asked.from lines
+Answers net asked lines times ray Spent = HasSpentTurns net asked.from asked.turns lines times

@@ -1,5 +1,5 @@
 -- Networks whose choices are all of one kind, and their negation.
-use Rattle.std.specs.Prelude.{◌≡◌, ℕ, ℤ, neg_ℤ, nat_le, Bool, false, List, length, map, Option, Some, None, option_map, slice_get}
+use Rattle.std.specs.Prelude.{◌≡◌, ℕ, ℤ, neg_ℤ, nat_le, Bool, false, List, length, map, Option, None, option_map}
 use Rattle.std.specs.List.{position_from}
 use Rattle.itv_base.specs.Range.{Ends}
 use Rattle.itv_base.specs.declared.names.RuleKind.{RuleKind}
@@ -20,10 +20,6 @@ first_choice kind net = position_from (λ (c : Constraint). is_choice kind c.kin
 -- no earliest constraint has two or more causes
 abbrev pub IsPlain : Net → Type 0
 IsPlain net = first_choice Early net ≡ None
-
--- no latest constraint has two or more causes
-abbrev pub IsNegatable : Net → Type 0
-IsNegatable net = first_choice Late net ≡ None
 
 -- the range of the negated numbers
 abbrev pub negated_ends : Ends → Ends
@@ -50,7 +46,3 @@ negated net = record { events = net.events; constraints = map negated_constraint
 -- minus each of the times
 abbrev pub negated_times : List ℤ → List ℤ
 negated_times times = map neg_ℤ times
-
--- the negated causes of the constraint of a number
-abbrev pub AreNegatedCauses : Net → ℕ → List Cause → Type 0
-AreNegatedCauses net number causes = (k : Constraint) → slice_get net.constraints number ≡ Some k → causes ≡ map negated_cause k.causes

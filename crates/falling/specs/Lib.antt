@@ -3,12 +3,11 @@ pub mod Kinds
 pub mod View
 pub mod Gaps
 pub mod Derivation
-pub mod Turns
 pub mod Agenda
-pub mod Words
 pub mod Course
 pub mod Fallen
 pub mod Rays
 pub mod Checking
 pub mod Solving
 pub mod Laws
+pub mod Step

@@ -1,9 +1,7 @@
 -- Gaps among values, and the events beyond one.
-use Rattle.std.specs.Prelude.{◌≡◌, ◌⊎◌, ◌<◌, ◌+◌, ◌-◌, ◌*◌, ℕ, ℤ, pos, ◌+ℤ◌, ◌≤ℤ◌, ◌<ℤ◌, Bool, true, false, List, [], ◌∷◌, length, All, Some, slice_get, slice_index_or, int_lt, if◌then◌else◌}
+use Rattle.std.specs.Prelude.{◌≡◌, ◌⊎◌, ℕ, ℤ, pos, ◌+ℤ◌, ◌≤ℤ◌, ◌<ℤ◌, Bool, true, false, List, All, Some, slice_get}
 use Rattle.itv_base.specs.declared.names.EventId.{EventId}
-use Rattle.event_graph.specs.Network.{Net}
 use Rattle.event_graph.specs.Times.{time_of}
-use Rattle.falling.specs.Cap.{widest_end}
 
 -- each event of a set comes later by more than a width than each other event
 abbrev pub IsApartBy : ℕ → List Bool → List ℤ → Type 0
@@ -13,23 +11,3 @@ IsApartBy width set times = (low high : EventId) → slice_get set low.0 ≡ Som
 -- each value is at most a level, or beyond it by more than a width
 abbrev pub IsGapAt : ℤ → ℤ → List ℤ → Type 0
 IsGapAt width level values = All (λ (value : ℤ). (value ≤ℤ level) ⊎ ((level +ℤ width) <ℤ value)) values
-
--- how many values are above a level
-abbrev pub above : ℤ → List ℤ → ℕ
-above level [] = 0
-above level (value ∷ values) = (if int_lt level value then 1 else 0) + above level values
-
--- a level that is 0 or more and was reached in steps of at most the widest end, no more than values are not above it
-pub record IsClimbed (net : Net) (values : List ℤ) (level : ℤ) : Type 0 where
-  pub low : pos 0 ≤ℤ level
-  pub high : level ≤ℤ pos ((above (pos 0) values - above level values) * widest_end net)
-
--- a step from a level to another that is beyond it and at most the greatest that is allowed, or none where the other is not
-abbrev pub IsStepTo : ℤ → ℤ → ℤ → ℤ → Type 0
-IsStepTo level most other result =
-    ((result ≡ other) × (level <ℤ other) × (other ≤ℤ most)) ⊎ ((result ≡ level) × ((other ≤ℤ level) ⊎ (most <ℤ other)))
-
--- a flag for each value, which says whether it is above a level
-pub record HaveAbove (level : ℤ) (values : List ℤ) (flags : List Bool) : Type 0 where
-  pub count : length flags ≡ length values
-  pub each : (i : ℕ) → i < length values → slice_get flags i ≡ Some (int_lt level (slice_index_or values i (pos 0)))

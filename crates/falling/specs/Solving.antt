@@ -75,20 +75,16 @@ pub record HasSpentTurnsByNegation (net : Net) (to : EventId) (turns : ℕ) (lin
   pub few : turns < enough_turns net
 
 -- what an answer says of a pair of a negatable network
-abbrev pub AnswersByNegation : Net → EventId → EventId → ℕ → List FallLine → List ℤ → List Bool → Fallen → Type 0
-AnswersByNegation net from to turns lines times ray (Closed value) = IsClosedByNegation net from to value lines times
-AnswersByNegation net from to turns lines times ray Unbounded = IsUnboundedByNegation net from to lines times ray
-AnswersByNegation net from to turns lines times ray Inconsistent = IsInconsistentByNegation net to lines
-AnswersByNegation net from to turns lines times ray Spent = HasSpentTurnsByNegation net to turns lines
-
--- a pair of events and so many lines are asked
-abbrev pub asked_of : EventId → EventId → ℕ → Asked
-asked_of from to turns = record { from = from; to = to; turns = turns }
+abbrev pub AnswersByNegation : Net → Asked → List FallLine → List ℤ → List Bool → Fallen → Type 0
+AnswersByNegation net asked lines times ray (Closed value) = IsClosedByNegation net asked.from asked.to value lines times
+AnswersByNegation net asked lines times ray Unbounded = IsUnboundedByNegation net asked.from asked.to lines times ray
+AnswersByNegation net asked lines times ray Inconsistent = IsInconsistentByNegation net asked.to lines
+AnswersByNegation net asked lines times ray Spent = HasSpentTurnsByNegation net asked.to asked.turns lines
 
 -- what an answer says of a pair, by whether the negation was solved
 abbrev pub AnswersAs : Option Net → Net → Asked → List FallLine → List ℤ → List Bool → Fallen → Type 0
-AnswersAs None net asked lines times ray answer = Answers net asked.from asked.to asked.turns lines times ray answer
-AnswersAs (Some negation) net asked lines times ray answer = AnswersByNegation net asked.from asked.to asked.turns lines times ray answer
+AnswersAs None net asked lines times ray answer = Answers net asked lines times ray answer
+AnswersAs (Some negation) net asked lines times ray answer = AnswersByNegation net asked lines times ray answer
 
 -- the lines are a derivation in the network from the from-event, or in the negation from the to-event
 abbrev pub IsDerivationAs : Option Net → Net → EventId → EventId → List FallLine → List ℤ → Type 0

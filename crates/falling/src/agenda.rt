@@ -4,9 +4,11 @@ ghost use Rattle.std.specs.Prelude.{◌≡◌, ◌<◌, ◌*◌, ℕ, ℤ, ◌<�
 ghost use Rattle.event_graph.specs.Network.{IsNet, Net};
 ghost use Rattle.event_graph.specs.Times.{time_of};
 ghost use Rattle.event_graph.specs.EventLists.{at_event};
-ghost use Rattle.falling.specs.Agenda.{AreOthersTried, IsAgendaFor};
+ghost use Rattle.falling.specs.Agenda.{IsAgendaFor};
+ghost use Rattle.falling.specs.Step.Agenda.{AreOthersTried};
 ghost use Rattle.falling.specs.Derivation.{IsAllowed, IsSettled};
-ghost use Rattle.falling.specs.Turns.{IsNearValue, IsTurnLine};
+ghost use Rattle.falling.specs.Step.Turns.{IsTurnLine};
+ghost use Rattle.falling.specs.Cap.{IsNearValue};
 
 use crate::followers::followers;
 use crate::line::FallLine;

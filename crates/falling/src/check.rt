@@ -4,7 +4,7 @@ ghost use Rattle.std.specs.Prelude.{◌≡◌, ◌<◌, All, OnOk, IfOk, IfErr, 
 ghost use Rattle.event_graph.specs.Network.{IsNet};
 ghost use Rattle.falling.specs.Checking.{IsEdgeTo, IsLatestTo, IsLineFault, IsReasonFault};
 ghost use Rattle.falling.specs.Derivation.{IsAllowed, IsDue, IsDueByEdge, IsDueByLatest};
-ghost use Rattle.falling.specs.Turns.{IsNearValue};
+ghost use Rattle.falling.specs.Cap.{IsNearValue};
 
 use crate::fault::FallCheckFault;
 use crate::line::{FallLine, Reason};

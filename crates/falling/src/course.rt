@@ -4,7 +4,8 @@ ghost use Rattle.std.specs.Prelude.{◌≡◌, ◌<◌, ◌≤◌, ◌↔◌, �
 ghost use Rattle.itv_base.specs.Outside.{Rose};
 ghost use Rattle.falling.specs.declared.line.FallLine.{FallLine};
 ghost use Rattle.falling.specs.Agenda.{IsAgendaFor};
-ghost use Rattle.falling.specs.Course.{AreLimits, Ends, IsCourse};
+ghost use Rattle.falling.specs.Course.{AreLimits};
+ghost use Rattle.falling.specs.Step.Course.{Ends, IsCourse};
 ghost use Rattle.falling.specs.Derivation.{IsDerivation, fallen};
 
 use crate::agenda::Agenda;

@@ -5,12 +5,13 @@ ghost use Rattle.itv_base.specs.Outside.{Rose};
 ghost use Rattle.event_graph.specs.Network.{Net};
 ghost use Rattle.falling.specs.declared.line.FallLine.{FallLine};
 ghost use Rattle.falling.specs.Agenda.{IsAgendaFor};
-ghost use Rattle.falling.specs.Cap.{enough_limit, enough_turns};
+ghost use Rattle.falling.specs.Cap.{IsNearValue, enough_limit, enough_turns};
 ghost use Rattle.falling.specs.Course.{AreLimits};
 ghost use Rattle.falling.specs.Derivation.{IsDerivation};
-ghost use Rattle.falling.specs.Kinds.{IsNegatable, negated, negated_times};
-ghost use Rattle.falling.specs.Solving.{AnswersAs, AnswersByNegation, IsDerivationAs, IsMadeFor, IsNegationOf, asked_of, solved};
-ghost use Rattle.falling.specs.Turns.{IsNearValue};
+ghost use Rattle.falling.specs.Kinds.{negated, negated_times};
+ghost use Rattle.falling.specs.Step.Kinds.{IsNegatable};
+ghost use Rattle.falling.specs.Fallen.{asked_of};
+ghost use Rattle.falling.specs.Solving.{AnswersAs, AnswersByNegation, IsDerivationAs, IsMadeFor, IsNegationOf, solved};
 ghost use Rattle.falling.specs.View.{IsViewOf};
 
 use crate::agenda::Agenda;
@@ -42,6 +43,7 @@ pub struct Falling {
 }
 
 impl Model for Falling {
+    ghost use Rattle.falling.specs.Fallen.{asked_of};
     ghost use Rattle.falling.specs.Solving.{Solving};
 
     ghost Value = { Solving };
@@ -229,7 +231,7 @@ fn greatest_by_negation<N: Notes>(
     requires agenda { IsAgendaFor negation.now guide.old.agenda }
     ensures lines { IfOk result (λ told. (lines : List FallLine) × N.Grew notes.old lines notes.new
         × (length lines ≡ told.turns)
-        × AnswersByNegation net.now asked.from asked.to asked.turns lines times.new ray.new told.fallen) }
+        × AnswersByNegation net.now asked lines times.new ray.new told.fallen) }
     ensures most { IfOk result (λ told. told.turns ≤ asked.turns) }
     ensures cut { OnErr result ((lines : List FallLine) × N.WasCut notes.old lines notes.new
         × (length lines ≤ asked.turns) × (after : List ℤ) × IsDerivation (negated net.now) asked.to lines after) }

@@ -2,7 +2,8 @@
 
 ghost use Rattle.std.specs.Prelude.{◌<◌, ℕ, Contains, IfOk, IsTrue, OnOk, length};
 ghost use Rattle.event_graph.specs.Network.{IsNet};
-ghost use Rattle.falling.specs.Agenda.{AreFollowers, AreLists, Grows, HasCause, HasName};
+ghost use Rattle.falling.specs.Agenda.{AreFollowers, AreLists, HasName};
+ghost use Rattle.falling.specs.Step.Agenda.{Grows, HasCause};
 
 use event_graph::{ByEvent, Network};
 use itv_base::{EdgeName, NoMemory, Side};

@@ -4,7 +4,8 @@ ghost use Rattle.std.specs.Prelude.{◌≡◌, ◌*◌, ◌⊎◌, ◌<◌, pos,
 ghost use Rattle.event_graph.specs.Limits.{weight_limit};
 ghost use Rattle.falling.specs.Cap.{cap_limit, widest_end};
 ghost use Rattle.falling.specs.Course.{AreLimits};
-ghost use Rattle.falling.specs.Rays.{IsClimbed, IsGapAt, IsStepTo, above};
+ghost use Rattle.falling.specs.Rays.{IsGapAt};
+ghost use Rattle.falling.specs.Step.Rays.{IsClimbed, IsStepTo, above};
 
 use crate::limits::Limits;
 use event_graph::Network;

@@ -7,11 +7,12 @@ ghost use Rattle.event_graph.specs.Times.{time_of};
 ghost use Rattle.falling.specs.declared.answer.Fallen.TheVariants.{Closed};
 ghost use Rattle.falling.specs.declared.line.FallLine.{FallLine};
 ghost use Rattle.falling.specs.Agenda.{IsAgendaFor};
-ghost use Rattle.falling.specs.Course.{AreLimits, HasSettled};
+ghost use Rattle.falling.specs.Course.{AreLimits};
+ghost use Rattle.falling.specs.Step.Course.{HasSettled};
 ghost use Rattle.falling.specs.Derivation.{IsDerivation};
-ghost use Rattle.falling.specs.Fallen.{Answers};
+ghost use Rattle.falling.specs.Fallen.{Answers, asked_of};
 ghost use Rattle.falling.specs.Kinds.{IsPlain};
-ghost use Rattle.falling.specs.Rays.{HaveAbove};
+ghost use Rattle.falling.specs.Step.Rays.{HaveAbove};
 
 use crate::answer::{Fallen, Told};
 use crate::asked::Asked;
@@ -42,7 +43,7 @@ pub fn greatest<N: Notes>(
     requires agenda { IsAgendaFor net.now guide.old.agenda }
     ensures lines { IfOk result (λ told. (lines : List FallLine) × N.Grew notes.old lines notes.new
         × (length lines ≡ told.turns)
-        × Answers net.now asked.from asked.to asked.turns lines values.new ray.new told.fallen) }
+        × Answers net.now asked lines values.new ray.new told.fallen) }
     ensures most { IfOk result (λ told. told.turns ≤ asked.turns) }
     ensures cut { OnErr result ((lines : List FallLine) × N.WasCut notes.old lines notes.new
         × (length lines ≤ asked.turns) × (after : List ℤ) × IsDerivation net.now asked.from lines after) }
@@ -86,7 +87,7 @@ fn settled(net: &Network, to: EventId, limits: Limits, values: &[i64], ray: &mut
     requires limits { AreLimits net.now limits }
     ensures answers { (from : EventId) (turns : ℕ) (lines : List FallLine) → from.0 < net.now.events
         → HasSettled net.now from turns lines values.now
-        → Answers net.now from to turns lines values.now ray.new result }
+        → Answers net.now (asked_of from to turns) lines values.now ray.new result }
     ensures ray { length ray.new ≡ length ray.old }
 {
     prove!(net.events() as usize == values.len());

@@ -3,7 +3,8 @@
 ghost use Rattle.std.specs.Prelude.{◌≡◌, ◌<◌, ◌++◌, ◌∷◌, [], neg_ℤ, option_map, IfOk, OnOk, length, slice_get, Some};
 ghost use Rattle.itv_base.specs.Range.{IsEnd};
 ghost use Rattle.event_graph.specs.Network.{Constraint, IsNet};
-ghost use Rattle.falling.specs.Kinds.{AreNegatedCauses, negated, negated_cause, negated_constraint, negated_ends};
+ghost use Rattle.falling.specs.Kinds.{negated, negated_cause, negated_constraint, negated_ends};
+ghost use Rattle.falling.specs.Step.Kinds.{AreNegatedCauses};
 
 use event_graph::{Cause, Network, PushFault};
 use itv_base::{NoMemory, Range, RuleKind};

@@ -2,8 +2,8 @@
 
 ghost use Rattle.std.specs.Prelude.{◌≡◌, ◌≢◌, ◌<◌, ◌≤◌, ◌*◌, ◌/◌, ℕ, All, IfOk, IfSome, IfNone, length, slice_index_or, sum};
 ghost use Rattle.itv_base.specs.declared.limits.TheConstants.{MAX_CONSTRAINTS};
-ghost use Rattle.falling.specs.Agenda.{IsFirstPending, IsPending};
-ghost use Rattle.falling.specs.Words.{AreEmpty};
+ghost use Rattle.falling.specs.Step.Agenda.{IsFirstPending, IsPending};
+ghost use Rattle.falling.specs.Step.Words.{AreEmpty};
 
 use itv_base::NoMemory;
 use std::alloc::Global;
@@ -19,7 +19,7 @@ pub struct Pending {
 
 impl Model for Pending {
     ghost use Rattle.std.specs.Prelude.{List, ℕ};
-    ghost use Rattle.falling.specs.Words.{HasStart};
+    ghost use Rattle.falling.specs.Step.Words.{HasStart};
 
     ghost Value = { List ℕ };
 

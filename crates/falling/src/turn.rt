@@ -6,9 +6,10 @@ ghost use Rattle.itv_base.specs.declared.names.RuleKind.TheVariants as RuleKind;
 ghost use Rattle.itv_base.specs.declared.names.Side.TheVariants as Side;
 ghost use Rattle.event_graph.specs.Network.{IsNet, cause_at};
 ghost use Rattle.falling.specs.declared.line.Reason.TheVariants.{ByEdge, ByLatest};
-ghost use Rattle.falling.specs.Agenda.{AreOthersTried};
+ghost use Rattle.falling.specs.Step.Agenda.{AreOthersTried};
 ghost use Rattle.falling.specs.Derivation.{IsAllowed, IsSettled};
-ghost use Rattle.falling.specs.Turns.{HasOpenHigh, HoldsSide, IsConstraintTried, IsHighOf, IsKind, IsFirstOf, IsFirstOnSide, IsLatestValue, IsNearValue, IsSideTried, IsTried, IsTurnLine, MayLook};
+ghost use Rattle.falling.specs.Step.Turns.{HasOpenHigh, HoldsSide, IsConstraintTried, IsHighOf, IsKind, IsFirstOf, IsFirstOnSide, IsLatestValue, IsSideTried, IsTried, IsTurnLine, MayLook};
+ghost use Rattle.falling.specs.Cap.{IsNearValue};
 
 use crate::line::{FallLine, Reason};
 use crate::pending::Pending;

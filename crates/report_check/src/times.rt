@@ -2,7 +2,7 @@
 
 ghost use Rattle.std.specs.Prelude.{◌≡◌, ◌<◌, ◌↔◌, ◌-ℤ◌, IsTrue, All, length};
 ghost use Rattle.event_graph.specs.Satisfying.{Satisfies};
-ghost use Rattle.event_graph.specs.Times.{IsTime, separation, time_of};
+ghost use Rattle.event_graph.specs.Times.{IsTime, separation};
 ghost use Rattle.drawn.specs.Drawn.{AreTimes};
 ghost use Rattle.right_report.specs.Right.Facts.{Attains, Breaks, CanRise};
 ghost use Rattle.right_report.specs.Checked.{checked};
@@ -11,7 +11,7 @@ ghost use Rattle.report_check.specs.Step.Stages.{side_told};
 use crate::stage::Side;
 use cert_checker::check_ray;
 use drawn::Row;
-use event_graph::Network;
+use event_graph::{Network, time_of};
 use itv_base::{EventId, Range};
 use requirements::{Bound, Verdict};
 
@@ -33,16 +33,6 @@ fn satisfy(net: &Network, times: &[i64]) -> bool
     ensures satisfied { IsTrue result ↔ (All IsTime times.now × Satisfies times.now net.now) }
 {
     times.len() == net.events() as usize && are_within(times) && net.broken(times).is_none()
-}
-
-// The time of an event, or 0 where there is none.
-fn time_of(times: &[i64], event: EventId) -> i64
-    ensures time { result ≡ time_of times.now event }
-{
-    match times.get(event.0 as usize) {
-        None => 0,
-        Some(time) => *time,
-    }
 }
 
 /// Whether times satisfy the network with event 0 at 0, as behind a consistent finding.

@@ -1,5 +1,5 @@
 -- Raising the events of a set one by one, and by how much they have to rise.
-use Rattle.std.proofs.Common.{◌≡◌, ℕ, zero, suc, ◌+◌, ◌<◌, ℤ, pos, negsuc, ◌+ℤ◌, ◌-ℤ◌, ◌≤ℤ◌, ◌<ℤ◌, Bool, true, false, cond, List, [], ◌∷◌, length, get_or, take, Some, slice_get, refl, sym, ap, ◌∙◌, arith, add-one}
+use Rattle.std.proofs.Common.{◌≡◌, ℕ, zero, suc, ◌+◌, ◌<◌, ℤ, pos, negsuc, ◌+ℤ◌, ◌-ℤ◌, ◌≤ℤ◌, ◌<ℤ◌, Bool, true, false, cond, List, [], ◌∷◌, length, get_or, take, Some, slice_get, refl, sym, subst, ap, ◌∙◌, arith, add-one}
 use Rattle.std.proofs.Math.ListN.{set}
 use Rattle.std.proofs.Common.{w64}
 use Rattle.std.specs.Prelude.{All, FitsSigned}
@@ -8,9 +8,11 @@ use Rattle.std.proofs.lemmas.List.Elements.{All-get_or}
 use Rattle.std.proofs.lemmas.Int.{ints, to_z-of_z}
 use Rattle.std.proofs.lemmas.Option.{slice_get_within}
 use Rattle.itv_base.specs.declared.names.EventId.{EventId}
-use Rattle.event_graph.specs.Times.{IsTime, raised, separation}
+use Rattle.event_graph.specs.Times.{IsTime, raised, separation, time_of}
+use Rattle.event_graph.proofs.MovingOn.{read_time}
 use Rattle.event_graph.proofs.Rays.{separation-raised}
-use Rattle.requirements.specs.Raising.{RaisesPast, not_negative, rise_past}
+use Rattle.requirements.specs.Raising.{RaisesPast}
+use Rattle.requirements.specs.Step.Raising.{not_negative, rise_past}
 
 -- an event behind those that were looked at has its time yet
 pub time_yet : (set : List Bool) (by : ℕ) (times : List ℤ) (i : ℕ) (d : ℤ) → get_or (raised (take i set) by times) i d ≡ get_or times i d
@@ -64,14 +66,6 @@ raises_past old flags from to limit new count holds lacks is =
     least_from : (value limit less : ℤ) → less <ℤ ((limit -ℤ value) +ℤ pos 1) → (value +ℤ less) ≤ℤ limit
     least_from value limit less h = omega (arith, ints)
 
-fits_time : (z : ℤ) → IsTime z → FitsSigned w64 z
-fits_time (pos n) h = record { sfits = omega (arith, ints) }
-fits_time (negsuc n) h = record { sfits = omega (arith, ints) }
-
--- a time as it is read
-pub read_time : (z : ℤ) → IsTime z → to_z w64 (of_z w64 z) ≡ z
-read_time z h = to_z-of_z w64 z (fits_time z h)
-
 -- an event that was not looked at yet has its old time
 old_time : (flags : List Bool) (by : ℕ) (old now : List ℤ) (i : ℕ) → All IsTime old → now ≡ raised (take i flags) by old → i < length old
     → (get_or now i (pos 0) ≡ get_or old i (pos 0)) × IsTime (get_or old i (pos 0))
@@ -98,3 +92,15 @@ pub step_out : (flags : List Bool) (by : ℕ) (old now next : List ℤ) (i : ℕ
     → get_or flags i false ≡ false → next ≡ now → next ≡ raised (take (i + 1) flags) by old
 step_out flags by old now next i is within inside here stays =
     stays ∙ is ∙ sym (raised_more flags by old i false (pos 0) within inside (sym here))
+
+-- the time of an event that is there
+pub time_there : (times : List ℤ) (event : EventId) (time : ℤ) → All IsTime times → event.0 < length times → time ≡ time_of times event → IsTime time
+time_there times event time known within is = subst IsTime (sym is) (known event.0 (pos 0) within)
+
+-- a flag of a set stands for an event that is there
+pub flag_there : (times : List ℤ) (flags : List Bool) (event : EventId) (flag : Bool) → length times ≡ length flags → slice_get flags event.0 ≡ Some flag → event.0 < length times
+flag_there times flags event flag count is = omega (arith, slice_get_within flags event.0 flag is)
+
+-- a time is one as it is read
+pub time_read : (z : ℤ) → IsTime z → IsTime (to_z w64 (of_z w64 z))
+time_read z h = subst IsTime (sym (read_time z h)) h

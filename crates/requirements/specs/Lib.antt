@@ -3,3 +3,4 @@ pub mod Verdicts
 pub mod Slacks
 pub mod Raising
 pub mod Laws
+pub mod Step

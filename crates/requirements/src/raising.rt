@@ -1,9 +1,11 @@
 //! Times that are raised past a limit.
 
 ghost use Rattle.std.specs.Prelude.{◌≡◌, ◌<◌, ◌+◌, ◌^◌, pos, ◌+ℤ◌, ◌-ℤ◌, ◌<ℤ◌, ◌≤ℤ◌, neg_ℤ, true, false, length, All, Some, slice_get};
-ghost use Rattle.event_graph.specs.Times.{IsTime, raised, time_of};
-ghost use Rattle.requirements.specs.Raising.{RaisesPast, not_negative, rise_past};
+ghost use Rattle.event_graph.specs.Times.{IsTime, raised};
+ghost use Rattle.requirements.specs.Raising.{RaisesPast};
+ghost use Rattle.requirements.specs.Step.Raising.{not_negative, rise_past};
 
+use event_graph::time_of;
 use itv_base::EventId;
 
 fn gap(from: i64, to: i64) -> i64
@@ -65,16 +67,6 @@ fn raise(times: &mut [i64], set: &[bool], by: u64)
             times[event] = later(times[event], by);
         }
     }
-}
-
-// The time of an event.
-fn time_of(times: &[i64], event: EventId) -> i64
-    requires event { event.0 < length times.now }
-    requires times { All IsTime times.now }
-    ensures time { result ≡ time_of times.now event }
-    ensures within { IsTime result }
-{
-    times[event.0 as usize]
 }
 
 /// Raises the times of a set of events by the least number of picoseconds, 0 or more, with which the separation of a pair

@@ -12,7 +12,8 @@ use Rattle.right_report.specs.Right.At.{At, Side, Telling, at_bound, at_event, a
 use Rattle.right_report.specs.Right.Following.{Facts, MayFollow, Reads}
 use Rattle.slack_report.proofs.Judging.{report_text-append}
 use Rattle.right_report.proofs.RightOrder.{reads-append}
-use Rattle.right_report.specs.Writing.{Leads, Stopped, Wrote}
+use Rattle.right_report.specs.Writing.{Stopped, Wrote}
+use Rattle.right_report.specs.Step.Writing.{Leads}
 use Rattle.std.specs.Bool.{⊤}
 
 -- the text of one line

@@ -6,3 +6,4 @@ pub mod Texts
 pub mod Told
 pub mod Writing
 pub mod Laws
+pub mod Step

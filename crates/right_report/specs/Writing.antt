@@ -1,5 +1,5 @@
 -- What a writer of a report promises: the lines that it put lead from a place to another.
-use Rattle.std.specs.Prelude.{◌≡◌, List, Result, Ok, Err}
+use Rattle.std.specs.Prelude.{◌≡◌, List}
 use Rattle.itv_base.specs.Outside.{CutShort, SinkTold, grown}
 use Rattle.slack_report.specs.Entry.{Entry}
 use Rattle.slack_report.specs.Text.{report_text}
@@ -19,8 +19,3 @@ pub record Stopped (facts : Facts) (drawn : Drawn) (here : At) (old new : SinkTo
   pub last : At
   pub reads : Reads facts drawn here lines last
   pub cut : CutShort old new (report_text lines)
-
--- what a step writes: lines that lead from a place to one that its answer names, or a front of such lines
-abbrev pub Leads : {B E : Type 0} → Facts → Drawn → At → (B → At) → SinkTold → SinkTold → Result B E → Type 0
-Leads facts drawn here to old new (Ok x) = Wrote facts drawn here (to x) old new
-Leads facts drawn here to old new (Err e) = Stopped facts drawn here old new

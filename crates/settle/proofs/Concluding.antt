@@ -19,7 +19,7 @@ use Rattle.settle.specs.declared.race.Ending.TheVariants.{Closed as ClosedBy, Un
 use Rattle.settle.specs.declared.race.Race.{Race}
 use Rattle.settle.specs.Found.{IsFound, IsSettledAt, IsSettledInconsistent, IsSettledUnbounded}
 use Rattle.settle.specs.Proofs.{IsProofAs, IsProving, Proving, lines_of}
-use Rattle.settle.specs.Racing.{AreTimes, IsEnding, IsOverAs, IsRacing, line_count, lines_as}
+use Rattle.settle.specs.Step.Racing.{AreTimes, IsEnding, IsOverAs, IsRacing, line_count, lines_as}
 
 -- the lines of a search that is over are a proof of its goal
 pub proof_of : (net : Net) (goal : Goal) (proving : Proving) → IsProving net proving → proving.check.goal ≡ goal → IsOver net proving.check.goal proving.check.state

@@ -6,7 +6,7 @@ use Rattle.event_graph.specs.Network.{Net}
 use Rattle.event_graph.specs.Satisfying.{Satisfies}
 use Rattle.event_graph.specs.Times.{separation}
 use Rattle.falling.specs.declared.view.View.{View}
-use Rattle.falling.specs.Cap.{far_line}
+use Rattle.falling.specs.Cap.{IsNearValue, far_line}
 use Rattle.falling.specs.Course.{AreLimits}
 use Rattle.falling.specs.Kinds.{negated}
 use Rattle.settle.specs.declared.found.Found.{Found}
@@ -15,20 +15,19 @@ use Rattle.settle.specs.declared.found.Settled.TheVariants.{Closed, Unbounded, I
 use Rattle.settle.specs.declared.line.ProofLine.{ProofLine}
 use Rattle.settle.specs.declared.settler.Settler.{Settler}
 use Rattle.settle.specs.Proofs.{IsProofAs}
-use Rattle.settle.specs.Racing.{IsNear}
 
 -- the value is the greatest separation, times within the greatest cap satisfy and attain it, and the lines prove that none exceeds it
 pub record IsSettledAt (net : Net) (from to : EventId) (value : ℤ) (view : View) (lines : List ProofLine) (times : List ℤ) : Type 0 where
   pub greatest : IsGreatest net from to value
   pub satisfies : Satisfies times net
   pub attained : separation times from to ≡ value
-  pub near : All IsNear times
+  pub near : All IsNearValue times
   pub proof : IsProofAs view net from to value lines
 
 -- times within the greatest cap satisfy, and the events of the ray can be raised from them without end
 pub record IsSettledUnbounded (net : Net) (from to : EventId) (times : List ℤ) (ray : List Bool) : Type 0 where
   pub satisfies : Satisfies times net
-  pub near : All IsNear times
+  pub near : All IsNearValue times
   pub raised : IsRay net from to times ray
 
 -- no times satisfy, and the lines prove it: they prove a claim below minus the far line

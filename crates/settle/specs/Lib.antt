@@ -1,3 +1,3 @@
 pub mod Proofs
-pub mod Racing
 pub mod Found
+pub mod Step

@@ -3,7 +3,8 @@
 ghost use Rattle.std.specs.Prelude.{◌≡◌, ◌↔◌, ◌<◌, ◌<ℤ◌, IsTrue, All, IfSome, length};
 ghost use Rattle.event_graph.specs.Satisfying.{Satisfies};
 ghost use Rattle.event_graph.specs.Times.{IsTime, separation};
-ghost use Rattle.settle.specs.Racing.{AreTimes, IsNear};
+ghost use Rattle.settle.specs.Step.Racing.{AreTimes};
+ghost use Rattle.falling.specs.Cap.{IsNearValue};
 
 use clauses::Claim;
 use event_graph::Network;
@@ -45,7 +46,7 @@ pub fn more_by(
     requires from { from.0 < net.now.events }
     requires to { to.0 < net.now.events }
     ensures count { IfSome result (λ _. length times.now.items ≡ net.now.events) }
-    ensures near { IfSome result (λ _. All IsNear times.now.items) }
+    ensures near { IfSome result (λ _. All IsNearValue times.now.items) }
     ensures times { IfSome result (λ _. All IsTime times.now.items) }
     ensures satisfies { IfSome result (λ more. AreTimes net.now from to more.value times.now.items) }
     ensures more { IfSome result (λ more. claim.value <ℤ more.value) }
@@ -62,7 +63,7 @@ pub fn more_by(
 
 // Whether a number is within the greatest cap in absolute value.
 fn is_near(time: i64) -> bool
-    ensures near { IsTrue result ↔ IsNear time }
+    ensures near { IsTrue result ↔ IsNearValue time }
 {
     -FARTHEST <= time && time <= FARTHEST
 }

@@ -6,7 +6,7 @@ ghost use Rattle.event_graph.specs.Times.{IsTime};
 ghost use Rattle.falling.specs.Course.{AreLimits};
 ghost use Rattle.falling.specs.Kinds.{negated};
 ghost use Rattle.settle.specs.declared.prover.Told.TheVariants.{Over};
-ghost use Rattle.settle.specs.Racing.{IsEnding, IsOverAs, IsRacing, IsRayEnding, line_count};
+ghost use Rattle.settle.specs.Step.Racing.{IsEnding, IsOverAs, IsRacing, IsRayEnding, line_count};
 
 use crate::best::{Best, more_by, times_of};
 use crate::prover::{Prover, Told};

@@ -7,7 +7,7 @@ ghost use Rattle.event_graph.specs.Network.{Net};
 ghost use Rattle.falling.specs.declared.view.View.TheVariants.{Negated, Plain};
 ghost use Rattle.settle.specs.declared.found.Settled.TheVariants.{Closed};
 ghost use Rattle.settle.specs.Found.{IsFound, IsMadeFor};
-ghost use Rattle.settle.specs.Racing.{IsEnding, IsRacing, line_count};
+ghost use Rattle.settle.specs.Step.Racing.{IsEnding, IsRacing, line_count};
 
 use crate::best::Best;
 use crate::found::{Found, Settled};

@@ -12,7 +12,7 @@ ghost use Rattle.settle_check.specs.Step.{ArePrinted};
 use crate::reader::Reader;
 use crate::stop::Stop;
 use drawn::Row;
-use event_graph::Network;
+use event_graph::{Network, time_of};
 use itv_base::{END_LIMIT, EventId, MAX_EVENTS, Range};
 use requirements::Verdict;
 use slack_report::Which;
@@ -70,16 +70,6 @@ fn satisfy(net: &Network, times: &[i64]) -> bool
     ensures satisfied { IsTrue result → Satisfies times.now net.now }
 {
     net.broken(times).is_none()
-}
-
-/// The time of an event, or 0 where there is none.
-pub fn time_of(times: &[i64], event: EventId) -> i64
-    ensures time { result ≡ time_of times.now event }
-{
-    match times.get(event.0 as usize) {
-        None => 0,
-        Some(time) => *time,
-    }
 }
 
 /// Whether times of a row have a separation, in picoseconds.

@@ -20,8 +20,9 @@ use Rattle.clauses.specs.declared.basis.Step.{Step}
 use Rattle.clauses.specs.Lines.{Assume, ClauseLine, Close, Fall, Know, Loop}
 use Rattle.settle.specs.declared.line.ProofLine.{ProofLine}
 use Rattle.settle.specs.Proofs.{line_of as stored_line_of}
-use Rattle.settle_lines.specs.Answer.{IsClauseRead, IsReadAs}
-use Rattle.settle_lines.specs.Reading.{assume_in, basis_in, clause_in, close_in, closing, fall_of, first_number, know_in, know_of, line_in, literal_in, loop_in, loop_of, numbered, short_in, step_in, steps_in}
+use Rattle.settle_lines.specs.Answer.{IsReadAs}
+use Rattle.settle_lines.specs.Step.Answer.{IsClauseRead}
+use Rattle.settle_lines.specs.Step.Reading.{assume_in, basis_in, clause_in, close_in, closing, fall_of, first_number, know_in, know_of, line_in, literal_in, loop_in, loop_of, numbered, short_in, step_in, steps_in}
 use Rattle.settle_lines.specs.Text.{IsBasisName, IsClauseLine, IsLiteralName, IsStepName, SpellsClause, basis_word, clause_words, literal_word, step_words}
 use Rattle.settle_lines.proofs.WordLaws.{basis_inverts, basis_plain, literal_inverts, literal_plain, one_of, short_inverts}
 

@@ -5,7 +5,7 @@ use Rattle.line_words.specs.Words.{◌>>=◌, Word}
 use Rattle.line_words.specs.Views.{texts}
 use Rattle.line_words.proofs.Looping.{in_front, texts_none}
 use Rattle.clauses.specs.declared.basis.Step.{Step}
-use Rattle.settle_lines.specs.Reading.{first_step, steps_in}
+use Rattle.settle_lines.specs.Step.Reading.{first_step, steps_in}
 
 -- the steps so far, and the words that are left
 pub record StepsSoFar (list : List Step) (rest : List Word) (total : Option (List Step)) : Type 0 where

@@ -22,7 +22,7 @@ use Rattle.certificate.proofs.LineLaws.{edge_inverts}
 use Rattle.clauses.specs.declared.basis.Basis.{Basis}
 use Rattle.clauses.specs.declared.basis.Basis.TheVariants.{ByEdge, BySide, ByLatest, ByEarliest, ByKept}
 use Rattle.clauses.specs.declared.literal.Literal.{Literal}
-use Rattle.settle_lines.specs.Reading.{basis_in, lettered_in, literal_in, short_in, side_in}
+use Rattle.settle_lines.specs.Step.Reading.{basis_in, lettered_in, literal_in, short_in, side_in}
 use Rattle.settle_lines.specs.Text.{IsBasisName, IsLiteralName, basis_word, literal_word, met_sign}
 
 -- ---- numbers

@@ -3,7 +3,7 @@
 ghost use Rattle.std.specs.Prelude.{◌≡◌, ◌↔◌, Some};
 ghost use Rattle.line_words.specs.Lines.{ended};
 ghost use Rattle.line_words.specs.Numbers.{IsLong};
-ghost use Rattle.settle_lines.specs.Reading.{claim_in, view_in};
+ghost use Rattle.settle_lines.specs.Step.Reading.{claim_in, view_in};
 ghost use Rattle.settle_lines.specs.Text.{claim_text, view_text};
 
 use clauses::Claim;

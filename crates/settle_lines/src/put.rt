@@ -5,12 +5,12 @@ ghost use Rattle.std.specs.List.{flat_map};
 ghost use Rattle.itv_base.specs.Numerals.{number_text, signed_text};
 ghost use Rattle.itv_base.specs.Outside.{Puts};
 ghost use Rattle.line_words.specs.Lines.{ended, spaced};
-ghost use Rattle.certificate.specs.Text.{edge_word, side_letter};
 ghost use Rattle.settle_lines.specs.Text.{basis_word, literal_word, met_sign, step_words};
 
+use certificate::put_edge;
 use clauses::{Basis, EventFall, Literal, Step};
 use itoa::Buffer;
-use itv_base::{EdgeName, EventId, PutFailed, Side, Sink, number_text, put_all, signed_text};
+use itv_base::{EventId, PutFailed, Sink, number_text, put_all, signed_text};
 use line_words::put_spaced;
 
 /// The word that a line begins with, a space and the number of an event.
@@ -71,32 +71,6 @@ fn put_basis<K: Sink>(basis: Basis, sink: &mut K) -> Result<(), PutFailed>
         Basis::ByLatest(constraint) => put_number(b"L", constraint, sink),
         Basis::ByEarliest(constraint) => put_number(b"E", constraint, sink),
         Basis::ByKept(clause) => put_number(b"K", clause, sink),
-    }
-}
-
-fn put_edge<K: Sink>(edge: EdgeName, sink: &mut K) -> Result<(), PutFailed>
-    ensures { Puts (K.told sink.old) (K.told sink.new) (spaced (edge_word edge)) result }
-{
-    let mut constraint = Buffer::new();
-    let mut cause = Buffer::new();
-    put_all(
-        sink,
-        &[
-            b" ",
-            number_text(u64::from(edge.constraint), &mut constraint).as_bytes(),
-            b".",
-            number_text(u64::from(edge.cause), &mut cause).as_bytes(),
-            side_letter(edge.side),
-        ],
-    )
-}
-
-fn side_letter(side: Side) -> &'static [u8]
-    ensures { result.now ≡ side_letter side }
-{
-    match side {
-        Side::Upper => b"u",
-        Side::Lower => b"l",
     }
 }
 

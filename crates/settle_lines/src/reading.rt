@@ -5,8 +5,9 @@ ghost use Rattle.clauses.specs.Lines.{ClauseLine};
 ghost use Rattle.line_words.specs.Views.{texts};
 ghost use Rattle.line_words.specs.Words.{many};
 ghost use Rattle.settle.specs.Proofs.{line_of};
-ghost use Rattle.settle_lines.specs.Answer.{IsClauseRead, IsReadAs};
-ghost use Rattle.settle_lines.specs.Reading.{assume_in, clause_in, close_in, fall_in, know_in, line_in, literal_in, loop_in, steps_in};
+ghost use Rattle.settle_lines.specs.Answer.{IsReadAs};
+ghost use Rattle.settle_lines.specs.Step.Answer.{IsClauseRead};
+ghost use Rattle.settle_lines.specs.Step.Reading.{assume_in, clause_in, close_in, fall_in, know_in, line_in, literal_in, loop_in, steps_in};
 ghost use Rattle.settle_lines.specs.Text.{SpellsClause};
 
 use crate::words::{basis_in, first_number, first_step, literal_in};
@@ -50,7 +51,7 @@ fn read_words(alloc: Global, text: &str) -> Result<ProofLine, LineFault>
 }
 
 // The line of a proof that has the words, if there is one.
-#[tactic(auto, unfolding(crate::specs::Reading::clause_in))]
+#[tactic(auto, unfolding(crate::specs::Step::Reading::clause_in))]
 fn clause_in(alloc: Global, words: &[&str]) -> Result<Option<ProofLine>, NoMemory>
     ensures { IfOk result (λ o. option_map (λ l. line_of l) o ≡ clause_in (texts words.now)) }
 {

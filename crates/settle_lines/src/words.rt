@@ -3,7 +3,7 @@
 ghost use Rattle.std.specs.Prelude.{◌≡◌, ◌≤◌, IfSome, length, option_map};
 ghost use Rattle.line_words.specs.Views.{texts};
 ghost use Rattle.certificate.specs.Reading.{cause_in, edge_in, side_in as edge_side_in};
-ghost use Rattle.settle_lines.specs.Reading.{basis_in, first_number, first_step, lettered_in, literal_in, side_in, step_in};
+ghost use Rattle.settle_lines.specs.Step.Reading.{basis_in, first_number, first_step, lettered_in, literal_in, side_in, step_in};
 
 use clauses::{Basis, Literal, Step};
 use itv_base::{EdgeName, Side, split_digits, strip};
@@ -41,7 +41,7 @@ pub fn first_number<'a, 'b>(words: &'b [&'a str]) -> Option<(u32, &'b [&'a str])
 }
 
 /// Where a clause comes from.
-#[tactic(auto, unfolding(crate::specs::Reading::basis_in))]
+#[tactic(auto, unfolding(crate::specs::Step::Reading::basis_in))]
 pub fn basis_in(word: &str) -> Option<Basis>
     ensures { result ≡ basis_in word.now }
 {
@@ -68,7 +68,7 @@ fn lettered_in(letter: &str, word: &str) -> Option<u32>
 }
 
 /// A literal.
-#[tactic(auto, unfolding(crate::specs::Reading::literal_in))]
+#[tactic(auto, unfolding(crate::specs::Step::Reading::literal_in))]
 pub fn literal_in(word: &str) -> Option<Literal>
     ensures { result ≡ literal_in word.now }
 {

@@ -5,8 +5,9 @@ use Rattle.itv_base.specs.declared.names.EventId.{EventId}
 use Rattle.event_graph.specs.Bounds.{IsGreatest, IsRay}
 use Rattle.event_graph.specs.Network.{IsNet, Net}
 use Rattle.event_graph.specs.Satisfying.{Satisfies}
-use Rattle.event_graph.specs.Times.{IsTime, separation, time_of}
+use Rattle.event_graph.specs.Times.{IsTime, moved, separation, time_of}
 use Rattle.event_graph.proofs.Reversing.{least_is_reversed_greatest}
+use Rattle.event_graph.proofs.Moving.{ray-moved, satisfies-moved, separation-moved, zero-moved}
 use Rattle.slack_report.specs.declared.words.Which.{Which}
 use Rattle.slack_report.specs.declared.words.Which.TheVariants.{Max, Min}
 use Rattle.drawn.specs.Drawn.{IsRowOf}
@@ -16,12 +17,12 @@ use Rattle.settle.specs.declared.found.Settled.{Settled}
 use Rattle.settle.specs.declared.found.Settled.TheVariants.{Closed, Unbounded, Inconsistent}
 use Rattle.settle.specs.Found.{IsFound, Says}
 use Rattle.settle.specs.Proofs.{IsProofAs}
-use Rattle.settle.specs.Racing.{IsNear}
 use Rattle.settle_report.specs.declared.finding.Finding.TheVariants as findings
 use Rattle.settle_report.specs.declared.proof.Proof.{Proof}
 use Rattle.settle_report.specs.Answers.{ArePrintedTimes, CanRise, IsEndless, IsExtreme, IsFinding, IsNumber, IsRefuted, Proves, first_event}
-use Rattle.settle_report.specs.Step.{IsNearby, moved, shown_by, source, target}
-use Rattle.settle_report.proofs.Moving.{nearby-moved, nearby_times, ray-moved, satisfies-moved, separation-moved, separation_near, zero-moved}
+use Rattle.settle_report.specs.Step.{IsNearby, shown_by, source, target}
+use Rattle.settle_report.proofs.Moving.{nearby-moved, nearby_times, separation_near}
+use Rattle.falling.specs.Cap.{IsNearValue}
 
 says : {net : Net} {from to : EventId} {turns : ℕ} (found : Found) (answer : Settled) → found.answer ≡ answer → IsFound net from to turns found → Says net from to turns found answer
 says {net} {from} {to} {turns} found answer is f = subst (Says net from to turns found) is f.answer
@@ -121,10 +122,10 @@ module _ (net : Net) (which : Which) (row : Row) (turns : ℕ) (found : Found) (
   }
 
   -- the times that were found, where there are some
-  pub closed_near : (value : ℤ) → found.answer ≡ Closed value → All IsNear found.times.items × (row.from.0 < length found.times.items)
+  pub closed_near : (value : ℤ) → found.answer ≡ Closed value → All IsNearValue found.times.items × (row.from.0 < length found.times.items)
   closed_near value is = let a = (says found (Closed value) is f).0 in (a.near, in_times row.from a.satisfies is_row.0)
 
-  pub unbounded_near : found.answer ≡ Unbounded → All IsNear found.times.items × (row.from.0 < length found.times.items)
+  pub unbounded_near : found.answer ≡ Unbounded → All IsNearValue found.times.items × (row.from.0 < length found.times.items)
   unbounded_near is = let a = says found Unbounded is f in (a.near, in_times row.from a.satisfies is_row.0)
 
   pub value_time : (value : ℤ) → found.answer ≡ Closed value → IsTime value
@@ -133,7 +134,7 @@ module _ (net : Net) (which : Which) (row : Row) (turns : ℕ) (found : Found) (
       separation_near (source which row) (target which row) found.times.items value (in_times (source which row) a.satisfies (in_source which row net.events is_row.0 is_row.1))
       (in_times (target which row) a.satisfies (in_target which row net.events is_row.0 is_row.1)) a.near a.attained
 
-  moved_nearby : All IsNear found.times.items × (row.from.0 < length found.times.items) → All IsNearby (moved row.from found.times.items)
+  moved_nearby : All IsNearValue found.times.items × (row.from.0 < length found.times.items) → All IsNearby (moved row.from found.times.items)
   moved_nearby near = nearby-moved row.from found.times.items near.1 near.0
 
   is_number : (cert : Bool) (value : ℤ) (proof : Proof) → found.answer ≡ Closed value

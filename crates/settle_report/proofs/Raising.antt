@@ -7,8 +7,9 @@ use Rattle.event_graph.specs.Bounds.{IsRay}
 use Rattle.event_graph.specs.Limits.{IsPrintedTime, weight_limit}
 use Rattle.event_graph.specs.Network.{IsNet, Net}
 use Rattle.event_graph.specs.Satisfying.{Satisfies}
-use Rattle.event_graph.specs.Times.{IsTime, raised, separation, time_of}
+use Rattle.event_graph.specs.Times.{IsTime, moved, raised, separation, time_of}
 use Rattle.event_graph.proofs.Rays.{length-raised, separation-raised}
+use Rattle.event_graph.proofs.Moving.{length-moved, satisfies-moved, separation-moved, time-moved, zero-moved}
 use Rattle.falling.specs.Cap.{cap_limit}
 use Rattle.requirements.specs.Raising.{RaisesPast}
 use Rattle.slack_report.specs.declared.words.Which.{Which}
@@ -16,8 +17,7 @@ use Rattle.slack_report.specs.declared.words.Which.TheVariants.{Max, Min}
 use Rattle.drawn.specs.Drawn.{IsRowOf}
 use Rattle.drawn.specs.declared.row.Row.{Row}
 use Rattle.settle_report.specs.Answers.{CanRise, IsEndless}
-use Rattle.settle_report.specs.Step.{ArePast, IsNearby, moved, source, target}
-use Rattle.settle_report.proofs.Moving.{length-moved, satisfies-moved, separation-moved, time-moved, zero-moved}
+use Rattle.settle_report.specs.Step.{ArePast, IsNearby, source, target}
 
 -- the most that a set is raised by to pass an end
 abbrev most_by : ℕ

@@ -2,7 +2,7 @@
 use Rattle.std.specs.Prelude.{◌*◌, ℤ, pos, neg_ℤ, ◌≤ℤ◌, ◌<ℤ◌, Bool, List, All}
 use Rattle.itv_base.specs.declared.names.EventId.{EventId}
 use Rattle.event_graph.specs.Network.{Net}
-use Rattle.event_graph.specs.Times.{separation, shifted, time_of}
+use Rattle.event_graph.specs.Times.{separation}
 use Rattle.falling.specs.Cap.{cap_limit}
 use Rattle.slack_report.specs.declared.words.Which.{Which}
 use Rattle.slack_report.specs.declared.words.Which.TheVariants.{Max, Min}
@@ -10,10 +10,6 @@ use Rattle.drawn.specs.declared.row.Row.{Row}
 use Rattle.settle_report.specs.declared.bound.SettledBound.{SettledBound}
 use Rattle.settle_report.specs.declared.bound.SettledBound.TheVariants as settled
 use Rattle.settle_report.specs.Answers.{ArePrintedTimes, IsBound}
-
--- times with that of an event taken from all
-abbrev pub moved : EventId → List ℤ → List ℤ
-moved origin times = shifted times (neg_ℤ (time_of times origin))
 
 -- the pair whose greatest separation is searched for a bound of a row: for a least bound the reversed one
 abbrev pub source : Which → Row → EventId

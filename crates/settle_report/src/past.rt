@@ -11,9 +11,8 @@ ghost use Rattle.settle_report.specs.Step.{ArePast, IsBeyond, IsFoundBound, IsNe
 
 use crate::bound::{SettledBound, both_of};
 use crate::pair::{source, target};
-use crate::times::move_all;
 use drawn::Row;
-use event_graph::Network;
+use event_graph::{Network, move_all};
 use itv_base::{NoMemory, Range, RowKind};
 use requirements::{Verdict, judge, raise_past};
 use slack_report::Which;

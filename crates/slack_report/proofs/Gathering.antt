@@ -10,7 +10,8 @@ use Rattle.slack_report.specs.declared.owned.OwnedItem.{OwnedItem}
 use Rattle.slack_report.specs.declared.place.Place.{Place}
 use Rattle.slack_report.specs.declared.place.Place.TheVariants as at
 use Rattle.slack_report.specs.Entry.{Entry}
-use Rattle.slack_report.specs.Items.{owned_view, step_view, views}
+use Rattle.slack_report.specs.Items.{owned_view, views}
+use Rattle.slack_report.specs.Step.Items.{step_view}
 use Rattle.slack_report.specs.Reading.{Read, behind_line, is_nothing, last_in, lines_in, step_at, with_line}
 use Rattle.slack_report.proofs.Walking.{lines_more, split_some}
 

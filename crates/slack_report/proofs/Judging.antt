@@ -11,7 +11,8 @@ use Rattle.slack_report.specs.declared.place.Place.TheVariants as at
 use Rattle.slack_report.specs.declared.fault.ReportFault.{ReportFault}
 use Rattle.slack_report.specs.declared.fault.ReportFault.TheVariants as faults
 use Rattle.std.specs.Prelude.{IfOk, IsErrOf}
-use Rattle.slack_report.specs.Answer.{IsAnswer, IsLineFault, IsRead}
+use Rattle.slack_report.specs.Answer.{IsLineFault, IsRead}
+use Rattle.slack_report.specs.Step.Answer.{IsAnswer}
 use Rattle.slack_report.specs.Entry.{Entry}
 use Rattle.slack_report.specs.Order.{BeginsReport, IsReport, Leads}
 use Rattle.slack_report.specs.Reading.{Read, report_in}

@@ -8,7 +8,6 @@ use Rattle.slack_report.specs.declared.item.Item.TheVariants as given
 use Rattle.slack_report.specs.declared.owned.OwnedItem.{OwnedItem}
 use Rattle.slack_report.specs.declared.owned.OwnedItem.TheVariants as items
 use Rattle.slack_report.specs.declared.owned.OwnedName.{OwnedName}
-use Rattle.slack_report.specs.declared.place.Place.{Place}
 use Rattle.slack_report.specs.Entry.{Entry, heading, budget, events, event, proof, finding, times, rows, row, bound, raise, verdict, slack, ending}
 
 -- ---- lines that are stored
@@ -35,10 +34,6 @@ owned_view (items.End word) = ending word
 -- the lines that are stored
 abbrev pub views : List OwnedItem → List Entry
 views items = map owned_view items
-
--- a line that was read, and the place behind it
-abbrev pub step_view : OwnedItem × Place → Entry × Place
-step_view step = (owned_view step.0, step.1)
 
 -- a line that is lent
 abbrev pub item_view : Item → Entry

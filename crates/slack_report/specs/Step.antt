@@ -3,3 +3,5 @@ pub mod Within
 pub mod Cuts
 pub mod Answers
 pub mod Printed
+pub mod Answer
+pub mod Items

@@ -4,7 +4,8 @@ ghost use Rattle.std.specs.Prelude.{◌≡◌, ◌&&◌, ◌==◌, ◌≤◌, If
 ghost use Rattle.std.specs.List.{position_or_len};
 ghost use Rattle.line_words.specs.Lines.{is_feed};
 ghost use Rattle.line_words.specs.Words.{split_words};
-ghost use Rattle.slack_report.specs.Items.{step_view, views};
+ghost use Rattle.slack_report.specs.Items.{views};
+ghost use Rattle.slack_report.specs.Step.Items.{step_view};
 ghost use Rattle.slack_report.specs.Reading.{is_nothing, report_in, step_at};
 ghost use Rattle.slack_report.specs.Step.Answers.{IsItemsRead};
 ghost use Rattle.slack_report.specs.Step.Cuts.{Cuts};

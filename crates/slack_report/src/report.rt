@@ -1,7 +1,8 @@
 //! Reading a report.
 
 ghost use Rattle.std.specs.Prelude.{◌≡◌, ℕ, IfOk, IsErrOf, List};
-ghost use Rattle.slack_report.specs.Answer.{IsAnswer, IsLineFault, IsRead};
+ghost use Rattle.slack_report.specs.Answer.{IsLineFault, IsRead};
+ghost use Rattle.slack_report.specs.Step.Answer.{IsAnswer};
 ghost use Rattle.slack_report.specs.Entry.{Entry};
 ghost use Rattle.slack_report.specs.Order.{IsReport};
 ghost use Rattle.slack_report.specs.Reading.{report_in};

@@ -6,7 +6,7 @@ ghost use Rattle.itv_base.specs.Numerals.{number_text};
 ghost use Rattle.line_words.specs.Views.{texts};
 ghost use Rattle.line_words.specs.Words.{keyed, one};
 ghost use Rattle.slack_report.specs.Entry.{bound, finding, times};
-ghost use Rattle.slack_report.specs.Items.{step_view};
+ghost use Rattle.slack_report.specs.Step.Items.{step_view};
 ghost use Rattle.slack_report.specs.Order.{next};
 ghost use Rattle.slack_report.specs.Reading.{bound_in, finding_in, name_in, row_in, step_at, stepped, times_in};
 ghost use Rattle.slack_report.specs.Step.Within.{IsSpot, IsWithin};

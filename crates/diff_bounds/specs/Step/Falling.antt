@@ -14,7 +14,7 @@ use Rattle.diff_bounds.specs.declared.falling.Step.TheVariants.{Kept, Fell, Stop
 use Rattle.diff_bounds.specs.Arcs.{IsArc}
 use Rattle.diff_bounds.specs.Labels.{Follows, HasFallen, IsAmong, IsForest, Labels, Parents, Scope, is_lower, labels_from, parents_from, stamp_at}
 use Rattle.event_graph.specs.Limits.{weight_limit}
-use Rattle.diff_bounds.specs.Limits.{fall_limit}
+use Rattle.diff_bounds.specs.Step.Limits.{fall_limit}
 use Rattle.diff_bounds.specs.Settled.{AreNear}
 use Rattle.diff_bounds.specs.Step.Waiting.{Waiting, is_waiting}
 

@@ -3,7 +3,7 @@ use Rattle.std.specs.Prelude.{◌≡◌, Result, Ok, Err}
 use Rattle.std.specs.Global.{Vec}
 use Rattle.slack_report.specs.declared.fault.ReportFault.{ReportFault}
 use Rattle.slack_report.specs.declared.owned.OwnedItem.{OwnedItem}
-use Rattle.slack_report.specs.Answer.{IsFaultOf}
+use Rattle.slack_report.specs.Step.Answer.{IsFaultOf}
 use Rattle.slack_report.specs.Items.{views}
 use Rattle.slack_report.specs.Reading.{Read}
 

@@ -1,11 +1,11 @@
 use Rattle.std.proofs.Common.{refl}
-use Rattle.requirements.proofs.Rising.{read_time}
 use Rattle.slack_report.specs.Entry.{times}
 use Rattle.right_report.specs.Right.At.{behind_past, behind_verdict}
 use Rattle.bounds_report.specs.Step.Searched.{sized}
 use Rattle.bounds_report.proofs.Passing.{end_time, past_high_may, past_low_may}
 use Rattle.bounds_report.proofs.Telling.{goes_line}
 use Rattle.bounds_report.proofs.past.tell_past.Goals as goal
+use Rattle.event_graph.proofs.MovingOn.{read_time}
 
 pub returns-in-FailHigh-clause-goes : goal.returns-in-FailHigh-clause-goes
 returns-in-FailHigh-clause-goes g c = λ most cert basis drawn told f t.

@@ -1,6 +1,7 @@
 use Rattle.std.proofs.Common.{ℤ, List, All, sym, subst}
 use Rattle.falling.specs.declared.answer.Fallen.{Fallen}
-use Rattle.fall_report.specs.Step.{AnswersRow, IsNear}
+use Rattle.falling.specs.Cap.{IsNearValue}
+use Rattle.fall_report.specs.Step.{AnswersRow}
 use Rattle.fall_report.proofs.Moving.{near_stored}
 use Rattle.fall_report.proofs.Viewing.{in_pair, near_times, near_value}
 use Rattle.fall_report.proofs.bounding.put_bound.Goals as goal
@@ -10,7 +11,7 @@ take_moved-requires-clause-near g c =
     let (turns, lines, a) = c.requires.answers in
     let solver = c.args.desk.now.solver in
     let (in_source, in_target) = in_pair c.args.which c.args.row.now c.args.net.now.events c.requires.row.0 c.requires.row.1 in
-    subst (λ (times : List ℤ). All IsNear times) (sym c.times.ensures.times)
+    subst (λ (times : List ℤ). All IsNearValue times) (sym c.times.ensures.times)
     (near_times c.args.net.now solver.limits solver.negation _ _ turns lines solver.times solver.ray c.args.fallen c.requires.set.is_net c.requires.set.made.limits c.requires.set.made.negation
     in_source in_target a.1 (rw c.in-Closed.is tt))
 
@@ -29,6 +30,6 @@ take_moved-requires-in-Unbounded-clause-near g c =
     let (turns, lines, a) = c.requires.answers in
     let solver = c.args.desk.now.solver in
     let (in_source, in_target) = in_pair c.args.which c.args.row.now c.args.net.now.events c.requires.row.0 c.requires.row.1 in
-    subst (λ (times : List ℤ). All IsNear times) (sym c.times-in-Unbounded.ensures.times)
+    subst (λ (times : List ℤ). All IsNearValue times) (sym c.times-in-Unbounded.ensures.times)
     (near_times c.args.net.now solver.limits solver.negation _ _ turns lines solver.times solver.ray c.args.fallen c.requires.set.is_net c.requires.set.made.limits c.requires.set.made.negation
     in_source in_target a.1 (rw c.in-Unbounded.is tt))

@@ -1,7 +1,7 @@
 use Rattle.std.proofs.Common.{◌≡◌, ◌+◌, ◌<◌, ◌∙◌, ◌++◌, ◌∷◌, [], ℤ, List, Bool, false, IsTrue, ap, subst, sym, arith}
 use Rattle.falling.proofs.Counting.{due_within}
 use Rattle.falling.proofs.Deriving.{has_ended, leads_more, length-more, under_way_first, under_way_next}
-use Rattle.falling.specs.Agenda.{AreOthersTried}
+use Rattle.falling.specs.Step.Agenda.{AreOthersTried}
 use Rattle.falling.specs.Derivation.{fallen, starting_values}
 use Rattle.falling.proofs.course.derive.Goals as goal
 

@@ -1,6 +1,7 @@
 use Rattle.std.proofs.Common.{◌≤◌, ◌-◌, List}
 use Rattle.falling.specs.declared.line.FallLine.{FallLine}
-use Rattle.falling.specs.Agenda.{AreOthersTried, IsAgendaFor}
+use Rattle.falling.specs.Agenda.{IsAgendaFor}
+use Rattle.falling.specs.Step.Agenda.{AreOthersTried}
 use Rattle.falling.proofs.Deriving.{IsUnderWay}
 use Rattle.falling.proofs.course.derive.Given as goal
 

@@ -1,4 +1,4 @@
-use Rattle.falling.specs.Agenda.{Grows}
+use Rattle.falling.specs.Step.Agenda.{Grows}
 use Rattle.falling.proofs.Following.{HasCausesBelow}
 use Rattle.falling.proofs.followers.push_constraint.Given as goal
 

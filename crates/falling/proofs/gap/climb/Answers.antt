@@ -1,6 +1,6 @@
 use Rattle.std.proofs.Common.{ℤ, pos, get_or, SFits, w64, refl, rules, subst}
 use Rattle.std.proofs.lemmas.Int.{to_z-of_z}
-use Rattle.falling.specs.Rays.{IsStepTo}
+use Rattle.falling.specs.Step.Rays.{IsStepTo}
 use Rattle.falling.proofs.Climbing.{level_small, level_within, pass_first, pass_next}
 use Rattle.falling.proofs.gap.climb.Goals as goal
 

@@ -1,4 +1,4 @@
-use Rattle.falling.specs.Rays.{IsClimbed, above}
+use Rattle.falling.specs.Step.Rays.{IsClimbed, above}
 use Rattle.falling.proofs.gap.gap_level.Given as goal
 
 -- the level was reached in steps

@@ -1,4 +1,4 @@
-use Rattle.falling.specs.Words.{AreEmpty}
+use Rattle.falling.specs.Step.Words.{AreEmpty}
 use Rattle.falling.proofs.pending.first_used.Given as goal
 
 -- the words so far have no flag

@@ -1,5 +1,5 @@
 use Rattle.std.proofs.Common.{◌≡◌, ◌<◌, ℕ, length, get_or}
-use Rattle.falling.specs.Agenda.{IsPending}
+use Rattle.falling.specs.Step.Agenda.{IsPending}
 use Rattle.falling.proofs.pending.insert_all.Given as goal
 
 -- the numbers so far have their flags, and so has each that had it

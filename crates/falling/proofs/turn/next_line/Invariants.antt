@@ -1,6 +1,6 @@
 use Rattle.std.proofs.Common.{◌≡◌, length}
 use Rattle.std.specs.List.{sum}
-use Rattle.falling.specs.Agenda.{AreOthersTried}
+use Rattle.falling.specs.Step.Agenda.{AreOthersTried}
 use Rattle.falling.proofs.turn.next_line.Given as goal
 
 -- a constraint without a flag allows no line

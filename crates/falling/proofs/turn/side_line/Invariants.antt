@@ -1,6 +1,6 @@
 use Rattle.std.proofs.Common.{◌<◌, ℕ}
 use Rattle.falling.specs.declared.line.Reason.TheVariants.{ByEdge}
-use Rattle.falling.specs.Turns.{IsTried}
+use Rattle.falling.specs.Step.Turns.{IsTried}
 use Rattle.falling.proofs.turn.side_line.Given as goal
 
 -- the causes so far allow no line

@@ -1,6 +1,6 @@
 use Rattle.std.proofs.Common.{subst}
 use Rattle.settle.specs.declared.race.Ending.{Ending}
-use Rattle.settle.specs.Racing.{IsEnding}
+use Rattle.settle.specs.Step.Racing.{IsEnding}
 use Rattle.settle.proofs.Concluding.{found_closed, found_inconsistent, found_unbounded, handed, of_pair}
 use Rattle.settle.proofs.settler.found_by.Goals as goal
 

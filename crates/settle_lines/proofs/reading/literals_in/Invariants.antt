@@ -2,7 +2,7 @@ use Rattle.std.proofs.Common.{◌≡◌, drop}
 use Rattle.line_words.specs.Views.{texts}
 use Rattle.line_words.specs.Words.{many}
 use Rattle.line_words.proofs.Looping.{in_front}
-use Rattle.settle_lines.specs.Reading.{literal_in}
+use Rattle.settle_lines.specs.Step.Reading.{literal_in}
 use Rattle.settle_lines.proofs.reading.literals_in.Given as goal
 
 abbrev pub invariant-loop-word : goal.invariant-loop-word

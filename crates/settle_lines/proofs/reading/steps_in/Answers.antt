@@ -1,6 +1,6 @@
 use Rattle.std.proofs.Common.{sym}
 use Rattle.line_words.specs.Views.{texts}
-use Rattle.settle_lines.specs.Reading.{steps_in}
+use Rattle.settle_lines.specs.Step.Reading.{steps_in}
 use Rattle.settle_lines.proofs.Stepping.{step_goes, step_stops}
 use Rattle.settle_lines.proofs.reading.steps_in.Goals as goal
 

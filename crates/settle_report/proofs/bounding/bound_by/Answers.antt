@@ -1,9 +1,9 @@
 use Rattle.std.proofs.Common.{◌∙◌, ap}
-use Rattle.requirements.proofs.Rising.{read_time}
 use Rattle.settle_report.specs.Step.{shown_by}
 use Rattle.settle_report.proofs.Answering.{closed_near, endless_shown, number_shown, unbounded_near, value_time}
 use Rattle.settle_report.proofs.Moving.{near_times}
 use Rattle.settle_report.proofs.bounding.bound_by.Goals as goal
+use Rattle.event_graph.proofs.MovingOn.{read_time}
 
 pub moved-requires-clause-times : goal.moved-requires-clause-times
 moved-requires-clause-times c =

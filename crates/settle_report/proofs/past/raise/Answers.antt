@@ -1,6 +1,6 @@
-use Rattle.requirements.proofs.Rising.{read_time}
 use Rattle.settle_report.proofs.Raising.{end_time, new_times, raise_done, raises}
 use Rattle.settle_report.proofs.past.raise.Goals as goal
+use Rattle.event_graph.proofs.MovingOn.{read_time}
 
 pub move_all-requires-clause-times : goal.move_all-requires-clause-times
 move_all-requires-clause-times c =

@@ -1,5 +1,5 @@
 use Rattle.std.proofs.Common.{◌∙◌, ap, sym, option_map}
-use Rattle.slack_report.specs.Items.{step_view}
+use Rattle.slack_report.specs.Step.Items.{step_view}
 use Rattle.slack_report.proofs.Gathering.{cut_short, goes_on, stops, whole_is}
 use Rattle.slack_report.proofs.read.read_items.Goals as goal
 

@@ -4,7 +4,7 @@ use Rattle.falling.specs.declared.view.View.{View}
 use Rattle.clauses.specs.Lines.{IsOver}
 use Rattle.settle.specs.declared.prover.Told.{Told}
 use Rattle.settle.specs.declared.prover.Told.TheVariants.{Over}
-use Rattle.settle.specs.Racing.{IsOverAs}
+use Rattle.settle.specs.Step.Racing.{IsOverAs}
 use Rattle.settle.proofs.race.Race.step.Goals as goal
 
 pub returns-in-Negated-clause-over : goal.returns-in-Negated-clause-over

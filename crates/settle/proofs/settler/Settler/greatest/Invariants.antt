@@ -1,5 +1,5 @@
 use Rattle.std.proofs.Common.{◌≡◌, ◌≤◌}
-use Rattle.settle.specs.Racing.{IsRacing, line_count}
+use Rattle.settle.specs.Step.Racing.{IsRacing, line_count}
 use Rattle.settle.proofs.settler.Settler.greatest.Given as goal
 
 -- both searches are under way, and together have taken no more lines than turns

@@ -1,6 +1,6 @@
 use Rattle.std.proofs.Common.{◌≡◌, neg_ℤ}
-use Rattle.settle_report.proofs.Moving.{shifted_front}
-use Rattle.settle_report.proofs.times.move_all.Given as goal
+use Rattle.event_graph.proofs.MovingOn.{shifted_front}
+use Rattle.event_graph.proofs.times.move_all.Given as goal
 
 -- the first times are moved
 abbrev pub invariant-loop-event : goal.invariant-loop-event

@@ -1,5 +1,5 @@
 -- Two searches that share the best times found.
-use Rattle.std.specs.Prelude.{◌≡◌, ◌<◌, ◌+◌, ℕ, ℤ, pos, neg_ℤ, ◌<ℤ◌, ◌≤ℤ◌, All, List, length, None, IsSome, IfSome, IfNone, IsSomeAnd}
+use Rattle.std.specs.Prelude.{◌≡◌, ◌<◌, ◌+◌, ℕ, ℤ, pos, neg_ℤ, ◌<ℤ◌, All, List, length, None, IsSome, IfSome, IfNone, IsSomeAnd}
 use Rattle.itv_base.specs.declared.names.EventId.{EventId}
 use Rattle.event_graph.specs.Bounds.{IsRay}
 use Rattle.event_graph.specs.Network.{Net}
@@ -7,7 +7,7 @@ use Rattle.event_graph.specs.Satisfying.{Satisfies}
 use Rattle.event_graph.specs.Times.{separation}
 use Rattle.falling.specs.declared.view.View.{View}
 use Rattle.falling.specs.declared.view.View.TheVariants.{Plain, Negated}
-use Rattle.falling.specs.Cap.{cap_limit, far_line}
+use Rattle.falling.specs.Cap.{IsNearValue, far_line}
 use Rattle.falling.specs.Course.{AreLimits}
 use Rattle.falling.specs.Kinds.{negated}
 use Rattle.clauses.specs.Lines.{IsOver}
@@ -18,15 +18,11 @@ use Rattle.settle.specs.declared.race.Ending.TheVariants.{Closed, Unbounded, Inc
 use Rattle.settle.specs.declared.race.Race.{Race}
 use Rattle.settle.specs.Proofs.{IsProving}
 
--- a time is within the greatest cap in absolute value, so that another can be taken from it
-abbrev pub IsNear : ℤ → Type 0
-IsNear time = (neg_ℤ (pos cap_limit) ≤ℤ time) × (time ≤ℤ pos cap_limit)
-
 -- times within the greatest cap that satisfy and have a separation
 pub record AreTimes (net : Net) (from to : EventId) (value : ℤ) (times : List ℤ) : Type 0 where
   pub satisfies : Satisfies times net
   pub attained : separation times from to ≡ value
-  pub near : All IsNear times
+  pub near : All IsNearValue times
 
 -- the best times found attain the claim, and where none were found the claim is one that shows that no times satisfy
 pub record IsBest (net : Net) (from to : EventId) (best : Best) : Type 0 where

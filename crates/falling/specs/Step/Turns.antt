@@ -13,12 +13,8 @@ use Rattle.event_graph.specs.Times.{time_of}
 use Rattle.falling.specs.declared.line.FallLine.{FallLine}
 use Rattle.falling.specs.declared.line.Reason.{Reason}
 use Rattle.falling.specs.declared.line.Reason.TheVariants.{ByEdge, ByLatest}
-use Rattle.falling.specs.Cap.{cap_limit}
+use Rattle.falling.specs.Cap.{IsNearValue}
 use Rattle.falling.specs.Derivation.{IsAllowed, IsLatestHigh}
-
--- a value is within the greatest cap in absolute value, so that an end of a range can be added to it
-abbrev pub IsNearValue : ℤ → Type 0
-IsNearValue value = (neg_ℤ (pos cap_limit) ≤ℤ value) × (value ≤ℤ pos cap_limit)
 
 -- a constraint may be looked at: it is there, and each event has a value to which an end can be added
 pub record MayLook (net : Net) (values : List ℤ) (number : ℕ) : Type 0 where

@@ -1,8 +1,7 @@
 use Rattle.std.proofs.Common.{arith, subst, sym, ◌∙◌}
 use Rattle.event_graph.specs.Times.{IsTime, time_of}
-use Rattle.requirements.proofs.Rising.{read_time}
-use Rattle.settle_report.proofs.Moving.{front_done, front_known, front_step}
-use Rattle.settle_report.proofs.times.move_all.Goals as goal
+use Rattle.event_graph.proofs.MovingOn.{front_done, front_known, front_step, read_time}
+use Rattle.event_graph.proofs.times.move_all.Goals as goal
 
 pub since-requires-clause-time : goal.since-requires-clause-time
 since-requires-clause-time c = front_known c.args.times.now c.loop-event.times _ c.loop-event.event c.requires.times c.loop-event.invariant (omega arith)

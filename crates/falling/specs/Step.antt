@@ -1,0 +1,7 @@
+-- Words of private contracts.
+pub mod Agenda
+pub mod Course
+pub mod Kinds
+pub mod Rays
+pub mod Turns
+pub mod Words
