@@ -1,6 +1,6 @@
 //! Job brief: the order of the rows, what each line tells, the counts, and the other ends.
 
-use conformance_kit::{run_ends, sheet_of, shelf_of, shelf_with};
+use conformance_kit::{run_ends, sheet_of, shelf_with};
 use itv_cli::Outcome;
 use std::alloc::Global;
 use std::test::Fail;
@@ -16,12 +16,19 @@ fn tells(alloc: Global, nodes: &str, edges: &str, wanted: (Outcome, &str)) -> Re
     run_ends(alloc, &BRIEF, &mut shelf, (end, text.as_str()))
 }
 
-// b is 10 to 20 behind a. The requirement that misses by 5 stands first, then the one that misses by 1, the passing ones by their lesser
-// slacks of 0 and 3, the one without an end, and the question.
-#[test]
-fn rows_by_their_slacks(rt: HostRuntime) -> Result<(), Fail> {
-    tells(
-        rt.alloc(),
+// The same on several sheets.
+fn each_tells(alloc: Global, cases: &[(&str, &str, (Outcome, &str))]) -> Result<(), Fail> {
+    for (nodes, edges, (end, rest)) in cases {
+        tells(alloc, nodes, edges, (*end, rest))?;
+    }
+    Ok(())
+}
+
+// The nodes and the edges of sheets, the end, and what is written behind the heading.
+const IN_ORDER: [(&str, &str, (Outcome, &str)); 3] = [
+    // b is 10 to 20 behind a. The requirement that misses by 5 stands first, then the one that misses by 1, the passing ones by their
+    // lesser slacks of 0 and 3, the one without an end, and the question.
+    (
         "ab",
         r#""a->b @lin [10,20]","a->b @ask how far","a->b @req [7,24] easy","a->b @req [*,19] tight","a->b @req [10,*] met","a->b @req [15,*] tSU","a->b @req [*,*]""#,
         (
@@ -35,14 +42,9 @@ fn rows_by_their_slacks(rt: HostRuntime) -> Result<(), Fail> {
             row 0 ask U.a@0 U.b@0 10 20 edge 1 how far\n\
             rows 6 pass 3 fail 2 undecided 0\nend fail\n",
         ),
-    )
-}
-
-// Rows that are alike stand by their numbers; a bound that is not there breaks an end, and has no slack.
-#[test]
-fn rows_that_are_alike(rt: HostRuntime) -> Result<(), Fail> {
-    tells(
-        rt.alloc(),
+    ),
+    // Rows that are alike stand by their numbers; a bound that is not there breaks an end, and has no slack.
+    (
         "abc",
         r#""a->b @lin [1,2]","a->c @lin [5,*]","a->b @req [0,2]","a->b @req [1,9]","a->c @req [*,7] late","b->a @ask""#,
         (
@@ -54,7 +56,21 @@ fn rows_that_are_alike(rt: HostRuntime) -> Result<(), Fail> {
             row 3 ask U.b@0 U.a@0 -2 -1 edge 5\n\
             rows 4 pass 2 fail 1 undecided 0\nend fail\n",
         ),
-    )
+    ),
+    // Where rules contradict each other there are no rows.
+    (
+        "ab",
+        r#""a->b @lin [100,200]","b->a @lin [0,50]","a->b @ask""#,
+        (
+            Outcome::Inconsistent,
+            "finding inconsistent\nrows 0 pass 0 fail 0 undecided 0\nend inconsistent\n",
+        ),
+    ),
+];
+
+#[test]
+fn rows_in_their_order(rt: HostRuntime) -> Result<(), Fail> {
+    each_tells(rt.alloc(), &IN_ORDER)
 }
 
 // v comes before z on their lane, and z not behind h.
@@ -78,32 +94,4 @@ fn a_requirement_that_passes_by_an_order(rt: HostRuntime) -> Result<(), Fail> {
             rows 2 pass 2 fail 0 undecided 0\nend pass\n",
         ),
     )
-}
-
-// ---- the other ends
-
-#[test]
-fn rules_that_contradict_each_other(rt: HostRuntime) -> Result<(), Fail> {
-    tells(
-        rt.alloc(),
-        "ab",
-        r#""a->b @lin [100,200]","b->a @lin [0,50]","a->b @ask""#,
-        (
-            Outcome::Inconsistent,
-            "finding inconsistent\nrows 0 pass 0 fail 0 undecided 0\nend inconsistent\n",
-        ),
-    )
-}
-
-#[test]
-fn files_and_words_that_are_refused(rt: HostRuntime) -> Result<(), Fail> {
-    let alloc = rt.alloc();
-    let refused = (Outcome::Refused, "refused file 0 NotJson\n");
-    let mut shelf = shelf_with(alloc, "s", b"{")?;
-    run_ends(alloc, &BRIEF, &mut shelf, refused)?;
-    let mut nothing = shelf_of(alloc, &[])?;
-    let unread = (Outcome::ReadFault, "cannot read file 0\n");
-    run_ends(alloc, &BRIEF, &mut nothing, unread)?;
-    let bad_words = (Outcome::BadWords, "bad words\n");
-    run_ends(alloc, &["--job", "brief"], &mut nothing, bad_words)
 }

@@ -33,18 +33,31 @@ fn falls(
     run_ends(alloc, words, &mut shelf, (end, text.as_str()))
 }
 
-// ---- the worked rows
+// A cause that follows its own target: the values fall by 5 from the cap of 36.
+const FOLLOWS: &str = r#""i->y @late [*,0]","k->y @late [*,0]","y->k @lin [*,-5]","i->y @ask""#;
 
-// The latest of two causes, one of them a range behind the other.
-#[test]
-fn the_latest_of_two_causes(rt: HostRuntime) -> Result<(), Fail> {
-    falls(
-        rt.alloc(),
+// What is written of it where the turns are enough.
+const FOLLOWED: &str =
+    "finding consistent\ntimes 0 0 -5\nrows 1\nrow 0 ask U.i@0 U.y@0\nmax 0\ntimes 0 0 -5\n\
+    min unbounded\ntimes 0 -36 -41\nraise 0\nend pass\n";
+
+// A target that follows its own cause.
+const LEADS: &str =
+    r#""i->y @early [0,*]","k->y @early [0,*]","y->k @lin [5,*]","i->y @req [1,*]""#;
+
+const CONTRADICT: &str = r#""a->b @lin [100,200]","b->a @lin [0,50]","a->b @ask""#;
+
+const FALL: &[&str] = &["--job", "fall", "s"];
+
+// Sheets with their words, the end, the view, and what is written behind the events.
+const WORKED: [((&str, &str), &[&str], (Outcome, &str, &str)); 13] = [
+    // The latest of two causes, one of them a range behind the other.
+    (
         (
             "abj",
             r#""a->b @lin [100,300]","a->j @late [500,700]","b->j @late [200,400]","a->j @ask","b->j @ask""#,
         ),
-        &["--job", "fall", "s"],
+        FALL,
         (
             Outcome::AllPass,
             "plain",
@@ -52,19 +65,14 @@ fn the_latest_of_two_causes(rt: HostRuntime) -> Result<(), Fail> {
             row 0 ask U.a@0 U.j@0\nmax 700\ntimes ?\nmin 500\ntimes ?\n\
             row 1 ask U.b@0 U.j@0\nmax 600\ntimes -100 0 600\nmin 200\ntimes -300 0 200\nend pass\n",
         ),
-    )
-}
-
-// The earliest of the two.
-#[test]
-fn the_earliest_of_two_causes(rt: HostRuntime) -> Result<(), Fail> {
-    falls(
-        rt.alloc(),
+    ),
+    // The earliest of the two.
+    (
         (
             "abj",
             r#""a->b @lin [100,300]","a->j @early [500,700]","b->j @early [200,400]","a->j @ask","b->j @ask""#,
         ),
-        &["--job", "fall", "s"],
+        FALL,
         (
             Outcome::AllPass,
             "negated",
@@ -72,34 +80,121 @@ fn the_earliest_of_two_causes(rt: HostRuntime) -> Result<(), Fail> {
             row 0 ask U.a@0 U.j@0\nmax 700\ntimes ?\nmin 300\ntimes ?\n\
             row 1 ask U.b@0 U.j@0\nmax 400\ntimes ?\nmin 200\ntimes ?\nend pass\n",
         ),
-    )
-}
+    ),
+    // A cause that follows its own target: 17 turns are enough.
+    (
+        ("iyk", FOLLOWS),
+        &["--job=fall", "--budget=17", "s"],
+        (Outcome::AllPass, "plain", FOLLOWED),
+    ),
+    (
+        ("iyk", FOLLOWS),
+        &["--job=fall", "--size=3", "--report=r", "s"],
+        (Outcome::AllPass, "plain", FOLLOWED),
+    ),
+    (
+        ("iyk", FOLLOWS),
+        &["--job=fall", "--budget=16", "s"],
+        (
+            Outcome::Undecided,
+            "plain",
+            "finding spent\nend undecided\n",
+        ),
+    ),
+    // From the target one line is enough, so that the finding is told and the greatest separation is not.
+    (
+        ("yik", FOLLOWS),
+        &["--job=fall", "--cert", "--budget=2", "s"],
+        (
+            Outcome::Undecided,
+            "plain",
+            "fall 2 -5 1.0u\nfinding consistent\ntimes 0 36 -5\nrows 1\nrow 0 ask U.i@0 U.y@0\n\
+            fall 2 31 1.0u\nlate 0 31 0\nmax spent\nfall 2 -5 1.0u\nmin unbounded\ntimes -36 0 -41\nraise 1\nend undecided\n",
+        ),
+    ),
+    (
+        ("yik", FOLLOWS),
+        &["--job=fall", "--budget=17", "s"],
+        (
+            Outcome::AllPass,
+            "plain",
+            "finding consistent\ntimes 0 36 -5\nrows 1\nrow 0 ask U.i@0 U.y@0\n\
+            max 0\ntimes 0 0 -5\nmin unbounded\ntimes -36 0 -41\nraise 1\nend pass\n",
+        ),
+    ),
+    // The same turned round, with a requirement, which has no verdict.
+    (
+        ("iyk", LEADS),
+        &["--job=fall", "--budget=17", "s"],
+        (
+            Outcome::AllPass,
+            "negated",
+            "finding consistent\ntimes 0 0 5\nrows 1\nrow 0 req U.i@0 U.y@0 [1,*]\n\
+            max unbounded\ntimes 0 36 41\nraise 1 2\nmin 0\ntimes 0 0 5\nend pass\n",
+        ),
+    ),
+    (
+        ("iyk", LEADS),
+        &["--job=fall", "--budget=16", "s"],
+        (
+            Outcome::Undecided,
+            "negated",
+            "finding spent\nend undecided\n",
+        ),
+    ),
+    // Rules that contradict each other: the third line brings event 0 below 0.
+    (
+        ("ab", CONTRADICT),
+        &["--job=fall", "--cert", "--budget=3", "s"],
+        (
+            Outcome::Inconsistent,
+            "plain",
+            "fall 1 200 0.0u\nfall 1 0 1.0l\nfall 0 -100 0.0l\nfinding inconsistent\nend inconsistent\n",
+        ),
+    ),
+    (
+        ("ab", CONTRADICT),
+        &["--job=fall", "--budget=2", "s"],
+        (
+            Outcome::Undecided,
+            "plain",
+            "finding spent\nend undecided\n",
+        ),
+    ),
+    // Designs of no event and of one.
+    (
+        ("", ""),
+        &["--job=fall", "--cert", "--budget=1", "s"],
+        (
+            Outcome::AllPass,
+            "plain",
+            "finding consistent\ntimes\nrows 0\nend pass\n",
+        ),
+    ),
+    (
+        ("a", r#""a->a @ask""#),
+        &["--job=fall", "--cert", "--budget=1", "s"],
+        (
+            Outcome::AllPass,
+            "plain",
+            "finding consistent\ntimes 0\nrows 1\nrow 0 ask U.a@0 U.a@0\nmax 0\ntimes 0\nmin 0\ntimes 0\nend pass\n",
+        ),
+    ),
+];
 
-// A cause that follows its own target: the values fall by 5 from the cap of 36.
-const FOLLOWS: &str = r#""i->y @late [*,0]","k->y @late [*,0]","y->k @lin [*,-5]","i->y @ask""#;
+#[test]
+fn sheets_that_were_worked_by_hand(rt: HostRuntime) -> Result<(), Fail> {
+    for (sheet, words, wanted) in WORKED {
+        falls(rt.alloc(), sheet, words, wanted)?;
+    }
+    Ok(())
+}
 
 // The lines that fall from event 0 of it, which are 17.
 const FALLING: &str =
     "fall 2 31 1.0u\nlate 1 31 0\nfall 2 26 1.0u\nlate 1 26 0\nfall 2 21 1.0u\nlate 1 21 0\n\
     fall 2 16 1.0u\nlate 1 16 0\nfall 2 11 1.0u\nlate 1 11 0\nfall 2 6 1.0u\nlate 1 6 0\nfall 2 1 1.0u\nlate 1 1 0\n\
     fall 2 -4 1.0u\nlate 1 0 0\n";
-
-#[test]
-fn a_cause_that_follows_its_target(rt: HostRuntime) -> Result<(), Fail> {
-    let alloc = rt.alloc();
-    let rest =
-        "finding consistent\ntimes 0 0 -5\nrows 1\nrow 0 ask U.i@0 U.y@0\nmax 0\ntimes 0 0 -5\n\
-        min unbounded\ntimes 0 -36 -41\nraise 0\nend pass\n";
-    let pass = (Outcome::AllPass, "plain", rest);
-    let enough = ["--job=fall", "--budget=17", "s"];
-    falls(alloc, ("iyk", FOLLOWS), &enough, pass)?;
-    let default = ["--job=fall", "--size=3", "--report=r", "s"];
-    falls(alloc, ("iyk", FOLLOWS), &default, pass)?;
-    let few = ["--job=fall", "--budget=16", "s"];
-    let spent = "finding spent\nend undecided\n";
-    let undecided = (Outcome::Undecided, "plain", spent);
-    falls(alloc, ("iyk", FOLLOWS), &few, undecided)
-}
 
 #[test]
 fn the_lines_of_its_derivations(rt: HostRuntime) -> Result<(), Fail> {
@@ -118,67 +213,6 @@ fn the_lines_of_its_derivations(rt: HostRuntime) -> Result<(), Fail> {
 }
 
 // ---- other ends
-
-// From the target one line is enough, so that the finding is told and the greatest separation is not.
-#[test]
-fn a_bound_may_be_spent(rt: HostRuntime) -> Result<(), Fail> {
-    let alloc = rt.alloc();
-    let spent = "fall 2 -5 1.0u\nfinding consistent\ntimes 0 36 -5\nrows 1\nrow 0 ask U.i@0 U.y@0\n\
-        fall 2 31 1.0u\nlate 0 31 0\nmax spent\nfall 2 -5 1.0u\nmin unbounded\ntimes -36 0 -41\nraise 1\nend undecided\n";
-    let undecided = (Outcome::Undecided, "plain", spent);
-    let few = ["--job=fall", "--cert", "--budget=2", "s"];
-    falls(alloc, ("yik", FOLLOWS), &few, undecided)?;
-    let told = "finding consistent\ntimes 0 36 -5\nrows 1\nrow 0 ask U.i@0 U.y@0\n\
-        max 0\ntimes 0 0 -5\nmin unbounded\ntimes -36 0 -41\nraise 1\nend pass\n";
-    let pass = (Outcome::AllPass, "plain", told);
-    let enough = ["--job=fall", "--budget=17", "s"];
-    falls(alloc, ("yik", FOLLOWS), &enough, pass)
-}
-
-// The same turned round, with a requirement, which has no verdict.
-#[test]
-fn a_target_that_follows_its_cause(rt: HostRuntime) -> Result<(), Fail> {
-    let alloc = rt.alloc();
-    let edges = r#""i->y @early [0,*]","k->y @early [0,*]","y->k @lin [5,*]","i->y @req [1,*]""#;
-    let rest = "finding consistent\ntimes 0 0 5\nrows 1\nrow 0 req U.i@0 U.y@0 [1,*]\n\
-        max unbounded\ntimes 0 36 41\nraise 1 2\nmin 0\ntimes 0 0 5\nend pass\n";
-    let pass = (Outcome::AllPass, "negated", rest);
-    let words = ["--job=fall", "--budget=17", "s"];
-    falls(alloc, ("iyk", edges), &words, pass)?;
-    let few = ["--job=fall", "--budget=16", "s"];
-    let spent = "finding spent\nend undecided\n";
-    let undecided = (Outcome::Undecided, "negated", spent);
-    falls(alloc, ("iyk", edges), &few, undecided)
-}
-
-// The third line brings event 0 below 0.
-#[test]
-fn rules_that_contradict_each_other(rt: HostRuntime) -> Result<(), Fail> {
-    let alloc = rt.alloc();
-    let edges = r#""a->b @lin [100,200]","b->a @lin [0,50]","a->b @ask""#;
-    let lines =
-        "fall 1 200 0.0u\nfall 1 0 1.0l\nfall 0 -100 0.0l\nfinding inconsistent\nend inconsistent\n";
-    let words = ["--job=fall", "--cert", "--budget=3", "s"];
-    let end = (Outcome::Inconsistent, "plain", lines);
-    falls(alloc, ("ab", edges), &words, end)?;
-    let words = ["--job=fall", "--budget=2", "s"];
-    let spent = "finding spent\nend undecided\n";
-    let end = (Outcome::Undecided, "plain", spent);
-    falls(alloc, ("ab", edges), &words, end)
-}
-
-#[test]
-fn designs_of_few_events(rt: HostRuntime) -> Result<(), Fail> {
-    let alloc = rt.alloc();
-    let words = ["--job=fall", "--cert", "--budget=1", "s"];
-    let none = "finding consistent\ntimes\nrows 0\nend pass\n";
-    let pass = (Outcome::AllPass, "plain", none);
-    falls(alloc, ("", ""), &words, pass)?;
-    let itself =
-        "finding consistent\ntimes 0\nrows 1\nrow 0 ask U.a@0 U.a@0\nmax 0\ntimes 0\nmin 0\ntimes 0\nend pass\n";
-    let pass = (Outcome::AllPass, "plain", itself);
-    falls(alloc, ("a", r#""a->a @ask""#), &words, pass)
-}
 
 // The numbers are those of the first latest and of the first earliest rule with two causes.
 #[test]

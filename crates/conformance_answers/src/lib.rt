@@ -21,6 +21,8 @@ mod lints;
 #[cfg(test)]
 mod redraws;
 #[cfg(test)]
+mod refusals;
+#[cfg(test)]
 mod separations;
 #[cfg(test)]
 mod settles;

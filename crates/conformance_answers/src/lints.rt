@@ -1,6 +1,6 @@
 //! Job lint: each warning on drawings that have it, and none on drawings that nearly have it.
 
-use conformance_kit::{MEMORY, PROCESSOR, files_end, run_ends, sheet_of, shelf_of, shelf_with};
+use conformance_kit::{MEMORY, PROCESSOR, files_end, sheet_of};
 use itv_cli::Outcome;
 use std::alloc::Global;
 use std::test::Fail;
@@ -35,28 +35,20 @@ fn each_warns(alloc: Global, cases: &[(&str, &[&str])]) -> Result<(), Fail> {
     Ok(())
 }
 
-// A question and a requirement are rows, a rule is none.
+// Of the rows below each part shows what stands above it.
 #[test]
-fn designs_that_ask_nothing(rt: HostRuntime) -> Result<(), Fail> {
+fn warnings_of_single_sheets(rt: HostRuntime) -> Result<(), Fail> {
     each_warns(
         rt.alloc(),
         &[
+            // A question and a requirement are rows, a rule is none.
             (r#""a->b @lin [1,2]""#, &["rows"]),
             ("", &["rows"]),
             (r#""a->b comment""#, &["rows"]),
             (r#""a->b @ask""#, &[]),
             (r#""a->b @req [*,*]""#, &[]),
             (r#""a->b @lin [1,2]","b->a @ask""#, &[]),
-        ],
-    )
-}
-
-// A comment that has `@` or `[`, by the number of its edge.
-#[test]
-fn comments_that_look_like_labels(rt: HostRuntime) -> Result<(), Fail> {
-    each_warns(
-        rt.alloc(),
-        &[
+            // A comment that has `@` or `[`, by the number of its edge.
             (r#""a->b @ask","a->b  @lin [0,50]""#, &["comment U edge 1"]),
             (r#""a -> b @lin","a->b @ask""#, &["comment U edge 0"]),
             (
@@ -66,16 +58,7 @@ fn comments_that_look_like_labels(rt: HostRuntime) -> Result<(), Fail> {
             (r#""a->b @ask","a->b""#, &[]),
             (r#""a->b @ask","a->b 0,50]""#, &[]),
             (r#""a->b @ask @note [1,2]""#, &[]),
-        ],
-    )
-}
-
-// A note whose first word is a unit in any letters, or that begins with a bracket.
-#[test]
-fn notes_that_look_like_ranges(rt: HostRuntime) -> Result<(), Fail> {
-    each_warns(
-        rt.alloc(),
-        &[
+            // A note whose first word is a unit in any letters, or that begins with a bracket.
             (
                 r#""a->b @lin [0,3] ns tCO","a->b @ask""#,
                 &["note U edge 0"],
@@ -88,6 +71,46 @@ fn notes_that_look_like_ranges(rt: HostRuntime) -> Result<(), Fail> {
             (r#""a->b @lin [0,3] nsec","a->b @ask""#, &[]),
             (r#""a->b @ask max [0,50]""#, &[]),
             (r#""a->b @ask tCO ns""#, &[]),
+            // Two linear rules with finite high ends into one mark from different marks; each later one with the first such one.
+            (
+                r#""a->c @lin [0,15]","b->c @lin [0,15]","a->c @ask""#,
+                &["both U edge 0 U edge 1"],
+            ),
+            (
+                r#""a->c @lin [0,15]","a comment","b->c @lin [*,15]","b->c @lin [1,9]","a->c @ask""#,
+                &["both U edge 0 U edge 2", "both U edge 0 U edge 3"],
+            ),
+            (
+                r#""a->b @lin [0,9]","c->b @lin+1 [0,9]","a->c @ask""#,
+                &["both U edge 0 U edge 1", "never U edge 1"],
+            ),
+            (r#""a->c @lin [0,15]","b->c @lin [0,*]","a->c @ask""#, &[]),
+            (r#""a->c @lin [0,15]","a->c @lin [3,9]","a->c @ask""#, &[]),
+            (
+                r#""a->c @late [0,15]","b->c @late [0,15]","a->c @lin [0,3]","a->c @ask""#,
+                &[],
+            ),
+            // A latest or earliest rule of one cause; tags make two rules of two causes.
+            (r#""a->c @late [0,15]","a->c @ask""#, &["single U edge 0"]),
+            (
+                r#""a->c @ask","a->c @early [0,15]","b->c @late [0,9]""#,
+                &["single U edge 1", "single U edge 2"],
+            ),
+            (
+                r#""a->c @late:x [0,15]","b->c @late:y [0,9]","a->c @ask""#,
+                &["single U edge 0", "single U edge 1"],
+            ),
+            (r#""a->c @late [0,15]","b->c @late [0,9]","a->c @ask""#, &[]),
+            (
+                r#""a->c @early:x [0,15]","b->c @early:x [0,9]","a->c @ask""#,
+                &[],
+            ),
+            (r#""a->c @lin [0,15]","a->c @ask""#, &[]),
+            // Rules that contradict each other are no warning: there are no rows to be over an order.
+            (
+                r#""a->b @lin [100,200]","b->a @lin [0,50]","a->b @ask""#,
+                &[],
+            ),
         ],
     )
 }
@@ -140,59 +163,6 @@ fn keys_that_are_passed_over(rt: HostRuntime) -> Result<(), Fail> {
             ("t", r#"{"signal":[{"node":"a"},{"node":"b"}]}"#),
         ],
         &[],
-    )
-}
-
-// Two linear rules with finite high ends into one mark from different marks; each later one with the first such one.
-#[test]
-fn two_rules_into_one_mark(rt: HostRuntime) -> Result<(), Fail> {
-    each_warns(
-        rt.alloc(),
-        &[
-            (
-                r#""a->c @lin [0,15]","b->c @lin [0,15]","a->c @ask""#,
-                &["both U edge 0 U edge 1"],
-            ),
-            (
-                r#""a->c @lin [0,15]","a comment","b->c @lin [*,15]","b->c @lin [1,9]","a->c @ask""#,
-                &["both U edge 0 U edge 2", "both U edge 0 U edge 3"],
-            ),
-            (
-                r#""a->b @lin [0,9]","c->b @lin+1 [0,9]","a->c @ask""#,
-                &["both U edge 0 U edge 1", "never U edge 1"],
-            ),
-            (r#""a->c @lin [0,15]","b->c @lin [0,*]","a->c @ask""#, &[]),
-            (r#""a->c @lin [0,15]","a->c @lin [3,9]","a->c @ask""#, &[]),
-            (
-                r#""a->c @late [0,15]","b->c @late [0,15]","a->c @lin [0,3]","a->c @ask""#,
-                &[],
-            ),
-        ],
-    )
-}
-
-// A latest or earliest rule of one cause; tags make two rules of two causes.
-#[test]
-fn rules_of_one_cause(rt: HostRuntime) -> Result<(), Fail> {
-    each_warns(
-        rt.alloc(),
-        &[
-            (r#""a->c @late [0,15]","a->c @ask""#, &["single U edge 0"]),
-            (
-                r#""a->c @ask","a->c @early [0,15]","b->c @late [0,9]""#,
-                &["single U edge 1", "single U edge 2"],
-            ),
-            (
-                r#""a->c @late:x [0,15]","b->c @late:y [0,9]","a->c @ask""#,
-                &["single U edge 0", "single U edge 1"],
-            ),
-            (r#""a->c @late [0,15]","b->c @late [0,9]","a->c @ask""#, &[]),
-            (
-                r#""a->c @early:x [0,15]","b->c @early:x [0,9]","a->c @ask""#,
-                &[],
-            ),
-            (r#""a->c @lin [0,15]","a->c @ask""#, &[]),
-        ],
     )
 }
 
@@ -335,29 +305,4 @@ fn a_board_without_warnings(rt: HostRuntime) -> Result<(), Fail> {
         &[("s", board), ("p", PROCESSOR), ("t", MEMORY)],
         &[],
     )
-}
-
-// Rules that contradict each other are no warning: there are no rows to be over an order.
-#[test]
-fn an_inconsistent_design(rt: HostRuntime) -> Result<(), Fail> {
-    each_warns(
-        rt.alloc(),
-        &[(
-            r#""a->b @lin [100,200]","b->a @lin [0,50]","a->b @ask""#,
-            &[],
-        )],
-    )
-}
-
-#[test]
-fn files_and_words_that_are_refused(rt: HostRuntime) -> Result<(), Fail> {
-    let alloc = rt.alloc();
-    let refused = (Outcome::Refused, "refused file 0 NotJson\n");
-    let mut shelf = shelf_with(alloc, "s", b"{")?;
-    run_ends(alloc, &LINT, &mut shelf, refused)?;
-    let mut nothing = shelf_of(alloc, &[])?;
-    let unread = (Outcome::ReadFault, "cannot read file 0\n");
-    run_ends(alloc, &LINT, &mut nothing, unread)?;
-    let bad_words = (Outcome::BadWords, "bad words\n");
-    run_ends(alloc, &["--job", "lint"], &mut nothing, bad_words)
 }

@@ -53,43 +53,52 @@ fn a_missed_requirement_is_drawn(rt: HostRuntime) -> Result<(), Fail> {
     )
 }
 
-// The first row in order that fails is drawn, at the times behind its verdict, by their order and with equal times at one place.
-#[test]
-fn the_first_failed_row_is_drawn(rt: HostRuntime) -> Result<(), Fail> {
-    let alloc = rt.alloc();
-    let edges =
-        r#""a->b @lin [5,5]","a->c @lin [3,9]","a->b @req [0,5]","a->b @ask","a->c @req [4,9]","b->c @req [0,0]""#;
-    let sheet = sheet_of(alloc, "abc", edges)?;
-    draws(
-        alloc,
-        sheet.as_str(),
+// Sheets with these nodes and edges, each node on a lane of its own, are drawn so.
+fn each_draws(alloc: Global, cases: &[(&str, &str, &str)]) -> Result<(), Fail> {
+    for (nodes, edges, drawing) in cases {
+        let sheet = sheet_of(alloc, nodes, edges)?;
+        draws(alloc, sheet.as_str(), drawing)?;
+    }
+    Ok(())
+}
+
+// The nodes and the edges of sheets, and their drawings.
+const DRAWN: [(&str, &str, &str); 5] = [
+    // The first row in order that fails is drawn, at the times behind its verdict, by their order and with equal times at one place.
+    (
+        "abc",
+        r#""a->b @lin [5,5]","a->c @lin [3,9]","a->b @req [0,5]","a->b @ask","a->c @req [4,9]","b->c @req [0,0]""#,
         r#"{"signal":[{"name":"U.a@0","wave":"01","node":".a"},{"name":"U.c@0","wave":"0.1","node":"..b"},{"name":"U.b@0","wave":"0..1","node":"...c"}],"edge":["a->b @lin [3,3]","b->c @lin [2,2]","a->b @req [4,9]"]}"#,
-    )
-}
-
-// Of events at one time the two of the row come first, and then the others by number.
-#[test]
-fn events_at_one_time(rt: HostRuntime) -> Result<(), Fail> {
-    let alloc = rt.alloc();
-    let edges = r#""a->b @lin [0,0]","b->c @lin [0,0]","c->d @lin [0,0]","d->c @req [1,2]""#;
-    let sheet = sheet_of(alloc, "abcd", edges)?;
-    draws(
-        alloc,
-        sheet.as_str(),
+    ),
+    // Of events at one time the two of the row come first, and then the others by number.
+    (
+        "abcd",
+        r#""a->b @lin [0,0]","b->c @lin [0,0]","c->d @lin [0,0]","d->c @req [1,2]""#,
         r#"{"signal":[{"name":"U.d@0","wave":"01","node":".a"},{"name":"U.c@0","wave":"01","node":".b"},{"name":"U.a@0","wave":"01","node":".c"},{"name":"U.b@0","wave":"01","node":".d"}],"edge":["a->b @lin [0,0]","b->c @lin [0,0]","c->d @lin [0,0]","a->b @req [1,2]"]}"#,
-    )
-}
-
-// The low end is broken.
-#[test]
-fn a_fail_on_the_low_side(rt: HostRuntime) -> Result<(), Fail> {
-    let alloc = rt.alloc();
-    let sheet = sheet_of(alloc, "ab", r#""a->b @lin [7,250]","b->a @req [-249,*]""#)?;
-    draws(
-        alloc,
-        sheet.as_str(),
+    ),
+    // The low end is broken.
+    (
+        "ab",
+        r#""a->b @lin [7,250]","b->a @req [-249,*]""#,
         r#"{"signal":[{"name":"U.a@0","wave":"01","node":".a"},{"name":"U.b@0","wave":"0.1","node":"..b"}],"edge":["a->b @lin [250,250]","b->a @req [-249,*]"]}"#,
-    )
+    ),
+    // A row from an event to itself has one mark.
+    (
+        "a",
+        r#""a->a @req [1,2]""#,
+        r#"{"signal":[{"name":"U.a@0","wave":"01","node":".a"}],"edge":["a->a @req [1,2]"]}"#,
+    ),
+    // Nothing bounds the pair above, so its times are raised past the end, to one above the limit: the drawing has the limit.
+    (
+        "abc",
+        r#""a->b @lin [10000000000000,*]","b->c @lin [0,5]","a->b @req [0,9999999999999]""#,
+        r#"{"signal":[{"name":"U.a@0","wave":"01","node":".a"},{"name":"U.b@0","wave":"0.1","node":"..b"},{"name":"U.c@0","wave":"0.1","node":"..c"}],"edge":["a->b @lin [10000000000000,10000000000000]","b->c @lin [0,0]","a->b @req [0,9999999999999]"]}"#,
+    ),
+];
+
+#[test]
+fn rows_that_are_drawn(rt: HostRuntime) -> Result<(), Fail> {
+    each_draws(rt.alloc(), &DRAWN)
 }
 
 // A quotation mark and a backslash have a backslash before them, as marks of the design and as marks of the drawing.
@@ -104,18 +113,6 @@ fn marks_that_are_escaped(rt: HostRuntime) -> Result<(), Fail> {
         alloc,
         sheet.as_str(),
         r#"{"signal":[{"name":"U.\"@0","wave":"01","node":".a"},{"name":"U.\\@0","wave":"0.1","node":"..b"},{"name":"U./@0","wave":"0..1","node":"...c"}],"edge":["a->b @lin [3,3]","b->c @lin [4,4]","c->a @req [0,5]"]}"#,
-    )
-}
-
-// A row from an event to itself has one mark.
-#[test]
-fn an_event_and_itself(rt: HostRuntime) -> Result<(), Fail> {
-    let alloc = rt.alloc();
-    let sheet = sheet_of(alloc, "a", r#""a->a @req [1,2]""#)?;
-    draws(
-        alloc,
-        sheet.as_str(),
-        r#"{"signal":[{"name":"U.a@0","wave":"01","node":".a"}],"edge":["a->a @req [1,2]"]}"#,
     )
 }
 
@@ -140,19 +137,6 @@ fn gaps_about_the_limit(rt: HostRuntime) -> Result<(), Fail> {
         alloc,
         sheet.as_str(),
         r#"{"signal":[{"name":"U.a@0","wave":"01","node":".a"},{"name":"U.b@0","wave":"0.1","node":"..b"},{"name":"U.c@0","wave":"0..1","node":"...c"},{"name":"U.d@0","wave":"0...1","node":"....d"}],"edge":["a->b @lin [9999999999999,9999999999999]","b->c @lin [10000000000000,10000000000000]","c->d @lin [1,1]","a->d @req [*,0]"]}"#,
-    )
-}
-
-// Nothing bounds the pair above, so its times are raised past the end, to one above the limit: the drawing has the limit.
-#[test]
-fn a_gap_above_the_limit(rt: HostRuntime) -> Result<(), Fail> {
-    let alloc = rt.alloc();
-    let edges = r#""a->b @lin [10000000000000,*]","b->c @lin [0,5]","a->b @req [0,9999999999999]""#;
-    let sheet = sheet_of(alloc, "abc", edges)?;
-    draws(
-        alloc,
-        sheet.as_str(),
-        r#"{"signal":[{"name":"U.a@0","wave":"01","node":".a"},{"name":"U.b@0","wave":"0.1","node":"..b"},{"name":"U.c@0","wave":"0.1","node":"..c"}],"edge":["a->b @lin [10000000000000,10000000000000]","b->c @lin [0,0]","a->b @req [0,9999999999999]"]}"#,
     )
 }
 

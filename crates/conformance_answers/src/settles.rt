@@ -33,40 +33,34 @@ fn settles(
     run_ends(alloc, words, &mut shelf, (end, text.as_str()))
 }
 
-const SETTLE: [&str; 2] = ["--job=settle", "s"];
+const SETTLE: &[&str] = &["--job=settle", "s"];
 
-// ---- the worked rows
+const FEW_TURNS: &[&str] = &["--job=settle", "--cert", "--budget=1", "s"];
 
-// The latest of two causes, one of them a range behind the other.
-#[test]
-fn the_latest_of_two_causes(rt: HostRuntime) -> Result<(), Fail> {
-    settles(
-        rt.alloc(),
+// Sheets with their words, the end, and what is written behind the events.
+const WORKED: [((&str, &str), &[&str], (Outcome, &str)); 8] = [
+    // The latest of two causes, one of them a range behind the other.
+    (
         (
             "abj",
             r#""a->b @lin [100,300]","a->j @late [500,700]","b->j @late [200,400]","a->j @ask","b->j @ask""#,
         ),
-        &SETTLE,
+        SETTLE,
         (
             Outcome::AllPass,
             "finding consistent\ntimes ?\nrows 2\n\
             row 0 ask U.a@0 U.j@0\nmax 700\ntimes ?\nmin 500\ntimes ?\n\
             row 1 ask U.b@0 U.j@0\nmax 600\ntimes -100 0 600\nmin 200\ntimes -300 0 200\nend pass\n",
         ),
-    )
-}
-
-// A latest event behind b and c, and an earliest one behind it: d comes at most 6 behind a, at b and 1 or c and 2, and at least 2; e at
-// most 4 behind d, and at least 3 behind d or 6 behind a.
-#[test]
-fn a_latest_and_an_earliest_event(rt: HostRuntime) -> Result<(), Fail> {
-    settles(
-        rt.alloc(),
+    ),
+    // A latest event behind b and c, and an earliest one behind it: d comes at most 6 behind a, at b and 1 or c and 2, and at least 2; e
+    // at most 4 behind d, and at least 3 behind d or 6 behind a.
+    (
         (
             "abcde",
             r#""a->b @lin [1,5]","a->c @lin [2,3]","b->d @late [0,1]","c->d @late [0,2]","d->e @early [3,4]","a->e @early [6,20]","a->e @ask","a->e @req [5,10]","a->e @req [6,*]""#,
         ),
-        &SETTLE,
+        SETTLE,
         (
             Outcome::SomeFail,
             "finding consistent\ntimes ?\nrows 3\n\
@@ -74,69 +68,82 @@ fn a_latest_and_an_earliest_event(rt: HostRuntime) -> Result<(), Fail> {
             row 1 req U.a@0 U.e@0 [5,10]\nmax 10\ntimes ?\nmin 5\ntimes ?\nverdict pass\nslack 0 0\n\
             row 2 req U.a@0 U.e@0 [6,*]\nmax 10\ntimes ?\nmin 5\ntimes ?\nverdict fail low\ntimes ?\nslack -1 *\nend fail\n",
         ),
-    )
-}
+    ),
+    // Three ends that are missed: by 3 above, by 2 below, and by a bound that is not there.
+    (
+        ("ab", r#""a->b @lin [2,10]","a->b @req [0,7]""#),
+        SETTLE,
+        (
+            Outcome::SomeFail,
+            "finding consistent\ntimes 0 ?\nrows 1\nrow 0 req U.a@0 U.b@0 [0,7]\nmax 10\ntimes 0 10\nmin 2\ntimes 0 2\n\
+            verdict fail high\ntimes 0 10\nslack 2 -3\nend fail\n",
+        ),
+    ),
+    (
+        ("ab", r#""a->b @lin [2,10]","a->b @req [4,*]""#),
+        SETTLE,
+        (
+            Outcome::SomeFail,
+            "finding consistent\ntimes 0 ?\nrows 1\nrow 0 req U.a@0 U.b@0 [4,*]\nmax 10\ntimes 0 10\nmin 2\ntimes 0 2\n\
+            verdict fail low\ntimes 0 2\nslack -2 *\nend fail\n",
+        ),
+    ),
+    (
+        ("ab", r#""a->b @lin [2,*]","a->b @req [*,500]""#),
+        SETTLE,
+        (
+            Outcome::SomeFail,
+            "finding consistent\ntimes 0 ?\nrows 1\nrow 0 req U.a@0 U.b@0 [*,500]\nmax unbounded\ntimes 0 ?\nraise 1\nmin 2\n\
+            times 0 2\nverdict fail high\ntimes 0 501\nslack * *\nend fail\n",
+        ),
+    ),
+    // Rules that contradict each other.
+    (
+        (
+            "ab",
+            r#""a->b @lin [100,200]","b->a @lin [0,50]","a->b @ask""#,
+        ),
+        SETTLE,
+        (
+            Outcome::Inconsistent,
+            "finding inconsistent\nend inconsistent\n",
+        ),
+    ),
+    // Designs of no event and of one.
+    (
+        ("", ""),
+        FEW_TURNS,
+        (
+            Outcome::AllPass,
+            "finding consistent\ntimes\nrows 0\nend pass\n",
+        ),
+    ),
+    (
+        ("a", r#""a->a @ask""#),
+        FEW_TURNS,
+        (
+            Outcome::AllPass,
+            "finding consistent\ntimes 0\nrows 1\nrow 0 ask U.a@0 U.a@0\nview ?\nclaim 0\nmax 0\ntimes 0\nview ?\nclaim 0\nmin 0\ntimes 0\nend pass\n",
+        ),
+    ),
+];
 
-// ---- verdicts
-
-// Three ends that are missed: by 3 above, by 2 below, and by a bound that is not there.
 #[test]
-fn ends_that_are_missed(rt: HostRuntime) -> Result<(), Fail> {
-    let alloc = rt.alloc();
-    let high = (
-        Outcome::SomeFail,
-        "finding consistent\ntimes 0 ?\nrows 1\nrow 0 req U.a@0 U.b@0 [0,7]\nmax 10\ntimes 0 10\nmin 2\ntimes 0 2\n\
-        verdict fail high\ntimes 0 10\nslack 2 -3\nend fail\n",
-    );
-    let edges = r#""a->b @lin [2,10]","a->b @req [0,7]""#;
-    settles(alloc, ("ab", edges), &SETTLE, high)?;
-    let low = (
-        Outcome::SomeFail,
-        "finding consistent\ntimes 0 ?\nrows 1\nrow 0 req U.a@0 U.b@0 [4,*]\nmax 10\ntimes 0 10\nmin 2\ntimes 0 2\n\
-        verdict fail low\ntimes 0 2\nslack -2 *\nend fail\n",
-    );
-    let edges = r#""a->b @lin [2,10]","a->b @req [4,*]""#;
-    settles(alloc, ("ab", edges), &SETTLE, low)?;
-    let endless = (
-        Outcome::SomeFail,
-        "finding consistent\ntimes 0 ?\nrows 1\nrow 0 req U.a@0 U.b@0 [*,500]\nmax unbounded\ntimes 0 ?\nraise 1\nmin 2\n\
-        times 0 2\nverdict fail high\ntimes 0 501\nslack * *\nend fail\n",
-    );
-    let edges = r#""a->b @lin [2,*]","a->b @req [*,500]""#;
-    settles(alloc, ("ab", edges), &SETTLE, endless)
+fn sheets_that_were_worked_by_hand(rt: HostRuntime) -> Result<(), Fail> {
+    for (sheet, words, wanted) in WORKED {
+        settles(rt.alloc(), sheet, words, wanted)?;
+    }
+    Ok(())
 }
 
 // ---- other ends
-
-#[test]
-fn rules_that_contradict_each_other(rt: HostRuntime) -> Result<(), Fail> {
-    let edges = r#""a->b @lin [100,200]","b->a @lin [0,50]","a->b @ask""#;
-    let end = (
-        Outcome::Inconsistent,
-        "finding inconsistent\nend inconsistent\n",
-    );
-    settles(rt.alloc(), ("ab", edges), &SETTLE, end)
-}
-
-#[test]
-fn designs_of_few_events(rt: HostRuntime) -> Result<(), Fail> {
-    let alloc = rt.alloc();
-    let words = ["--job=settle", "--cert", "--budget=1", "s"];
-    let none = "finding consistent\ntimes\nrows 0\nend pass\n";
-    let pass = (Outcome::AllPass, none);
-    settles(alloc, ("", ""), &words, pass)?;
-    let itself =
-        "finding consistent\ntimes 0\nrows 1\nrow 0 ask U.a@0 U.a@0\nview ?\nclaim 0\nmax 0\ntimes 0\nview ?\nclaim 0\nmin 0\ntimes 0\nend pass\n";
-    let pass = (Outcome::AllPass, itself);
-    settles(alloc, ("a", r#""a->a @ask""#), &words, pass)
-}
 
 #[test]
 fn other_files_and_words(rt: HostRuntime) -> Result<(), Fail> {
     let alloc = rt.alloc();
     let mut nothing = shelf_of(alloc, &[])?;
     let unread = (Outcome::ReadFault, "cannot read file 0\n");
-    run_ends(alloc, &SETTLE, &mut nothing, unread)?;
+    run_ends(alloc, SETTLE, &mut nothing, unread)?;
     let bad_words = (Outcome::BadWords, "bad words\n");
     run_ends(alloc, &["--job=settle"], &mut nothing, bad_words)
 }

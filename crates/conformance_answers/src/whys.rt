@@ -2,7 +2,7 @@
 //! order of a lane, notes, and the other ends.
 
 use conformance_kit::{
-    BOARD, CONTRADICTS, MEMORY, PROCESSOR, files_end, run_ends, sheet_of, shelf_of, shelf_with,
+    BOARD, CONTRADICTS, MEMORY, PROCESSOR, files_end, run_ends, sheet_of, shelf_with,
 };
 use itv_cli::Outcome;
 use std::alloc::Global;
@@ -26,11 +26,18 @@ fn explains(alloc: Global, nodes: &str, edges: &str, wanted: (Outcome, &str)) ->
 
 // ---- chains
 
-// Two rules behind each other: 20 + 2 at most, and 10 + 1 at least.
-#[test]
-fn rules_one_behind_the_other(rt: HostRuntime) -> Result<(), Fail> {
-    explains(
-        rt.alloc(),
+// The same on several sheets.
+fn each_explains(alloc: Global, cases: &[(&str, &str, (Outcome, &str))]) -> Result<(), Fail> {
+    for (nodes, edges, (end, rest)) in cases {
+        explains(alloc, nodes, edges, (*end, rest))?;
+    }
+    Ok(())
+}
+
+// The nodes and the edges of sheets, the end, and what is written behind the heading.
+const BY_HAND: [(&str, &str, (Outcome, &str)); 9] = [
+    // Two rules behind each other: 20 + 2 at most, and 10 + 1 at least.
+    (
         "abc",
         r#""a->b @lin [10,20] first","b->c @lin [1,2]","a->c @ask both of them""#,
         (
@@ -40,15 +47,10 @@ fn rules_one_behind_the_other(rt: HostRuntime) -> Result<(), Fail> {
             max 22\nstep U.a@0 U.b@0 20 edge 0 first\nstep U.b@0 U.c@0 2 edge 1\n\
             min 11\nstep U.a@0 U.b@0 10 edge 0 first\nstep U.b@0 U.c@0 1 edge 1\nend pass\n",
         ),
-    )
-}
-
-// A clock tree: from the clock a over a buffer b to the leaf c, and straight to the leaf d. So c is at most 20 + 6 - 1 behind d, and at least
-// 10 + 5 - 2.
-#[test]
-fn the_skew_of_a_clock_tree(rt: HostRuntime) -> Result<(), Fail> {
-    explains(
-        rt.alloc(),
+    ),
+    // A clock tree: from the clock a over a buffer b to the leaf c, and straight to the leaf d. So c is at most 20 + 6 - 1 behind d, and at
+    // least 10 + 5 - 2.
+    (
         "abcd",
         r#""a->b @lin [10,20] buffer","b->c @lin [5,6]","a->d @lin [1,2] wire","d->c @req [*,24] skew""#,
         (
@@ -59,15 +61,10 @@ fn the_skew_of_a_clock_tree(rt: HostRuntime) -> Result<(), Fail> {
             min 13\nstep U.d@0 U.a@0 -2 edge 2 wire\nstep U.a@0 U.b@0 10 edge 0 buffer\nstep U.b@0 U.c@0 5 edge 1\n\
             verdict fail high\nslack * -1\nend fail\n",
         ),
-    )
-}
-
-// j comes at the latest of a + 450..700 and b + 200..500, and b is 100..300 behind a. So j is at most 300 + 500 behind a, by b, and at
-// least 450, by a; and at most 700 - 100 behind b, by a, and at least 200.
-#[test]
-fn the_latest_of_two_causes(rt: HostRuntime) -> Result<(), Fail> {
-    explains(
-        rt.alloc(),
+    ),
+    // j comes at the latest of a + 450..700 and b + 200..500, and b is 100..300 behind a. So j is at most 300 + 500 behind a, by b, and at
+    // least 450, by a; and at most 700 - 100 behind b, by a, and at least 200.
+    (
         "abj",
         r#""a->b @lin [100,300]","a->j @late [450,700] tAA","b->j @late [200,500] tACE","a->j @ask","b->j @req [100,*] set-up""#,
         (
@@ -80,14 +77,9 @@ fn the_latest_of_two_causes(rt: HostRuntime) -> Result<(), Fail> {
             max 600\nstep U.b@0 U.a@0 -100 edge 0\nstep U.a@0 U.j@0 700 edge 1 tAA\n\
             min 200\nstep U.b@0 U.j@0 200 edge 2 tACE\nverdict pass\nslack 100 *\nend pass\n",
         ),
-    )
-}
-
-// d comes at the earliest of a + 3..8 and b + 0..7, and b is 1..2 behind a: at most 8 behind a, by a, and at least 1 + 0, by b.
-#[test]
-fn the_earliest_of_two_causes(rt: HostRuntime) -> Result<(), Fail> {
-    explains(
-        rt.alloc(),
+    ),
+    // d comes at the earliest of a + 3..8 and b + 0..7, and b is 1..2 behind a: at most 8 behind a, by a, and at least 1 + 0, by b.
+    (
         "abd",
         r#""a->d @early [3,8]","b->d @early [0,7]","a->b @lin [1,2]","a->d @req [2,9] hold""#,
         (
@@ -97,28 +89,18 @@ fn the_earliest_of_two_causes(rt: HostRuntime) -> Result<(), Fail> {
             max 8\nstep U.a@0 U.d@0 8 edge 0\n\
             min 1\nstep U.a@0 U.b@0 1 edge 2\nstep U.b@0 U.d@0 0 edge 1\nverdict fail low\nslack -1 1\nend fail\n",
         ),
-    )
-}
-
-// From an event to itself there is nothing to go along.
-#[test]
-fn an_event_and_itself(rt: HostRuntime) -> Result<(), Fail> {
-    explains(
-        rt.alloc(),
+    ),
+    // From an event to itself there is nothing to go along.
+    (
         "ab",
         r#""a->b @lin [1,2]","a->a @ask""#,
         (
             Outcome::AllPass,
             "finding consistent\nrow 0 ask U.a@0 U.a@0 edge 1\nmax 0\nmin 0\nend pass\n",
         ),
-    )
-}
-
-// Nothing holds b from above, and c follows b: both can be put off. The requirement has an open end there.
-#[test]
-fn an_unbounded_pair(rt: HostRuntime) -> Result<(), Fail> {
-    explains(
-        rt.alloc(),
+    ),
+    // Nothing holds b from above, and c follows b: both can be put off. The requirement has an open end there.
+    (
         "abc",
         r#""a->b @lin [5,*] slow","b->c @lin [1,2]","a->c @req [4,*]""#,
         (
@@ -127,7 +109,38 @@ fn an_unbounded_pair(rt: HostRuntime) -> Result<(), Fail> {
             max unbounded\nraise U.b@0\nraise U.c@0\n\
             min 6\nstep U.a@0 U.b@0 5 edge 0 slow\nstep U.b@0 U.c@0 1 edge 1\nverdict pass\nslack 2 *\nend pass\n",
         ),
-    )
+    ),
+    // b is at least 100 behind a and not before it; what c does has nothing to do with it.
+    (
+        "abc",
+        r#""a->c @lin [0,5] another matter","a->b @lin [100,200] tPD","b->a @lin [0,50]","a->b @ask""#,
+        (
+            Outcome::Inconsistent,
+            "finding inconsistent\nrule lin U.a@0 U.b@0 [100,200] edge 1 tPD\nrule lin U.b@0 U.a@0 [0,50] edge 2\nend inconsistent\n",
+        ),
+    ),
+    // j is at most 10 behind the latest of a and b, and at least 20 behind each of them.
+    (
+        "abjk",
+        r#""a->j @late [0,10]","b->j @late [0,10]","a->j @lin [20,30]","b->j @lin [20,30]","j->k @lin [0,*]","a->j @ask""#,
+        (
+            Outcome::Inconsistent,
+            "finding inconsistent\n\
+            rule late U.a@0 U.j@0 [0,10] edge 0\nrule late U.b@0 U.j@0 [0,10] edge 1\n\
+            rule lin U.a@0 U.j@0 [20,30] edge 2\nrule lin U.b@0 U.j@0 [20,30] edge 3\nend inconsistent\n",
+        ),
+    ),
+    // A design that asks nothing has no rows.
+    (
+        "ab",
+        r#""a->b @lin [1,2]""#,
+        (Outcome::AllPass, "finding consistent\nend pass\n"),
+    ),
+];
+
+#[test]
+fn sheets_that_were_worked_by_hand(rt: HostRuntime) -> Result<(), Fail> {
+    each_explains(rt.alloc(), &BY_HAND)
 }
 
 // A processor, a memory and three nets over two cycles. The address leaves 8,000 behind the clock at most, two nets take 300 each and the
@@ -156,38 +169,6 @@ fn a_processor_and_its_memory(rt: HostRuntime) -> Result<(), Fail> {
             step U1.a@0 U1.c@0 -8000 edge 0 tAV\n\
             step U1.c@0 U1.c@1 25000 edge 2\n\
             verdict pass\nslack 1400 *\nend pass\n",
-        ),
-    )
-}
-
-// ---- rules that contradict each other
-
-// b is at least 100 behind a and not before it; what c does has nothing to do with it.
-#[test]
-fn two_rules_that_contradict_each_other(rt: HostRuntime) -> Result<(), Fail> {
-    explains(
-        rt.alloc(),
-        "abc",
-        r#""a->c @lin [0,5] another matter","a->b @lin [100,200] tPD","b->a @lin [0,50]","a->b @ask""#,
-        (
-            Outcome::Inconsistent,
-            "finding inconsistent\nrule lin U.a@0 U.b@0 [100,200] edge 1 tPD\nrule lin U.b@0 U.a@0 [0,50] edge 2\nend inconsistent\n",
-        ),
-    )
-}
-
-// j is at most 10 behind the latest of a and b, and at least 20 behind each of them.
-#[test]
-fn a_latest_rule_among_them(rt: HostRuntime) -> Result<(), Fail> {
-    explains(
-        rt.alloc(),
-        "abjk",
-        r#""a->j @late [0,10]","b->j @late [0,10]","a->j @lin [20,30]","b->j @lin [20,30]","j->k @lin [0,*]","a->j @ask""#,
-        (
-            Outcome::Inconsistent,
-            "finding inconsistent\n\
-            rule late U.a@0 U.j@0 [0,10] edge 0\nrule late U.b@0 U.j@0 [0,10] edge 1\n\
-            rule lin U.a@0 U.j@0 [20,30] edge 2\nrule lin U.b@0 U.j@0 [20,30] edge 3\nend inconsistent\n",
         ),
     )
 }
@@ -280,29 +261,5 @@ fn a_budget_that_is_too_small(rt: HostRuntime) -> Result<(), Fail> {
             Outcome::Undecided,
             "itv why 1\nfinding unsettled\nrow 0 ask U.a@0 U.j@0 edge ?\nmax within 30\nmin within 20\nend undecided\n",
         ),
-    )
-}
-
-#[test]
-fn files_and_words_that_are_refused(rt: HostRuntime) -> Result<(), Fail> {
-    let alloc = rt.alloc();
-    let refused = (Outcome::Refused, "refused file 0 NotJson\n");
-    let mut shelf = shelf_with(alloc, "s", b"{")?;
-    run_ends(alloc, &WHY, &mut shelf, refused)?;
-    let mut nothing = shelf_of(alloc, &[])?;
-    let unread = (Outcome::ReadFault, "cannot read file 0\n");
-    run_ends(alloc, &WHY, &mut nothing, unread)?;
-    let bad_words = (Outcome::BadWords, "bad words\n");
-    run_ends(alloc, &["--job", "why"], &mut nothing, bad_words)
-}
-
-// A design that asks nothing has no rows.
-#[test]
-fn a_design_without_rows(rt: HostRuntime) -> Result<(), Fail> {
-    explains(
-        rt.alloc(),
-        "ab",
-        r#""a->b @lin [1,2]""#,
-        (Outcome::AllPass, "finding consistent\nend pass\n"),
     )
 }
