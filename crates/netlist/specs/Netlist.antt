@@ -197,5 +197,12 @@ netlist_of tree = do
 
 -- the netlist that the sheet of a name stands for: one part in one cycle, of version 1; it has no keys
 abbrev pub lone_netlist : List ℕ → Contents
-lone_netlist sheet =
-    record { version = 1; cycles = 1; parts = record { name = codes "U"; sheet = sheet; grade = None } ∷ []; nets = []; wires = []; edges = []; near = [] }
+lone_netlist sheet = record {
+  version = 1;
+  cycles = 1;
+  parts = record { name = codes "U"; sheet = sheet; grade = None } ∷ [];
+  nets = [];
+  wires = [];
+  edges = [];
+  near = [];
+}

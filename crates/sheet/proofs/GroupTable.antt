@@ -12,8 +12,9 @@ use Rattle.label_grammar.specs.declared.label.Kind.{Kind}
 use Rattle.label_grammar.specs.declared.label.Kind.TheVariants.{Lin, Req, Ask}
 use Rattle.sheet.specs.declared.groups.Group.{Group}
 use Rattle.sheet.specs.Rule.{SheetRule}
-use Rattle.sheet.specs.Links.{Link, is_cause, is_full, same_tag, joins, source_of, link_rules}
-use Rattle.sheet.specs.Groups.{opens, openers, kind_of, same_group, group_link, Places, place_of, StandsFor, AddsCause, AddsLink}
+use Rattle.sheet.specs.Links.{Link, is_full, same_tag, joins, source_of, link_rules}
+use Rattle.sheet.specs.Step.{is_cause, AddsCause}
+use Rattle.sheet.specs.Groups.{opens, openers, kind_of, same_group, group_link, Places, place_of, StandsFor, AddsLink}
 use Rattle.sheet.proofs.Joins.{joins-same, joins-itself, joins-comm, joins-no_cause}
 use Rattle.sheet.proofs.Openers.{linear_rule, rule_for, link_rules-map, openers-push, opens-joined, any-openers}
 use Rattle.sheet.proofs.OneMore.{not_full, full-rule, rules-linear, rules-row, rules-first, rules-unopened, rules-joined, rule_for-joined, with_cause}

@@ -4,7 +4,8 @@ use Rattle.std.proofs.lemmas.Bool.{eqb-true, eq-eqb}
 use Rattle.std.proofs.lemmas.Slice.Eq.{bytes_eq-Decides}
 use Rattle.label_grammar.specs.declared.label.Kind.{Kind}
 use Rattle.label_grammar.specs.declared.label.Kind.TheVariants.{Lin, Late, Early, Req, Ask}
-use Rattle.sheet.specs.Links.{Link, is_cause, same_kind, same_tag, joins}
+use Rattle.sheet.specs.Links.{Link, same_kind, same_tag, joins}
+use Rattle.sheet.specs.Step.{is_cause}
 
 same_kind-same : (a b : Kind) → same_kind a b ≡ true → (a ≡ b) × (is_cause a ≡ true)
 same_kind-same Lin b e = cc

@@ -10,7 +10,8 @@ use Rattle.label_grammar.specs.declared.label.Kind.TheVariants.{Lin, Late, Early
 use Rattle.itv_base.specs.declared.names.RuleKind.{RuleKind}
 use Rattle.itv_base.specs.declared.names.RuleKind.TheVariants as rules
 use Rattle.sheet.specs.Rule.{SheetRule}
-use Rattle.sheet.specs.Links.{Link, is_cause, is_full, joins, source_of, group_rule, link_rules}
+use Rattle.sheet.specs.Links.{Link, is_full, joins, source_of, group_rule, link_rules}
+use Rattle.sheet.specs.Step.{is_cause}
 use Rattle.sheet.specs.Groups.{opens_by, opens, openers, kind_of}
 use Rattle.sheet.proofs.Joins.{joins-same, joins-itself, joins-cause, joins-comm, joins-no_cause}
 use Rattle.sheet.proofs.Openers.{linear_rule, rule_by, rule_for, link_rules-map, openers-push, any-openers, at_most-openers}

@@ -10,7 +10,8 @@ use Rattle.label_grammar.specs.declared.label.Kind.TheVariants.{Lin, Late, Early
 use Rattle.itv_base.specs.declared.names.RuleKind.TheVariants as rules
 use Rattle.sheet.specs.Rule.{SheetRule}
 use Rattle.sheet.specs.Groups.{opens_by, opens, openers_from, openers}
-use Rattle.sheet.specs.Links.{Link, is_cause, joins, source_of, group_rule, rule_opened, link_rules}
+use Rattle.sheet.specs.Links.{Link, joins, source_of, group_rule, rule_opened, link_rules}
+use Rattle.sheet.specs.Step.{is_cause}
 use Rattle.sheet.proofs.Joins.{joins-same, joins-cause, joins-comm}
 use Rattle.sheet.proofs.Lists.{list_any-same, AtMostOne}
 

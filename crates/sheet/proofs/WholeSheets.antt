@@ -41,9 +41,10 @@ use Rattle.label_grammar.specs.Label.{IsProper}
 use Rattle.label_grammar.proofs.Pieces.{ends_invert, spans_invert}
 use Rattle.label_grammar.proofs.Proper.{judged_is_proper, proper_range, proper_span}
 use Rattle.sheet.specs.Lanes.{Numbered, first_repeated, follows_rule, has_bad_node, lane_marks, lane_order, order_named, mark_at, marks_of, node_of, numbered, numbered_from, order_of, order_rules, pin_named, pin_of, pins_of}
-use Rattle.sheet.specs.Links.{Labels, plain, graded, told, span_ends, resolved, label_in, Link, group_rule, is_full, joins, labelled, link_of, link_rows, link_rules, link_to, links_of, number_of, open_ends, row_by, rule_opened, seen_link, source_of, is_cause, with_edge, with_link}
+use Rattle.sheet.specs.Links.{Labels, plain, graded, told, span_ends, resolved, label_in, Link, group_rule, is_full, joins, labelled, link_of, link_rows, link_rules, link_to, links_of, number_of, open_ends, row_by, rule_opened, seen_link, source_of, with_edge, with_link}
+use Rattle.sheet.specs.Step.{is_cause, AreWholeLabels}
 use Rattle.sheet.specs.Sheet.{grade_named, read_marks, read_pins, sheet_at, sheet_by, sheet_of}
-use Rattle.sheet.specs.Whole.{AreWholeLabels, IsWhole, IsWholeRow, IsWholeRule, IsWholeSource}
+use Rattle.sheet.specs.Whole.{IsWhole, IsWholeRow, IsWholeRule, IsWholeSource}
 use Rattle.itv_base.proofs.Faults.{IfOk-bind, IfOk-unless, IfOk-walk}
 use Rattle.sheet.proofs.FewMarks.{few_marks}
 use Rattle.sheet.proofs.Joins.{joins-same, joins-itself}

@@ -80,11 +80,6 @@ abbrev pub TellsFull : ℕ → Bool → GroupFault → Type 0
 TellsFull n full (TooManyCauses m) = (m ≡ n) × (full ≡ true)
 TellsFull n full NoMemory = Unit {0}
 
--- what is answered to one cause more for a rule, that of edge n, and what the rule is then
-abbrev pub AddsCause : SheetRule → ℕ → Source → Result ⊤ GroupFault → SheetRule → Type 0
-AddsCause old n cause (Ok x) new = (nat_le MAX_CAUSES (length old.causes) ≡ false) × (new ≡ record old { causes = old.causes ++ cause ∷ [] })
-AddsCause old n cause (Err fault) new = TellsFull n (nat_le MAX_CAUSES (length old.causes)) fault
-
 -- what is answered to one link more, of edge n, and what stands then
 abbrev pub AddsLink : List SheetRule → List Link → ℕ → Link → Result ⊤ GroupFault → List SheetRule → Places → Type 0
 AddsLink front links n link (Ok x) all places = (is_full links link ≡ false) × StandsFor front (links ++ link ∷ []) all places

@@ -88,14 +88,6 @@ link_of labels marks n text = seen_link labels marks n (edge_of text)
 
 -- ---- groups of causes
 
--- latest and earliest edges are causes, those of one kind with one target and one tag of one constraint
-abbrev pub is_cause : Kind → Bool
-is_cause Lin = false
-is_cause Late = true
-is_cause Early = true
-is_cause Req = false
-is_cause Ask = false
-
 abbrev pub same_kind : Kind → Kind → Bool
 same_kind Late Late = true
 same_kind Early Early = true

@@ -30,7 +30,14 @@ sheet_of labels drawing = do
   marks ← read_marks drawing.lanes
   pins ← read_pins drawing.lanes
   links ← links_of labels marks drawing.edges
-  Ok (record { marks = marks; pins = pins; rules = order_rules drawing.lanes ++ link_rules links; rows = link_rows links; edges = drawing.edges; near = drawing.near })
+  Ok (record {
+    marks = marks;
+    pins = pins;
+    rules = order_rules drawing.lanes ++ link_rules links;
+    rows = link_rows links;
+    edges = drawing.edges;
+    near = drawing.near;
+  })
 
 -- the grade of a name, if one is named
 abbrev pub grade_named : List Grade → Option (List ℕ) → Result (Option Grade) SheetFault

@@ -1,13 +1,19 @@
 -- What the calls of this crate do one after another, on the way to a sheet.
-use Rattle.std.specs.Prelude.{◌≡◌, ℕ, Bool, true, All, List, ◌++◌, map, nat_eq, Result, Ok}
+use Rattle.std.specs.Prelude.{◌≡◌, ℕ, Bool, true, false, ⊤, All, List, [], ◌∷◌, ◌++◌, length, map, nat_eq, nat_le, IfSome, Result, Ok, Err}
 use Rattle.std.specs.List.{IsDistinct}
 use Rattle.std.specs.Option.{option_copied}
 use Rattle.std.specs.Str.{bytes_eq}
 use Rattle.wavejson.specs.declared.lane_text.LaneText.{LaneText}
 use Rattle.itv_base.specs.Characters.{is_mark}
+use Rattle.itv_base.specs.declared.limits.TheConstants.{MAX_CAUSES}
+use Rattle.grades.specs.Grades.{HasRanges}
+use Rattle.label_grammar.specs.declared.label.Kind.{Kind}
+use Rattle.label_grammar.specs.declared.label.Kind.TheVariants.{Lin, Late, Early, Req, Ask}
 use Rattle.label_grammar.specs.Label.{label_view}
 use Rattle.sheet.specs.declared.edges.EdgeRules.{EdgeRules}
 use Rattle.sheet.specs.declared.fault.SheetFault.{SheetFault}
+use Rattle.sheet.specs.declared.groups.GroupFault.{GroupFault}
+use Rattle.sheet.specs.declared.rule.Source.{Source}
 use Rattle.sheet.specs.declared.fault.SheetFault.TheVariants.{DoubleMark, DoublePin}
 use Rattle.sheet.specs.declared.lanes.Span.{Span}
 use Rattle.sheet.specs.declared.labels.Labels as code_labels
@@ -17,6 +23,7 @@ use Rattle.sheet.specs.declared.mark.Mark.{Mark}
 use Rattle.sheet.specs.declared.pin.Pin.{Pin}
 use Rattle.itv_base.specs.Reading.{◌>>=◌, unless}
 use Rattle.sheet.specs.Lanes.{Numbered, numbered, first_repeated}
+use Rattle.sheet.specs.Groups.{TellsFull}
 use Rattle.sheet.specs.Links.{Labels, plain, graded, Link, link_rules, link_rows}
 use Rattle.sheet.specs.Rule.{SheetRule}
 
@@ -61,3 +68,21 @@ rules_and_rows front read = do
 abbrev pub labels_view : code_labels.Labels → Labels
 labels_view Plain = plain
 labels_view (Graded grade) = graded (option_copied grade)
+
+-- latest and earliest edges are causes, those of one kind with one target and one tag of one constraint
+abbrev pub is_cause : Kind → Bool
+is_cause Lin = false
+is_cause Late = true
+is_cause Early = true
+is_cause Req = false
+is_cause Ask = false
+
+-- what is answered to one cause more for a rule, that of edge n, and what the rule is then
+abbrev pub AddsCause : SheetRule → ℕ → Source → Result ⊤ GroupFault → SheetRule → Type 0
+AddsCause old n cause (Ok x) new = (nat_le MAX_CAUSES (length old.causes) ≡ false) × (new ≡ record old { causes = old.causes ++ cause ∷ [] })
+AddsCause old n cause (Err fault) new = TellsFull n (nat_le MAX_CAUSES (length old.causes)) fault
+
+-- a grade whose parameters are ranges gives the labels theirs, if there is one
+abbrev pub AreWholeLabels : Labels → Type 0
+AreWholeLabels plain = Unit {0}
+AreWholeLabels (graded grade) = IfSome grade HasRanges

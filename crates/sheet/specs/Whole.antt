@@ -52,8 +52,3 @@ pub record IsWhole (sheet : Contents) : Type 0 where
   pub pins : All (λ (pin : Pin). (1 ≤ pin.count) × (pin.first + pin.count ≤ length sheet.marks)) sheet.pins
   pub rules : All (IsWholeRule (length sheet.marks)) sheet.rules
   pub rows : All (IsWholeRow (length sheet.marks)) sheet.rows
-
--- a grade whose parameters are ranges gives the labels theirs, if there is one
-abbrev pub AreWholeLabels : Labels → Type 0
-AreWholeLabels plain = Unit {0}
-AreWholeLabels (graded grade) = IfSome grade HasRanges

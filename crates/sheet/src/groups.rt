@@ -1,10 +1,10 @@
 //! Groups of causes: those of one kind with one target and one tag are the causes of one rule.
 
 ghost use Rattle.std.specs.Prelude.{◌≡◌, ◌++◌, ◌∷◌, [], List, length, if◌then◌else◌, true, Some, None, OnOk};
-ghost use Rattle.sheet.specs.Groups.{AddsCause, AddsLink, ArePlaces, StandsFor, kind_of, place_of, same_group};
-ghost use Rattle.sheet.specs.Links.{Link as LinkSeen, is_cause, source_of};
+ghost use Rattle.sheet.specs.Groups.{AddsLink, ArePlaces, StandsFor, kind_of, place_of, same_group};
+ghost use Rattle.sheet.specs.Step.{AddsCause, is_cause, link_view};
+ghost use Rattle.sheet.specs.Links.{Link as LinkSeen, source_of};
 ghost use Rattle.sheet.specs.Rule.{SheetRule};
-ghost use Rattle.sheet.specs.Step.{link_view};
 ghost use Rattle.sheet.specs.declared.groups.GroupFault.TheVariants.{NoMemory};
 
 use crate::link::Link;

@@ -7,8 +7,7 @@ ghost use Rattle.sheet.specs.Fault.{is_memory};
 ghost use Rattle.itv_base.specs.Reading.{Gives};
 ghost use Rattle.sheet.specs.Links.{plain};
 ghost use Rattle.sheet.specs.Sheet.{grade_named, sheet_at, sheet_of};
-ghost use Rattle.sheet.specs.Step.{labels_view};
-ghost use Rattle.sheet.specs.Whole.{AreWholeLabels};
+ghost use Rattle.sheet.specs.Step.{labels_view, AreWholeLabels};
 
 use crate::edges::{EdgeRules, read_edges};
 use crate::fault::SheetFault;
