@@ -1,13 +1,14 @@
 -- Sheets by name and speed grade.
-use Rattle.std.specs.Prelude.{Bool, List, Option}
+use Rattle.std.specs.Prelude.{◌&&◌, Bool, List, Option}
 use Rattle.std.specs.List.{filter_map}
+use Rattle.std.specs.Option.{option_eq}
+use Rattle.std.specs.Str.{bytes_eq}
 use Rattle.std.specs.declared.hash.FoldHasher.{FoldHasher}
 use Rattle.std.specs.declared.hash.BuildHasherDefault.{BuildHasherDefault}
 use Rattle.indexmap.specs.IndexMap.{IndexMap, get}
 use Rattle.netlist.specs.declared.part.Part.{Part}
 use Rattle.sheet.specs.Contents.{Contents}
 use Rattle.compose.specs.declared.sheet_key.SheetKey.{SheetKey}
-use Rattle.compose.specs.contracts.sheet_key.SheetKeyPartialEq.TheImpl as key_eq
 
 -- the key of the sheet of a part
 abbrev pub key_of : Part → SheetKey
@@ -15,7 +16,7 @@ key_of part = record { sheet = part.sheet; grade = part.grade }
 
 -- two keys have the same name of a sheet, and the same grade or none
 abbrev pub same_key : SheetKey → SheetKey → Bool
-same_key = (key_eq.ghosts).eq
+same_key a b = bytes_eq a.sheet b.sheet && option_eq bytes_eq a.grade b.grade
 
 abbrev pub SheetMap : Type 0
 SheetMap = IndexMap SheetKey Contents (BuildHasherDefault FoldHasher)
