@@ -2,10 +2,10 @@
 use Rattle.std.proofs.Common.{◌≡◌, ◌<◌, ◌≤◌, ℕ, zero, suc, ℤ, pos, neg_ℤ, ◌-ℤ◌, Bool, List, [], ◌∷◌, length, get_or, All, Option, Some, None, option_map, ◌⊎◌, inl, inr, refl, sym, subst, ap, ◌∙◌, arith}
 use Rattle.std.proofs.lemmas.Int.{ints}
 use Rattle.itv_base.specs.declared.names.EventId.{EventId}
-use Rattle.branch.specs.Answers.{Answers, Evidence, PairSearch}
-use Rattle.branch.specs.Work.{IsClose, IsReached}
-use Rattle.branch.specs.declared.answer.Answer.{Answer}
-use Rattle.branch.specs.declared.answer.Answer.TheVariants as answers
+use Rattle.branch.specs.Answers.{IsGreatestAnswer, Evidence, PairSearch}
+use Rattle.branch.specs.Work.{IsClose, IsKnownReach}
+use Rattle.branch.specs.declared.answer.GreatestAnswer.{GreatestAnswer}
+use Rattle.branch.specs.declared.answer.GreatestAnswer.TheVariants as answers
 use Rattle.event_graph.specs.Bounds.{IsGreatest, IsRay}
 use Rattle.event_graph.specs.Limits.{IsPrintedTime}
 use Rattle.event_graph.specs.Network.{IsNet, Net}
@@ -21,12 +21,12 @@ use Rattle.requirements.specs.declared.bound.Bound.TheVariants as bounds
 use Rattle.slack_report.specs.declared.words.FindingWord.TheVariants as findings
 use Rattle.slack_report.specs.declared.words.Which.{Which}
 use Rattle.slack_report.specs.declared.words.Which.TheVariants as sorts
-use Rattle.right_report.specs.Right.At.{Side, greatest, least_by, which_of}
+use Rattle.right_report.specs.Right.At.{NextBound, greatest, least_by, which_of}
 use Rattle.drawn.specs.declared.row.Row.{Row}
 use Rattle.right_report.specs.Right.Facts.{IsBoundOf}
 use Rattle.right_report.specs.Shown.{ShowsBound}
 use Rattle.bounds_report.specs.declared.pair.Pair.{Pair}
-use Rattle.bounds_report.specs.Step.Kept.{AreNearby, Attain, IsKept, IsShiftedTo, searched_pair}
+use Rattle.bounds_report.specs.Step.Kept.{AreNearby, Attain, IsWitness, IsShiftedTo, searched_pair}
 use Rattle.bounds_report.specs.Step.Searched.{bound_of, greatest_of, search_of}
 use Rattle.bounds_report.specs.Written.{HasPrintedTimes}
 use Rattle.bounds_report.proofs.Printed.{bound_times, bound_turned}
@@ -53,23 +53,23 @@ separation_printed times from to close = apart (time_of times from) (time_of tim
     apart a b h k = (omega (arith, ints, h.0, h.1, k.0, k.1), omega (arith, ints, h.0, h.1, k.0, k.1))
 
 -- the numbers of the bound that an answer tells
-greatest_printed : (search : PairSearch) (left : Evidence) (answer : Answer) → Answers search left answer → All IsClose left.times → HasPrintedTimes (greatest_of answer)
+greatest_printed : (search : PairSearch) (left : Evidence) (answer : GreatestAnswer) → IsGreatestAnswer search left answer → All IsClose left.times → HasPrintedTimes (greatest_of answer)
 greatest_printed search left (answers.Closed value) a close = subst IsPrintedTime a.attained (separation_printed left.times search.from search.to close)
 greatest_printed search left answers.Unbounded a close = tt
 greatest_printed search left (answers.Enclosed upper found) a close = (a.within, subst IsPrintedTime a.attains (separation_printed left.times search.from search.to close))
 
-pub has_printed : (search : PairSearch) (left : Evidence) (answer : Answer) (which : Which) → Answers search left answer → All IsClose left.times → HasPrintedTimes (bound_of which answer)
+pub has_printed : (search : PairSearch) (left : Evidence) (answer : GreatestAnswer) (which : Which) → IsGreatestAnswer search left answer → All IsClose left.times → HasPrintedTimes (bound_of which answer)
 has_printed search left answer sorts.Max a close = greatest_printed search left answer a close
 has_printed search left answer sorts.Min a close = bound_turned (greatest_of answer) (greatest_printed search left answer a close)
 
-pub has_times : (search : PairSearch) (left : Evidence) (answer : Answer) → Answers search left answer → All IsClose left.times → HasTimes (greatest_of answer)
+pub has_times : (search : PairSearch) (left : Evidence) (answer : GreatestAnswer) → IsGreatestAnswer search left answer → All IsClose left.times → HasTimes (greatest_of answer)
 has_times search left answer a close = bound_times (greatest_of answer) (greatest_printed search left answer a close)
 
 -- ---- what the lines show
 
 -- The lines of a search show a bound of a pair, in each row of this pair.
 abbrev pub ShowsIn : Net → ℕ → Pair → Which → List ProofLine → Bound → Type 0
-ShowsIn net most pair which lines value = (r : Row) (side : Side) → r.from ≡ pair.from → r.to ≡ pair.to → which_of side ≡ which
+ShowsIn net most pair which lines value = (r : Row) (side : NextBound) → r.from ≡ pair.from → r.to ≡ pair.to → which_of side ≡ which
     → IsBoundOf net findings.Consistent r side value × ShowsBound net most lines r side value
 
 abbrev row_pair : Row → Pair
@@ -79,7 +79,7 @@ pair_is : (from to : EventId) (pair : Pair) → from ≡ pair.from → to ≡ pa
 pair_is from to pair f t = rw (f, t) refl
 
 -- in a greatest bound
-shows_greatest : (net : Net) (most : ℕ) (r : Row) (left : Evidence) (answer : Answer) → Answers (search_of net (row_pair r) most) left answer → left.leaves ≤ most
+shows_greatest : (net : Net) (most : ℕ) (r : Row) (left : Evidence) (answer : GreatestAnswer) → IsGreatestAnswer (search_of net (row_pair r) most) left answer → left.leaves ≤ most
     → IsBoundOf net findings.Consistent r greatest (greatest_of answer) × ShowsBound net most left.lines r greatest (greatest_of answer)
 shows_greatest net most r left (answers.Closed value) a count = ((refl, a.greatest), (a.proof, omega (arith, a.count, count)))
 shows_greatest net most r left answers.Unbounded a count =
@@ -89,7 +89,7 @@ shows_greatest net most r left (answers.Enclosed upper found) a count =
     ((a.root, refl), subst (λ n. IsStoppedProof net (BoundGoal r.from r.to found) left.lines n) a.used a.stopped)
 
 -- in a least bound
-shows_least : (net : Net) (most : ℕ) (r : Row) (first : Bound) (left : Evidence) (answer : Answer) → Answers (search_of net (searched_pair sorts.Min (row_pair r)) most) left answer
+shows_least : (net : Net) (most : ℕ) (r : Row) (first : Bound) (left : Evidence) (answer : GreatestAnswer) → IsGreatestAnswer (search_of net (searched_pair sorts.Min (row_pair r)) most) left answer
     → left.leaves ≤ most
     → IsBoundOf net findings.Consistent r (least_by first) (reversed (greatest_of answer)) × ShowsBound net most left.lines r (least_by first) (reversed (greatest_of answer))
 shows_least net most r first left (answers.Closed value) a count = (
@@ -105,25 +105,25 @@ shows_least net most r first left (answers.Enclosed upper found) a count = (
       (subst (λ z. IsStoppedProof net (BoundGoal r.to r.from z) left.lines left.leaves) (sym (neg_neg found)) a.stopped),
 )
 
-shows_by : (net : Net) (most : ℕ) (r : Row) (side : Side) (left : Evidence) (answer : Answer) → Answers (search_of net (searched_pair (which_of side) (row_pair r)) most) left answer
+shows_by : (net : Net) (most : ℕ) (r : Row) (side : NextBound) (left : Evidence) (answer : GreatestAnswer) → IsGreatestAnswer (search_of net (searched_pair (which_of side) (row_pair r)) most) left answer
     → left.leaves ≤ most → IsBoundOf net findings.Consistent r side (bound_of (which_of side) answer) × ShowsBound net most left.lines r side (bound_of (which_of side) answer)
 shows_by net most r greatest left answer a count = shows_greatest net most r left answer a count
 shows_by net most r (least_by first) left answer a count = shows_least net most r first left answer a count
 
-pub shows_in : (net : Net) (most : ℕ) (pair : Pair) (which : Which) (left : Evidence) (answer : Answer) → Answers (search_of net (searched_pair which pair) most) left answer → left.leaves ≤ most
+pub shows_in : (net : Net) (most : ℕ) (pair : Pair) (which : Which) (left : Evidence) (answer : GreatestAnswer) → IsGreatestAnswer (search_of net (searched_pair which pair) most) left answer → left.leaves ≤ most
     → ShowsIn net most pair which left.lines (bound_of which answer)
 shows_in net most pair which left answer a count r side f t w =
     let e : row_pair r ≡ pair = pair_is r.from r.to pair f t in
-    let b : Answers (search_of net (searched_pair (which_of side) (row_pair r)) most) left answer =
-    subst (λ (k : Which). Answers (search_of net (searched_pair k (row_pair r)) most) left answer) (sym w)
-    (subst (λ (p : Pair). Answers (search_of net (searched_pair which p) most) left answer) (sym e) a) in
+    let b : IsGreatestAnswer (search_of net (searched_pair (which_of side) (row_pair r)) most) left answer =
+    subst (λ (k : Which). IsGreatestAnswer (search_of net (searched_pair k (row_pair r)) most) left answer) (sym w)
+    (subst (λ (p : Pair). IsGreatestAnswer (search_of net (searched_pair which p) most) left answer) (sym e) a) in
     subst (λ (k : Which). IsBoundOf net findings.Consistent r side (bound_of k answer) × ShowsBound net most left.lines r side (bound_of k answer)) w
     (shows_by net most r side left answer b count)
 
 -- ---- what is kept
 
 -- an answer of another kind is not unbounded
-pub not_unbounded : (answer : Answer) → ((value : ℤ) × (answer ≡ answers.Closed value)) ⊎ ((upper : Option ℤ) × (found : ℤ) × (answer ≡ answers.Enclosed upper found))
+pub not_unbounded : (answer : GreatestAnswer) → ((value : ℤ) × (answer ≡ answers.Closed value)) ⊎ ((upper : Option ℤ) × (found : ℤ) × (answer ≡ answers.Enclosed upper found))
     → answer ≡ answers.Unbounded → ⊥
 not_unbounded answer (inl (value, e)) u = cc (e, u)
 not_unbounded answer (inr (upper, found, e)) u = cc (e, u)
@@ -134,8 +134,8 @@ turned times list from to value same e = sym same ∙ turn (time_of times from) 
     turn : (a b value : ℤ) → (a -ℤ b) ≡ value → (b -ℤ a) ≡ neg_ℤ value
     turn a b value e = omega (arith, ints)
 
-attain : (net : Net) (pair : Pair) (which : Which) (most : ℕ) (left : Evidence) (list : List ℤ) (set : List Bool) (answer : Answer)
-    → Answers (search_of net (searched_pair which pair) most) left answer → (answer ≡ answers.Unbounded → Attain net pair which bounds.Unbounded list set)
+attain : (net : Net) (pair : Pair) (which : Which) (most : ℕ) (left : Evidence) (list : List ℤ) (set : List Bool) (answer : GreatestAnswer)
+    → IsGreatestAnswer (search_of net (searched_pair which pair) most) left answer → (answer ≡ answers.Unbounded → Attain net pair which bounds.Unbounded list set)
     → separation left.times pair.from pair.to ≡ separation list pair.from pair.to → Attain net pair which (bound_of which answer) list set
 attain net pair sorts.Max most left list set (answers.Closed value) a rays same = sym same ∙ a.attained
 attain net pair sorts.Max most left list set answers.Unbounded a rays same = rays refl
@@ -144,10 +144,10 @@ attain net pair sorts.Min most left list set (answers.Closed value) a rays same 
 attain net pair sorts.Min most left list set answers.Unbounded a rays same = rays refl
 attain net pair sorts.Min most left list set (answers.Enclosed upper found) a rays same = turned left.times list pair.from pair.to found same a.attains
 
-pub kept_from : (net : Net) (pair : Pair) (which : Which) (most : ℕ) (left : Evidence) (list : List ℤ) (set : List Bool) (answer : Answer) → IsNet net
-    → Answers (search_of net (searched_pair which pair) most) left answer → Satisfies left.times net → All IsClose left.times
-    → IsReached (separation left.times (searched_pair which pair).from (searched_pair which pair).to) → pair.from.0 < net.events → pair.to.0 < net.events
-    → IsShiftedTo pair.from left.times list → (answer ≡ answers.Unbounded → set ≡ left.ray) → IsKept net pair which (bound_of which answer) list set
+pub kept_from : (net : Net) (pair : Pair) (which : Which) (most : ℕ) (left : Evidence) (list : List ℤ) (set : List Bool) (answer : GreatestAnswer) → IsNet net
+    → IsGreatestAnswer (search_of net (searched_pair which pair) most) left answer → Satisfies left.times net → All IsClose left.times
+    → IsKnownReach (separation left.times (searched_pair which pair).from (searched_pair which pair).to) → pair.from.0 < net.events → pair.to.0 < net.events
+    → IsShiftedTo pair.from left.times list → (answer ≡ answers.Unbounded → set ≡ left.ray) → IsWitness net pair which (bound_of which answer) list set
 kept_from net pair which most left list set answer is_net a sat close reached in_from in_to is rays =
     let times : List ℤ = left.times in
     let by : ℤ = neg_ℤ (time_of times pair.from) in
@@ -157,7 +157,7 @@ kept_from net pair which most left list set answer is_net a sat close reached in
       satisfied = subst (λ ts. Satisfies ts net) (sym is) (satisfies-shifted net times by is_net sat);
       at_zero = at_zero times list pair.from f is;
       nearby = subst (λ (ts : List ℤ). AreNearby ts) (sym is) (nearby-shifted times by (nearby_close times close));
-      reached = subst (λ (ts : List ℤ). IsReached (separation ts (searched_pair which pair).from (searched_pair which pair).to)) (sym is) (reached-shifted which times by f t reached);
+      reached = subst (λ (ts : List ℤ). IsKnownReach (separation ts (searched_pair which pair).from (searched_pair which pair).to)) (sym is) (reached-shifted which times by f t reached);
       attain = attain net pair which most left list set answer a
           (λ unbounded. subst (λ (ts : List ℤ). Attain net pair which bounds.Unbounded ts set) (sym is)
           (subst (λ (flags : List Bool). Attain net pair which bounds.Unbounded (shifted times by) flags) (sym (rays unbounded))
@@ -166,12 +166,12 @@ kept_from net pair which most left list set answer is_net a sat close reached in
           (separation-shifted times by pair.from pair.to f t ∙ ap (λ (ts : List ℤ). separation ts pair.from pair.to) (sym is));
     }
   where
-    reached-shifted : (w : Which) (times : List ℤ) (by : ℤ) → pair.from.0 < length times → pair.to.0 < length times → IsReached (separation times (searched_pair w pair).from (searched_pair w pair).to)
-        → IsReached (separation (shifted times by) (searched_pair w pair).from (searched_pair w pair).to)
-    reached-shifted sorts.Max times by f t reached = subst IsReached (separation-shifted times by pair.from pair.to f t) reached
-    reached-shifted sorts.Min times by f t reached = subst IsReached (separation-shifted times by pair.to pair.from t f) reached
+    reached-shifted : (w : Which) (times : List ℤ) (by : ℤ) → pair.from.0 < length times → pair.to.0 < length times → IsKnownReach (separation times (searched_pair w pair).from (searched_pair w pair).to)
+        → IsKnownReach (separation (shifted times by) (searched_pair w pair).from (searched_pair w pair).to)
+    reached-shifted sorts.Max times by f t reached = subst IsKnownReach (separation-shifted times by pair.from pair.to f t) reached
+    reached-shifted sorts.Min times by f t reached = subst IsKnownReach (separation-shifted times by pair.to pair.from t f) reached
 
-    ray_of : (search : PairSearch) (left : Evidence) (answer : Answer) → answer ≡ answers.Unbounded → Answers search left answer
+    ray_of : (search : PairSearch) (left : Evidence) (answer : GreatestAnswer) → answer ≡ answers.Unbounded → IsGreatestAnswer search left answer
         → IsRay search.net search.from search.to left.times left.ray
     ray_of search left (answers.Closed value) e a = absurd (cc e)
     ray_of search left answers.Unbounded e a = a.raised

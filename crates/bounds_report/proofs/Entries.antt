@@ -11,12 +11,12 @@ use Rattle.event_graph.specs.declared.edge.Edge.{Edge}
 use Rattle.event_graph.specs.Edges.{edge, side_edge}
 use Rattle.event_graph.specs.Network.{Constraint, IsCauseCount, IsConstraint, IsNet, Net}
 use Rattle.event_graph.specs.Proof.{Bound, Case, HasChoice, IsWalk, Loop, Nothing, Path, ProofGoal, ProofLine, Split}
-use Rattle.event_graph.specs.Proof.{Reads as ReadsProof}
+use Rattle.event_graph.specs.Proof.{ProofLeaves as ReadsProof}
 use Rattle.slack_report.specs.declared.words.FindingWord.{FindingWord}
 use Rattle.slack_report.specs.declared.words.FindingWord.TheVariants as findings
 use Rattle.requirements.specs.declared.bound.Bound.{Bound as RowBound}
 use Rattle.requirements.specs.declared.bound.Bound.TheVariants as bounds
-use Rattle.right_report.specs.Right.At.{Side}
+use Rattle.right_report.specs.Right.At.{NextBound}
 use Rattle.drawn.specs.declared.row.Row.{Row}
 use Rattle.right_report.specs.Shown.{ShowsBound, ShowsFinding, goal_of}
 use Rattle.bounds_report.specs.Written.{printed}
@@ -94,7 +94,7 @@ finding_lines net most lines findings.Consistent is_net s = proof_lines net Noth
 finding_lines net most lines findings.Inconsistent is_net s = proof_lines net Nothing _ lines _ is_net s.0
 finding_lines net most lines findings.Unsettled is_net s = proof_lines net Nothing _ lines _ is_net s.open_case.2
 
-pub bound_lines : (net : Net) (most : ℕ) (lines : List ProofLine) (r : Row) (side : Side) (value : RowBound) → IsNet net → ShowsBound net most lines r side value → All IsProofLine lines
+pub bound_lines : (net : Net) (most : ℕ) (lines : List ProofLine) (r : Row) (side : NextBound) (value : RowBound) → IsNet net → ShowsBound net most lines r side value → All IsProofLine lines
 bound_lines net most lines r side (bounds.Closed value) is_net s = proof_lines net (goal_of r side value) _ lines _ is_net s.0
 bound_lines net most lines r side bounds.Unbounded is_net s = proof_lines net (goal_of r side s.0) _ lines _ is_net s.1.2.open_case.2
 bound_lines net most lines r side (bounds.Within limit None) is_net s = subst (λ (ls : List ProofLine). All IsProofLine ls) (sym s) (all_nil IsProofLine)

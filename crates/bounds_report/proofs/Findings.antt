@@ -3,8 +3,8 @@ use Rattle.std.proofs.Common.{◌≡◌, ◌<◌, ◌≤◌, ℕ, ℤ, pos, neg_
 use Rattle.branch.specs.Answers.{Finds}
 use Rattle.branch.specs.Needed.{IsNeededToFind}
 use Rattle.branch.specs.Work.{IsClose}
-use Rattle.branch.specs.declared.answer.Found.{Found}
-use Rattle.branch.specs.declared.answer.Found.TheVariants as founds
+use Rattle.branch.specs.declared.answer.SearchFinding.{SearchFinding}
+use Rattle.branch.specs.declared.answer.SearchFinding.TheVariants as founds
 use Rattle.event_graph.specs.Network.{IsNet, Net}
 use Rattle.event_graph.specs.Proof.{IsStoppedProof, Nothing, ProofLine}
 use Rattle.event_graph.specs.Reading.{AtEachSplit}
@@ -27,13 +27,13 @@ use Rattle.bounds_report.specs.Written.{printed}
 use Rattle.bounds_report.proofs.Shifted.{at_zero, length-shifted, nearby-shifted, nearby_close, satisfies-shifted, separation-shifted, times_nearby}
 
 -- what the search shows
-shows : (net : Net) (most : ℕ) (lines : List ProofLine) (leaves : ℕ) (known : Option (List ℤ)) (found : Found) → Finds net most lines leaves known found → leaves ≤ most
+shows : (net : Net) (most : ℕ) (lines : List ProofLine) (leaves : ℕ) (known : Option (List ℤ)) (found : SearchFinding) → Finds net most lines leaves known found → leaves ≤ most
     → IsFinding net (word_of found) × ShowsFinding net most lines (word_of found)
 shows net most lines leaves known founds.Consistent f count = let s = f.stopped in (tt, (s.0, omega (arith, s.2, count), s.1))
 shows net most lines leaves known founds.Inconsistent f count = (f.none, (f.proof, omega (arith, f.count, count)))
 shows net most lines leaves known founds.Unsettled f count = (f.always, subst (λ n. IsStoppedProof net Nothing lines n) f.used f.stopped)
 
-pub finding_fact : (net : Net) (most : ℕ) (cert : Bool) (basis : List ℤ) (lines : List ProofLine) (leaves : ℕ) (known : Option (List ℤ)) (found : Found) (word : FindingWord) → word ≡ word_of found
+pub finding_fact : (net : Net) (most : ℕ) (cert : Bool) (basis : List ℤ) (lines : List ProofLine) (leaves : ℕ) (known : Option (List ℤ)) (found : SearchFinding) (word : FindingWord) → word ≡ word_of found
     → Finds net most lines leaves known found → AtEachSplit net (IsNeededToFind net) lines → leaves ≤ most → (sized net most cert basis).finding (printed cert lines) word
 finding_fact net most cert basis lines leaves known found word e f needed count =
     let s : IsFinding net (word_of found) × ShowsFinding net most lines (word_of found) = shows net most lines leaves known found f count in
@@ -45,11 +45,11 @@ finding_may net most cert basis drawn number [] word fact = inr (word, refl, fac
 finding_may net most cert basis drawn number (line ∷ lines) word fact = inr (word, refl, fact, refl)
 
 -- what it leaves
-pub found_is : (net : Net) (most : ℕ) (lines : List ProofLine) (leaves : ℕ) (known : Option (List ℤ)) (found : Found) (word : FindingWord) → word ≡ word_of found
+pub found_is : (net : Net) (most : ℕ) (lines : List ProofLine) (leaves : ℕ) (known : Option (List ℤ)) (found : SearchFinding) (word : FindingWord) → word ≡ word_of found
     → Finds net most lines leaves known found → HasFound net word known
 found_is net most lines leaves known found word e f = subst (λ (w : FindingWord). HasFound net w known) (sym e) (leaves_known found f)
   where
-    leaves_known : (found : Found) → Finds net most lines leaves known found → HasFound net (word_of found) known
+    leaves_known : (found : SearchFinding) → Finds net most lines leaves known found → HasFound net (word_of found) known
     leaves_known founds.Consistent f = f.satisfies
     leaves_known founds.Inconsistent f = tt
     leaves_known founds.Unsettled f = f.always

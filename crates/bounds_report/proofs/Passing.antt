@@ -5,7 +5,7 @@ use Rattle.std.proofs.lemmas.Int.{ints}
 use Rattle.itv_base.specs.Range.{Ends, IsEnd}
 use Rattle.itv_base.specs.declared.names.EventId.{EventId}
 use Rattle.event_graph.specs.Limits.{IsPrintedTime, reach_limit, weight_limit}
-use Rattle.branch.specs.Work.{IsReached}
+use Rattle.branch.specs.Work.{IsKnownReach}
 use Rattle.event_graph.specs.Bounds.{IsRay}
 use Rattle.event_graph.specs.Network.{IsNet, Net}
 use Rattle.event_graph.specs.Satisfying.{Satisfies}
@@ -18,16 +18,16 @@ use Rattle.requirements.specs.declared.bound.Bound.TheVariants as bounds
 use Rattle.requirements.specs.declared.verdict.Verdict.{Verdict}
 use Rattle.requirements.specs.declared.verdict.Verdict.TheVariants as verdicts
 use Rattle.slack_report.specs.Entry.{times as times_line}
-use Rattle.right_report.specs.Right.At.{At, Telling, at_past, behind_past, behind_verdict, is_fail}
+use Rattle.right_report.specs.Right.At.{ReportState, CurrentRow, at_past, behind_past, behind_verdict, is_fail}
 use Rattle.drawn.specs.Drawn.{Drawn, AreTimes}
 use Rattle.drawn.specs.declared.row.Row.{Row}
-use Rattle.right_report.specs.Right.Facts.{Breaks}
+use Rattle.right_report.specs.Right.Facts.{BreaksEnd}
 use Rattle.right_report.specs.Right.Following.{MayFollow}
 use Rattle.bounds_report.specs.Step.Searched.{sized}
 use Rattle.slack_report.specs.declared.words.Which.{Which}
 use Rattle.slack_report.specs.declared.words.Which.TheVariants as sorts
 use Rattle.bounds_report.specs.declared.pair.Pair.{Pair}
-use Rattle.bounds_report.specs.Step.Kept.{ArePast, AreNearby, Attain, HasTold, IsBeyond, IsKept, IsNearby, number_on, searched_pair}
+use Rattle.bounds_report.specs.Step.Kept.{ArePast, AreNearby, Attain, HasFoundValue, IsBeyond, IsWitness, IsNearby, number_on, searched_pair}
 use Rattle.bounds_report.proofs.Shifted.{at_zero, length-shifted, satisfies-shifted, separation-shifted, time-shifted, times_nearby}
 
 -- ---- numbers of times that are raised
@@ -49,11 +49,11 @@ raised_at (false ∷ set) by (time ∷ times) zero d h = inl refl
 raised_at (is_in ∷ set) by (time ∷ times) (suc k) d h = raised_at set by times k d (omega arith)
 
 -- by how much they are raised
-raised_by : (old : List ℤ) (set : List Bool) (from to : EventId) (limit : ℤ) (new : List ℤ) (r : RaisesPast old set from to limit new) → IsReached (separation old from to) → IsEnd (Some limit)
+raised_by : (old : List ℤ) (set : List Bool) (from to : EventId) (limit : ℤ) (new : List ℤ) (r : RaisesPast old set from to limit new) → IsKnownReach (separation old from to) → IsEnd (Some limit)
     → slice_get set from.0 ≡ Some false → slice_get set to.0 ≡ Some true → to.0 < length old → pos r.by ≤ℤ pos most_by
 raised_by old set from to limit new r reached end lacks holds in_to = less r.by r.least
   where
-    at_most : (sep limit : ℤ) (n : ℕ) → IsReached sep → IsEnd (Some limit) → (sep +ℤ pos n) ≤ℤ limit → pos (suc n) ≤ℤ pos most_by
+    at_most : (sep limit : ℤ) (n : ℕ) → IsKnownReach sep → IsEnd (Some limit) → (sep +ℤ pos n) ≤ℤ limit → pos (suc n) ≤ℤ pos most_by
     at_most sep limit n reached end h = omega (arith, ints, reached, end.1, h)
 
     less : (by : ℕ) → ((n : ℕ) → n < by → separation (raised set n old) from to ≤ℤ limit) → pos by ≤ℤ pos most_by
@@ -90,7 +90,7 @@ all_or P (x ∷ xs) zero d e h p = p
 all_or P (x ∷ xs) (suc k) d e h p = all_or P xs k d e (omega arith) p
 
 module _ (net : Net) (pair : Pair) (which : Which) (limit : ℤ) (old : List ℤ) (set : List Bool) (new : List ℤ) (is_net : IsNet net) (end : IsEnd (Some limit)) (in_to : pair.to.0 < net.events)
-    (kept : IsKept net pair which bounds.Unbounded old set) (r : RaisesPast old set (searched_pair which pair).from (searched_pair which pair).to limit new) where
+    (kept : IsWitness net pair which bounds.Unbounded old set) (r : RaisesPast old set (searched_pair which pair).from (searched_pair which pair).to limit new) where
   ray : IsRay net (searched_pair which pair).from (searched_pair which pair).to old set
   ray = kept.attain
 
@@ -174,7 +174,7 @@ beyond_past net pair which (bounds.Within upper None) limit list set n beyond a 
 beyond_past net pair which (bounds.Within upper (Some found)) limit list set n beyond a = number_past pair which found limit list a beyond
 
 pub past_kept : (net : Net) (pair : Pair) (which : Which) (value : Bound) (limit : ℤ) (list : List ℤ) (set : List Bool) → (value ≡ bounds.Unbounded → ⊥) → IsBeyond which value limit
-    → IsKept net pair which value list set → ArePast net pair which limit list
+    → IsWitness net pair which value list set → ArePast net pair which limit list
 past_kept net pair which value limit list set n beyond kept = record {
   satisfied = kept.satisfied;
   at_zero = kept.at_zero;
@@ -214,13 +214,13 @@ none_high most e = cc e
 pub none_low : (least : Bound) → breaks_low None least ≡ true → ⊥
 none_low least e = cc e
 
-pub beyond_high : (high : ℤ) (most : Bound) → breaks_high (Some high) most ≡ true → IsBeyond sorts.Max most high × HasTold most
+pub beyond_high : (high : ℤ) (most : Bound) → breaks_high (Some high) most ≡ true → IsBeyond sorts.Max most high × HasFoundValue most
 beyond_high high (bounds.Closed value) e = (below high value e, tt)
 beyond_high high bounds.Unbounded e = (tt, tt)
 beyond_high high (bounds.Within limit None) e = absurd (cc e)
 beyond_high high (bounds.Within limit (Some found)) e = (below high found e, tt)
 
-pub beyond_low : (low : ℤ) (least : Bound) → breaks_low (Some low) least ≡ true → IsBeyond sorts.Min least (neg_ℤ low) × HasTold least
+pub beyond_low : (low : ℤ) (least : Bound) → breaks_low (Some low) least ≡ true → IsBeyond sorts.Min least (neg_ℤ low) × HasFoundValue least
 beyond_low low (bounds.Closed value) e = (turned value low e, tt)
 beyond_low low bounds.Unbounded e = (tt, tt)
 beyond_low low (bounds.Within limit None) e = absurd (cc e)
@@ -228,25 +228,25 @@ beyond_low low (bounds.Within limit (Some found)) e = (turned found low e, tt)
 
 -- ---- the lines of a verdict
 
-above : (r : Row) (range : Ends) (limit : ℤ) (list : List ℤ) → range.high ≡ Some limit → limit <ℤ separation list r.from r.to → Breaks r range verdicts.FailHigh list
+above : (r : Row) (range : Ends) (limit : ℤ) (list : List ℤ) → range.high ≡ Some limit → limit <ℤ separation list r.from r.to → BreaksEnd r range verdicts.FailHigh list
 above r range limit list e h = subst (λ (high : Option ℤ). IsSomeAnd high (λ high. high <ℤ separation list r.from r.to)) (sym e) h
 
-under : (r : Row) (range : Ends) (limit : ℤ) (list : List ℤ) → range.low ≡ Some (neg_ℤ limit) → limit <ℤ separation list r.to r.from → Breaks r range verdicts.FailLow list
+under : (r : Row) (range : Ends) (limit : ℤ) (list : List ℤ) → range.low ≡ Some (neg_ℤ limit) → limit <ℤ separation list r.to r.from → BreaksEnd r range verdicts.FailLow list
 under r range limit list e h = subst (λ (low : Option ℤ). IsSomeAnd low (λ low. separation list r.from r.to <ℤ low)) (sym e) (turn_under (time_of list r.from) (time_of list r.to) limit h)
   where
     turn_under : (a b limit : ℤ) → limit <ℤ (a -ℤ b) → (b -ℤ a) <ℤ neg_ℤ limit
     turn_under a b limit h = omega (arith, ints)
 
-module _ (net : Net) (m : ℕ) (cert : Bool) (basis : List ℤ) (drawn : Drawn) (told : Telling) (range : Ends) (least most : Bound) (pair : Pair) (f : told.row.from ≡ pair.from) (t : told.row.to ≡ pair.to) where
+module _ (net : Net) (m : ℕ) (cert : Bool) (basis : List ℤ) (drawn : Drawn) (told : CurrentRow) (range : Ends) (least most : Bound) (pair : Pair) (f : told.row.from ≡ pair.from) (t : told.row.to ≡ pair.to) where
   are_times : (which : Which) (limit : ℤ) (list : List ℤ) → ArePast net pair which limit list → All IsPrintedTime list × AreTimes net told.row list
   are_times which limit list past = (past.within, record { satisfied = past.satisfied; at_zero = ap (λ (e : EventId). time_of list e) f ∙ past.at_zero })
 
   -- times that break the end that a fail names
-  past_may : (word : Verdict) (list : List ℤ) → is_fail word ≡ true → word ≡ verdict_of range least most → All IsPrintedTime list × AreTimes net told.row list → Breaks told.row range word list
+  past_may : (word : Verdict) (list : List ℤ) → is_fail word ≡ true → word ≡ verdict_of range least most → All IsPrintedTime list × AreTimes net told.row list → BreaksEnd told.row range word list
       → MayFollow (sized net m cert basis) drawn (behind_verdict told range least most word) (times_line list) (behind_past told range least most word)
   past_may word list fail e are breaks =
-      subst (λ (at : At). MayFollow (sized net m cert basis) drawn at (times_line list) (behind_past told range least most word)) (sym (at_fail word fail))
-      (list, refl, (are.0, (are.1, subst (λ (w : Verdict). Breaks told.row range w list) e breaks)), ap (behind_past told range least most) e)
+      subst (λ (at : ReportState). MayFollow (sized net m cert basis) drawn at (times_line list) (behind_past told range least most word)) (sym (at_fail word fail))
+      (list, refl, (are.0, (are.1, subst (λ (w : Verdict). BreaksEnd told.row range w list) e breaks)), ap (behind_past told range least most) e)
     where
       at_fail : (word : Verdict) → is_fail word ≡ true → behind_verdict told range least most word ≡ at_past told range least most
       at_fail word fail = rw fail refl
@@ -255,12 +255,12 @@ module _ (net : Net) (m : ℕ) (cert : Bool) (basis : List ℤ) (drawn : Drawn) 
       → ArePast net pair sorts.Max read list → MayFollow (sized net m cert basis) drawn (behind_verdict told range least most word) (times_line list) (behind_past told range least most word)
   past_high_may word limit read list is e high same past =
       past_may word list (ap is_fail is) e (are_times sorts.Max read list past)
-      (subst (λ (w : Verdict). Breaks told.row range w list) (sym is) (above told.row range read list (high ∙ ap Some (sym same))
+      (subst (λ (w : Verdict). BreaksEnd told.row range w list) (sym is) (above told.row range read list (high ∙ ap Some (sym same))
       (subst (λ (p : EventId). read <ℤ separation list p told.row.to) (sym f) (subst (λ (p : EventId). read <ℤ separation list pair.from p) (sym t) past.past))))
 
   pub past_low_may : (word : Verdict) (limit read : ℤ) (list : List ℤ) → word ≡ verdicts.FailLow → word ≡ verdict_of range least most → range.low ≡ Some (neg_ℤ limit) → read ≡ limit
       → ArePast net pair sorts.Min read list → MayFollow (sized net m cert basis) drawn (behind_verdict told range least most word) (times_line list) (behind_past told range least most word)
   past_low_may word limit read list is e low same past =
       past_may word list (ap is_fail is) e (are_times sorts.Min read list past)
-      (subst (λ (w : Verdict). Breaks told.row range w list) (sym is) (under told.row range read list (low ∙ ap (λ z. Some (neg_ℤ z)) (sym same))
+      (subst (λ (w : Verdict). BreaksEnd told.row range w list) (sym is) (under told.row range read list (low ∙ ap (λ z. Some (neg_ℤ z)) (sym same))
       (subst (λ (p : EventId). read <ℤ separation list told.row.to p) (sym f) (subst (λ (p : EventId). read <ℤ separation list p pair.from) (sym t) past.past))))

@@ -2,7 +2,7 @@
 use Rattle.std.proofs.Common.{◌≡◌, ℕ, ℤ, Bool, List, [], ◌∷◌, ◌++◌, map, None, Result, Ok, Err, IsErr, refl, sym, subst, ap, ◌∙◌, append-nil}
 use Rattle.std.specs.Bool.{⊤}
 use Rattle.std.specs.Prelude.{IfOk, OnErr}
-use Rattle.itv_base.specs.Outside.{Puts, SinkTold, grown}
+use Rattle.itv_base.specs.Outside.{Puts, SinkView, grown}
 use Rattle.event_graph.specs.Network.{Net}
 use Rattle.event_graph.specs.Proof.{ProofLine}
 use Rattle.bounds_report.specs.Step.Searched.{sized}
@@ -15,12 +15,12 @@ use Rattle.requirements.specs.declared.verdict.Verdict.{Verdict}
 use Rattle.slack_report.specs.Entry.{Entry, heading, budget, events, event, proof, finding, times, rows, row, bound, raise, verdict, slack, ending}
 use Rattle.slack_report.specs.Text.{entry_text, report_text, words_of}
 use Rattle.drawn.specs.Drawn.{Drawn}
-use Rattle.right_report.specs.Right.At.{At}
-use Rattle.right_report.specs.Right.Following.{Facts, MayFollow, Reads}
+use Rattle.right_report.specs.Right.At.{ReportState}
+use Rattle.right_report.specs.Right.Following.{LineClaims, MayFollow, LinesLead}
 use Rattle.right_report.proofs.Leading.{stopped_line, stopped_then}
 use Rattle.right_report.specs.Told.{end_in}
-use Rattle.right_report.specs.Writing.{Stopped, Wrote}
-use Rattle.bounds_report.specs.Step.Told.{Goes, Told, verdicts_in}
+use Rattle.right_report.specs.Writing.{WroteFront, WroteLines}
+use Rattle.bounds_report.specs.Step.Told.{WritesVerdicts, WroteVerdicts, verdicts_in}
 
 -- ---- verdicts and ends of lines
 
@@ -79,14 +79,14 @@ proof_text-lines (line ∷ lines) = ap (λ text. proof_line_text line ++ text) (
 
 -- ---- lines that were put
 
-module _ {facts : Facts} {drawn : Drawn} where
+module _ {facts : LineClaims} {drawn : Drawn} where
   -- no line is put
-  pub told_none : (here : At) (told : SinkTold) → Told facts drawn here here [] told told
+  pub told_none : (here : ReportState) (told : SinkView) → WroteVerdicts facts drawn here here [] told told
   told_none here told = record { lines = []; reads = refl; grew = grown-nil told; words_are = refl; no_end = refl }
 
   -- one line is put that may follow
-  pub told_line : {here next : At} {old new : SinkTold} (line : Entry) → MayFollow facts drawn here line next → new ≡ grown old (entry_text line) → end_in (line ∷ []) ≡ None
-      → Told facts drawn here next (verdicts_in (line ∷ [])) old new
+  pub told_line : {here next : ReportState} {old new : SinkView} (line : Entry) → MayFollow facts drawn here line next → new ≡ grown old (entry_text line) → end_in (line ∷ []) ≡ None
+      → WroteVerdicts facts drawn here next (verdicts_in (line ∷ [])) old new
   told_line {next = next} {old = old} line may put none = record {
     lines = line ∷ [];
     reads = (next, may, refl);
@@ -95,12 +95,12 @@ module _ {facts : Facts} {drawn : Drawn} where
     no_end = none;
   }
 
-  pub wrote_of : {here last : At} {old new : SinkTold} {words : List Verdict} → Told facts drawn here last words old new → Wrote facts drawn here last old new
+  pub wrote_of : {here last : ReportState} {old new : SinkView} {words : List Verdict} → WroteVerdicts facts drawn here last words old new → WroteLines facts drawn here last old new
   wrote_of t = record { lines = t.lines; reads = t.reads; grew = t.grew }
 
   -- lines are put, and then others
-  pub told_then : {here mid last : At} {old now new : SinkTold} {xs ys : List Verdict} → Told facts drawn here mid xs old now → Told facts drawn mid last ys now new
-      → Told facts drawn here last (xs ++ ys) old new
+  pub told_then : {here mid last : ReportState} {old now new : SinkView} {xs ys : List Verdict} → WroteVerdicts facts drawn here mid xs old now → WroteVerdicts facts drawn mid last ys now new
+      → WroteVerdicts facts drawn here last (xs ++ ys) old new
   told_then {here = here} {mid = mid} {last = last} {old = old} {xs = xs} a b = record {
     lines = a.lines ++ b.lines;
     reads = reads-append facts drawn a.lines b.lines here mid last a.reads b.reads;
@@ -111,19 +111,19 @@ module _ {facts : Facts} {drawn : Drawn} where
   }
 
   -- lines lead to what is the same place
-  pub told_at : {here mid last : At} {old new : SinkTold} {words : List Verdict} → mid ≡ last → Told facts drawn here mid words old new → Told facts drawn here last words old new
-  told_at {here = here} {old = old} {new = new} {words = words} e t = subst (λ (at : At). Told facts drawn here at words old new) e t
+  pub told_at : {here mid last : ReportState} {old new : SinkView} {words : List Verdict} → mid ≡ last → WroteVerdicts facts drawn here mid words old new → WroteVerdicts facts drawn here last words old new
+  told_at {here = here} {old = old} {new = new} {words = words} e t = subst (λ (at : ReportState). WroteVerdicts facts drawn here at words old new) e t
 
   -- or from what is the same place
-  pub told_from : {here mid last : At} {old new : SinkTold} {words : List Verdict} → mid ≡ here → Told facts drawn mid last words old new → Told facts drawn here last words old new
-  told_from {last = last} {old = old} {new = new} {words = words} e t = subst (λ (at : At). Told facts drawn at last words old new) e t
+  pub told_from : {here mid last : ReportState} {old new : SinkView} {words : List Verdict} → mid ≡ here → WroteVerdicts facts drawn mid last words old new → WroteVerdicts facts drawn here last words old new
+  told_from {last = last} {old = old} {new = new} {words = words} e t = subst (λ (at : ReportState). WroteVerdicts facts drawn at last words old new) e t
 
-  pub stopped_from : {here mid : At} {old new : SinkTold} → mid ≡ here → Stopped facts drawn mid old new → Stopped facts drawn here old new
-  stopped_from {old = old} {new = new} e t = subst (λ (at : At). Stopped facts drawn at old new) e t
+  pub stopped_from : {here mid : ReportState} {old new : SinkView} → mid ≡ here → WroteFront facts drawn mid old new → WroteFront facts drawn here old new
+  stopped_from {old = old} {new = new} e t = subst (λ (at : ReportState). WroteFront facts drawn at old new) e t
 
   -- lines of a proof are put
-  pub told_proof : {here : At} {old new : SinkTold} (last : At) (lines : List ProofLine) → Reads facts drawn here (map proof lines) last → SinkGrew old lines new
-      → Told facts drawn here last [] old new
+  pub told_proof : {here : ReportState} {old new : SinkView} (last : ReportState) (lines : List ProofLine) → LinesLead facts drawn here (map proof lines) last → SinkGrew old lines new
+      → WroteVerdicts facts drawn here last [] old new
   told_proof {old = old} last lines reads grew = record {
     lines = map proof lines;
     reads = reads;
@@ -133,30 +133,30 @@ module _ {facts : Facts} {drawn : Drawn} where
   }
 
   -- lines are put, and then a step is done
-  pub goes_then : {B E : Type 0} {here mid : At} {old now : SinkTold} {xs : List Verdict} (to : B → At) (words : B → List Verdict) (new : SinkTold) (result : Result B E)
-      → Told facts drawn here mid xs old now → Goes facts drawn mid to words now new result → Goes facts drawn here to (λ x. xs ++ words x) old new result
+  pub goes_then : {B E : Type 0} {here mid : ReportState} {old now : SinkView} {xs : List Verdict} (to : B → ReportState) (words : B → List Verdict) (new : SinkView) (result : Result B E)
+      → WroteVerdicts facts drawn here mid xs old now → WritesVerdicts facts drawn mid to words now new result → WritesVerdicts facts drawn here to (λ x. xs ++ words x) old new result
   goes_then to words new (Ok x) a b = told_then a b
   goes_then to words new (Err e) a b = stopped_then (wrote_of a) b
 
   -- a step failed, and so does what called it
-  pub goes_up : {B E : Type 0} {here : At} {old new : SinkTold} (to : B → At) (words : B → List Verdict) (result : Result B E) → IsErr result → Stopped facts drawn here old new
-      → Goes facts drawn here to words old new result
+  pub goes_up : {B E : Type 0} {here : ReportState} {old new : SinkView} (to : B → ReportState) (words : B → List Verdict) (result : Result B E) → IsErr result → WroteFront facts drawn here old new
+      → WritesVerdicts facts drawn here to words old new result
   goes_up to words (Ok x) is stopped = absurd (cc is)
   goes_up to words (Err e) is stopped = stopped
 
   -- lines are put, and then a front of others
-  pub stops_then : {here mid : At} {old now new : SinkTold} {xs : List Verdict} → Told facts drawn here mid xs old now → Stopped facts drawn mid now new → Stopped facts drawn here old new
+  pub stops_then : {here mid : ReportState} {old now new : SinkView} {xs : List Verdict} → WroteVerdicts facts drawn here mid xs old now → WroteFront facts drawn mid now new → WroteFront facts drawn here old new
   stops_then a b = stopped_then (wrote_of a) b
 
 -- lines that lead in a network do so in the same one
-pub told_net : {net other : Net} (most : ℕ) (cert : Bool) (basis : List ℤ) {drawn : Drawn} {here last : At} {words : List Verdict} {old new : SinkTold} → net ≡ other
-    → Told (sized net most cert basis) drawn here last words old new → Told (sized other most cert basis) drawn here last words old new
+pub told_net : {net other : Net} (most : ℕ) (cert : Bool) (basis : List ℤ) {drawn : Drawn} {here last : ReportState} {words : List Verdict} {old new : SinkView} → net ≡ other
+    → WroteVerdicts (sized net most cert basis) drawn here last words old new → WroteVerdicts (sized other most cert basis) drawn here last words old new
 told_net most cert basis {drawn = drawn} {here = here} {last = last} {words = words} {old = old} {new = new} e t =
-    subst (λ (net : Net). Told (sized net most cert basis) drawn here last words old new) e t
+    subst (λ (net : Net). WroteVerdicts (sized net most cert basis) drawn here last words old new) e t
 
-pub stopped_net : {net other : Net} (most : ℕ) (cert : Bool) (basis : List ℤ) {drawn : Drawn} {here : At} {old new : SinkTold} → net ≡ other
-    → Stopped (sized net most cert basis) drawn here old new → Stopped (sized other most cert basis) drawn here old new
-stopped_net most cert basis {drawn = drawn} {here = here} {old = old} {new = new} e t = subst (λ (net : Net). Stopped (sized net most cert basis) drawn here old new) e t
+pub stopped_net : {net other : Net} (most : ℕ) (cert : Bool) (basis : List ℤ) {drawn : Drawn} {here : ReportState} {old new : SinkView} → net ≡ other
+    → WroteFront (sized net most cert basis) drawn here old new → WroteFront (sized other most cert basis) drawn here old new
+stopped_net most cert basis {drawn = drawn} {here = here} {old = old} {new = new} e t = subst (λ (net : Net). WroteFront (sized net most cert basis) drawn here old new) e t
 
 -- ---- answers
 
@@ -173,7 +173,7 @@ err_then P Q (Ok x) f p = tt
 err_then P Q (Err e) f p = f p
 
 -- one line is put, or a front of it
-pub goes_line : {E : Type 0} (facts : Facts) (drawn : Drawn) (here next : At) (old new : SinkTold) (line : Entry) (result : Result ⊤ E) → MayFollow facts drawn here line next
-    → end_in (line ∷ []) ≡ None → Puts old new (entry_text line) result → Goes facts drawn here (λ (x : ⊤). next) (λ (x : ⊤). verdicts_in (line ∷ [])) old new result
+pub goes_line : {E : Type 0} (facts : LineClaims) (drawn : Drawn) (here next : ReportState) (old new : SinkView) (line : Entry) (result : Result ⊤ E) → MayFollow facts drawn here line next
+    → end_in (line ∷ []) ≡ None → Puts old new (entry_text line) result → WritesVerdicts facts drawn here (λ (x : ⊤). next) (λ (x : ⊤). verdicts_in (line ∷ [])) old new result
 goes_line facts drawn here next old new line (Ok x) may none put = told_line line may put none
 goes_line facts drawn here next old new line (Err e) may none put = stopped_line next line may put

@@ -23,12 +23,12 @@ use Rattle.itv_base.specs.declared.row_kind.RowKind.{RowKind}
 use Rattle.itv_base.specs.declared.row_kind.RowKind.TheVariants as kinds
 use Rattle.slack_report.specs.declared.words.FindingWord.{FindingWord}
 use Rattle.slack_report.specs.declared.words.FindingWord.TheVariants as findings
-use Rattle.slack_report.specs.Entry.{Entry, IsBound, IsEntry, IsKind, IsName, heading, budget}
-use Rattle.right_report.specs.Right.At.{At, Side, Telling, at_heading, at_budget, at_events, at_event, at_finding, at_known, at_rows, at_row, at_bound, at_times, at_raise, at_verdict, at_past, at_slack, at_end, at_last, behind_bound, behind_finding, behind_times, behind_verdict, bounded, greatest, judged, least_by}
+use Rattle.slack_report.specs.Entry.{Entry, HasBoundForm, IsReportEntry, IsKind, IsName, heading, budget}
+use Rattle.right_report.specs.Right.At.{ReportState, NextBound, CurrentRow, at_heading, at_budget, at_events, at_event, at_finding, at_known, at_rows, at_row, at_bound, at_times, at_raise, at_verdict, at_past, at_slack, at_end, at_last, behind_bound, behind_finding, behind_times, behind_verdict, bounded, greatest, judged, least_by}
 use Rattle.drawn.specs.Drawn.{Drawn, name_of, nameless, IsRowOf}
 use Rattle.drawn.specs.declared.row.Row.{Row}
 use Rattle.right_report.specs.Right.Facts.{CanRise}
-use Rattle.right_report.specs.Right.Following.{MayFollow, Reads}
+use Rattle.right_report.specs.Right.Following.{MayFollow, LinesLead}
 use Rattle.bounds_report.specs.Step.Searched.{sized}
 use Rattle.bounds_report.proofs.Printed.{time_printed}
 use Rattle.bounds_report.proofs.Entries.{all_cons, all_head, all_nil, all_tail, bound_lines, finding_lines, printed_lines}
@@ -55,7 +55,7 @@ long_or_open : (z : Option ℤ) → IfSome z IsTime → IsLongOrOpen z
 long_or_open None h = tt
 long_or_open (Some z) h = long z h
 
-long_bound : (value : Bound) → HasTimes value → IsBound value
+long_bound : (value : Bound) → HasTimes value → HasBoundForm value
 long_bound (bounds.Closed value) h = long value h
 long_bound bounds.Unbounded h = tt
 long_bound (bounds.Within limit attained) h = (long_or_open limit h.0, long_or_open attained h.1)
@@ -91,14 +91,14 @@ abbrev IsFine : Net → Row → Type 0
 IsFine net r = IsKind r.kind × (r.from.0 < net.events) × (r.to.0 < net.events)
 
 -- the row that is told, and the later ones
-abbrev AreFine : Net → Telling → Type 0
+abbrev AreFine : Net → CurrentRow → Type 0
 AreFine net told = IsFine net told.row × All (IsFine net) told.later
 
-abbrev BeforeIsFine : Side → Type 0
+abbrev BeforeIsFine : NextBound → Type 0
 BeforeIsFine greatest = Unit {0}
 BeforeIsFine (least_by first) = HasTimes first
 
-abbrev Held : Net → At → Type 0
+abbrev Held : Net → ReportState → Type 0
 Held net at_heading = ⊥
 Held net at_budget = ⊥
 Held net at_events = Unit {0}
@@ -117,33 +117,33 @@ Held net (at_end word) = Unit {0}
 Held net at_last = Unit {0}
 
 -- the lines of a proof have texts
-abbrev Due : At → Type 0
+abbrev Due : ReportState → Type 0
 Due (at_finding lines) = All IsProofLine lines
 Due (at_bound told side lines) = All IsProofLine lines
 Due here = Unit {0}
 
-abbrev Step : Drawn → At → Entry → At → Type 0
-Step drawn here line next = Held drawn.net next × (Due next → Due here × IsEntry (length drawn.names) line)
+abbrev Step : Drawn → ReportState → Entry → ReportState → Type 0
+Step drawn here line next = Held drawn.net next × (Due next → Due here × IsReportEntry (length drawn.names) line)
 
-as_is : (drawn : Drawn) (here : At) (line line' : Entry) (next next' : At) → line ≡ line' → next ≡ next' → Step drawn here line' next' → Step drawn here line next
+as_is : (drawn : Drawn) (here : ReportState) (line line' : Entry) (next next' : ReportState) → line ≡ line' → next ≡ next' → Step drawn here line' next' → Step drawn here line next
 as_is drawn here line line' next next' e f s =
-    subst (λ (l : Entry). Step drawn here l next) (sym e) (subst (λ (n : At). Step drawn here line' n) (sym f) s)
+    subst (λ (l : Entry). Step drawn here l next) (sym e) (subst (λ (n : ReportState). Step drawn here line' n) (sym f) s)
 
-held_judged : (net : Net) (kind : RowKind) (told : Telling) (least first : Bound) → IsKind kind → AreFine net told → HasTimes least → HasTimes first → Held net (judged kind told least first)
+held_judged : (net : Net) (kind : RowKind) (told : CurrentRow) (least first : Bound) → IsKind kind → AreFine net told → HasTimes least → HasTimes first → Held net (judged kind told least first)
 held_judged net kinds.Ask told least first kind fine l m = fine.1
 held_judged net (kinds.Req range) told least first kind fine l m = (fine, kind, l, m)
 
-held_bounded : (net : Net) (told : Telling) (side : Side) (value : Bound) → AreFine net told → BeforeIsFine side → HasTimes value → Held net (bounded told side value)
+held_bounded : (net : Net) (told : CurrentRow) (side : NextBound) (value : Bound) → AreFine net told → BeforeIsFine side → HasTimes value → Held net (bounded told side value)
 held_bounded net told greatest value fine before h = (fine, h)
 held_bounded net told (least_by first) value fine before h = held_judged net told.row.kind told value first fine.0.0 fine h before
 
-held_bound : (net : Net) (told : Telling) (side : Side) (value : Bound) → AreFine net told → BeforeIsFine side → HasTimes value → Held net (behind_bound told side value)
+held_bound : (net : Net) (told : CurrentRow) (side : NextBound) (value : Bound) → AreFine net told → BeforeIsFine side → HasTimes value → Held net (behind_bound told side value)
 held_bound net told side (bounds.Closed value) fine before h = (fine, before, h)
 held_bound net told side bounds.Unbounded fine before h = (fine, before, h)
 held_bound net told side (bounds.Within limit None) fine before h = held_bounded net told side (bounds.Within limit None) fine before h
 held_bound net told side (bounds.Within limit (Some found)) fine before h = (fine, before, h)
 
-held_times : (net : Net) (told : Telling) (side : Side) (value : Bound) (list : List ℤ) → AreFine net told → BeforeIsFine side → HasTimes value → Held net (behind_times told side value list)
+held_times : (net : Net) (told : CurrentRow) (side : NextBound) (value : Bound) (list : List ℤ) → AreFine net told → BeforeIsFine side → HasTimes value → Held net (behind_times told side value list)
 held_times net told side (bounds.Closed value) list fine before h = held_bounded net told side (bounds.Closed value) fine before h
 held_times net told side bounds.Unbounded list fine before h = (fine, before)
 held_times net told side (bounds.Within limit attained) list fine before h = held_bounded net told side (bounds.Within limit attained) fine before h
@@ -153,13 +153,13 @@ held_finding net findings.Consistent = tt
 held_finding net findings.Inconsistent = tt
 held_finding net findings.Unsettled = tt
 
-held_verdict : (net : Net) (told : Telling) (range : Ends) (least first : Bound) (word : Verdict) → Held net (at_past told range least first) → Held net (behind_verdict told range least first word)
+held_verdict : (net : Net) (told : CurrentRow) (range : Ends) (least first : Bound) (word : Verdict) → Held net (at_past told range least first) → Held net (behind_verdict told range least first word)
 held_verdict net told range least first verdicts.Pass h = (h.0.1, h.1, h.2, h.3)
 held_verdict net told range least first verdicts.FailHigh h = h
 held_verdict net told range least first verdicts.FailLow h = h
 held_verdict net told range least first verdicts.Undecided h = (h.0.1, h.1, h.2, h.3)
 
-set_count : (net : Net) (r : Row) (side : Side) (list : List ℤ) (set : List Bool) → CanRise net r side list set → length set ≡ net.events
+set_count : (net : Net) (r : Row) (side : NextBound) (list : List ℤ) (set : List Bool) → CanRise net r side list set → length set ≡ net.events
 set_count net r greatest list set ray = ray.count
 set_count net r (least_by first) list set ray = ray.count
 
@@ -173,12 +173,12 @@ module _ (drawn : Drawn) (most : ℕ) (cert : Bool) (basis : List ℤ) (is_net :
       let p = fact.1 in
       subst (λ (ls : List ProofLine). All IsProofLine ls) (sym p.1) (printed_lines cert p.0 (finding_lines drawn.net most p.0 word is_net p.2.0))
 
-  bound_due : (found : FindingWord) (r : Row) (side : Side) (lines : List ProofLine) (value : Bound) → (sized drawn.net most cert basis).bound found r side lines value → All IsProofLine lines
+  bound_due : (found : FindingWord) (r : Row) (side : NextBound) (lines : List ProofLine) (value : Bound) → (sized drawn.net most cert basis).bound found r side lines value → All IsProofLine lines
   bound_due found r side lines value fact =
       let p = fact.0.2 in
       subst (λ (ls : List ProofLine). All IsProofLine ls) (sym p.1) (printed_lines cert p.0 (bound_lines drawn.net most p.0 r side value is_net p.2.0))
 
-  step : (here : At) (line : Entry) (next : At) → Held drawn.net here → MayFollow (sized drawn.net most cert basis) drawn here line next → Step drawn here line next
+  step : (here : ReportState) (line : Entry) (next : ReportState) → Held drawn.net here → MayFollow (sized drawn.net most cert basis) drawn here line next → Step drawn here line next
   step at_heading line next held m = absurd held
   step at_budget line next held m = absurd held
   step at_events line next held m = as_is drawn at_events line _ next _ m.0 m.1 (names, λ due. (tt, omega (arith, count, is_net.events)))
@@ -215,18 +215,18 @@ module _ (drawn : Drawn) (most : ℕ) (cert : Bool) (basis : List ℤ) (is_net :
   step at_last line next held m = absurd m
 
   -- the lines to the end
-  all_lines : (lines : List Entry) (here : At) → Held drawn.net here → Reads (sized drawn.net most cert basis) drawn here lines at_last → Due here × All (IsEntry (length drawn.names)) lines
-  all_lines [] here held reads = (subst Due (sym reads) tt, all_nil (IsEntry (length drawn.names)))
+  all_lines : (lines : List Entry) (here : ReportState) → Held drawn.net here → LinesLead (sized drawn.net most cert basis) drawn here lines at_last → Due here × All (IsReportEntry (length drawn.names)) lines
+  all_lines [] here held reads = (subst Due (sym reads) tt, all_nil (IsReportEntry (length drawn.names)))
   all_lines (line ∷ lines) here held (next, may, reads) =
       let s = step here line next held may in
       let rest = all_lines lines next s.0 reads in
       let due = s.1 rest.0 in
-      (due.0, all_cons (IsEntry (length drawn.names)) line lines due.1 rest.1)
+      (due.0, all_cons (IsReportEntry (length drawn.names)) line lines due.1 rest.1)
 
-  pub entries : (lines : List Entry) → 1 ≤ most → most ≤ MAX_BUDGET → Reads (sized drawn.net most cert basis) drawn at_events lines at_last → All (IsEntry (length drawn.names)) (heading ∷ budget most ∷ lines)
+  pub entries : (lines : List Entry) → 1 ≤ most → most ≤ MAX_BUDGET → LinesLead (sized drawn.net most cert basis) drawn at_events lines at_last → All (IsReportEntry (length drawn.names)) (heading ∷ budget most ∷ lines)
   entries lines least_most few reads =
-      let P : Entry → Type 0 = IsEntry (length drawn.names) in
-      all_cons (IsEntry (length drawn.names)) heading (budget most ∷ lines) tt (all_cons (IsEntry (length drawn.names)) (budget most) lines (least_most, few) (all_lines lines at_events tt reads).1)
+      let P : Entry → Type 0 = IsReportEntry (length drawn.names) in
+      all_cons (IsReportEntry (length drawn.names)) heading (budget most ∷ lines) tt (all_cons (IsReportEntry (length drawn.names)) (budget most) lines (least_most, few) (all_lines lines at_events tt reads).1)
 
 -- the rows are between events, and have ranges
 pub fine_rows : (net : Net) (asked : List Row) → All (IsRowOf net) asked → All (λ (r : Row). IsKind r.kind) asked → All (IsFine net) asked

@@ -3,30 +3,30 @@ use Rattle.std.proofs.Common.{◌≡◌, ◌+◌, ℕ, ℤ, Bool, cond, List, []
 use Rattle.std.specs.Prelude.{All, ⊤}
 use Rattle.std.proofs.lemmas.List.Sums.{sum_by-cons}
 use Rattle.itv_base.specs.Names.{Name}
-use Rattle.itv_base.specs.Outside.{CutShort, Puts, SinkTold, grown}
+use Rattle.itv_base.specs.Outside.{CutShort, Puts, SinkView, grown}
 use Rattle.itv_base.proofs.Written.{cut_then, grown-append}
 use Rattle.event_graph.specs.Network.{Net}
 use Rattle.requirements.specs.declared.verdict.Verdict.{Verdict}
 use Rattle.slack_report.specs.declared.words.EndWord.{EndWord}
 use Rattle.slack_report.specs.declared.words.FindingWord.{FindingWord}
 use Rattle.slack_report.specs.declared.words.FindingWord.TheVariants as findings
-use Rattle.slack_report.specs.Entry.{Entry, IsEntry, IsName, heading, budget, events, event, proof, finding, times, rows, row, bound, raise, verdict, slack, ending}
+use Rattle.slack_report.specs.Entry.{Entry, IsReportEntry, IsName, heading, budget, events, event, proof, finding, times, rows, row, bound, raise, verdict, slack, ending}
 use Rattle.slack_report.specs.Text.{entry_text, report_text}
-use Rattle.right_report.specs.Right.At.{At, at_budget, at_event, at_events, at_heading, at_last, end_word, is_fail}
+use Rattle.right_report.specs.Right.At.{ReportState, at_budget, at_event, at_events, at_heading, at_last, end_word, is_fail}
 use Rattle.drawn.specs.Drawn.{Drawn}
 use Rattle.jobs.specs.Events.{event_lines, events_from}
-use Rattle.right_report.specs.Right.Following.{Facts, Implies, MayFollow, Reads}
+use Rattle.right_report.specs.Right.Following.{LineClaims, Implies, MayFollow, LinesLead}
 use Rattle.slack_report.proofs.Judging.{report_text-append}
 use Rattle.right_report.proofs.RightOrder.{reads-append, reads_weaker}
 use Rattle.right_report.specs.Told.{end_in}
-use Rattle.right_report.specs.Writing.{Stopped}
-use Rattle.bounds_report.specs.Reports.{BeginsReport, HasRanges, Reports, is_pass, is_undecided, is_verdict, verdict_count}
+use Rattle.right_report.specs.Writing.{WroteFront}
+use Rattle.bounds_report.specs.Reports.{MayHaveBegun, HasRowRanges, Reports, is_pass, is_undecided, is_verdict, verdict_count}
 use Rattle.bounds_report.specs.Written.{written}
 use Rattle.bounds_report.specs.declared.summary.Summary.{Summary}
 use Rattle.bounds_report.specs.declared.tally.Tally.{Tally}
 use Rattle.bounds_report.specs.Step.Ready.{IsTally, behind_rows, tally_course}
 use Rattle.bounds_report.specs.Step.Searched.{sized}
-use Rattle.bounds_report.specs.Step.Told.{Goes, Told, verdicts_in}
+use Rattle.bounds_report.specs.Step.Told.{WritesVerdicts, WroteVerdicts, verdicts_in}
 use Rattle.bounds_report.proofs.Telling.{end_in-append, verdicts-append}
 
 -- ---- counts
@@ -68,20 +68,20 @@ abbrev front : ℕ → List Entry
 front most = heading ∷ budget most ∷ []
 
 -- lines behind the front
-front_reads : (drawn : Drawn) (most : ℕ) (cert : Bool) (basis : List ℤ) (lines : List Entry) (last : At) → Reads (sized drawn.net most cert basis) drawn at_events lines last
-    → Reads (written drawn.net most cert basis) drawn at_heading (heading ∷ budget most ∷ lines) last
+front_reads : (drawn : Drawn) (most : ℕ) (cert : Bool) (basis : List ℤ) (lines : List Entry) (last : ReportState) → LinesLead (sized drawn.net most cert basis) drawn at_events lines last
+    → LinesLead (written drawn.net most cert basis) drawn at_heading (heading ∷ budget most ∷ lines) last
 front_reads drawn most cert basis lines last reads =
     (at_budget, (refl, refl), (at_events, (most, refl, refl), reads_weaker (sized drawn.net most cert basis) (written drawn.net most cert basis) drawn lines at_events last (sized_implies drawn.net most cert basis) reads))
 
-abbrev Begins : Drawn → ℕ → Bool → SinkTold → SinkTold → Type 0
-Begins drawn most cert old new = (text : List ℕ) × BeginsReport drawn most cert text × CutShort old new text
+abbrev Begins : Drawn → ℕ → Bool → SinkView → SinkView → Type 0
+Begins drawn most cert old new = (text : List ℕ) × MayHaveBegun drawn most cert text × CutShort old new text
 
 -- a put of the front was cut short
-pub begins_front : (drawn : Drawn) (most : ℕ) (cert : Bool) (old new : SinkTold) → CutShort old new (report_text (front most)) → Begins drawn most cert old new
+pub begins_front : (drawn : Drawn) (most : ℕ) (cert : Bool) (old new : SinkView) → CutShort old new (report_text (front most)) → Begins drawn most cert old new
 begins_front drawn most cert old new cut = (report_text (front most), record { lines = front most; last = at_events; known = []; reads = front_reads drawn most cert [] [] at_events refl; tells = refl; is_text = refl }, cut)
 
 -- a later one was
-pub begins_rest : (drawn : Drawn) (most : ℕ) (cert : Bool) (basis : List ℤ) (old now new : SinkTold) → now ≡ grown old (report_text (front most)) → Stopped (sized drawn.net most cert basis) drawn at_events now new
+pub begins_rest : (drawn : Drawn) (most : ℕ) (cert : Bool) (basis : List ℤ) (old now new : SinkView) → now ≡ grown old (report_text (front most)) → WroteFront (sized drawn.net most cert basis) drawn at_events now new
     → Begins drawn most cert old new
 begins_rest drawn most cert basis old now new put s = (
   report_text (front most ++ s.lines),
@@ -91,7 +91,7 @@ begins_rest drawn most cert basis old now new put s = (
 
 -- ---- the end
 
-pub end_may : (facts : Facts) (drawn : Drawn) (found : FindingWord) (tally : Tally) (count : ℕ) (word : EndWord) → word ≡ end_word (tally_course found tally)
+pub end_may : (facts : LineClaims) (drawn : Drawn) (found : FindingWord) (tally : Tally) (count : ℕ) (word : EndWord) → word ≡ end_word (tally_course found tally)
     → MayFollow facts drawn (behind_rows found tally count) (ending word) at_last
 end_may facts drawn findings.Consistent tally count word e = (ap ending e, refl)
 end_may facts drawn findings.Inconsistent tally count word e = (ap ending e, refl)
@@ -101,14 +101,14 @@ end_may facts drawn findings.Unsettled tally count word e = (ap ending e, refl)
 abbrev summary_by : EndWord → Tally → Summary
 summary_by word tally = record { end = word; passes = tally.passes; fails = tally.fails; undecided = tally.undecided }
 
-module _ (drawn : Drawn) (most : ℕ) (cert : Bool) (basis : List ℤ) (old now mid new : SinkTold) (found : FindingWord) (tally : Tally) (count : ℕ) (words : List Verdict) (word : EndWord)
-    (put : now ≡ grown old (report_text (front most))) (t : Told (sized drawn.net most cert basis) drawn at_events (behind_rows found tally count) words now mid)
+module _ (drawn : Drawn) (most : ℕ) (cert : Bool) (basis : List ℤ) (old now mid new : SinkView) (found : FindingWord) (tally : Tally) (count : ℕ) (words : List Verdict) (word : EndWord)
+    (put : now ≡ grown old (report_text (front most))) (t : WroteVerdicts (sized drawn.net most cert basis) drawn at_events (behind_rows found tally count) words now mid)
     (end : new ≡ grown mid (entry_text (ending word))) (word_is : word ≡ end_word (tally_course found tally)) (counted : IsTally tally words)
-    (entries : (lines : List Entry) → Reads (sized drawn.net most cert basis) drawn at_events lines at_last → All IsName drawn.names → HasRanges drawn → All (IsEntry (length drawn.names)) (front most ++ lines)) where
+    (entries : (lines : List Entry) → LinesLead (sized drawn.net most cert basis) drawn at_events lines at_last → All IsName drawn.names → HasRowRanges drawn → All (IsReportEntry (length drawn.names)) (front most ++ lines)) where
   rest : List Entry
   rest = t.lines ++ ending word ∷ []
 
-  rest_reads : Reads (sized drawn.net most cert basis) drawn at_events rest at_last
+  rest_reads : LinesLead (sized drawn.net most cert basis) drawn at_events rest at_last
   unfolding rest
   rest_reads = reads-append (sized drawn.net most cert basis) drawn t.lines (ending word ∷ []) at_events (behind_rows found tally count) at_last t.reads
       (at_last, end_may (sized drawn.net most cert basis) drawn found tally count word word_is, refl)
@@ -149,11 +149,11 @@ module _ (drawn : Drawn) (most : ℕ) (cert : Bool) (basis : List ℤ) (old now 
 -- ---- the lines of events
 
 -- they lead past all names
-events_lead : (facts : Facts) (drawn : Drawn) (number : ℕ) (names : List Name) → Reads facts drawn (at_event number names) (events_from number names) (at_event (number + length names) [])
+events_lead : (facts : LineClaims) (drawn : Drawn) (number : ℕ) (names : List Name) → LinesLead facts drawn (at_event number names) (events_from number names) (at_event (number + length names) [])
 events_lead facts drawn number [] = ap (λ n. at_event n []) (sym (add-zero number))
 events_lead facts drawn number (name ∷ names) =
     let counted : number + 1 + length names ≡ number + length (name ∷ names) = omega arith in
-    (at_event (number + 1) names, (refl, refl), subst (λ n. Reads facts drawn (at_event (number + 1) names) (events_from (number + 1) names) (at_event n [])) counted (events_lead facts drawn (number + 1) names))
+    (at_event (number + 1) names, (refl, refl), subst (λ n. LinesLead facts drawn (at_event (number + 1) names) (events_from (number + 1) names) (at_event n [])) counted (events_lead facts drawn (number + 1) names))
 
 no_verdicts_of_events : (number : ℕ) (names : List Name) → verdicts_in (events_from number names) ≡ []
 no_verdicts_of_events number [] = refl
@@ -163,14 +163,14 @@ no_end_of_events : (number : ℕ) (names : List Name) → end_in (events_from nu
 no_end_of_events number [] = refl
 no_end_of_events number (name ∷ names) = no_end_of_events (number + 1) names
 
-all_events_lead : (facts : Facts) (drawn : Drawn) (count : ℕ) → length drawn.names ≡ count → Reads facts drawn at_events (event_lines drawn.names) (at_event count [])
+all_events_lead : (facts : LineClaims) (drawn : Drawn) (count : ℕ) → length drawn.names ≡ count → LinesLead facts drawn at_events (event_lines drawn.names) (at_event count [])
 all_events_lead facts drawn count same =
     let counted : 0 + length drawn.names ≡ count = omega (arith, same) in
-    (at_event 0 drawn.names, (refl, refl), subst (λ n. Reads facts drawn (at_event 0 drawn.names) (events_from 0 drawn.names) (at_event n [])) counted (events_lead facts drawn 0 drawn.names))
+    (at_event 0 drawn.names, (refl, refl), subst (λ n. LinesLead facts drawn (at_event 0 drawn.names) (events_from 0 drawn.names) (at_event n [])) counted (events_lead facts drawn 0 drawn.names))
 
 -- what a put of them promises
-pub events_go : {E : Type 0} (facts : Facts) (drawn : Drawn) (count : ℕ) (old new : SinkTold) (result : Result ⊤ E) → length drawn.names ≡ count
-    → Puts old new (report_text (event_lines drawn.names)) result → Goes facts drawn at_events (λ _. at_event count []) (λ _. []) old new result
+pub events_go : {E : Type 0} (facts : LineClaims) (drawn : Drawn) (count : ℕ) (old new : SinkView) (result : Result ⊤ E) → length drawn.names ≡ count
+    → Puts old new (report_text (event_lines drawn.names)) result → WritesVerdicts facts drawn at_events (λ _. at_event count []) (λ _. []) old new result
 events_go facts drawn count old new (Ok x) same put = record {
   lines = event_lines drawn.names;
   reads = all_events_lead facts drawn count same;

@@ -8,7 +8,7 @@ use Rattle.requirements.specs.declared.bound.Bound.{Bound}
 use Rattle.requirements.specs.declared.bound.Bound.TheVariants as bounds
 use Rattle.slack_report.specs.declared.words.FindingWord.{FindingWord}
 use Rattle.slack_report.specs.declared.words.FindingWord.TheVariants as findings
-use Rattle.right_report.specs.Right.At.{Side, at_heading, at_last}
+use Rattle.right_report.specs.Right.At.{NextBound, at_heading, at_last}
 use Rattle.slack_report.specs.Entry.{Entry}
 use Rattle.drawn.specs.Drawn.{Drawn}
 use Rattle.drawn.specs.declared.row.Row.{Row}
@@ -62,7 +62,7 @@ proves_finding net most lines findings.Consistent f s = tt
 proves_finding net most lines findings.Inconsistent f s = s.0
 proves_finding net most lines findings.Unsettled f s = f
 
-proves_bound : (net : Net) (most : ℕ) (found : FindingWord) (r : Row) (side : Side) (lines : List ProofLine) (value : Bound) → IsBoundOf net found r side value → ShowsBound net most lines r side value
+proves_bound : (net : Net) (most : ℕ) (found : FindingWord) (r : Row) (side : NextBound) (lines : List ProofLine) (value : Bound) → IsBoundOf net found r side value → ShowsBound net most lines r side value
     → ProvesBound net found r side lines value
 proves_bound net most found r side lines (bounds.Closed value) b s = (b.0, s.0)
 proves_bound net most found r side lines bounds.Unbounded b s = b

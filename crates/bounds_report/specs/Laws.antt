@@ -7,7 +7,7 @@ use Rattle.right_report.specs.Right.Facts.{BeginsRightReport}
 use Rattle.right_report.specs.Checked.{IsChecked}
 use Rattle.right_report.specs.Shown.{IsBareReport, IsShownReport}
 use Rattle.right_report.specs.Texts.{IsAcceptedText}
-use Rattle.bounds_report.specs.Reports.{BeginsReport, HasRanges, IsWrittenReport}
+use Rattle.bounds_report.specs.Reports.{MayHaveBegun, HasRowRanges, IsWrittenReport}
 
 -- a report that is written with the lines of proofs shows its numbers
 abbrev pub WrittenIsShown : Type 0
@@ -23,10 +23,10 @@ WrittenIsChecked = (drawn : Drawn) (most : ℕ) (lines : List Entry) → IsWritt
 
 -- so its text is accepted, where the names of the events and the ranges of the rows have their form
 abbrev pub WrittenIsAccepted : Type 0
-WrittenIsAccepted = (drawn : Drawn) (most : ℕ) (lines : List Entry) → IsWrittenReport drawn most true lines → All IsName drawn.names → HasRanges drawn
+WrittenIsAccepted = (drawn : Drawn) (most : ℕ) (lines : List Entry) → IsWrittenReport drawn most true lines → All IsName drawn.names → HasRowRanges drawn
     → IsAcceptedText drawn (report_text lines)
 
 -- what the job may have begun to write is the text of lines that begin a right report, with the lines of proofs or without them
 abbrev pub BegunIsRight : Type 0
-BegunIsRight = (drawn : Drawn) (most : ℕ) (cert : Bool) (text : List ℕ) → BeginsReport drawn most cert text
+BegunIsRight = (drawn : Drawn) (most : ℕ) (cert : Bool) (text : List ℕ) → MayHaveBegun drawn most cert text
     → (lines : List Entry) × BeginsRightReport drawn lines × (text ≡ report_text lines)

@@ -2,12 +2,12 @@
 use Rattle.std.specs.Prelude.{◌≡◌, ℕ, ℤ, Bool, true, false, List, length, count_by, All, IfSome, Some, slice_get}
 use Rattle.requirements.specs.declared.verdict.Verdict.{Verdict}
 use Rattle.requirements.specs.declared.verdict.Verdict.TheVariants as verdicts
-use Rattle.slack_report.specs.Entry.{Entry, IsEntry, IsKind, IsName, budget, verdict}
+use Rattle.slack_report.specs.Entry.{Entry, IsReportEntry, IsKind, IsName, budget, verdict}
 use Rattle.slack_report.specs.Text.{report_text}
-use Rattle.right_report.specs.Right.At.{At, at_heading, at_last, is_fail}
+use Rattle.right_report.specs.Right.At.{ReportState, at_heading, at_last, is_fail}
 use Rattle.drawn.specs.Drawn.{Drawn}
 use Rattle.drawn.specs.declared.row.Row.{Row}
-use Rattle.right_report.specs.Right.Following.{Reads}
+use Rattle.right_report.specs.Right.Following.{LinesLead}
 use Rattle.right_report.specs.Shown.{TellsBudget}
 use Rattle.right_report.specs.Told.{end_in}
 use Rattle.bounds_report.specs.Written.{written}
@@ -39,16 +39,16 @@ verdict_count is_kind lines = count_by (is_verdict is_kind) lines
 -- ---- reports
 
 -- the ranges that the rows demand have their form
-abbrev pub HasRanges : Drawn → Type 0
-HasRanges drawn = All (λ (r : Row). IsKind r.kind) drawn.rows
+abbrev pub HasRowRanges : Drawn → Type 0
+HasRowRanges drawn = All (λ (r : Row). IsKind r.kind) drawn.rows
 
 -- a whole report of a budget, with the lines of proofs or without them, and its known times; its lines have texts where the names of the
 -- events and the ranges of the rows have their form
 pub record IsWrittenReport (drawn : Drawn) (most : ℕ) (cert : Bool) (lines : List Entry) : Type 0 where
   pub known : List ℤ
-  pub reads : Reads (written drawn.net most cert known) drawn at_heading lines at_last
+  pub reads : LinesLead (written drawn.net most cert known) drawn at_heading lines at_last
   pub tells : TellsBudget most lines
-  pub texts : All IsName drawn.names → HasRanges drawn → All (IsEntry (length drawn.names)) lines
+  pub texts : All IsName drawn.names → HasRowRanges drawn → All (IsReportEntry (length drawn.names)) lines
 
 -- what a summary says of the lines of a report
 pub record Sums (summary : Summary) (lines : List Entry) : Type 0 where
@@ -65,10 +65,10 @@ pub record Reports (drawn : Drawn) (most : ℕ) (cert : Bool) (summary : Summary
   pub is_text : text ≡ report_text lines
 
 -- what it may have begun to write: the text of lines that begin such a report
-pub record BeginsReport (drawn : Drawn) (most : ℕ) (cert : Bool) (text : List ℕ) : Type 0 where
+pub record MayHaveBegun (drawn : Drawn) (most : ℕ) (cert : Bool) (text : List ℕ) : Type 0 where
   pub lines : List Entry
-  pub last : At
+  pub last : ReportState
   pub known : List ℤ
-  pub reads : Reads (written drawn.net most cert known) drawn at_heading lines last
+  pub reads : LinesLead (written drawn.net most cert known) drawn at_heading lines last
   pub tells : IfSome (slice_get lines 1) (λ line. line ≡ budget most)
   pub is_text : text ≡ report_text lines

@@ -10,9 +10,9 @@ use Rattle.event_graph.specs.Reading.{AtEachSplit}
 use Rattle.event_graph.specs.Times.{separation}
 use Rattle.requirements.specs.declared.bound.Bound.{Bound}
 use Rattle.requirements.specs.declared.bound.Bound.TheVariants as bounds
-use Rattle.right_report.specs.Right.At.{Side, greatest, least_by}
+use Rattle.right_report.specs.Right.At.{NextBound, greatest, least_by}
 use Rattle.right_report.specs.Right.Facts.{right}
-use Rattle.right_report.specs.Right.Following.{Facts}
+use Rattle.right_report.specs.Right.Following.{LineClaims}
 use Rattle.right_report.specs.Shown.{ShowsBound, ShowsFinding}
 
 -- the lines that are printed of those of a search
@@ -31,12 +31,12 @@ HasPrintedTimes bounds.Unbounded = Unit {0}
 HasPrintedTimes (bounds.Within limit attained) = IfSome limit IsReach × IfSome attained IsPrintedTime
 
 -- each split of the lines of a bound was needed, where the search began with these known times
-abbrev pub IsEachNeeded : Net → List ℤ → Row → Side → List ProofLine → Type 0
+abbrev pub IsEachNeeded : Net → List ℤ → Row → NextBound → List ProofLine → Type 0
 IsEachNeeded net known r greatest lines = AtEachSplit net (IsNeededToBound net r.from r.to (separation known r.from r.to)) lines
 IsEachNeeded net known r (least_by most) lines = AtEachSplit net (IsNeededToBound net r.to r.from (separation known r.to r.from)) lines
 
 -- what is asked, with the known times that are printed behind a consistent finding
-abbrev pub written : Net → ℕ → Bool → List ℤ → Facts
+abbrev pub written : Net → ℕ → Bool → List ℤ → LineClaims
 written net most cert known = record {
   finding = λ lines word. (right net).finding lines word
       × ArePrinted cert lines (λ searched. ShowsFinding net most searched word × AtEachSplit net (IsNeededToFind net) searched);

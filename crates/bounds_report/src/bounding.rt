@@ -1,25 +1,25 @@
 //! Telling one bound of a row.
 
 ghost use Rattle.std.specs.Prelude.{◌≡◌, ◌<◌, ℕ, ℤ, Bool, [], List, All, IfOk, IsSomeAnd, OnOk};
-ghost use Rattle.branch.specs.Answers.{Answers, evidence};
-ghost use Rattle.branch.specs.Work.{IsClose, IsMadeFor, IsReached};
+ghost use Rattle.branch.specs.Answers.{IsGreatestAnswer, evidence};
+ghost use Rattle.branch.specs.Work.{IsClose, IsMadeFor, IsKnownReach};
 ghost use Rattle.event_graph.specs.Network.{Net};
 ghost use Rattle.event_graph.specs.Proof.{ProofLine};
 ghost use Rattle.event_graph.specs.Satisfying.{Satisfies};
 ghost use Rattle.event_graph.specs.Times.{separation};
 ghost use Rattle.requirements.specs.Bounds.{HasTimes};
-ghost use Rattle.right_report.specs.Right.At.{Side, Telling, at_bound, bounded};
+ghost use Rattle.right_report.specs.Right.At.{NextBound, CurrentRow, at_bound, bounded};
 ghost use Rattle.drawn.specs.Drawn.{Drawn};
 ghost use Rattle.slack_report.specs.declared.words.FindingWord.{FindingWord};
-ghost use Rattle.bounds_report.specs.Step.Kept.{IsKept, IsRoomFor, searched_pair};
+ghost use Rattle.bounds_report.specs.Step.Kept.{IsWitness, IsRoomFor, searched_pair};
 ghost use Rattle.bounds_report.specs.Step.Searched.{bound_of, greatest_of as greatest_by, printed_known, search_of, sized};
-ghost use Rattle.bounds_report.specs.Step.Told.{Goes, IsOf};
+ghost use Rattle.bounds_report.specs.Step.Told.{WritesVerdicts, IsOf};
 
-use crate::kept::{Kept, take_times};
+use crate::kept::{BoundWitness, take_times};
 use crate::pair::{Extreme, Pair};
 use crate::search::greatest_of;
 use crate::wanted::Wanted;
-use branch::{Answer, Work};
+use branch::{GreatestAnswer, Work};
 use event_graph::Network;
 use itv_base::{PutFailed, Sink};
 use line_words::LineBuffer;
@@ -33,7 +33,7 @@ pub fn tell_bound<K: Sink>(
     net: &Network,
     wanted: Wanted,
     work: &mut Work,
-    kept: &mut Kept,
+    kept: &mut BoundWitness,
     buffer: &mut LineBuffer,
     sink: &mut K,
 ) -> Result<Bound, PutFailed>
@@ -47,10 +47,10 @@ pub fn tell_bound<K: Sink>(
     ensures known { OnOk result (work.new.known ≡ work.old.known) }
     ensures room { OnOk result (IsRoomFor net.now kept.new) }
     ensures times { IfOk result HasTimes }
-    ensures kept { IfOk result (λ value. IsKept net.now extreme.pair extreme.which value kept.new.times.items kept.new.set.items) }
-    ensures goes { (times : List ℤ) (drawn : Drawn) (told : Telling) (side : Side) → times ≡ printed_known work.old.known
+    ensures kept { IfOk result (λ value. IsWitness net.now extreme.pair extreme.which value kept.new.times.items kept.new.set.items) }
+    ensures goes { (times : List ℤ) (drawn : Drawn) (told : CurrentRow) (side : NextBound) → times ≡ printed_known work.old.known
         → told.course.found ≡ FindingWord.Consistent → IsOf told side extreme.pair extreme.which
-        → Goes (sized net.now wanted.budget wanted.cert times) drawn (at_bound told side []) (λ value. bounded told side value) (λ _. [])
+        → WritesVerdicts (sized net.now wanted.budget wanted.cert times) drawn (at_bound told side []) (λ value. bounded told side value) (λ _. [])
         (K.told sink.old) (K.told sink.new) result }
 {
     let Extreme { which, pair } = extreme;
@@ -62,29 +62,36 @@ pub fn tell_bound<K: Sink>(
 }
 
 // Keeps the times that the last search left, with the from-event of the pair at 0, and the set of events where the bound is unbounded.
-fn keep(net: &Network, pair: Pair, which: Which, answer: Answer, work: &Work, kept: &mut Kept)
+fn keep(
+    net: &Network,
+    pair: Pair,
+    which: Which,
+    answer: GreatestAnswer,
+    work: &Work,
+    kept: &mut BoundWitness,
+)
     requires answers { (budget : ℕ) × (lines : List ProofLine)
-        × Answers (search_of net.now (searched_pair which pair) budget) (evidence lines work.now) answer }
+        × IsGreatestAnswer (search_of net.now (searched_pair which pair) budget) (evidence lines work.now) answer }
     requires times { Satisfies work.now.times net.now }
     requires close { All IsClose work.now.times }
-    requires reached { IsReached (separation work.now.times (searched_pair which pair).from (searched_pair which pair).to) }
+    requires reached { IsKnownReach (separation work.now.times (searched_pair which pair).from (searched_pair which pair).to) }
     requires from { pair.from.0 < net.now.events }
     requires to { pair.to.0 < net.now.events }
     requires room { IsRoomFor net.now kept.old }
     ensures room { IsRoomFor net.now kept.new }
-    ensures kept { IsKept net.now pair which (bound_of which answer) kept.new.times.items kept.new.set.items }
+    ensures kept { IsWitness net.now pair which (bound_of which answer) kept.new.times.items kept.new.set.items }
 {
     // The network is within its limits.
     let _events = net.events();
     take_times(&mut kept.times, work.times(), pair.from);
     match answer {
-        Answer::Unbounded => kept.set.copy_from_slice(work.ray()),
-        Answer::Closed(_) | Answer::Enclosed { .. } => {}
+        GreatestAnswer::Unbounded => kept.set.copy_from_slice(work.ray()),
+        GreatestAnswer::Closed(_) | GreatestAnswer::Enclosed { .. } => {}
     }
 }
 
 // The bound of a pair that an answer on its searched pair tells.
-fn bound_of(which: Which, answer: Answer) -> Bound
+fn bound_of(which: Which, answer: GreatestAnswer) -> Bound
     requires times { HasTimes (greatest_by answer) }
     ensures bound { result ≡ bound_of which answer }
     ensures times { HasTimes result }
@@ -97,13 +104,13 @@ fn bound_of(which: Which, answer: Answer) -> Bound
 }
 
 // The greatest bound that an answer tells.
-fn greatest_in(answer: Answer) -> Bound
+fn greatest_in(answer: GreatestAnswer) -> Bound
     ensures { result ≡ greatest_by answer }
 {
     match answer {
-        Answer::Closed(value) => Bound::Closed(value),
-        Answer::Unbounded => Bound::Unbounded,
-        Answer::Enclosed { upper, attained } => Bound::Within {
+        GreatestAnswer::Closed(value) => Bound::Closed(value),
+        GreatestAnswer::Unbounded => Bound::Unbounded,
+        GreatestAnswer::Enclosed { upper, attained } => Bound::Within {
             limit: upper,
             attained: Some(attained),
         },
@@ -114,14 +121,14 @@ fn greatest_in(answer: Answer) -> Bound
 fn put_bound<K: Sink>(
     which: Which,
     value: Bound,
-    kept: &Kept,
+    kept: &BoundWitness,
     buffer: &mut LineBuffer,
     sink: &mut K,
 ) -> Result<(), PutFailed>
-    ensures goes { (net : Net) (most : ℕ) (cert : Bool) (times : List ℤ) (drawn : Drawn) (told : Telling) (side : Side) (lines : List ProofLine) (pair : Pair)
+    ensures goes { (net : Net) (most : ℕ) (cert : Bool) (times : List ℤ) (drawn : Drawn) (told : CurrentRow) (side : NextBound) (lines : List ProofLine) (pair : Pair)
         → IsOf told side pair which → (sized net most cert times).bound told.course.found told.row side lines value
-        → IsKept net pair which value kept.now.times.items kept.now.set.items
-        → Goes (sized net most cert times) drawn (at_bound told side lines) (λ _. bounded told side value) (λ _. [])
+        → IsWitness net pair which value kept.now.times.items kept.now.set.items
+        → WritesVerdicts (sized net most cert times) drawn (at_bound told side lines) (λ _. bounded told side value) (λ _. [])
         (K.told sink.old) (K.told sink.new) result }
 {
     write_item(

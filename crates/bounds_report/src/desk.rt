@@ -3,7 +3,7 @@
 ghost use Rattle.std.specs.Prelude.{◌≡◌, IfOk};
 ghost use Rattle.bounds_report.specs.Step.Ready.{IsSet};
 
-use crate::kept::Kept;
+use crate::kept::BoundWitness;
 use branch::Work;
 use event_graph::Network;
 use itv_base::NoMemory;
@@ -16,8 +16,8 @@ use std::alloc::Global;
 #[derive(Drop)]
 pub struct Desk {
     pub work: Work,
-    pub greatest: Kept,
-    pub least: Kept,
+    pub greatest: BoundWitness,
+    pub least: BoundWitness,
     pub buffer: LineBuffer,
 }
 
@@ -28,8 +28,8 @@ impl Desk {
     {
         Ok(Desk {
             work: Work::new(alloc, net)?,
-            greatest: Kept::new(alloc, net.events())?,
-            least: Kept::new(alloc, net.events())?,
+            greatest: BoundWitness::new(alloc, net.events())?,
+            least: BoundWitness::new(alloc, net.events())?,
             buffer: LineBuffer::new(alloc, LINE_ROOM)?,
         })
     }

@@ -8,13 +8,13 @@ ghost use Rattle.drawn.specs.Drawn.{Drawn};
 ghost use Rattle.bounds_report.specs.Step.Kept.{IsRoomFor};
 ghost use Rattle.bounds_report.specs.Step.Ready.{AreKnown, IsReady, IsSet, behind_known, word_of};
 ghost use Rattle.bounds_report.specs.Step.Searched.{printed_known, sized};
-ghost use Rattle.bounds_report.specs.Step.Told.{Goes};
+ghost use Rattle.bounds_report.specs.Step.Told.{WritesVerdicts};
 
 use crate::desk::Desk;
-use crate::kept::{Kept, take_times};
+use crate::kept::{BoundWitness, take_times};
 use crate::search::find_times;
 use crate::wanted::Wanted;
-use branch::{Found, Work};
+use branch::{SearchFinding, Work};
 use event_graph::Network;
 use itv_base::{EventId, PutFailed, Sink};
 use slack_report::{FindingWord, Item, write_item};
@@ -30,7 +30,7 @@ pub fn tell_finding<K: Sink>(
     requires set { IsSet net.now desk.old }
     ensures ready { IfOk result (λ word. IsReady net.now word desk.new) }
     ensures goes { (times : List ℤ) (drawn : Drawn) (number : ℕ) → times ≡ printed_known desk.new.work.known
-        → Goes (sized net.now wanted.budget wanted.cert times) drawn (at_event number []) behind_known (λ _. [])
+        → WritesVerdicts (sized net.now wanted.budget wanted.cert times) drawn (at_event number []) behind_known (λ _. [])
         (K.told sink.old) (K.told sink.new) result }
 {
     let found = find_times(&mut desk.work, net, wanted, &mut desk.buffer, sink)?;
@@ -41,13 +41,13 @@ pub fn tell_finding<K: Sink>(
 }
 
 // The word for a finding.
-fn word_of(found: Found) -> FindingWord
+fn word_of(found: SearchFinding) -> FindingWord
     ensures { result ≡ word_of found }
 {
     match found {
-        Found::Consistent => FindingWord::Consistent,
-        Found::Inconsistent => FindingWord::Inconsistent,
-        Found::Unsettled => FindingWord::Unsettled,
+        SearchFinding::Consistent => FindingWord::Consistent,
+        SearchFinding::Inconsistent => FindingWord::Inconsistent,
+        SearchFinding::Unsettled => FindingWord::Unsettled,
     }
 }
 
@@ -63,7 +63,7 @@ fn tell_times<K: Sink>(
     ensures ready { IsReady net.now word desk.new }
     ensures known { desk.new.work.known ≡ desk.old.work.known }
     ensures goes { (most : ℕ) (cert : Bool) (times : List ℤ) (drawn : Drawn) → times ≡ printed_known desk.old.work.known
-        → Goes (sized net.now most cert times) drawn (behind_finding word) (λ _. behind_known word) (λ _. [])
+        → WritesVerdicts (sized net.now most cert times) drawn (behind_finding word) (λ _. behind_known word) (λ _. [])
         (K.told sink.old) (K.told sink.new) result }
 {
     match word {
@@ -76,7 +76,7 @@ fn tell_times<K: Sink>(
 }
 
 // Takes the known times, with event 0 at 0.
-fn take_known(net: &Network, work: &Work, kept: &mut Kept)
+fn take_known(net: &Network, work: &Work, kept: &mut BoundWitness)
     requires room { IsRoomFor net.now kept.old }
     requires known { IsSomeAnd work.now.known (λ times. Satisfies times net.now) }
     requires close { IfSome work.now.known (All IsClose) }

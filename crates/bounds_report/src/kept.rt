@@ -10,18 +10,18 @@ use std::alloc::Global;
 
 /// Times of all events in picoseconds, and for each event whether it is of a set that can be raised by any number.
 #[derive(Debug, Drop)]
-pub struct Kept {
+pub struct BoundWitness {
     pub times: Vec<i64>,
     pub set: Vec<bool>,
 }
 
-impl Kept {
+impl BoundWitness {
     /// Places for so many events.
-    pub fn new(alloc: Global, events: u32) -> Result<Kept, NoMemory>
+    pub fn new(alloc: Global, events: u32) -> Result<BoundWitness, NoMemory>
         ensures times { IfOk result (λ kept. length kept.times.items ≡ events) }
         ensures set { IfOk result (λ kept. length kept.set.items ≡ events) }
     {
-        Ok(Kept {
+        Ok(BoundWitness {
             times: Vec::from_elem(alloc, 0, events as usize)?,
             set: Vec::from_elem(alloc, false, events as usize)?,
         })

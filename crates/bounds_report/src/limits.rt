@@ -5,12 +5,12 @@ ghost use Rattle.branch.specs.Work.{IsMadeFor};
 ghost use Rattle.event_graph.specs.Network.{Net};
 ghost use Rattle.event_graph.specs.RootBound.{MeetsAlways};
 ghost use Rattle.requirements.specs.Bounds.{HasTimes};
-ghost use Rattle.right_report.specs.Right.At.{Side, Telling, at_bound, bounded, greatest, least_by};
+ghost use Rattle.right_report.specs.Right.At.{NextBound, CurrentRow, at_bound, bounded, greatest, least_by};
 ghost use Rattle.drawn.specs.Drawn.{Drawn};
 ghost use Rattle.slack_report.specs.declared.words.FindingWord.{FindingWord};
-ghost use Rattle.bounds_report.specs.Step.Kept.{HasTold, IsOpenBound};
+ghost use Rattle.bounds_report.specs.Step.Kept.{HasFoundValue, IsOpenBound};
 ghost use Rattle.bounds_report.specs.Step.Searched.{sized};
-ghost use Rattle.bounds_report.specs.Step.Told.{Goes, IsOf};
+ghost use Rattle.bounds_report.specs.Step.Told.{WritesVerdicts, IsOf};
 
 use crate::pair::Pair;
 use branch::{Root, Work, root_bound};
@@ -34,11 +34,11 @@ pub fn tell_limits<K: Sink>(
     requires to { pair.to.0 < net.now.events }
     ensures made { OnOk result (IsMadeFor net.now work.new) }
     ensures known { OnOk result (work.new.known ≡ work.old.known) }
-    ensures greatest { IfOk result (λ both. HasTimes both.greatest × (HasTold both.greatest → ⊥)) }
-    ensures least { IfOk result (λ both. HasTimes both.least × (HasTold both.least → ⊥)) }
-    ensures goes { (most : ℕ) (cert : Bool) (times : List ℤ) (drawn : Drawn) (told : Telling) → told.course.found ≡ FindingWord.Unsettled
+    ensures greatest { IfOk result (λ both. HasTimes both.greatest × (HasFoundValue both.greatest → ⊥)) }
+    ensures least { IfOk result (λ both. HasTimes both.least × (HasFoundValue both.least → ⊥)) }
+    ensures goes { (most : ℕ) (cert : Bool) (times : List ℤ) (drawn : Drawn) (told : CurrentRow) → told.course.found ≡ FindingWord.Unsettled
         → told.row.from ≡ pair.from → told.row.to ≡ pair.to
-        → Goes (sized net.now most cert times) drawn (at_bound told greatest []) (λ both. bounded told (least_by both.greatest) both.least) (λ _. [])
+        → WritesVerdicts (sized net.now most cert times) drawn (at_bound told greatest []) (λ both. bounded told (least_by both.greatest) both.least) (λ _. [])
         (K.told sink.old) (K.told sink.new) result }
 {
     let greatest = limit_of(Which::Max, pair, net, work);
@@ -81,9 +81,9 @@ fn put_limit<K: Sink>(
     buffer: &mut LineBuffer,
     sink: &mut K,
 ) -> Result<(), PutFailed>
-    ensures goes { (net : Net) (most : ℕ) (cert : Bool) (times : List ℤ) (drawn : Drawn) (told : Telling) (side : Side) (pair : Pair)
+    ensures goes { (net : Net) (most : ℕ) (cert : Bool) (times : List ℤ) (drawn : Drawn) (told : CurrentRow) (side : NextBound) (pair : Pair)
         → told.course.found ≡ FindingWord.Unsettled → IsOf told side pair which → IsOpenBound net pair which value
-        → Goes (sized net most cert times) drawn (at_bound told side []) (λ _. bounded told side value) (λ _. [])
+        → WritesVerdicts (sized net most cert times) drawn (at_bound told side []) (λ _. bounded told side value) (λ _. [])
         (K.told sink.old) (K.told sink.new) result }
 {
     write_item(

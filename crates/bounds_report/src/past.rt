@@ -6,16 +6,16 @@ ghost use Rattle.itv_base.specs.Outside.{Puts};
 ghost use Rattle.itv_base.specs.Range.{IsEnd};
 ghost use Rattle.slack_report.specs.Entry.{times as entry_times};
 ghost use Rattle.slack_report.specs.Text.{entry_text};
-ghost use Rattle.right_report.specs.Right.At.{Telling, behind_past, behind_verdict};
+ghost use Rattle.right_report.specs.Right.At.{CurrentRow, behind_past, behind_verdict};
 ghost use Rattle.drawn.specs.Drawn.{Drawn};
 ghost use Rattle.requirements.specs.Verdicts.{verdict_of};
-ghost use Rattle.bounds_report.specs.Step.Kept.{ArePast, HasTold, IsBeyond, IsKept, IsRoomFor};
+ghost use Rattle.bounds_report.specs.Step.Kept.{ArePast, HasFoundValue, IsBeyond, IsWitness, IsRoomFor};
 ghost use Rattle.bounds_report.specs.Step.Ready.{IsSet};
 ghost use Rattle.bounds_report.specs.Step.Searched.{sized};
-ghost use Rattle.bounds_report.specs.Step.Told.{Goes};
+ghost use Rattle.bounds_report.specs.Step.Told.{WritesVerdicts};
 
 use crate::desk::Desk;
-use crate::kept::Kept;
+use crate::kept::BoundWitness;
 use crate::pair::{Extreme, Pair};
 use event_graph::{Network, move_all};
 use itv_base::{PutFailed, Range, Sink};
@@ -37,12 +37,12 @@ pub fn tell_past<K: Sink>(
     requires set { IsSet net.now desk.old }
     requires from { pair.from.0 < net.now.events }
     requires to { pair.to.0 < net.now.events }
-    requires greatest { HasTold both.now.greatest → IsKept net.now pair Which.Max both.now.greatest desk.old.greatest.times.items desk.old.greatest.set.items }
-    requires least { HasTold both.now.least → IsKept net.now pair Which.Min both.now.least desk.old.least.times.items desk.old.least.set.items }
+    requires greatest { HasFoundValue both.now.greatest → IsWitness net.now pair Which.Max both.now.greatest desk.old.greatest.times.items desk.old.greatest.set.items }
+    requires least { HasFoundValue both.now.least → IsWitness net.now pair Which.Min both.now.least desk.old.least.times.items desk.old.least.set.items }
     ensures set { IsSet net.now desk.new }
     ensures known { desk.new.work.known ≡ desk.old.work.known }
-    ensures goes { (most : ℕ) (cert : Bool) (times : List ℤ) (drawn : Drawn) (told : Telling) → told.row.from ≡ pair.from → told.row.to ≡ pair.to
-        → Goes (sized net.now most cert times) drawn (behind_verdict told range both.now.least both.now.greatest word)
+    ensures goes { (most : ℕ) (cert : Bool) (times : List ℤ) (drawn : Drawn) (told : CurrentRow) → told.row.from ≡ pair.from → told.row.to ≡ pair.to
+        → WritesVerdicts (sized net.now most cert times) drawn (behind_verdict told range both.now.least both.now.greatest word)
         (λ _. behind_past told range both.now.least both.now.greatest word) (λ _. [])
         (K.told sink.old) (K.told sink.new) result }
 {
@@ -81,7 +81,7 @@ fn broken_high(range: Range, both: &BothBounds) -> i64
     ensures end { range.high ≡ Some result }
     ensures limit { IsEnd (Some result) }
     ensures beyond { IsBeyond Which.Max both.now.greatest result }
-    ensures told { HasTold both.now.greatest }
+    ensures told { HasFoundValue both.now.greatest }
 {
     match range.high() {
         Some(high) => high,
@@ -95,7 +95,7 @@ fn broken_low(range: Range, both: &BothBounds) -> i64
     ensures end { range.low ≡ Some (neg_ℤ result) }
     ensures limit { IsEnd (Some result) }
     ensures beyond { IsBeyond Which.Min both.now.least result }
-    ensures told { HasTold both.now.least }
+    ensures told { HasFoundValue both.now.least }
 {
     match range.low() {
         Some(low) => negated(low),
@@ -118,7 +118,7 @@ fn tell_passed<K: Sink>(
     limit: i64,
     value: Bound,
     net: &Network,
-    kept: &mut Kept,
+    kept: &mut BoundWitness,
     buffer: &mut LineBuffer,
     sink: &mut K,
 ) -> Result<(), PutFailed>
@@ -126,7 +126,7 @@ fn tell_passed<K: Sink>(
     requires beyond { IsBeyond extreme.which value limit }
     requires to { extreme.pair.to.0 < net.now.events }
     requires room { IsRoomFor net.now kept.old }
-    requires kept { IsKept net.now extreme.pair extreme.which value kept.old.times.items kept.old.set.items }
+    requires kept { IsWitness net.now extreme.pair extreme.which value kept.old.times.items kept.old.set.items }
     ensures room { IsRoomFor net.now kept.new }
     ensures puts { (list : List ℤ) × ArePast net.now extreme.pair extreme.which limit list
         × Puts (K.told sink.old) (K.told sink.new) (entry_text (entry_times list)) result }
@@ -136,12 +136,19 @@ fn tell_passed<K: Sink>(
 }
 
 // Sees to it that the times that are kept of a bound are past a limit.
-fn pass_limit(which: Which, limit: i64, value: Bound, pair: Pair, net: &Network, kept: &mut Kept)
+fn pass_limit(
+    which: Which,
+    limit: i64,
+    value: Bound,
+    pair: Pair,
+    net: &Network,
+    kept: &mut BoundWitness,
+)
     requires limit { IsEnd (Some limit) }
     requires beyond { IsBeyond which value limit }
     requires to { pair.to.0 < net.now.events }
     requires room { IsRoomFor net.now kept.old }
-    requires kept { IsKept net.now pair which value kept.old.times.items kept.old.set.items }
+    requires kept { IsWitness net.now pair which value kept.old.times.items kept.old.set.items }
     ensures room { IsRoomFor net.now kept.new }
     ensures past { ArePast net.now pair which limit kept.new.times.items }
 {
@@ -158,7 +165,7 @@ fn raise(which: Which, limit: i64, pair: Pair, net: &Network, times: &mut [i64],
     requires net { IsNet net.now }
     requires limit { IsEnd (Some limit) }
     requires to { pair.to.0 < net.now.events }
-    requires kept { IsKept net.now pair which Bound.Unbounded times.old set.now }
+    requires kept { IsWitness net.now pair which Bound.Unbounded times.old set.now }
     ensures past { ArePast net.now pair which limit times.new }
 {
     let searched = pair.searched(which);

@@ -3,13 +3,13 @@
 ghost use Rattle.std.specs.Prelude.{◌≡◌, ◌<◌, ◌+◌, ◌||◌, ◌∷◌, ℕ, ℤ, Bool, [], List, IfOk, IsSomeAnd, OnOk};
 ghost use Rattle.std.specs.Option.{option_to_list};
 ghost use Rattle.requirements.specs.Bounds.{HasTimes};
-ghost use Rattle.right_report.specs.Right.At.{Course, Telling, at_bound, at_row, bounded, greatest, is_within, judged, least_by, with_bounds};
+ghost use Rattle.right_report.specs.Right.At.{ReportTally, CurrentRow, at_bound, at_row, bounded, greatest, is_within, judged, least_by, with_bounds};
 ghost use Rattle.drawn.specs.Drawn.{Drawn, IsRowOf};
 ghost use Rattle.drawn.specs.declared.row.Row.{Row};
-ghost use Rattle.bounds_report.specs.Step.Kept.{HasTold, IsKept};
+ghost use Rattle.bounds_report.specs.Step.Kept.{HasFoundValue, IsWitness};
 ghost use Rattle.bounds_report.specs.Step.Ready.{IsReady, IsSet, course_after, course_with};
 ghost use Rattle.bounds_report.specs.Step.Searched.{printed_known, sized};
-ghost use Rattle.bounds_report.specs.Step.Told.{Goes};
+ghost use Rattle.bounds_report.specs.Step.Told.{WritesVerdicts};
 ghost use Rattle.event_graph.specs.Satisfying.{Satisfies};
 
 use crate::bounding::tell_bound;
@@ -43,8 +43,8 @@ pub fn tell_row<K: Sink>(
     requires row { IsRowOf drawn.now.net row.now }
     ensures ready { OnOk result (IsReady drawn.now.net found desk.new) }
     ensures known { OnOk result (desk.new.work.known ≡ desk.old.work.known) }
-    ensures goes { (times : List ℤ) (course : Course) (later : List Row) → times ≡ printed_known desk.old.work.known → course.found ≡ found
-        → Goes (sized drawn.now.net wanted.budget wanted.cert times) drawn.now (at_row course number (row.now ∷ later))
+    ensures goes { (times : List ℤ) (course : ReportTally) (later : List Row) → times ≡ printed_known desk.old.work.known → course.found ≡ found
+        → WritesVerdicts (sized drawn.now.net wanted.budget wanted.cert times) drawn.now (at_row course number (row.now ∷ later))
         (λ end. at_row (course_after course end) (number + 1) later) (λ end. option_to_list end.verdict)
         (K.told sink.old) (K.told sink.new) result }
 {
@@ -75,12 +75,12 @@ fn tell_demand<K: Sink>(
     requires to { pair.to.0 < net.now.events }
     requires most { HasTimes both.now.greatest }
     requires fewest { HasTimes both.now.least }
-    requires greatest { HasTold both.now.greatest → IsKept net.now pair Which.Max both.now.greatest desk.old.greatest.times.items desk.old.greatest.set.items }
-    requires least { HasTold both.now.least → IsKept net.now pair Which.Min both.now.least desk.old.least.times.items desk.old.least.set.items }
+    requires greatest { HasFoundValue both.now.greatest → IsWitness net.now pair Which.Max both.now.greatest desk.old.greatest.times.items desk.old.greatest.set.items }
+    requires least { HasFoundValue both.now.least → IsWitness net.now pair Which.Min both.now.least desk.old.least.times.items desk.old.least.set.items }
     ensures set { OnOk result (IsSet net.now desk.new) }
     ensures known { OnOk result (desk.new.work.known ≡ desk.old.work.known) }
-    ensures goes { (most : ℕ) (cert : Bool) (times : List ℤ) (drawn : Drawn) (told : Telling) → told.row.from ≡ pair.from → told.row.to ≡ pair.to
-        → Goes (sized net.now most cert times) drawn (judged kind.now told both.now.least both.now.greatest)
+    ensures goes { (most : ℕ) (cert : Bool) (times : List ℤ) (drawn : Drawn) (told : CurrentRow) → told.row.from ≡ pair.from → told.row.to ≡ pair.to
+        → WritesVerdicts (sized net.now most cert times) drawn (judged kind.now told both.now.least both.now.greatest)
         (λ verdict. at_row (course_with (with_bounds told.course both.now.least both.now.greatest) verdict) (told.number + 1) told.later)
         (λ verdict. option_to_list verdict) (K.told sink.old) (K.told sink.new) result }
 {
@@ -118,13 +118,13 @@ fn tell_bounds<K: Sink>(
     ensures known { OnOk result (desk.new.work.known ≡ desk.old.work.known) }
     ensures most { IfOk result (λ both. HasTimes both.greatest) }
     ensures fewest { IfOk result (λ both. HasTimes both.least) }
-    ensures greatest { IfOk result (λ both. HasTold both.greatest
-        → IsKept net.now pair Which.Max both.greatest desk.new.greatest.times.items desk.new.greatest.set.items) }
-    ensures least { IfOk result (λ both. HasTold both.least
-        → IsKept net.now pair Which.Min both.least desk.new.least.times.items desk.new.least.set.items) }
-    ensures goes { (times : List ℤ) (drawn : Drawn) (told : Telling) → times ≡ printed_known desk.old.work.known
+    ensures greatest { IfOk result (λ both. HasFoundValue both.greatest
+        → IsWitness net.now pair Which.Max both.greatest desk.new.greatest.times.items desk.new.greatest.set.items) }
+    ensures least { IfOk result (λ both. HasFoundValue both.least
+        → IsWitness net.now pair Which.Min both.least desk.new.least.times.items desk.new.least.set.items) }
+    ensures goes { (times : List ℤ) (drawn : Drawn) (told : CurrentRow) → times ≡ printed_known desk.old.work.known
         → told.course.found ≡ found → told.row.from ≡ pair.from → told.row.to ≡ pair.to
-        → Goes (sized net.now wanted.budget wanted.cert times) drawn (at_bound told greatest [])
+        → WritesVerdicts (sized net.now wanted.budget wanted.cert times) drawn (at_bound told greatest [])
         (λ both. bounded told (least_by both.greatest) both.least) (λ _. [])
         (K.told sink.old) (K.told sink.new) result }
 {
@@ -152,13 +152,13 @@ fn tell_searched<K: Sink>(
     ensures known { OnOk result (desk.new.work.known ≡ desk.old.work.known) }
     ensures most { IfOk result (λ both. HasTimes both.greatest) }
     ensures fewest { IfOk result (λ both. HasTimes both.least) }
-    ensures greatest { IfOk result (λ both. HasTold both.greatest
-        → IsKept net.now pair Which.Max both.greatest desk.new.greatest.times.items desk.new.greatest.set.items) }
-    ensures least { IfOk result (λ both. HasTold both.least
-        → IsKept net.now pair Which.Min both.least desk.new.least.times.items desk.new.least.set.items) }
-    ensures goes { (times : List ℤ) (drawn : Drawn) (told : Telling) → times ≡ printed_known desk.old.work.known
+    ensures greatest { IfOk result (λ both. HasFoundValue both.greatest
+        → IsWitness net.now pair Which.Max both.greatest desk.new.greatest.times.items desk.new.greatest.set.items) }
+    ensures least { IfOk result (λ both. HasFoundValue both.least
+        → IsWitness net.now pair Which.Min both.least desk.new.least.times.items desk.new.least.set.items) }
+    ensures goes { (times : List ℤ) (drawn : Drawn) (told : CurrentRow) → times ≡ printed_known desk.old.work.known
         → told.course.found ≡ FindingWord.Consistent → told.row.from ≡ pair.from → told.row.to ≡ pair.to
-        → Goes (sized net.now wanted.budget wanted.cert times) drawn (at_bound told greatest [])
+        → WritesVerdicts (sized net.now wanted.budget wanted.cert times) drawn (at_bound told greatest [])
         (λ both. bounded told (least_by both.greatest) both.least) (λ _. [])
         (K.told sink.old) (K.told sink.new) result }
 {

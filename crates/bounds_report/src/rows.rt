@@ -2,11 +2,11 @@
 
 ghost use Rattle.std.specs.Prelude.{◌≡◌, ◌<◌, [], List, IfOk, OnErr, length};
 ghost use Rattle.requirements.specs.declared.verdict.Verdict.{Verdict};
-ghost use Rattle.right_report.specs.Writing.{Stopped};
+ghost use Rattle.right_report.specs.Writing.{WroteFront};
 ghost use Rattle.right_report.specs.Right.At.{at_row, at_rows};
 ghost use Rattle.bounds_report.specs.Step.Ready.{IsReady, IsTally, behind_known, behind_rows, tally_course};
 ghost use Rattle.bounds_report.specs.Step.Searched.{printed_known, sized};
-ghost use Rattle.bounds_report.specs.Step.Told.{Told};
+ghost use Rattle.bounds_report.specs.Step.Told.{WroteVerdicts};
 
 use crate::desk::Desk;
 use crate::row::tell_row;
@@ -28,9 +28,9 @@ pub fn tell_rows<K: Sink>(
     requires budget { 0 < wanted.budget }
     requires ready { IsReady drawn.now.net found desk.old }
     ensures tells { IfOk result (λ tally. (words : List Verdict) × IsTally tally words
-        × Told (sized drawn.now.net wanted.budget wanted.cert (printed_known desk.old.work.known)) drawn.now (behind_known found)
+        × WroteVerdicts (sized drawn.now.net wanted.budget wanted.cert (printed_known desk.old.work.known)) drawn.now (behind_known found)
         (behind_rows found tally (length drawn.now.rows)) words (K.told sink.old) (K.told sink.new)) }
-    ensures stops { OnErr result (Stopped (sized drawn.now.net wanted.budget wanted.cert (printed_known desk.old.work.known)) drawn.now (behind_known found)
+    ensures stops { OnErr result (WroteFront (sized drawn.now.net wanted.budget wanted.cert (printed_known desk.old.work.known)) drawn.now (behind_known found)
         (K.told sink.old) (K.told sink.new)) }
 {
     match found {
@@ -53,9 +53,9 @@ fn tell_each<K: Sink>(
     requires found { found ≡ FindingWord.Inconsistent → ⊥ }
     requires ready { IsReady drawn.now.net found desk.old }
     ensures tells { IfOk result (λ tally. (words : List Verdict) × IsTally tally words
-        × Told (sized drawn.now.net wanted.budget wanted.cert (printed_known desk.old.work.known)) drawn.now (at_rows found)
+        × WroteVerdicts (sized drawn.now.net wanted.budget wanted.cert (printed_known desk.old.work.known)) drawn.now (at_rows found)
         (at_row (tally_course found tally) (length drawn.now.rows) []) words (K.told sink.old) (K.told sink.new)) }
-    ensures stops { OnErr result (Stopped (sized drawn.now.net wanted.budget wanted.cert (printed_known desk.old.work.known)) drawn.now (at_rows found)
+    ensures stops { OnErr result (WroteFront (sized drawn.now.net wanted.budget wanted.cert (printed_known desk.old.work.known)) drawn.now (at_rows found)
         (K.told sink.old) (K.told sink.new)) }
 {
     let count = drawn.rows().len() as u32;

@@ -3,14 +3,14 @@
 ghost use Rattle.std.specs.Prelude.{◌≡◌, ◌<◌, ◌↔◌, All, IsSome, IsSomeAnd, IfOk, IfSome, OnOk, OnErr, Ok, true, List};
 ghost use Rattle.event_graph.specs.Proof.{ProofLine};
 ghost use Rattle.branch.specs.Answers.{IsCounted, evidence};
-ghost use Rattle.branch.specs.Work.{IsClose, IsMadeFor, IsReached, known_separation};
+ghost use Rattle.branch.specs.Work.{IsClose, IsMadeFor, IsKnownReach, known_separation};
 ghost use Rattle.event_graph.specs.Satisfying.{Satisfies};
 ghost use Rattle.event_graph.specs.Times.{separation};
-ghost use Rattle.bounds_report.specs.Step.Searched.{AnswersBy, FindsBy, Tells, WasCut, search_of};
+ghost use Rattle.bounds_report.specs.Step.Searched.{AnswersSearch, FindsBy, WroteProof, WasCut, search_of};
 
 use crate::pair::Pair;
 use crate::wanted::Wanted;
-use branch::{Answer, Found, Quiet, Work, find, greatest};
+use branch::{GreatestAnswer, Quiet, SearchFinding, Work, find, greatest};
 use certificate::SinkScribe;
 use event_graph::{Network, ScribeFailed};
 use itv_base::{PutFailed, Sink};
@@ -23,13 +23,13 @@ pub fn find_times<K: Sink>(
     wanted: Wanted,
     buffer: &mut LineBuffer,
     sink: &mut K,
-) -> Result<Found, PutFailed>
+) -> Result<SearchFinding, PutFailed>
     requires made { IsMadeFor net.now work.old }
     requires budget { 0 < wanted.budget }
     ensures made { IsMadeFor net.now work.new }
-    ensures known { IsSome work.new.known ↔ (result ≡ Ok Found.Consistent) }
+    ensures known { IsSome work.new.known ↔ (result ≡ Ok SearchFinding.Consistent) }
     ensures close { IfSome work.new.known (All IsClose) }
-    ensures finds { IfOk result (λ found. Tells wanted.cert (K.told sink.old) (K.told sink.new)
+    ensures finds { IfOk result (λ found. WroteProof wanted.cert (K.told sink.old) (K.told sink.new)
         (λ lines. FindsBy net.now wanted.budget lines work.new.leaves work.new.known found)) }
     ensures count { OnOk result (IsCounted net.now wanted.budget work.new.leaves) }
     ensures cut { OnErr result (WasCut (K.told sink.old) (K.told sink.new)) }
@@ -49,7 +49,7 @@ pub fn greatest_of<K: Sink>(
     wanted: Wanted,
     buffer: &mut LineBuffer,
     sink: &mut K,
-) -> Result<Answer, PutFailed>
+) -> Result<GreatestAnswer, PutFailed>
     requires made { IsMadeFor net.now work.old }
     requires known { IsSomeAnd work.old.known (λ times. Satisfies times net.now) }
     requires from { pair.from.0 < net.now.events }
@@ -57,12 +57,12 @@ pub fn greatest_of<K: Sink>(
     requires budget { 0 < wanted.budget }
     ensures made { IsMadeFor net.now work.new }
     ensures known { work.new.known ≡ work.old.known }
-    ensures answers { IfOk result (λ answer. Tells wanted.cert (K.told sink.old) (K.told sink.new)
-        (λ lines. AnswersBy (search_of net.now pair wanted.budget) (known_separation work.old pair.from pair.to) (evidence lines work.new) answer)) }
+    ensures answers { IfOk result (λ answer. WroteProof wanted.cert (K.told sink.old) (K.told sink.new)
+        (λ lines. AnswersSearch (search_of net.now pair wanted.budget) (known_separation work.old pair.from pair.to) (evidence lines work.new) answer)) }
     ensures count { OnOk result (IsCounted net.now wanted.budget work.new.leaves) }
     ensures times { OnOk result (Satisfies work.new.times net.now) }
     ensures close { OnOk result (All IsClose work.new.times) }
-    ensures reached { OnOk result (IsReached (separation work.new.times pair.from pair.to)) }
+    ensures reached { OnOk result (IsKnownReach (separation work.new.times pair.from pair.to)) }
     ensures cut { OnErr result (WasCut (K.told sink.old) (K.told sink.new)) }
 {
     if wanted.cert {
@@ -80,13 +80,13 @@ fn find_printing<K: Sink>(
     budget: u64,
     buffer: &mut LineBuffer,
     sink: &mut K,
-) -> Result<Found, PutFailed>
+) -> Result<SearchFinding, PutFailed>
     requires made { IsMadeFor net.now work.old }
     requires budget { 0 < budget }
     ensures made { IsMadeFor net.now work.new }
-    ensures known { IsSome work.new.known ↔ (result ≡ Ok Found.Consistent) }
+    ensures known { IsSome work.new.known ↔ (result ≡ Ok SearchFinding.Consistent) }
     ensures close { IfSome work.new.known (All IsClose) }
-    ensures finds { IfOk result (λ found. Tells true (K.told sink.old) (K.told sink.new)
+    ensures finds { IfOk result (λ found. WroteProof true (K.told sink.old) (K.told sink.new)
         (λ lines. FindsBy net.now budget lines work.new.leaves work.new.known found)) }
     ensures count { OnOk result (IsCounted net.now budget work.new.leaves) }
     ensures cut { OnErr result (WasCut (K.told sink.old) (K.told sink.new)) }
@@ -105,7 +105,7 @@ fn greatest_printing<K: Sink>(
     budget: u64,
     buffer: &mut LineBuffer,
     sink: &mut K,
-) -> Result<Answer, PutFailed>
+) -> Result<GreatestAnswer, PutFailed>
     requires made { IsMadeFor net.now work.old }
     requires known { IsSomeAnd work.old.known (λ times. Satisfies times net.now) }
     requires from { pair.from.0 < net.now.events }
@@ -113,12 +113,12 @@ fn greatest_printing<K: Sink>(
     requires budget { 0 < budget }
     ensures made { IsMadeFor net.now work.new }
     ensures known { work.new.known ≡ work.old.known }
-    ensures answers { IfOk result (λ answer. Tells true (K.told sink.old) (K.told sink.new)
-        (λ lines. AnswersBy (search_of net.now pair budget) (known_separation work.old pair.from pair.to) (evidence lines work.new) answer)) }
+    ensures answers { IfOk result (λ answer. WroteProof true (K.told sink.old) (K.told sink.new)
+        (λ lines. AnswersSearch (search_of net.now pair budget) (known_separation work.old pair.from pair.to) (evidence lines work.new) answer)) }
     ensures count { OnOk result (IsCounted net.now budget work.new.leaves) }
     ensures times { OnOk result (Satisfies work.new.times net.now) }
     ensures close { OnOk result (All IsClose work.new.times) }
-    ensures reached { OnOk result (IsReached (separation work.new.times pair.from pair.to)) }
+    ensures reached { OnOk result (IsKnownReach (separation work.new.times pair.from pair.to)) }
     ensures cut { OnErr result (WasCut (K.told sink.old) (K.told sink.new)) }
 {
     let mut scribe = SinkScribe { buffer, sink };
@@ -130,11 +130,11 @@ fn greatest_printing<K: Sink>(
 
 // ---- without them
 
-fn find_quietly(work: &mut Work, net: &Network, budget: u64) -> Found
+fn find_quietly(work: &mut Work, net: &Network, budget: u64) -> SearchFinding
     requires made { IsMadeFor net.now work.old }
     requires budget { 0 < budget }
     ensures made { IsMadeFor net.now work.new }
-    ensures known { IsSome work.new.known ↔ (result ≡ Found.Consistent) }
+    ensures known { IsSome work.new.known ↔ (result ≡ SearchFinding.Consistent) }
     ensures close { IfSome work.new.known (All IsClose) }
     ensures finds { (lines : List ProofLine)
         × FindsBy net.now budget lines work.new.leaves work.new.known result }
@@ -146,7 +146,7 @@ fn find_quietly(work: &mut Work, net: &Network, budget: u64) -> Found
     }
 }
 
-fn greatest_quietly(work: &mut Work, net: &Network, pair: Pair, budget: u64) -> Answer
+fn greatest_quietly(work: &mut Work, net: &Network, pair: Pair, budget: u64) -> GreatestAnswer
     requires made { IsMadeFor net.now work.old }
     requires known { IsSomeAnd work.old.known (λ times. Satisfies times net.now) }
     requires from { pair.from.0 < net.now.events }
@@ -155,11 +155,11 @@ fn greatest_quietly(work: &mut Work, net: &Network, pair: Pair, budget: u64) -> 
     ensures made { IsMadeFor net.now work.new }
     ensures known { work.new.known ≡ work.old.known }
     ensures answers { (lines : List ProofLine)
-        × AnswersBy (search_of net.now pair budget) (known_separation work.old pair.from pair.to) (evidence lines work.new) result }
+        × AnswersSearch (search_of net.now pair budget) (known_separation work.old pair.from pair.to) (evidence lines work.new) result }
     ensures count { IsCounted net.now budget work.new.leaves }
     ensures times { Satisfies work.new.times net.now }
     ensures close { All IsClose work.new.times }
-    ensures reached { IsReached (separation work.new.times pair.from pair.to) }
+    ensures reached { IsKnownReach (separation work.new.times pair.from pair.to) }
 {
     match greatest(work, net, pair.from, pair.to, budget, &mut Quiet) {
         Ok(answer) => answer,

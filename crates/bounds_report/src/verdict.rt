@@ -2,12 +2,12 @@
 
 ghost use Rattle.std.specs.Prelude.{◌≡◌, ◌<◌, ◌+◌, ◌∷◌, ℕ, ℤ, Bool, [], List, OnOk};
 ghost use Rattle.requirements.specs.Bounds.{HasTimes};
-ghost use Rattle.right_report.specs.Right.At.{Telling, at_row, at_verdict, with_bounds, with_verdict};
+ghost use Rattle.right_report.specs.Right.At.{CurrentRow, at_row, at_verdict, with_bounds, with_verdict};
 ghost use Rattle.drawn.specs.Drawn.{Drawn};
-ghost use Rattle.bounds_report.specs.Step.Kept.{HasTold, IsKept};
+ghost use Rattle.bounds_report.specs.Step.Kept.{HasFoundValue, IsWitness};
 ghost use Rattle.bounds_report.specs.Step.Ready.{IsSet};
 ghost use Rattle.bounds_report.specs.Step.Searched.{sized};
-ghost use Rattle.bounds_report.specs.Step.Told.{Goes};
+ghost use Rattle.bounds_report.specs.Step.Told.{WritesVerdicts};
 
 use crate::desk::Desk;
 use crate::pair::Pair;
@@ -31,12 +31,12 @@ pub fn tell_verdict<K: Sink>(
     requires to { pair.to.0 < net.now.events }
     requires most { HasTimes both.now.greatest }
     requires fewest { HasTimes both.now.least }
-    requires greatest { HasTold both.now.greatest → IsKept net.now pair Which.Max both.now.greatest desk.old.greatest.times.items desk.old.greatest.set.items }
-    requires least { HasTold both.now.least → IsKept net.now pair Which.Min both.now.least desk.old.least.times.items desk.old.least.set.items }
+    requires greatest { HasFoundValue both.now.greatest → IsWitness net.now pair Which.Max both.now.greatest desk.old.greatest.times.items desk.old.greatest.set.items }
+    requires least { HasFoundValue both.now.least → IsWitness net.now pair Which.Min both.now.least desk.old.least.times.items desk.old.least.set.items }
     ensures set { OnOk result (IsSet net.now desk.new) }
     ensures known { OnOk result (desk.new.work.known ≡ desk.old.work.known) }
-    ensures goes { (most : ℕ) (cert : Bool) (times : List ℤ) (drawn : Drawn) (told : Telling) → told.row.from ≡ pair.from → told.row.to ≡ pair.to
-        → Goes (sized net.now most cert times) drawn (at_verdict told range both.now.least both.now.greatest)
+    ensures goes { (most : ℕ) (cert : Bool) (times : List ℤ) (drawn : Drawn) (told : CurrentRow) → told.row.from ≡ pair.from → told.row.to ≡ pair.to
+        → WritesVerdicts (sized net.now most cert times) drawn (at_verdict told range both.now.least both.now.greatest)
         (λ word. at_row (with_verdict (with_bounds told.course both.now.least both.now.greatest) word) (told.number + 1) told.later)
         (λ word. word ∷ []) (K.told sink.old) (K.told sink.new) result }
 {

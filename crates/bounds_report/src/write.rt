@@ -9,10 +9,10 @@ ghost use Rattle.event_graph.specs.Network.{Net};
 ghost use Rattle.bounds_report.specs.Step.Searched.{sized};
 ghost use Rattle.slack_report.specs.Text.{report_text};
 ghost use Rattle.bounds_report.specs.Step.Ready.{IsSet};
-ghost use Rattle.bounds_report.specs.Step.Told.{Goes};
-ghost use Rattle.jobs.specs.Works.{Works};
+ghost use Rattle.bounds_report.specs.Step.Told.{WritesVerdicts};
+ghost use Rattle.jobs.specs.Works.{JobWrote};
 ghost use Rattle.drawn.specs.Drawn.{IsRowOf};
-ghost use Rattle.bounds_report.specs.Reports.{BeginsReport, Reports};
+ghost use Rattle.bounds_report.specs.Reports.{MayHaveBegun, Reports};
 
 use crate::desk::Desk;
 use crate::finding::tell_finding;
@@ -38,7 +38,7 @@ pub fn write_bounds<K: Sink>(
 ) -> Result<Summary, Unanswered>
     requires least { 1 ≤ budget }
     requires most { budget ≤ MAX_BUDGET }
-    ensures works { Works (Reports drawn.now budget cert) (BeginsReport drawn.now budget cert)
+    ensures works { JobWrote (Reports drawn.now budget cert) (MayHaveBegun drawn.now budget cert)
         (K.told sink.old) (K.told sink.new) result }
 {
     let mut desk = Desk::new(alloc, drawn.network())?;
@@ -62,7 +62,7 @@ fn tell_report<K: Sink>(
     requires set { IsSet drawn.now.net desk.old }
     ensures reports { IfOk result (λ summary. (text : List ℕ) × Reports drawn.now wanted.budget wanted.cert summary text
         × (K.told sink.new ≡ grown (K.told sink.old) text)) }
-    ensures begins { OnErr result ((text : List ℕ) × BeginsReport drawn.now wanted.budget wanted.cert text
+    ensures begins { OnErr result ((text : List ℕ) × MayHaveBegun drawn.now wanted.budget wanted.cert text
         × CutShort (K.told sink.old) (K.told sink.new) text) }
 {
     put_front(wanted.budget, &mut desk.buffer, sink)?;
@@ -93,7 +93,7 @@ fn put_events<K: Sink>(
     buffer: &mut LineBuffer,
     sink: &mut K,
 ) -> Result<(), PutFailed>
-    ensures goes { (net : Net) (most : ℕ) (cert : Bool) (times : List ℤ) → Goes (sized net most cert times) drawn.now at_events
+    ensures goes { (net : Net) (most : ℕ) (cert : Bool) (times : List ℤ) → WritesVerdicts (sized net most cert times) drawn.now at_events
         (λ _. at_event drawn.now.net.events []) (λ _. [])
         (K.told sink.old) (K.told sink.new) result }
 {

@@ -8,9 +8,9 @@ use Rattle.event_graph.specs.Usable.{MeetsUsable}
 use Rattle.branch.specs.Needed.{IsNeededToBound, IsNeededToFind}
 use Rattle.event_graph.specs.Cases.{first_of, open_cases}
 use Rattle.branch.specs.Step.Cases.{IsFree}
-use Rattle.branch.specs.Step.Searched.{IsBoundSearched, IsCutAfter, IsFindCutAfter, IsFindSearched, IsOpen, IsSearched, Steps, StepsShort, left_after}
+use Rattle.branch.specs.Step.Searched.{IsBoundSearched, IsCutAfter, IsFindCutAfter, IsFindSearched, IsOpen, IsSearchedSoFar, SearchSteps, StepsShort, left_after}
 use Rattle.branch.specs.declared.best.Aim.{Aim}
-use Rattle.branch.specs.declared.search.Entry.{Entry}
+use Rattle.branch.specs.declared.search.NextCase.{NextCase}
 use Rattle.branch.specs.declared.search.Search.{Search}
 use Rattle.branch.proofs.CaseCounts.{splittable_causes}
 use Rattle.branch.proofs.SearchedLines.{paths_within, searched_closes, searched_higher, searched_splits}
@@ -39,45 +39,45 @@ one_more [] lines line = refl
 one_more (l ∷ earlier) lines line = let rest = one_more earlier lines line in cc
 
 -- the search goes on after lines that close cases
-goes : (net : Net) (goal : ProofGoal) (IsNeeded : List ProofLine → Case → ℕ → Type 0) (earlier lines : List ProofLine) (cases : List Case) (before : ℕ) (now : Search) (entry : Entry)
-    → IsSearched net goal IsNeeded earlier cases before → Steps net goal cases before now entry lines
-    → IsSearched net goal IsNeeded (earlier ++ lines) (left_after net now.cases.chosen entry) now.leaves
+goes : (net : Net) (goal : ProofGoal) (IsNeeded : List ProofLine → Case → ℕ → Type 0) (earlier lines : List ProofLine) (cases : List Case) (before : ℕ) (now : Search) (entry : NextCase)
+    → IsSearchedSoFar net goal IsNeeded earlier cases before → SearchSteps net goal cases before now entry lines
+    → IsSearchedSoFar net goal IsNeeded (earlier ++ lines) (left_after net now.cases.chosen entry) now.leaves
 goes net goal IsNeeded earlier lines cases before now entry searched steps =
-    subst (IsSearched net goal IsNeeded (earlier ++ lines) (left_after net now.cases.chosen entry)) (sym steps.count)
+    subst (IsSearchedSoFar net goal IsNeeded (earlier ++ lines) (left_after net now.cases.chosen entry)) (sym steps.count)
     (searched_closes net goal IsNeeded earlier lines cases (left_after net now.cases.chosen entry) before searched steps.closes)
 
 -- and after a split
-goes_split : (net : Net) (goal : ProofGoal) (IsNeeded : List ProofLine → Case → ℕ → Type 0) (earlier lines : List ProofLine) (chosen : Case) (number before : ℕ) (now : Search) (entry : Entry)
-    → IsFree net chosen number → IsNeeded earlier chosen number → IsSearched net goal IsNeeded earlier (open_cases net chosen) before
-    → Steps net goal (open_cases net (first_of number chosen)) before now entry lines
-    → IsSearched net goal IsNeeded (earlier ++ Split number ∷ lines) (left_after net now.cases.chosen entry) now.leaves
+goes_split : (net : Net) (goal : ProofGoal) (IsNeeded : List ProofLine → Case → ℕ → Type 0) (earlier lines : List ProofLine) (chosen : Case) (number before : ℕ) (now : Search) (entry : NextCase)
+    → IsFree net chosen number → IsNeeded earlier chosen number → IsSearchedSoFar net goal IsNeeded earlier (open_cases net chosen) before
+    → SearchSteps net goal (open_cases net (first_of number chosen)) before now entry lines
+    → IsSearchedSoFar net goal IsNeeded (earlier ++ Split number ∷ lines) (left_after net now.cases.chosen entry) now.leaves
 goes_split net goal IsNeeded earlier lines chosen number before now entry free need searched steps =
-    subst (λ ls. IsSearched net goal IsNeeded ls (left_after net now.cases.chosen entry) now.leaves) (one_more earlier lines (Split number))
+    subst (λ ls. IsSearchedSoFar net goal IsNeeded ls (left_after net now.cases.chosen entry) now.leaves) (one_more earlier lines (Split number))
     (goes net goal IsNeeded (earlier ++ Split number ∷ []) lines (open_cases net (first_of number chosen)) before now entry
     (searched_splits net goal IsNeeded earlier chosen number before searched free.may need (splittable_causes (slice_get net.constraints number) free.causes)) steps)
 
 -- so does one that a failure cut short after a split
 cut_split : (net : Net) (goal : ProofGoal) (IsNeeded : List ProofLine → Case → ℕ → Type 0) (earlier lines : List ProofLine) (chosen : Case) (number before : ℕ) (now : Search)
-    → IsFree net chosen number → IsNeeded earlier chosen number → IsSearched net goal IsNeeded earlier (open_cases net chosen) before
+    → IsFree net chosen number → IsNeeded earlier chosen number → IsSearchedSoFar net goal IsNeeded earlier (open_cases net chosen) before
     → (short : StepsShort net goal (open_cases net (first_of number chosen)) before now lines)
-    → IsSearched net goal IsNeeded (earlier ++ Split number ∷ lines) short.left (before + closing_lines lines)
+    → IsSearchedSoFar net goal IsNeeded (earlier ++ Split number ∷ lines) short.left (before + closing_lines lines)
 cut_split net goal IsNeeded earlier lines chosen number before now free need searched short =
-    subst (λ ls. IsSearched net goal IsNeeded ls short.left (before + closing_lines lines)) (one_more earlier lines (Split number))
+    subst (λ ls. IsSearchedSoFar net goal IsNeeded ls short.left (before + closing_lines lines)) (one_more earlier lines (Split number))
     (searched_closes net goal IsNeeded (earlier ++ Split number ∷ []) lines (open_cases net (first_of number chosen)) short.left before
     (searched_splits net goal IsNeeded earlier chosen number before searched free.may need (splittable_causes (slice_get net.constraints number) free.causes)) short.closes)
 
 -- the search for a bound goes on after a split
-pub split_goes : (net : Net) (aim : Aim) (best : ℤ) (before : ℕ) (earlier lines : List ProofLine) (chosen : Case) (now : Search) (entry : Entry) (number : ℕ)
+pub split_goes : (net : Net) (aim : Aim) (best : ℤ) (before : ℕ) (earlier lines : List ProofLine) (chosen : Case) (now : Search) (entry : NextCase) (number : ℕ)
     → aim.known ≤ℤ best → IsOpen net aim.from aim.to best chosen number
-    → Steps net (Bound aim.from aim.to best) (open_cases net (first_of number chosen)) before now entry lines
+    → SearchSteps net (Bound aim.from aim.to best) (open_cases net (first_of number chosen)) before now entry lines
     → IsBoundSearched net aim best earlier (open_cases net chosen) before → IsBoundSearched net aim best (earlier ++ Split number ∷ lines) (left_after net now.cases.chosen entry) now.leaves
 split_goes net aim best before earlier lines chosen now entry number least open' steps searched =
     goes_split net (Bound aim.from aim.to best) (IsNeededToBound net aim.from aim.to aim.known) earlier lines chosen number before now entry open'.free
     (needed_open net aim best earlier (open_cases net chosen) before chosen number least searched open') searched steps
 
 -- and after a path
-pub path_goes : (net : Net) (aim : Aim) (was best : ℤ) (before : ℕ) (earlier lines : List ProofLine) (chosen : Case) (now : Search) (entry : Entry)
-    → was ≤ℤ best → Steps net (Bound aim.from aim.to best) (open_cases net chosen) before now entry lines
+pub path_goes : (net : Net) (aim : Aim) (was best : ℤ) (before : ℕ) (earlier lines : List ProofLine) (chosen : Case) (now : Search) (entry : NextCase)
+    → was ≤ℤ best → SearchSteps net (Bound aim.from aim.to best) (open_cases net chosen) before now entry lines
     → IsBoundSearched net aim was earlier (open_cases net chosen) before → IsBoundSearched net aim best (earlier ++ lines) (left_after net now.cases.chosen entry) now.leaves
 path_goes net aim was best before earlier lines chosen now entry up steps searched =
     goes net (Bound aim.from aim.to best) (IsNeededToBound net aim.from aim.to aim.known) earlier lines (open_cases net chosen) before now entry
@@ -112,8 +112,8 @@ path_cut net aim was best before lines chosen now up short =
     }
 
 -- the search for satisfying times goes on after a split on what they break
-pub find_goes : (net : Net) (before : ℕ) (earlier lines : List ProofLine) (chosen : Case) (now : Search) (entry : Entry) (number : ℕ) (times : List ℤ) → IsFree net chosen number
-    → MeetsUsable net chosen times → Breaks times net number → Steps net Nothing (open_cases net (first_of number chosen)) before now entry lines
+pub find_goes : (net : Net) (before : ℕ) (earlier lines : List ProofLine) (chosen : Case) (now : Search) (entry : NextCase) (number : ℕ) (times : List ℤ) → IsFree net chosen number
+    → MeetsUsable net chosen times → Breaks times net number → SearchSteps net Nothing (open_cases net (first_of number chosen)) before now entry lines
     → IsFindSearched net earlier (open_cases net chosen) before → IsFindSearched net (earlier ++ Split number ∷ lines) (left_after net now.cases.chosen entry) now.leaves
 find_goes net before earlier lines chosen now entry number times free meets breaks steps searched =
     goes_split net Nothing (IsNeededToFind net) earlier lines chosen number before now entry free (times, meets, breaks) searched steps

@@ -11,20 +11,20 @@ use Rattle.event_graph.proofs.SoundProofs.{proof_bounds, proof_of_nothing}
 use Rattle.event_graph.proofs.ProofCounts.{proof_is_within_choices, stopped_proof_is_below_choices}
 use Rattle.branch.specs.Answers.{IsClosedAt, IsCounted, IsEnclosedBy, IsFoundConsistent, IsFoundInconsistent, IsFoundUnsettled, IsShownUnbounded}
 use Rattle.event_graph.specs.Cases.{open_cases, siblings}
-use Rattle.branch.specs.Step.Searched.{AreBest, AreRays, IsBoundSearched, IsClosing, IsFindSearched, IsSearched, aimed}
+use Rattle.branch.specs.Step.Searched.{IsBestSoFar, AreRays, IsBoundSearched, IsClosing, IsFindSearched, IsSearchedSoFar, aimed}
 use Rattle.branch.specs.declared.best.Aim.{Aim}
 use Rattle.branch.specs.declared.best.Best.{Best}
 use Rattle.branch.proofs.SearchedLines.{none_searched, searched_closes}
 
 -- lines that leave a case open are a stopped proof
 pub is_stopped : (net : Net) (goal : ProofGoal) (IsNeeded : List ProofLine → Case → ℕ → Type 0) (lines : List ProofLine) (chosen : Case) (closed : ℕ)
-    → IsSearched net goal IsNeeded lines (open_cases net chosen) closed → IsStoppedProof net goal lines closed
+    → IsSearchedSoFar net goal IsNeeded lines (open_cases net chosen) closed → IsStoppedProof net goal lines closed
 is_stopped net goal IsNeeded lines chosen closed searched = record {
   open_case = (chosen, siblings net chosen, searched.reads);
   closed = searched.count;
 }
 
-pub closed_at : (net : Net) (aim : Aim) (best : Best) (budget : ℕ) (lines : List ProofLine) (leaves : ℕ) (ray : List Bool) → AreBest net aim best
+pub closed_at : (net : Net) (aim : Aim) (best : Best) (budget : ℕ) (lines : List ProofLine) (leaves : ℕ) (ray : List Bool) → IsBestSoFar net aim best
     → IsBoundSearched net aim best.value lines [] leaves
     → IsClosedAt (aimed net aim budget) best.value (record { lines = lines; leaves = leaves; times = best.times.items; ray = ray })
 closed_at net aim best budget lines leaves ray are_best searched = record {
@@ -38,21 +38,21 @@ closed_at net aim best budget lines leaves ray are_best searched = record {
 }
 
 pub proof_count : (net : Net) (goal : ProofGoal) (IsNeeded : List ProofLine → Case → ℕ → Type 0) (budget : ℕ) (lines : List ProofLine) (leaves : ℕ) → IsNet net
-    → leaves ≤ budget → IsSearched net goal IsNeeded lines [] leaves → IsCounted net budget leaves
+    → leaves ≤ budget → IsSearchedSoFar net goal IsNeeded lines [] leaves → IsCounted net budget leaves
 proof_count net goal IsNeeded budget lines leaves is_net within searched = record {
   within_budget = within;
   within_choices = omega (arith, proof_is_within_choices net goal lines is_net searched.reads, searched.count);
 }
 
 pub stopped_count : (net : Net) (goal : ProofGoal) (IsNeeded : List ProofLine → Case → ℕ → Type 0) (budget : ℕ) (lines : List ProofLine) (leaves closed : ℕ) (chosen : Case) → IsNet net
-    → leaves ≤ budget → leaves ≤ closed + 1 → IsSearched net goal IsNeeded lines (open_cases net chosen) closed → IsCounted net budget leaves
+    → leaves ≤ budget → leaves ≤ closed + 1 → IsSearchedSoFar net goal IsNeeded lines (open_cases net chosen) closed → IsCounted net budget leaves
 stopped_count net goal IsNeeded budget lines leaves closed chosen is_net within most searched = record {
   within_budget = within;
   within_choices = omega (arith, stopped_proof_is_below_choices net goal lines closed is_net (is_stopped net goal IsNeeded lines chosen closed searched));
 }
 
 pub cut_count : (net : Net) (goal : ProofGoal) (IsNeeded : List ProofLine → Case → ℕ → Type 0) (budget : ℕ) (lines : List ProofLine) (leaves closed : ℕ) (left : List Case) → IsNet net
-    → leaves ≤ budget → leaves ≤ closed → IsSearched net goal IsNeeded lines left closed → IsCounted net budget leaves
+    → leaves ≤ budget → leaves ≤ closed → IsSearchedSoFar net goal IsNeeded lines left closed → IsCounted net budget leaves
 cut_count net goal IsNeeded budget lines leaves closed [] is_net within most searched = record {
   within_budget = within;
   within_choices = omega (arith, most, proof_is_within_choices net goal lines is_net searched.reads, searched.count);
@@ -63,7 +63,7 @@ cut_count net goal IsNeeded budget lines leaves closed (chosen ∷ cases) is_net
 }
 
 pub enclosed_by : (net : Net) (aim : Aim) (upper : Option ℤ) (best : Best) (budget : ℕ) (lines : List ProofLine) (leaves : ℕ) (ray : List Bool) (chosen : Case) → IsNet net
-    → IsRootBound net aim.from aim.to upper → IfSome upper IsReach → AreBest net aim best → leaves ≡ budget → IsBoundSearched net aim best.value lines (open_cases net chosen) leaves
+    → IsRootBound net aim.from aim.to upper → IfSome upper IsReach → IsBestSoFar net aim best → leaves ≡ budget → IsBoundSearched net aim best.value lines (open_cases net chosen) leaves
     → IsEnclosedBy (aimed net aim budget) upper best.value (record { lines = lines; leaves = leaves; times = best.times.items; ray = ray })
 enclosed_by net aim upper best budget lines leaves ray chosen is_net root within are_best used searched =
     let stopped = is_stopped net (Bound aim.from aim.to best.value) _ lines chosen leaves searched in

@@ -3,13 +3,13 @@ use Rattle.std.proofs.Common.{◌≡◌, ◌+◌, ◌<◌, ◌≤◌, ℕ, List,
 use Rattle.std.proofs.lemmas.List.Elements.{All-append, All-cons, All-nil}
 use Rattle.itv_base.specs.declared.names.EdgeName.{EdgeName}
 use Rattle.event_graph.specs.Network.{Net}
-use Rattle.event_graph.specs.Proof.{Case, ClosesByLoop, ClosesByPath, Loop, Path, ProofGoal, ProofLine, Reads, Split, closing_lines}
+use Rattle.event_graph.specs.Proof.{Case, ClosesByLoop, ClosesByPath, Loop, Path, ProofGoal, ProofLine, ProofLeaves, Split, closing_lines}
 use Rattle.event_graph.specs.Cases.{open_cases, siblings}
 use Rattle.branch.specs.Step.Cases.{IsSearchCase, work_left}
-use Rattle.branch.specs.Step.Searched.{Closes, IsAtCase, IsClosing, IsNext, IsSearched, Keeps, LeavesFor, Steps, StepsShort, left_after}
+use Rattle.branch.specs.Step.Searched.{ClosesCases, IsAtCase, IsClosing, IsNext, IsSearchedSoFar, Keeps, LeavesFor, SearchSteps, StepsShort, left_after}
 use Rattle.branch.specs.Step.Standing.{AreOfSame, StandsOn}
-use Rattle.branch.specs.declared.search.Entry.{Entry}
-use Rattle.branch.specs.declared.search.Entry.TheVariants.{Entered, AllClosed, Stopped}
+use Rattle.branch.specs.declared.search.NextCase.{NextCase}
+use Rattle.branch.specs.declared.search.NextCase.TheVariants.{Entered, AllClosed, Stopped}
 use Rattle.branch.specs.declared.search.Search.{Search}
 use Rattle.branch.proofs.CaseCounts.{work_falls}
 use Rattle.event_graph.proofs.ReadingOn.{closing_lines-append, reads-append}
@@ -43,7 +43,7 @@ keeps_bounds net a b others same = record {
 
 -- how far a search has come in closing the cases that were open
 pub record HasClosed (net : Net) (goal : ProofGoal) (cases left : List Case) (before leaves : ℕ) (lines : List ProofLine) : Type 0 where
-  pub closes : Closes net goal cases left lines
+  pub closes : ClosesCases net goal cases left lines
   pub count : leaves ≡ before + closing_lines lines
 
 pub closing_one : (line : ProofLine) → IsClosing line → closing_lines (line ∷ []) ≡ 1
@@ -60,7 +60,7 @@ closed_none net goal cases leaves = record {
 
 -- one more case is closed
 pub closed_one : (net : Net) (goal : ProofGoal) (cases : List Case) (chosen : Case) (before leaves now : ℕ) (lines : List ProofLine) (line : ProofLine)
-    → HasClosed net goal cases (open_cases net chosen) before leaves lines → IsClosing line → Reads net goal (open_cases net chosen) (line ∷ []) (siblings net chosen)
+    → HasClosed net goal cases (open_cases net chosen) before leaves lines → IsClosing line → ProofLeaves net goal (open_cases net chosen) (line ∷ []) (siblings net chosen)
     → now ≡ leaves + 1 → HasClosed net goal cases (siblings net chosen) before now (lines ++ line ∷ [])
 closed_one net goal cases chosen before leaves now lines line closed closing reads one_more = record {
   closes = record {
@@ -78,18 +78,18 @@ closed_next net goal cases mid now before lines closed next =
     subst (λ (left : List Case). HasClosed net goal cases left before now.leaves lines) next.same closed
 
 -- or at the end of the search
-pub closed_end : (net : Net) (goal : ProofGoal) (cases : List Case) (mid now : Search) (before : ℕ) (lines : List ProofLine) (end : Entry)
+pub closed_end : (net : Net) (goal : ProofGoal) (cases : List Case) (mid now : Search) (before : ℕ) (lines : List ProofLine) (end : NextCase)
     → HasClosed net goal cases (siblings net mid.cases.chosen) before now.leaves lines → LeavesFor net mid now (Some end)
-    → Steps net goal cases before now end lines
+    → SearchSteps net goal cases before now end lines
 closed_end net goal cases mid now before lines Entered closed leaves = absurd leaves
 closed_end net goal cases mid now before lines AllClosed closed leaves =
-    record { closes = subst (λ (left : List Case). Closes net goal cases left lines) leaves closed.closes; count = closed.count }
+    record { closes = subst (λ (left : List Case). ClosesCases net goal cases left lines) leaves closed.closes; count = closed.count }
 closed_end net goal cases mid now before lines Stopped closed leaves =
-    record { closes = subst (λ (left : List Case). Closes net goal cases left lines) leaves.0 closed.closes; count = closed.count }
+    record { closes = subst (λ (left : List Case). ClosesCases net goal cases left lines) leaves.0 closed.closes; count = closed.count }
 
 -- a step after closed cases
-pub steps_after : (net : Net) (goal : ProofGoal) (cases mid : List Case) (before between : ℕ) (now : Search) (entry : Entry) (lines more : List ProofLine)
-    → HasClosed net goal cases mid before between lines → Steps net goal mid between now entry more → Steps net goal cases before now entry (lines ++ more)
+pub steps_after : (net : Net) (goal : ProofGoal) (cases mid : List Case) (before between : ℕ) (now : Search) (entry : NextCase) (lines more : List ProofLine)
+    → HasClosed net goal cases mid before between lines → SearchSteps net goal mid between now entry more → SearchSteps net goal cases before now entry (lines ++ more)
 steps_after net goal cases mid before between now entry lines more closed steps = record {
   closes = record {
     reads = reads-append net goal lines more cases mid (left_after net now.cases.chosen entry) closed.closes.reads steps.closes.reads;
@@ -108,7 +108,7 @@ short_none net goal cases before now same = record {
 
 -- a line that closes the case at hand fails
 pub short_one : (net : Net) (goal : ProofGoal) (cases : List Case) (chosen : Case) (before leaves : ℕ) (now : Search) (lines : List ProofLine) (line : ProofLine)
-    → HasClosed net goal cases (open_cases net chosen) before leaves lines → IsClosing line → Reads net goal (open_cases net chosen) (line ∷ []) (siblings net chosen)
+    → HasClosed net goal cases (open_cases net chosen) before leaves lines → IsClosing line → ProofLeaves net goal (open_cases net chosen) (line ∷ []) (siblings net chosen)
     → now.leaves ≡ leaves → StepsShort net goal cases before now (lines ++ line ∷ [])
 short_one net goal cases chosen before leaves now lines line closed closing reads same =
     let one = closed_one net goal cases chosen before leaves (leaves + 1) lines line closed closing reads refl in
@@ -128,18 +128,18 @@ short_after net goal cases mid before between now lines more closed short = reco
 
 -- the case at hand is entered
 pub steps_here : (net : Net) (goal : ProofGoal) (cases : List Case) (before : ℕ) (at now : Search) (lines : List ProofLine) → now.cases.chosen ≡ at.cases.chosen → now.leaves ≡ at.leaves
-    → HasClosed net goal cases (open_cases net at.cases.chosen) before at.leaves lines → Steps net goal cases before now Entered lines
+    → HasClosed net goal cases (open_cases net at.cases.chosen) before at.leaves lines → SearchSteps net goal cases before now Entered lines
 steps_here net goal cases before at now lines same_case same_leaves closed = record {
-  closes = subst (λ (chosen : Case). Closes net goal cases (open_cases net chosen) lines) (sym same_case) closed.closes;
+  closes = subst (λ (chosen : Case). ClosesCases net goal cases (open_cases net chosen) lines) (sym same_case) closed.closes;
   count = same_leaves ∙ closed.count;
 }
 
 pub loop_reads : (net : Net) (goal : ProofGoal) (chosen : Case) (walk : List EdgeName) → ClosesByLoop net chosen walk
-    → Reads net goal (open_cases net chosen) (Loop walk ∷ []) (siblings net chosen)
+    → ProofLeaves net goal (open_cases net chosen) (Loop walk ∷ []) (siblings net chosen)
 loop_reads net goal chosen walk closes = (closes, refl)
 
 pub path_reads : (net : Net) (goal : ProofGoal) (chosen : Case) (walk : List EdgeName) → ClosesByPath net goal chosen walk
-    → Reads net goal (open_cases net chosen) (Path walk ∷ []) (siblings net chosen)
+    → ProofLeaves net goal (open_cases net chosen) (Path walk ∷ []) (siblings net chosen)
 path_reads net goal chosen walk closes = (closes, refl)
 
 -- a search that was started is at the case without choices
@@ -153,10 +153,10 @@ at_root net s none stands room left = record {
 
 -- and nothing is read yet
 pub root_read : (net : Net) (goal : ProofGoal) (IsNeeded : List ProofLine → Case → ℕ → Type 0) (s : Search) → s.cases.chosen ≡ [] → s.leaves ≡ 0
-    → IsSearched net goal IsNeeded [] (open_cases net s.cases.chosen) s.leaves
+    → IsSearchedSoFar net goal IsNeeded [] (open_cases net s.cases.chosen) s.leaves
 root_read net goal IsNeeded s none zero =
-    subst (λ (chosen : Case). IsSearched net goal IsNeeded [] (open_cases net chosen) s.leaves) (sym none)
-    (subst (λ (n : ℕ). IsSearched net goal IsNeeded [] ([] ∷ []) n) (sym zero) (none_searched net goal IsNeeded))
+    subst (λ (chosen : Case). IsSearchedSoFar net goal IsNeeded [] (open_cases net chosen) s.leaves) (sym none)
+    (subst (λ (n : ℕ). IsSearchedSoFar net goal IsNeeded [] ([] ∷ []) n) (sym zero) (none_searched net goal IsNeeded))
 
 pub keeps_same : (net : Net) (a : Search) → Keeps net a a
 keeps_same net a = record { room = refl; budget = refl; bounds = record { source = refl; made = λ made. made } }

@@ -13,7 +13,7 @@ use Rattle.event_graph.specs.Satisfying.{HoldsAs, IsAfter, IsBefore, Satisfies}
 use Rattle.event_graph.specs.Times.{raised, time_of}
 use Rattle.event_graph.proofs.EdgesMet.{All-found}
 use Rattle.event_graph.specs.Limits.{weight_limit}
-use Rattle.branch.specs.Step.Raising.{IsApart, raised_to}
+use Rattle.branch.specs.Step.Raising.{IsRaisedApart, raised_to}
 
 -- the time of an event, raised or not
 pub time_of-raised : (set : List Bool) (by : ℕ) (times : List ℤ) (event : ℕ) (flag : Bool) → slice_get set event ≡ Some flag → event < length times
@@ -63,7 +63,7 @@ flag_of : (set : List Bool) (event : ℕ) → event < length set → (flag : Boo
 flag_of set event within = (get_or set event false, slice_get-get_or set event false within)
 
 -- a cause of a constraint between events that holds of times that are apart is met by the raised ones, on both sides
-module _ (set : List Bool) (by : ℕ) (times : List ℤ) (target : EventId) (count : length set ≡ length times) (apart : IsApart set times) (within : target.0 < length times) where
+module _ (set : List Bool) (by : ℕ) (times : List ℤ) (target : EventId) (count : length set ≡ length times) (apart : IsRaisedApart set times) (within : target.0 < length times) where
   after_kept : (c : Cause) → c.event.0 < length times → IsEnd c.range.low → IsAfter times target c → IsAfter (raised set by times) target c
   after_kept c event end after =
       let cause_flag = flag_of set c.event.0 (omega arith) in
@@ -108,7 +108,7 @@ module _ (set : List Bool) (by : ℕ) (times : List ℤ) (target : EventId) (cou
 cause-at : (net : Net) (number cause : ℕ) (k : Constraint) (c : Cause) → slice_get net.constraints number ≡ Some k → slice_get k.causes cause ≡ Some c → cause_at net number cause ≡ Some c
 cause-at net number cause k c at_k at_c = rw at_k at_c
 
-pub satisfies_raised : (net : Net) (set : List Bool) (by : ℕ) (times : List ℤ) → IsNet net → length set ≡ net.events → IsApart set times → Satisfies times net
+pub satisfies_raised : (net : Net) (set : List Bool) (by : ℕ) (times : List ℤ) → IsNet net → length set ≡ net.events → IsRaisedApart set times → Satisfies times net
     → Satisfies (raised set by times) net
 satisfies_raised net set by times is_net count apart satisfies = record {
   count = length-raised set by times ∙ satisfies.count;
@@ -128,7 +128,7 @@ satisfies_raised net set by times is_net count apart satisfies = record {
 
 -- times that satisfy and whose set is apart have the set as a ray
 pub apart_is_ray : (net : Net) (from to : EventId) (set : List Bool) (times : List ℤ) → IsNet net → length set ≡ net.events
-    → slice_get set to.0 ≡ Some true → slice_get set from.0 ≡ Some false → IsApart set times → Satisfies times net → IsRay net from to times set
+    → slice_get set to.0 ≡ Some true → slice_get set from.0 ≡ Some false → IsRaisedApart set times → Satisfies times net → IsRay net from to times set
 apart_is_ray net from to set times is_net count holds lacks apart satisfies = record {
   count = count;
   holds = holds;

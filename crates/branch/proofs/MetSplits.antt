@@ -22,11 +22,11 @@ use Rattle.branch.specs.declared.choice_edge.ChoiceEdge.{ChoiceEdge}
 use Rattle.branch.specs.ChoiceEdges.{HasChoiceEnds, given_edge}
 use Rattle.branch.specs.Step.Breaking.{IsBetween, IsEdgeBroken}
 use Rattle.branch.specs.Splits.{AreAscending, AreSplits, HasChoiceEdges, HasNumber, IsSplitOf, Splitting}
-use Rattle.branch.specs.Step.Breaking.{AreBetween, BreaksEach, IsFirstOf, IsMetAt, MeetsSome}
-use Rattle.branch.specs.declared.distances.Wanted.TheVariants.{Open}
+use Rattle.branch.specs.Step.Breaking.{AreBetween, BreaksEach, IsFirstBrokenSplit, IsMetAt, MeetsSome}
+use Rattle.branch.specs.declared.distances.SearchTarget.TheVariants.{Open}
 use Rattle.branch.specs.Step.Cases.{IsFree, IsSplittable}
 use Rattle.branch.specs.Step.Edges.{choice_name, side_of}
-use Rattle.branch.specs.Step.Looking.{IsFound}
+use Rattle.branch.specs.Step.Looking.{IsTargetFound}
 use Rattle.event_graph.proofs.Choices.{IsOther, free_others}
 use Rattle.branch.proofs.Results.{some_and}
 
@@ -140,7 +140,7 @@ free_among net splits chosen number are (s, among, is) none =
     subst P is (free_at net chosen s (All-contains (IsSplitOf net) splits s are.each among) (subst Q (sym is) none))
 
 -- what was found can be split, or else another one is broken
-pub free_or_broken : (net : Net) (splits : List Splitting) (chosen : Case) (times : List ℤ) (found : Option ℕ) (first : ℕ) → AreSplits net splits → IfSome found (IsFound Open splits chosen) → Breaks times net first
+pub free_or_broken : (net : Net) (splits : List Splitting) (chosen : Case) (times : List ℤ) (found : Option ℕ) (first : ℕ) → AreSplits net splits → IfSome found (IsTargetFound Open splits chosen) → Breaks times net first
     → Breaks times net (unwrap_or found first) ⊎ IsFree net chosen (unwrap_or found first)
 free_or_broken net splits chosen times None first are is broken = inl broken
 free_or_broken net splits chosen times (Some number) first are is broken = inr (free_among net splits chosen number are is.0 (free_others chosen number is.1))
@@ -190,7 +190,7 @@ satisfies net times splits is_net meets are met = record {
 }
 
 -- the first of them each of whose choice edges the times break is the first constraint that they break
-first_is_broken : (net : Net) (times : List ℤ) (splits : List Splitting) (number : ℕ) → IsNet net → MeetsAlways times net → AreSplits net splits → IsFirstOf times splits number
+first_is_broken : (net : Net) (times : List ℤ) (splits : List Splitting) (number : ℕ) → IsNet net → MeetsAlways times net → AreSplits net splits → IsFirstBrokenSplit times splits number
     → IsFirstBroken times net 0 number
 first_is_broken net times splits number is_net meets are first = record {
   reached = omega arith;
@@ -240,7 +240,7 @@ first_is_broken net times splits number is_net meets are first = record {
 
 -- which of them is the first, or whether none is
 pub first_or_satisfies : (net : Net) (times : List ℤ) (splits : List Splitting) (found : Option ℕ) → IsNet net → MeetsAlways times net → AreSplits net splits
-    → MatchOption found (All (MeetsSome times) splits) (IsFirstOf times splits) → MatchOption found (Satisfies times net) (IsFirstBroken times net 0)
+    → MatchOption found (All (MeetsSome times) splits) (IsFirstBrokenSplit times splits) → MatchOption found (Satisfies times net) (IsFirstBroken times net 0)
 first_or_satisfies net times splits None is_net meets are met = satisfies net times splits is_net meets are met
 first_or_satisfies net times splits (Some number) is_net meets are first = first_is_broken net times splits number is_net meets are first
 

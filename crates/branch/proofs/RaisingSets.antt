@@ -10,7 +10,7 @@ use Rattle.event_graph.specs.Times.{IsTime, raised, separation, time_of}
 use Rattle.event_graph.specs.Limits.{reach_limit, weight_limit}
 use Rattle.diff_bounds.specs.Limits.{IsTimely}
 use Rattle.branch.specs.Work.{IsClose}
-use Rattle.branch.specs.Step.Raising.{AreRaised, IsApart, IsGap, IsNearSeparation, IsRise, raised_to}
+use Rattle.branch.specs.Step.Raising.{AreRaised, IsRaisedApart, IsGap, IsNearSeparation, IsRise, raised_to}
 use Rattle.branch.proofs.Gaps.{length-raised, time_of-raised}
 
 moved_is : (flag : Bool) (time : ℤ) (by : ℕ) → (if flag then time +ℤ pos by else time) ≡ raised_to flag time by
@@ -77,7 +77,7 @@ near_close times near = All-weaker IsTimely IsClose (λ t n. (omega (arith, ints
 
 -- the events of the set and all others are apart after the rise
 
-apart_after : (flags : List Bool) (times : List ℤ) (by : ℤ) (n : ℕ) → by ≡ pos n → length flags ≡ length times → IsGap flags times by → IsApart flags (raised flags n times)
+apart_after : (flags : List Bool) (times : List ℤ) (by : ℤ) (n : ℕ) → by ≡ pos n → length flags ≡ length times → IsGap flags times by → IsRaisedApart flags (raised flags n times)
 apart_after flags times by n is count gap low high out in_set =
     let low_time : time_of (raised flags n times) low ≡ time_of times low = time_of-raised flags n times low.0 false out (omega (arith, slice_get_within flags low.0 false out)) in
     let high_time : time_of (raised flags n times) high ≡ time_of times high +ℤ pos n = time_of-raised flags n times high.0 true in_set (omega (arith, slice_get_within flags high.0 true in_set)) in
@@ -98,7 +98,7 @@ are_raised flags from to reach old new by near count out in_set rise is_raised =
     record {
       by = n;
       same = is_new;
-      apart = subst (IsApart flags) (sym is_new) (apart_after flags old by n is_by count rise.gap);
+      apart = subst (IsRaisedApart flags) (sym is_new) (apart_after flags old by n is_by count rise.gap);
       reached = subst (λ times. reach ≤ℤ separation times from to) (sym is_new) reached;
       times = All-from_get_or IsTime new (pos 0) (λ k within.
           let in_old : k < length old = omega (arith, length-raised flags n old, ap length is_new) in

@@ -5,12 +5,12 @@ use Rattle.std.proofs.lemmas.List.Elements.{All-contains, Contains-append_right}
 use Rattle.itv_base.specs.declared.names.EdgeName.{EdgeName}
 use Rattle.itv_base.specs.declared.names.EventId.{EventId}
 use Rattle.event_graph.specs.Network.{Net}
-use Rattle.event_graph.specs.Proof.{Bound, Case, ClosesByPath, Loop, MaySplit, Path, ProofGoal, ProofLine, Reads, Split, cases_from, cases_of, closing_lines, count_causes, path_sum}
+use Rattle.event_graph.specs.Proof.{Bound, Case, ClosesByPath, Loop, MaySplit, Path, ProofGoal, ProofLine, ProofLeaves, Split, cases_from, cases_of, closing_lines, count_causes, path_sum}
 use Rattle.std.proofs.Common.{slice_get}
 use Rattle.event_graph.specs.Reading.{cases_left}
 use Rattle.event_graph.proofs.ReadingOn.{closing_lines-append, reading_leaves_cases, reads-append}
 use Rattle.event_graph.specs.Cases.{first_of, open_cases, siblings}
-use Rattle.branch.specs.Step.Searched.{Closes, IsClosing, IsSearched}
+use Rattle.branch.specs.Step.Searched.{ClosesCases, IsClosing, IsSearchedSoFar}
 
 path_raises : (net : Net) (from to : EventId) (value higher : ℤ) (chosen : Case) (names : List EdgeName) → value ≤ℤ higher
     → ClosesByPath net (Bound from to value) chosen names → ClosesByPath net (Bound from to higher) chosen names
@@ -20,7 +20,7 @@ path_raises net from to value higher chosen names up closes =
 
 -- lines that show a value show each higher one
 pub reads_higher : (net : Net) (from to : EventId) (value higher : ℤ) (lines : List ProofLine) (cases left : List Case) → value ≤ℤ higher
-    → Reads net (Bound from to value) cases lines left → Reads net (Bound from to higher) cases lines left
+    → ProofLeaves net (Bound from to value) cases lines left → ProofLeaves net (Bound from to higher) cases lines left
 reads_higher net from to value higher [] cases left up reads = reads
 reads_higher net from to value higher (line ∷ lines) [] left up reads = absurd reads
 reads_higher net from to value higher (Split number ∷ lines) (chosen ∷ cases) left up reads =
@@ -36,7 +36,7 @@ contains_first line lines sought (suc k, within, is) = inr (k, omega arith, is)
 
 -- each path of lines that show a value has at most this sum
 pub paths_within : (net : Net) (from to : EventId) (value : ℤ) (lines : List ProofLine) (cases left : List Case) (names : List EdgeName)
-    → Reads net (Bound from to value) cases lines left → Contains lines (Path names) → path_sum net names ≤ℤ value
+    → ProofLeaves net (Bound from to value) cases lines left → Contains lines (Path names) → path_sum net names ≤ℤ value
 paths_within net from to value [] cases left names reads contains = absurd (omega (arith, contains.1))
 paths_within net from to value (line ∷ lines) [] left names reads contains = absurd reads
 paths_within net from to value (Split number ∷ lines) (chosen ∷ cases) left names reads contains =
@@ -86,7 +86,7 @@ no_line [] after line same = cc
 no_line (b ∷ before) after line same = cc
 
 -- nothing is read yet
-pub none_searched : (net : Net) (goal : ProofGoal) (IsNeeded : List ProofLine → Case → ℕ → Type 0) → IsSearched net goal IsNeeded [] ([] ∷ []) 0
+pub none_searched : (net : Net) (goal : ProofGoal) (IsNeeded : List ProofLine → Case → ℕ → Type 0) → IsSearchedSoFar net goal IsNeeded [] ([] ∷ []) 0
 none_searched net goal IsNeeded = record {
   reads = refl;
   needed = λ before after number chosen cases is left. absurd (no_line before after (Split number) is);
@@ -101,7 +101,7 @@ no_split more front after number closing is =
 
 -- lines that close cases go on from what was searched
 pub searched_closes : (net : Net) (goal : ProofGoal) (IsNeeded : List ProofLine → Case → ℕ → Type 0) (lines more : List ProofLine) (cases left : List Case) (closed : ℕ)
-    → IsSearched net goal IsNeeded lines cases closed → Closes net goal cases left more → IsSearched net goal IsNeeded (lines ++ more) left (closed + closing_lines more)
+    → IsSearchedSoFar net goal IsNeeded lines cases closed → ClosesCases net goal cases left more → IsSearchedSoFar net goal IsNeeded (lines ++ more) left (closed + closing_lines more)
 searched_closes net goal IsNeeded lines more cases left closed searched closes = record {
   reads = reads-append net goal lines more ([] ∷ []) cases left searched.reads closes.reads;
   needed = λ before after number chosen open' is at.
@@ -122,9 +122,9 @@ nothing_after (line ∷ lines) = ap (λ ls. line ∷ ls) (nothing_after lines)
 
 -- so does a split that is needed
 pub searched_splits : (net : Net) (goal : ProofGoal) (IsNeeded : List ProofLine → Case → ℕ → Type 0) (lines : List ProofLine) (chosen : Case) (number closed : ℕ)
-    → IsSearched net goal IsNeeded lines (open_cases net chosen) closed → MaySplit net chosen number → IsNeeded lines chosen number
+    → IsSearchedSoFar net goal IsNeeded lines (open_cases net chosen) closed → MaySplit net chosen number → IsNeeded lines chosen number
     → 0 < count_causes (slice_get net.constraints number)
-    → IsSearched net goal IsNeeded (lines ++ Split number ∷ []) (open_cases net (first_of number chosen)) closed
+    → IsSearchedSoFar net goal IsNeeded (lines ++ Split number ∷ []) (open_cases net (first_of number chosen)) closed
 searched_splits net goal IsNeeded lines chosen number closed searched may need some = record {
   reads = reads-append net goal lines (Split number ∷ []) ([] ∷ []) (open_cases net chosen) (open_cases net (first_of number chosen)) searched.reads
       (may, split_open net chosen number some);
@@ -148,7 +148,7 @@ searched_splits net goal IsNeeded lines chosen number closed searched may need s
 
 -- a higher value is shown too
 pub searched_higher : (net : Net) (from to : EventId) (value higher : ℤ) (IsNeeded : List ProofLine → Case → ℕ → Type 0) (lines : List ProofLine) (cases : List Case) (closed : ℕ)
-    → value ≤ℤ higher → IsSearched net (Bound from to value) IsNeeded lines cases closed → IsSearched net (Bound from to higher) IsNeeded lines cases closed
+    → value ≤ℤ higher → IsSearchedSoFar net (Bound from to value) IsNeeded lines cases closed → IsSearchedSoFar net (Bound from to higher) IsNeeded lines cases closed
 searched_higher net from to value higher IsNeeded lines cases closed up searched = record {
   reads = reads_higher net from to value higher lines ([] ∷ []) cases up searched.reads;
   needed = searched.needed;

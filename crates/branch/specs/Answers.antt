@@ -10,11 +10,11 @@ use Rattle.event_graph.specs.Proof.{Bound as BoundGoal}
 use Rattle.event_graph.specs.RootBound.{HasNoRoot, IsRootBound, MeetsAlways}
 use Rattle.event_graph.specs.Satisfying.{Satisfies}
 use Rattle.event_graph.specs.Times.{separation}
-use Rattle.branch.specs.Work.{View}
-use Rattle.branch.specs.declared.answer.Answer.{Answer}
-use Rattle.branch.specs.declared.answer.Answer.TheVariants.{Closed, Unbounded, Enclosed}
-use Rattle.branch.specs.declared.answer.Found.{Found}
-use Rattle.branch.specs.declared.answer.Found.TheVariants.{Consistent, Inconsistent, Unsettled}
+use Rattle.branch.specs.Work.{WorkView}
+use Rattle.branch.specs.declared.answer.GreatestAnswer.{GreatestAnswer}
+use Rattle.branch.specs.declared.answer.GreatestAnswer.TheVariants.{Closed, Unbounded, Enclosed}
+use Rattle.branch.specs.declared.answer.SearchFinding.{SearchFinding}
+use Rattle.branch.specs.declared.answer.SearchFinding.TheVariants.{Consistent, Inconsistent, Unsettled}
 use Rattle.branch.specs.declared.answer.Root.{Root}
 use Rattle.branch.specs.declared.answer.Root.TheVariants.{NoTimes, Bound}
 
@@ -38,7 +38,7 @@ pub record Evidence : Type 0 where
   pub ray : List Bool
 
 -- these lines, and what the working memory holds behind the search
-abbrev pub evidence : List ProofLine → View → Evidence
+abbrev pub evidence : List ProofLine → WorkView → Evidence
 evidence lines work = record { lines = lines; leaves = work.leaves; times = work.times; ray = work.ray }
 
 -- the value is the greatest separation, the times attain it, and the lines prove it with a closing line for each closed case
@@ -65,10 +65,10 @@ pub record IsEnclosedBy (search : PairSearch) (upper : Option ℤ) (attained : �
   pub below_choices : search.budget < cause_choices search.net.constraints
 
 -- what an answer says of the greatest separation, with what the search leaves
-abbrev pub Answers : PairSearch → Evidence → Answer → Type 0
-Answers search left (Closed value) = IsClosedAt search value left
-Answers search left Unbounded = IsShownUnbounded search left
-Answers search left (Enclosed upper attained) = IsEnclosedBy search upper attained left
+abbrev pub IsGreatestAnswer : PairSearch → Evidence → GreatestAnswer → Type 0
+IsGreatestAnswer search left (Closed value) = IsClosedAt search value left
+IsGreatestAnswer search left Unbounded = IsShownUnbounded search left
+IsGreatestAnswer search left (Enclosed upper attained) = IsEnclosedBy search upper attained left
 
 -- there are known times, which satisfy, and the lines are a stopped proof that none do, with a closing line for each closed case but the
 -- last, whose times these are
@@ -91,7 +91,7 @@ pub record IsFoundUnsettled (net : Net) (budget : ℕ) (lines : List ProofLine) 
   pub below_choices : budget < cause_choices net.constraints
 
 -- what a finding says of a network, with the lines of the search and the known times
-abbrev pub Finds : Net → ℕ → List ProofLine → ℕ → Option (List ℤ) → Found → Type 0
+abbrev pub Finds : Net → ℕ → List ProofLine → ℕ → Option (List ℤ) → SearchFinding → Type 0
 Finds net budget lines leaves known Consistent = IsFoundConsistent net lines leaves known
 Finds net budget lines leaves known Inconsistent = IsFoundInconsistent net lines leaves
 Finds net budget lines leaves known Unsettled = IsFoundUnsettled net budget lines leaves

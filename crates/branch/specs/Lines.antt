@@ -1,8 +1,8 @@
 -- Lines that a search writes, as they are read.
 use Rattle.std.specs.Prelude.{List, [], ◌∷◌}
 use Rattle.event_graph.specs.Network.{Net}
-use Rattle.event_graph.specs.Proof.{Case, ProofGoal, ProofLine, Reads}
+use Rattle.event_graph.specs.Proof.{Case, ProofGoal, ProofLine, ProofLeaves}
 
 -- reading accepts each of the lines, which may be a whole proof
 abbrev pub IsAccepted : Net → ProofGoal → List ProofLine → Type 0
-IsAccepted net goal lines = (left : List Case) × Reads net goal ([] ∷ []) lines left
+IsAccepted net goal lines = (left : List Case) × ProofLeaves net goal ([] ∷ []) lines left

@@ -11,7 +11,7 @@ use Rattle.branch.specs.declared.work.TheConstants.{MAX_START}
 
 -- the bounds, for how many constraints there is room, the constraints that can be split, the known times, where there are some, the times and the events to raise that the last search
 -- for a bound left, and how many cases the last search closed
-pub record View : Type 0 where
+pub record WorkView : Type 0 where
   pub bounds : Standing
   pub room : ℕ
   pub splits : List Splitting
@@ -21,7 +21,7 @@ pub record View : Type 0 where
   pub leaves : ℕ
 
 -- the memory was made for a network
-pub record IsMadeFor (net : Net) (work : View) : Type 0 where
+pub record IsMadeFor (net : Net) (work : WorkView) : Type 0 where
   pub is_net : IsNet net
   pub bounds : IsBoundsFor net work.bounds
   pub room : length net.constraints ≤ work.room
@@ -33,13 +33,13 @@ abbrev pub IsClose : ℤ → Type 0
 IsClose time = (neg_ℤ (pos reach_limit) ≤ℤ time) × (time ≤ℤ pos (8 * reach_limit))
 
 -- a separation is no less than that of known times can be, which are times that bounds tell
-abbrev pub IsReached : ℤ → Type 0
-IsReached value = neg_ℤ (pos (3 * reach_limit)) ≤ℤ value
+abbrev pub IsKnownReach : ℤ → Type 0
+IsKnownReach value = neg_ℤ (pos (3 * reach_limit)) ≤ℤ value
 
 -- the separation of times that a search starts from
 abbrev pub IsStart : ℤ → Type 0
 IsStart value = (neg_ℤ MAX_START ≤ℤ value) × (value ≤ℤ MAX_START)
 
 -- the separation of a pair in the known times
-abbrev pub known_separation : View → EventId → EventId → ℤ
+abbrev pub known_separation : WorkView → EventId → EventId → ℤ
 known_separation work from to = separation (unwrap_or work.known []) from to

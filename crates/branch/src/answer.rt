@@ -2,7 +2,7 @@
 
 /// Whether times satisfy a network.
 #[derive(Clone, Copy, Debug, PartialEq, Eq)]
-pub enum Found {
+pub enum SearchFinding {
     /// Some times do.
     Consistent,
     /// None do.
@@ -13,7 +13,7 @@ pub enum Found {
 
 /// The greatest separation of a pair of events, in picoseconds.
 #[derive(Clone, Copy, Debug, PartialEq, Eq)]
-pub enum Answer {
+pub enum GreatestAnswer {
     /// It is this number.
     Closed(i64),
     /// There is none: every number is exceeded.

@@ -1,13 +1,13 @@
 //! The search for the greatest separation of a pair of events.
 
 ghost use Rattle.std.specs.Prelude.{◌≡◌, ◌<◌, ◌≤◌, ◌≤ℤ◌, ◌-ℤ◌, ℤ, List, [], IfOk, IfSome, OnOk, OnErr, Some, All, length};
-ghost use Rattle.itv_base.specs.Outside.{Rose};
+ghost use Rattle.itv_base.specs.Outside.{FaultCounted};
 ghost use Rattle.event_graph.specs.Network.{IsNet};
 ghost use Rattle.event_graph.specs.Proof.{Bound, ProofLine};
 ghost use Rattle.event_graph.specs.Satisfying.{Satisfies};
 ghost use Rattle.event_graph.specs.Times.{separation};
 ghost use Rattle.diff_bounds.specs.Standing.{IsMadeFor};
-ghost use Rattle.branch.specs.Answers.{Answers, IsCounted, IsRoot, IsRootReach};
+ghost use Rattle.branch.specs.Answers.{IsGreatestAnswer, IsCounted, IsRoot, IsRootReach};
 ghost use Rattle.event_graph.specs.Reading.{AtEachSplit};
 ghost use Rattle.branch.specs.Lines.{IsAccepted};
 ghost use Rattle.branch.specs.Needed.{IsNeededToBound};
@@ -15,13 +15,13 @@ ghost use Rattle.branch.specs.Work.{IsClose};
 ghost use Rattle.branch.specs.Step.Cases.{work_left};
 ghost use Rattle.diff_bounds.specs.Limits.{IsTimely};
 ghost use Rattle.branch.specs.Step.Raising.{IsNearSeparation};
-ghost use Rattle.branch.specs.Step.Searched.{Advances, AreBest, EndsAs, EndsWith, IsAtCase, IsBoundCut, IsCutAfter, IsTrialFor, Keeps, aimed};
+ghost use Rattle.branch.specs.Step.Searched.{Advances, IsBestSoFar, EndsAs, SearchEnds, IsAtCase, IsBoundCut, IsCutAfter, IsTrialFor, Keeps, aimed};
 
-use crate::answer::{Answer, Root};
+use crate::answer::{GreatestAnswer, Root};
 use crate::best::{Aim, Best};
 use crate::levels::{start, upper_in};
 use crate::look::{Look, look_at_case};
-use crate::search::{Entry, Search, close_case, split_case};
+use crate::search::{NextCase, Search, close_case, split_case};
 use crate::trial::Trial;
 use diff_bounds::Fit;
 use event_graph::{Network, Scribe, ScribeFailed};
@@ -37,7 +37,7 @@ pub fn bound_pair<S: Scribe>(
     aim: Aim,
     budget: u64,
     scribe: &mut S,
-) -> Result<Answer, ScribeFailed>
+) -> Result<GreatestAnswer, ScribeFailed>
     requires made { IsMadeFor net.now search.old.bounds }
     requires net { IsNet net.now }
     requires room { length net.now.constraints ≤ search.old.cases.room }
@@ -45,7 +45,7 @@ pub fn bound_pair<S: Scribe>(
     requires to { aim.to.0 < net.now.events }
     requires near { IsNearSeparation aim.known }
     requires known { aim.known ≡ best.old.value }
-    requires best { AreBest net.now aim best.old }
+    requires best { IsBestSoFar net.now aim best.old }
     requires trial { IsTrialFor net.now trial.old }
     requires budget { 0 < budget }
     ensures made { IsMadeFor net.now search.new.bounds }
@@ -53,7 +53,7 @@ pub fn bound_pair<S: Scribe>(
     ensures trial { IsTrialFor net.now trial.new }
     ensures places { length best.new.times.items ≡ net.now.events }
     ensures lines { IfOk result (λ answer. (lines : List ProofLine) × S.Grew scribe.old lines scribe.new
-        × Answers (aimed net.now aim budget)
+        × IsGreatestAnswer (aimed net.now aim budget)
         (record { lines = lines; leaves = search.new.leaves; times = best.new.times.items; ray = trial.new.ray.items }) answer
         × AtEachSplit net.now (IsNeededToBound net.now aim.from aim.to aim.known) lines) }
     ensures count { IsCounted net.now budget search.new.leaves }
@@ -63,7 +63,7 @@ pub fn bound_pair<S: Scribe>(
     ensures cut { OnErr result ((lines : List ProofLine) × S.WasCut scribe.old lines scribe.new
         × ((value : ℤ) × IsAccepted net.now (Bound aim.from aim.to value) lines)
         × AtEachSplit net.now (IsNeededToBound net.now aim.from aim.to aim.known) lines) }
-    ensures rose { OnErr result (Rose (S.faults scribe.old) (S.faults scribe.new)) }
+    ensures rose { OnErr result (FaultCounted (S.faults scribe.old) (S.faults scribe.new)) }
 {
     if start(net, search, Some(aim.from), budget) == Fit::Loop {
         // The known times meet the always-edges.
@@ -71,9 +71,9 @@ pub fn bound_pair<S: Scribe>(
     }
     let upper = upper_in(net, search, aim.to);
     match search_bound(net, search, trial, best, aim, scribe)? {
-        Ending::Shown => Ok(Answer::Closed(best.value)),
-        Ending::Raised => Ok(Answer::Unbounded),
-        Ending::Ended => Ok(Answer::Enclosed {
+        Ending::Shown => Ok(GreatestAnswer::Closed(best.value)),
+        Ending::Raised => Ok(GreatestAnswer::Unbounded),
+        Ending::Ended => Ok(GreatestAnswer::Enclosed {
             upper,
             attained: best.value,
         }),
@@ -130,24 +130,24 @@ fn search_bound<S: Scribe>(
     requires to { aim.to.0 < net.now.events }
     requires near { IsNearSeparation aim.known }
     requires known { aim.known ≡ best.old.value }
-    requires best { AreBest net.now aim best.old }
+    requires best { IsBestSoFar net.now aim best.old }
     requires trial { IsTrialFor net.now trial.old }
     ensures same { Keeps net.now search.old search.new }
     ensures trial { IsTrialFor net.now trial.new }
     ensures places { length best.new.times.items ≡ net.now.events }
     ensures within { search.new.leaves ≤ search.new.budget }
     ensures ends { IfOk result (λ ending. (lines : List ProofLine) × S.Grew scribe.old lines scribe.new
-        × EndsWith net.now aim search.new best.new trial.new.ray.items lines ending) }
+        × SearchEnds net.now aim search.new best.new trial.new.ray.items lines ending) }
     ensures cut { OnErr result ((lines : List ProofLine) × S.WasCut scribe.old lines scribe.new
         × IsBoundCut net.now aim search.new.leaves lines) }
-    ensures rose { OnErr result (Rose (S.faults scribe.old) (S.faults scribe.new)) }
+    ensures rose { OnErr result (FaultCounted (S.faults scribe.old) (S.faults scribe.new)) }
 {
     'cases: loop {
         match step(net, search, trial, best, aim, scribe)? {
             None => return Ok(Ending::Raised),
-            Some(Entry::AllClosed) => return Ok(Ending::Shown),
-            Some(Entry::Stopped) => return Ok(Ending::Ended),
-            Some(Entry::Entered) => {}
+            Some(NextCase::AllClosed) => return Ok(Ending::Shown),
+            Some(NextCase::Stopped) => return Ok(Ending::Ended),
+            Some(NextCase::Entered) => {}
         }
     }
 }
@@ -160,14 +160,14 @@ fn step<S: Scribe>(
     best: &mut Best,
     aim: Aim,
     scribe: &mut S,
-) -> Result<Option<Entry>, ScribeFailed>
+) -> Result<Option<NextCase>, ScribeFailed>
     requires net { IsNet net.now }
     requires case { IsAtCase net.now search.old }
     requires source { search.old.bounds.source ≡ Some aim.from }
     requires from { aim.from.0 < net.now.events }
     requires to { aim.to.0 < net.now.events }
     requires near { IsNearSeparation aim.known }
-    requires best { AreBest net.now aim best.old }
+    requires best { IsBestSoFar net.now aim best.old }
     requires trial { IsTrialFor net.now trial.old }
     ensures same { Keeps net.now search.old search.new }
     ensures trial { IsTrialFor net.now trial.new }
@@ -179,8 +179,8 @@ fn step<S: Scribe>(
     ensures cut { OnErr result ((lines : List ProofLine) × S.WasCut scribe.old lines scribe.new
         × IsCutAfter net.now aim best.old.value search.old.cases.chosen search.old.leaves search.new.leaves lines) }
     ensures within { OnErr result (search.new.leaves ≤ search.new.budget) }
-    ensures rose { OnErr result (Rose (S.faults scribe.old) (S.faults scribe.new)) }
-    ensures work { IfOk result (λ end. end ≡ Some Entry.Entered
+    ensures rose { OnErr result (FaultCounted (S.faults scribe.old) (S.faults scribe.new)) }
+    ensures work { IfOk result (λ end. end ≡ Some NextCase.Entered
         → work_left net.now search.new.budget search.new.leaves search.new.cases.chosen
         < work_left net.now search.old.budget search.old.leaves search.old.cases.chosen) }
 {

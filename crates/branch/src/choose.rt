@@ -8,7 +8,7 @@ ghost use Rattle.event_graph.specs.Times.{IsTime};
 ghost use Rattle.branch.specs.Splits.{AreSplits};
 ghost use Rattle.branch.specs.Step.Cases.{IsFree};
 
-use crate::distances::{Distances, Wanted};
+use crate::distances::{Distances, SearchTarget};
 use event_graph::{Decisions, Network};
 use itv_base::EventId;
 
@@ -29,7 +29,7 @@ pub fn nearest_broken(
     ensures same { distances.new ≡ distances.old }
     ensures broken { MatchOption result (Satisfies times.now net.now) (λ number. Breaks times.now net.now number) }
 {
-    match distances.nearest(Wanted::Broken(times), cases, to) {
+    match distances.nearest(SearchTarget::Broken(times), cases, to) {
         Some(nearest) => Some(nearest),
         None => first_broken(net, times, distances),
     }
@@ -62,5 +62,7 @@ pub fn nearest_open(
     ensures same { distances.new ≡ distances.old }
     ensures open { Breaks times.now net.now result ⊎ IsFree net.now cases.now.chosen result }
 {
-    distances.nearest(Wanted::Open, cases, to).unwrap_or(first)
+    distances
+        .nearest(SearchTarget::Open, cases, to)
+        .unwrap_or(first)
 }

@@ -3,8 +3,8 @@
 ghost use Rattle.std.specs.Prelude.{◌≡◌, ◌<◌, ◌≤◌, ◌⊎◌, IfOk, IfSome, IsTrue, MatchOption, All, Some, [], ◌∷◌, length};
 ghost use Rattle.event_graph.specs.Times.{IsTime};
 ghost use Rattle.branch.specs.Splits.{AreSplits};
-ghost use Rattle.branch.specs.Step.Breaking.{AreBetween, IsFirstOf, MeetsSome};
-ghost use Rattle.branch.specs.Step.Looking.{CanLookFor, IsFound, IsWanted};
+ghost use Rattle.branch.specs.Step.Breaking.{AreBetween, IsFirstBrokenSplit, MeetsSome};
+ghost use Rattle.branch.specs.Step.Looking.{CanLookFor, IsTargetFound, IsWanted};
 
 use crate::splittable::Splittable;
 use event_graph::{ByEvent, Decisions, Network};
@@ -41,7 +41,7 @@ impl Model for Distances {
 
 /// Which constraints are looked for.
 #[derive(Clone, Copy)]
-pub enum Wanted<'a> {
+pub enum SearchTarget<'a> {
     /// Those that these times break, which meet all always-edges.
     Broken(&'a [i64]),
     /// Those without a choice.
@@ -83,7 +83,7 @@ impl Distances {
     pub fn first_broken(&self, times: &[i64]) -> Option<u32>
         requires between { AreBetween (length times.now) self.now }
         requires times { All IsTime times.now }
-        ensures { MatchOption result (All (MeetsSome times.now) self.now) (IsFirstOf times.now self.now) }
+        ensures { MatchOption result (All (MeetsSome times.now) self.now) (IsFirstBrokenSplit times.now self.now) }
     {
         for rule in &self.rules {
             if rule.is_broken(times) {
@@ -95,10 +95,15 @@ impl Distances {
 
     /// The nearest of the constraints that are looked for and have no choice, and of several at one distance the one of least number.
     /// There is no answer where none is reached.
-    pub fn nearest(&mut self, wanted: Wanted<'_>, cases: &Decisions, to: EventId) -> Option<u32>
+    pub fn nearest(
+        &mut self,
+        wanted: SearchTarget<'_>,
+        cases: &Decisions,
+        to: EventId,
+    ) -> Option<u32>
         requires { CanLookFor wanted self.old }
         ensures same { self.new ≡ self.old }
-        ensures found { IfSome result (IsFound wanted.entry self.old cases.now.chosen) }
+        ensures found { IfSome result (IsTargetFound wanted.entry self.old cases.now.chosen) }
     {
         if self.rules.is_empty() {
             return None;
@@ -179,7 +184,7 @@ struct Graph<'a> {
     entering: &'a ByEvent<usize>,
     sources: &'a ByEvent<EventId>,
     cases: &'a Decisions,
-    wanted: Wanted<'a>,
+    wanted: SearchTarget<'a>,
 }
 
 // How far it is gone over: how many events are reached, and the least number of a constraint that is looked for, if one was found.
@@ -198,7 +203,7 @@ fn first_wanted(
     to: EventId,
 ) -> Option<u32>
     requires { CanLookFor graph.wanted graph.rules.now }
-    ensures { IfSome result (IsFound graph.entry.wanted graph.entry.rules.now graph.entry.cases.now.chosen) }
+    ensures { IfSome result (IsTargetFound graph.entry.wanted graph.entry.rules.now graph.entry.cases.now.chosen) }
 {
     let mut reach = Reach {
         count: put(reached, queue, 0, to),
@@ -229,9 +234,9 @@ fn visit(
     event: EventId,
 ) -> Reach
     requires wanted { CanLookFor graph.wanted graph.rules.now }
-    requires least { IfSome so_far.least (IsFound graph.wanted graph.rules.now graph.cases.now.chosen) }
+    requires least { IfSome so_far.least (IsTargetFound graph.wanted graph.rules.now graph.cases.now.chosen) }
     requires count { so_far.count ≤ length queue.old }
-    ensures least { IfSome result.least (IsFound graph.entry.wanted graph.entry.rules.now graph.entry.cases.now.chosen) }
+    ensures least { IfSome result.least (IsTargetFound graph.entry.wanted graph.entry.rules.now graph.entry.cases.now.chosen) }
     ensures count { result.count ≤ length queue.new }
 {
     let mut reach = so_far;
@@ -260,9 +265,9 @@ fn look_at(
     event: EventId,
 ) -> Reach
     requires wanted { CanLookFor graph.wanted graph.rules.now }
-    requires least { IfSome so_far.least (IsFound graph.wanted graph.rules.now graph.cases.now.chosen) }
+    requires least { IfSome so_far.least (IsTargetFound graph.wanted graph.rules.now graph.cases.now.chosen) }
     requires count { so_far.count ≤ length queue.old }
-    ensures least { IfSome result.least (IsFound graph.entry.wanted graph.entry.rules.now graph.entry.cases.now.chosen) }
+    ensures least { IfSome result.least (IsTargetFound graph.entry.wanted graph.entry.rules.now graph.entry.cases.now.chosen) }
     ensures count { result.count ≤ length queue.new }
 {
     let Some(rule) = graph.rules.get(rule) else {
@@ -285,13 +290,13 @@ fn look_at(
 }
 
 // Whether a constraint without a choice is looked for.
-fn is_wanted(wanted: Wanted<'_>, rule: &Splittable) -> bool
+fn is_wanted(wanted: SearchTarget<'_>, rule: &Splittable) -> bool
     requires { CanLookFor wanted (rule.now ∷ []) }
     ensures { IsTrue result → IsWanted wanted.entry (rule.now ∷ []) rule.now.number }
 {
     match wanted {
-        Wanted::Broken(times) => rule.is_broken(times),
-        Wanted::Open => true,
+        SearchTarget::Broken(times) => rule.is_broken(times),
+        SearchTarget::Open => true,
     }
 }
 

@@ -1,7 +1,7 @@
 //! The search for times that satisfy a network.
 
 ghost use Rattle.std.specs.Prelude.{◌≡◌, ◌<◌, ◌≤◌, ℤ, List, IfOk, IfSome, OnOk, OnErr, Ok, Some, All, length};
-ghost use Rattle.itv_base.specs.Outside.{Rose};
+ghost use Rattle.itv_base.specs.Outside.{FaultCounted};
 ghost use Rattle.event_graph.specs.Network.{IsNet};
 ghost use Rattle.event_graph.specs.Proof.{Nothing, ProofLine};
 ghost use Rattle.event_graph.specs.RootBound.{MeetsAlways};
@@ -15,11 +15,11 @@ ghost use Rattle.branch.specs.Step.Cases.{work_left};
 ghost use Rattle.diff_bounds.specs.Limits.{IsTimely};
 ghost use Rattle.branch.specs.Step.Searched.{EndsAs, FindAdvances, IsAtCase, IsFindCutAfter, IsTrialFor, Keeps};
 
-use crate::answer::Found;
+use crate::answer::SearchFinding;
 use crate::choose::first_broken;
 use crate::distances::Distances;
 use crate::levels::{start, times_in};
-use crate::search::{Entry, Search, split_case};
+use crate::search::{NextCase, Search, split_case};
 use diff_bounds::Fit;
 use event_graph::{Network, Scribe, ScribeFailed};
 
@@ -32,7 +32,7 @@ pub fn find_times<S: Scribe>(
     distances: &Distances,
     budget: u64,
     scribe: &mut S,
-) -> Result<Found, ScribeFailed>
+) -> Result<SearchFinding, ScribeFailed>
     requires made { IsMadeFor net.now search.old.bounds }
     requires net { IsNet net.now }
     requires room { length net.now.constraints ≤ search.old.cases.room }
@@ -41,26 +41,26 @@ pub fn find_times<S: Scribe>(
     requires budget { 0 < budget }
     ensures made { IsMadeFor net.now search.new.bounds }
     ensures room { search.new.cases.room ≡ search.old.cases.room }
-    ensures near { result ≡ Ok Found.Consistent → All IsTimely candidate.new }
+    ensures near { result ≡ Ok SearchFinding.Consistent → All IsTimely candidate.new }
     ensures lines { IfOk result (λ found. (lines : List ProofLine) × S.Grew scribe.old lines scribe.new
         × Finds net.now budget lines search.new.leaves (Some candidate.new) found
         × AtEachSplit net.now (IsNeededToFind net.now) lines) }
     ensures count { IsCounted net.now budget search.new.leaves }
     ensures cut { OnErr result ((lines : List ProofLine) × S.WasCut scribe.old lines scribe.new
         × IsAccepted net.now Nothing lines × AtEachSplit net.now (IsNeededToFind net.now) lines) }
-    ensures rose { OnErr result (Rose (S.faults scribe.old) (S.faults scribe.new)) }
+    ensures rose { OnErr result (FaultCounted (S.faults scribe.old) (S.faults scribe.new)) }
 {
     if start(net, search, None, budget) == Fit::Loop {
         search.leaves = 1;
         scribe.cut_loop(search.bounds.walk())?;
-        return Ok(Found::Inconsistent);
+        return Ok(SearchFinding::Inconsistent);
     }
     'cases: loop {
         match try_times(net, search, candidate, distances, scribe)? {
-            None => return Ok(Found::Consistent),
-            Some(Entry::AllClosed) => return Ok(Found::Inconsistent),
-            Some(Entry::Stopped) => return Ok(Found::Unsettled),
-            Some(Entry::Entered) => {}
+            None => return Ok(SearchFinding::Consistent),
+            Some(NextCase::AllClosed) => return Ok(SearchFinding::Inconsistent),
+            Some(NextCase::Stopped) => return Ok(SearchFinding::Unsettled),
+            Some(NextCase::Entered) => {}
         }
     }
 }
@@ -72,7 +72,7 @@ fn try_times<S: Scribe>(
     candidate: &mut [i64],
     distances: &Distances,
     scribe: &mut S,
-) -> Result<Option<Entry>, ScribeFailed>
+) -> Result<Option<NextCase>, ScribeFailed>
     requires net { IsNet net.now }
     requires case { IsAtCase net.now search.old }
     requires candidate { length candidate.old ≡ net.now.events }
@@ -85,8 +85,8 @@ fn try_times<S: Scribe>(
     ensures cut { OnErr result ((lines : List ProofLine) × S.WasCut scribe.old lines scribe.new
         × IsFindCutAfter net.now search.old.cases.chosen search.old.leaves search.new.leaves lines) }
     ensures within { OnErr result (search.new.leaves ≤ search.new.budget) }
-    ensures rose { OnErr result (Rose (S.faults scribe.old) (S.faults scribe.new)) }
-    ensures work { IfOk result (λ end. end ≡ Some Entry.Entered
+    ensures rose { OnErr result (FaultCounted (S.faults scribe.old) (S.faults scribe.new)) }
+    ensures work { IfOk result (λ end. end ≡ Some NextCase.Entered
         → work_left net.now search.new.budget search.new.leaves search.new.cases.chosen
         < work_left net.now search.old.budget search.old.leaves search.old.cases.chosen) }
 {

@@ -1,13 +1,13 @@
 //! The steps of a search, which go from one open case to the next.
 
 ghost use Rattle.std.specs.Prelude.{◌≡◌, ◌+◌, ◌<◌, ◌≤◌, ◌≤ℤ◌, ℕ, ℤ, List, ◌∷◌, [], IfOk, IfNone, IfSome, OnErr, MatchBool, length, slice_get, Some};
-ghost use Rattle.itv_base.specs.Outside.{Rose};
+ghost use Rattle.itv_base.specs.Outside.{FaultCounted};
 ghost use Rattle.itv_base.specs.declared.names.EventId.{EventId};
 ghost use Rattle.event_graph.specs.Network.{IsNet};
 ghost use Rattle.event_graph.specs.Proof.{Bound, ProofGoal, ProofLine, Split, count_causes};
 ghost use Rattle.event_graph.specs.Cases.{first_of, open_cases, siblings};
 ghost use Rattle.branch.specs.Step.Cases.{IsFree, IsSearchCase, IsSplittable, work_left};
-ghost use Rattle.branch.specs.Step.Searched.{EndsAs, IsAtCase, IsBelowCase, IsNext, Keeps, LeavesFor, Steps, StepsShort};
+ghost use Rattle.branch.specs.Step.Searched.{EndsAs, IsAtCase, IsBelowCase, IsNext, Keeps, LeavesFor, SearchSteps, StepsShort};
 ghost use Rattle.branch.specs.Step.Standing.{HasUpper, StandsBelow};
 
 use crate::levels::{enter_choice, find_path, step_back};
@@ -26,7 +26,7 @@ pub struct Search {
 
 /// How a search comes to its next case.
 #[derive(Clone, Copy, Debug, PartialEq, Eq)]
-pub enum Entry {
+pub enum NextCase {
     /// The bounds stand on it.
     Entered,
     /// There is none.
@@ -41,21 +41,21 @@ pub fn split_case<S: Scribe>(
     search: &mut Search,
     number: u32,
     scribe: &mut S,
-) -> Result<Entry, ScribeFailed>
+) -> Result<NextCase, ScribeFailed>
     requires net { IsNet net.now }
     requires case { IsAtCase net.now search.old }
     requires free { IsFree net.now search.old.cases.chosen number }
     ensures same { Keeps net.now search.old search.new }
     ensures ends { IfOk result (EndsAs net.now search.new) }
     ensures lines { IfOk result (λ entry. (lines : List ProofLine) × S.Grew scribe.old (Split number ∷ lines) scribe.new
-        × ((goal : ProofGoal) → Steps net.now goal (open_cases net.now (first_of number search.old.cases.chosen))
+        × ((goal : ProofGoal) → SearchSteps net.now goal (open_cases net.now (first_of number search.old.cases.chosen))
         search.old.leaves search.new entry lines)) }
     ensures cut { OnErr result ((lines : List ProofLine) × S.WasCut scribe.old (Split number ∷ lines) scribe.new
         × ((goal : ProofGoal) → StepsShort net.now goal (open_cases net.now (first_of number search.old.cases.chosen))
         search.old.leaves search.new lines)) }
     ensures within { OnErr result (search.new.leaves ≤ search.new.budget) }
-    ensures rose { OnErr result (Rose (S.faults scribe.old) (S.faults scribe.new)) }
-    ensures work { IfOk result (λ entry. entry ≡ Entry.Entered
+    ensures rose { OnErr result (FaultCounted (S.faults scribe.old) (S.faults scribe.new)) }
+    ensures work { IfOk result (λ entry. entry ≡ NextCase.Entered
         → work_left net.now search.new.budget search.new.leaves search.new.cases.chosen
         < work_left net.now search.old.budget search.old.leaves search.old.cases.chosen) }
 {
@@ -73,7 +73,7 @@ pub fn close_case<S: Scribe>(
     search: &mut Search,
     to: EventId,
     scribe: &mut S,
-) -> Result<Entry, ScribeFailed>
+) -> Result<NextCase, ScribeFailed>
     requires case { IsAtCase net.now search.old }
     requires source { (from : EventId) × (search.old.bounds.source ≡ Some from) }
     requires value { (value : ℤ) × HasUpper search.old.bounds to value }
@@ -83,7 +83,7 @@ pub fn close_case<S: Scribe>(
     ensures lines { IfOk result (λ entry. (lines : List ProofLine) × S.Grew scribe.old lines scribe.new
         × ((from : EventId) (value best : ℤ) → search.old.bounds.source ≡ Some from
         → HasUpper search.old.bounds to value → value ≤ℤ best
-        → Steps net.now (Bound from to best) (open_cases net.now search.old.cases.chosen)
+        → SearchSteps net.now (Bound from to best) (open_cases net.now search.old.cases.chosen)
         search.old.leaves search.new entry lines)) }
     ensures cut { OnErr result ((lines : List ProofLine) × S.WasCut scribe.old lines scribe.new
         × ((from : EventId) (value best : ℤ) → search.old.bounds.source ≡ Some from
@@ -91,8 +91,8 @@ pub fn close_case<S: Scribe>(
         → StepsShort net.now (Bound from to best) (open_cases net.now search.old.cases.chosen)
         search.old.leaves search.new lines)) }
     ensures within { OnErr result (search.new.leaves ≤ search.new.budget) }
-    ensures rose { OnErr result (Rose (S.faults scribe.old) (S.faults scribe.new)) }
-    ensures work { IfOk result (λ entry. entry ≡ Entry.Entered
+    ensures rose { OnErr result (FaultCounted (S.faults scribe.old) (S.faults scribe.new)) }
+    ensures work { IfOk result (λ entry. entry ≡ NextCase.Entered
         → work_left net.now search.new.budget search.new.leaves search.new.cases.chosen
         < work_left net.now search.old.budget search.old.leaves search.old.cases.chosen) }
 {
@@ -110,26 +110,26 @@ fn enter_case<S: Scribe>(
     net: &Network,
     search: &mut Search,
     scribe: &mut S,
-) -> Result<Entry, ScribeFailed>
+) -> Result<NextCase, ScribeFailed>
     requires below { IsBelowCase net.now search.old }
     requires some { 0 < length search.old.cases.chosen }
     ensures same { Keeps net.now search.old search.new }
     ensures ends { IfOk result (EndsAs net.now search.new) }
     ensures lines { IfOk result (λ entry. (lines : List ProofLine) × S.Grew scribe.old lines scribe.new
-        × ((goal : ProofGoal) → Steps net.now goal (open_cases net.now search.old.cases.chosen)
+        × ((goal : ProofGoal) → SearchSteps net.now goal (open_cases net.now search.old.cases.chosen)
         search.old.leaves search.new entry lines)) }
     ensures cut { OnErr result ((lines : List ProofLine) × S.WasCut scribe.old lines scribe.new
         × ((goal : ProofGoal) → StepsShort net.now goal (open_cases net.now search.old.cases.chosen)
         search.old.leaves search.new lines)) }
     ensures within { OnErr result (search.new.leaves ≤ search.new.budget) }
-    ensures rose { OnErr result (Rose (S.faults scribe.old) (S.faults scribe.new)) }
-    ensures work { IfOk result (λ entry. entry ≡ Entry.Entered
+    ensures rose { OnErr result (FaultCounted (S.faults scribe.old) (S.faults scribe.new)) }
+    ensures work { IfOk result (λ entry. entry ≡ NextCase.Entered
         → work_left net.now search.new.budget search.new.leaves search.new.cases.chosen
         ≤ work_left net.now search.old.budget search.old.leaves search.old.cases.chosen) }
 {
     while let Some(choice) = search.cases.top() {
         if enter_choice(net, search, choice) == Fit::Fits {
-            return Ok(Entry::Entered);
+            return Ok(NextCase::Entered);
         }
         scribe.cut_loop(search.bounds.walk())?;
         match leave_case(net, search) {
@@ -142,7 +142,7 @@ fn enter_case<S: Scribe>(
 
 // Counts a case that is closed and goes on to the next one that is open, if there is one and the budget allows it; else the
 // answer says how the search ends.
-fn leave_case(net: &Network, search: &mut Search) -> Option<Entry>
+fn leave_case(net: &Network, search: &mut Search) -> Option<NextCase>
     requires below { IsBelowCase net.now search.old }
     ensures same { Keeps net.now search.old search.new }
     ensures count { search.new.leaves ≡ search.old.leaves + 1 }
@@ -152,10 +152,10 @@ fn leave_case(net: &Network, search: &mut Search) -> Option<Entry>
 {
     search.leaves += 1;
     if !next_case(net, search) {
-        return Some(Entry::AllClosed);
+        return Some(NextCase::AllClosed);
     }
     if search.leaves == search.budget {
-        return Some(Entry::Stopped);
+        return Some(NextCase::Stopped);
     }
     None
 }

@@ -1,17 +1,17 @@
 //! The working memory of the searches.
 
 ghost use Rattle.std.specs.Prelude.{◌≡◌, ◌<◌, ◌≤ℤ◌, ◌↔◌, ℤ, List, All, IsTrue, IsSome, IsSomeAnd, IfOk, IfSome, OnOk, OnErr, Ok, Some, None, length};
-ghost use Rattle.itv_base.specs.Outside.{Rose};
+ghost use Rattle.itv_base.specs.Outside.{FaultCounted};
 ghost use Rattle.event_graph.specs.Proof.{Bound, Nothing, ProofLine};
 ghost use Rattle.event_graph.specs.Satisfying.{Satisfies};
 ghost use Rattle.event_graph.specs.Times.{separation};
-ghost use Rattle.branch.specs.Answers.{Answers, Finds, IsCounted, IsRoot, IsRootReach, evidence};
+ghost use Rattle.branch.specs.Answers.{IsGreatestAnswer, Finds, IsCounted, IsRoot, IsRootReach, evidence};
 ghost use Rattle.event_graph.specs.Reading.{AtEachSplit};
 ghost use Rattle.branch.specs.Lines.{IsAccepted};
 ghost use Rattle.branch.specs.Needed.{IsNeededToBound, IsNeededToFind};
-ghost use Rattle.branch.specs.Work.{IsClose, IsMadeFor, IsReached, IsStart, known_separation};
+ghost use Rattle.branch.specs.Work.{IsClose, IsMadeFor, IsKnownReach, IsStart, known_separation};
 
-use crate::answer::{Answer, Found, Root};
+use crate::answer::{GreatestAnswer, Root, SearchFinding};
 use crate::best::{Aim, Best};
 use crate::bounding::{bound_pair, root_of, separation_of};
 use crate::distances::Distances;
@@ -40,15 +40,15 @@ pub struct Work {
 }
 
 impl Model for Work {
-    ghost use Rattle.branch.specs.Work.{View};
+    ghost use Rattle.branch.specs.Work.{WorkView};
 
-    ghost Value = { View };
+    ghost Value = { WorkView };
 
-    ghost use Rattle.branch.specs.Step.Inside.{IsSound, view_in};
+    ghost use Rattle.branch.specs.Step.Inside.{IsSoundWork, view_in};
 
     ghost view = { view_in };
 
-    ghost invariant = { IsSound };
+    ghost invariant = { IsSoundWork };
 }
 
 impl Work {
@@ -111,7 +111,7 @@ impl Work {
         &self.best.times
     }
 
-    /// For each event whether it is raised, where the last search for a bound answered [`Answer::Unbounded`].
+    /// For each event whether it is raised, where the last search for a bound answered [`GreatestAnswer::Unbounded`].
     pub fn ray(&self) -> &[bool]
         ensures { result.now ≡ self.now.ray }
     {
@@ -130,11 +130,11 @@ pub fn find<S: Scribe>(
     net: &Network,
     budget: u64,
     scribe: &mut S,
-) -> Result<Found, ScribeFailed>
+) -> Result<SearchFinding, ScribeFailed>
     requires made { IsMadeFor net.now work.old }
     requires budget { 0 < budget }
     ensures made { IsMadeFor net.now work.new }
-    ensures known { IsSome work.new.known ↔ (result ≡ Ok Found.Consistent) }
+    ensures known { IsSome work.new.known ↔ (result ≡ Ok SearchFinding.Consistent) }
     ensures lines { IfOk result (λ found. (lines : List ProofLine) × S.Grew scribe.old lines scribe.new
         × Finds net.now budget lines work.new.leaves work.new.known found
         × AtEachSplit net.now (IsNeededToFind net.now) lines) }
@@ -142,7 +142,7 @@ pub fn find<S: Scribe>(
     ensures cut { OnErr result ((lines : List ProofLine) × S.WasCut scribe.old lines scribe.new
         × IsAccepted net.now Nothing lines × AtEachSplit net.now (IsNeededToFind net.now) lines) }
     ensures close { IfSome work.new.known (All IsClose) }
-    ensures rose { OnErr result (Rose (S.faults scribe.old) (S.faults scribe.new)) }
+    ensures rose { OnErr result (FaultCounted (S.faults scribe.old) (S.faults scribe.new)) }
 {
     work.has_known = false;
     let found = find_times(
@@ -153,7 +153,7 @@ pub fn find<S: Scribe>(
         budget,
         scribe,
     )?;
-    if found == Found::Consistent {
+    if found == SearchFinding::Consistent {
         work.known.copy_from_slice(&work.trial.candidate);
         work.has_known = true;
     }
@@ -170,7 +170,7 @@ pub fn greatest<S: Scribe>(
     to: EventId,
     budget: u64,
     scribe: &mut S,
-) -> Result<Answer, ScribeFailed>
+) -> Result<GreatestAnswer, ScribeFailed>
     requires made { IsMadeFor net.now work.old }
     requires known { IsSomeAnd work.old.known (λ times. Satisfies times net.now) }
     requires from { from.0 < net.now.events }
@@ -179,17 +179,17 @@ pub fn greatest<S: Scribe>(
     ensures made { IsMadeFor net.now work.new }
     ensures known { work.new.known ≡ work.old.known }
     ensures lines { IfOk result (λ answer. (lines : List ProofLine) × S.Grew scribe.old lines scribe.new
-        × Answers (record { net = net.now; from = from; to = to; budget = budget }) (evidence lines work.new) answer
+        × IsGreatestAnswer (record { net = net.now; from = from; to = to; budget = budget }) (evidence lines work.new) answer
         × AtEachSplit net.now (IsNeededToBound net.now from to (known_separation work.old from to)) lines) }
     ensures count { IsCounted net.now budget work.new.leaves }
     ensures times { OnOk result (Satisfies work.new.times net.now) }
     ensures close { OnOk result (All IsClose work.new.times) }
-    ensures reached { OnOk result (IsReached (separation work.new.times from to)) }
+    ensures reached { OnOk result (IsKnownReach (separation work.new.times from to)) }
     ensures least { OnOk result (known_separation work.old from to ≤ℤ separation work.new.times from to) }
     ensures cut { OnErr result ((lines : List ProofLine) × S.WasCut scribe.old lines scribe.new
         × ((value : ℤ) × IsAccepted net.now (Bound from to value) lines)
         × AtEachSplit net.now (IsNeededToBound net.now from to (known_separation work.old from to)) lines) }
-    ensures rose { OnErr result (Rose (S.faults scribe.old) (S.faults scribe.new)) }
+    ensures rose { OnErr result (FaultCounted (S.faults scribe.old) (S.faults scribe.new)) }
 {
     let known = separation_of(&work.known, from, to);
     work.best.take(known, &work.known);
@@ -214,7 +214,7 @@ pub fn greatest_from<S: Scribe>(
     times: &[i64],
     budget: u64,
     scribe: &mut S,
-) -> Result<Answer, ScribeFailed>
+) -> Result<GreatestAnswer, ScribeFailed>
     requires made { IsMadeFor net.now work.old }
     requires times { Satisfies times.now net.now }
     requires close { All IsClose times.now }
@@ -225,17 +225,17 @@ pub fn greatest_from<S: Scribe>(
     ensures made { IsMadeFor net.now work.new }
     ensures known { work.new.known ≡ work.old.known }
     ensures lines { IfOk result (λ answer. (lines : List ProofLine) × S.Grew scribe.old lines scribe.new
-        × Answers (record { net = net.now; from = from; to = to; budget = budget }) (evidence lines work.new) answer
+        × IsGreatestAnswer (record { net = net.now; from = from; to = to; budget = budget }) (evidence lines work.new) answer
         × AtEachSplit net.now (IsNeededToBound net.now from to (separation times.now from to)) lines) }
     ensures count { IsCounted net.now budget work.new.leaves }
     ensures times { OnOk result (Satisfies work.new.times net.now) }
     ensures close { OnOk result (All IsClose work.new.times) }
-    ensures reached { OnOk result (IsReached (separation work.new.times from to)) }
+    ensures reached { OnOk result (IsKnownReach (separation work.new.times from to)) }
     ensures least { OnOk result (separation times.now from to ≤ℤ separation work.new.times from to) }
     ensures cut { OnErr result ((lines : List ProofLine) × S.WasCut scribe.old lines scribe.new
         × ((value : ℤ) × IsAccepted net.now (Bound from to value) lines)
         × AtEachSplit net.now (IsNeededToBound net.now from to (separation times.now from to)) lines) }
-    ensures rose { OnErr result (Rose (S.faults scribe.old) (S.faults scribe.new)) }
+    ensures rose { OnErr result (FaultCounted (S.faults scribe.old) (S.faults scribe.new)) }
 {
     let known = close_separation(times, from, to);
     work.best.take(known, times);

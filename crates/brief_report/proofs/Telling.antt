@@ -17,11 +17,11 @@ use Rattle.explained.specs.Answers.{bound_of}
 use Rattle.slack_report.specs.Text.{bound_words, row_words}
 use Rattle.why_report.specs.Step.{by_words}
 use Rattle.why_report.specs.Text.{Noted, origin_words, part_of}
-use Rattle.brief_report.specs.declared.counts.Counts.{Counts}
+use Rattle.brief_report.specs.declared.counts.RowCounts.{RowCounts}
 use Rattle.brief_report.specs.declared.line.RowLine.{RowLine}
-use Rattle.brief_report.specs.declared.place.Place.{Place}
-use Rattle.brief_report.specs.Step.{back_words, counts_words, front_words, judged_in, judgement_words, order_word, place_count, place_of, row_line_words, told_of}
-use Rattle.brief_report.specs.Text.{Told, count_words, inserted, is_before, judged_words, order_words, ordered, ordered_onto, told_from, told_text, told_words}
+use Rattle.brief_report.specs.declared.place.RowRank.{RowRank}
+use Rattle.brief_report.specs.Step.{back_words, counts_words, front_words, judged_in, judgement_words, order_word, place_count, place_of, row_line_words, numbered_rows}
+use Rattle.brief_report.specs.Text.{NumberedRow, count_words, inserted, is_before, judged_words, order_words, ordered, ordered_onto, told_from, numbered_row_text, told_words}
 use Rattle.brief_report.proofs.Ordering.{length_ordered, rank_places}
 
 -- ---- a row
@@ -38,15 +38,15 @@ order_is (Some both) = refl
 -- ---- all rows
 
 -- what is told of a row is of the row of its number, and was found of it
-pub record IsOf (rows : List Row) (found : List RowFound) (told : Told) : Type 0 where
+pub record IsOf (rows : List Row) (found : List RowFound) (told : NumberedRow) : Type 0 where
   pub is_row : slice_get rows told.number ≡ Some told.row
   pub is_found : slice_get found told.number ≡ Some told.found
 
-abbrev pub Each : (Told → Type 0) → List Told → Type 0
+abbrev pub Each : (NumberedRow → Type 0) → List NumberedRow → Type 0
 Each P [] = Unit {0}
 Each P (told ∷ others) = P told × Each P others
 
-each_inserted : (P : Told → Type 0) (told : Told) (done : List Told) → P told → Each P done → Each P (inserted told done)
+each_inserted : (P : NumberedRow → Type 0) (told : NumberedRow) (done : List NumberedRow) → P told → Each P done → Each P (inserted told done)
 each_inserted P told [] p each = (p, tt)
 each_inserted P told (other ∷ others) p each = by_test (is_before told other) (each_inserted P told others p each.1)
   where
@@ -54,7 +54,7 @@ each_inserted P told (other ∷ others) p each = by_test (is_before told other) 
     by_test true rest = (p, each)
     by_test false rest = (each.0, rest)
 
-each_onto : (P : Told → Type 0) (done rows : List Told) → Each P done → Each P rows → Each P (ordered_onto done rows)
+each_onto : (P : NumberedRow → Type 0) (done rows : List NumberedRow) → Each P done → Each P rows → Each P (ordered_onto done rows)
 each_onto P done [] before each = before
 each_onto P done (told ∷ rows) before each = each_onto P (inserted told done) rows (each_inserted P told done each.0 before) each.1
 
@@ -81,13 +81,13 @@ each_ordered rows found = each_onto (IsOf rows found) [] (told_from 0 rows found
     (each_told rows found 0 rows found (λ k row e. subst (λ n. slice_get rows n ≡ Some row) (omega arith) e) (λ k f e. subst (λ n. slice_get found n ≡ Some f) (omega arith) e))
 
 -- what is told of the row of the place at a number
-pub record AtPlace (rows : List Row) (found : List RowFound) (tolds : List Told) (k : ℕ) (place : Place) : Type 0 where
-  pub told : Told
+pub record AtPlace (rows : List Row) (found : List RowFound) (tolds : List NumberedRow) (k : ℕ) (place : RowRank) : Type 0 where
+  pub told : NumberedRow
   pub is_of : IsOf rows found told
   pub number : told.number ≡ place.number
   pub left : drop k tolds ≡ told ∷ drop (suc k) tolds
 
-pub at_place : (rows : List Row) (found : List RowFound) (tolds : List Told) (k : ℕ) (d : Place) → Each (IsOf rows found) tolds → k < length (map place_of tolds)
+pub at_place : (rows : List Row) (found : List RowFound) (tolds : List NumberedRow) (k : ℕ) (d : RowRank) → Each (IsOf rows found) tolds → k < length (map place_of tolds)
     → AtPlace rows found tolds k (get_or (map place_of tolds) k d)
 at_place rows found [] k d each h = absurd (omega arith)
 at_place rows found (told ∷ tolds) zero d each h = record { told = told; is_of = each.0; number = refl; left = refl }
@@ -99,10 +99,10 @@ pub record IsNext (noted : Noted) (drawn : Drawn) (found : List RowFound) (k num
   pub in_rows : number < length drawn.rows
   pub in_found : number < length found
   pub left : (row : Row) (of_row d : RowFound) → slice_get drawn.rows number ≡ Some row → of_row ≡ get_or found number d
-      → flat_map (told_text noted drawn) (drop k (ordered (told_of drawn found)))
-      ≡ told_text noted drawn (record { number = number; row = row; found = of_row }) ++ flat_map (told_text noted drawn) (drop (k + 1) (ordered (told_of drawn found)))
+      → flat_map (numbered_row_text noted drawn) (drop k (ordered (numbered_rows drawn found)))
+      ≡ numbered_row_text noted drawn (record { number = number; row = row; found = of_row }) ++ flat_map (numbered_row_text noted drawn) (drop (k + 1) (ordered (numbered_rows drawn found)))
 
-next_of : (noted : Noted) (drawn : Drawn) (found : List RowFound) (k : ℕ) (place : Place) → AtPlace drawn.rows found (ordered (told_of drawn found)) k place
+next_of : (noted : Noted) (drawn : Drawn) (found : List RowFound) (k : ℕ) (place : RowRank) → AtPlace drawn.rows found (ordered (numbered_rows drawn found)) k place
     → IsNext noted drawn found k place.number
 next_of noted drawn found k place at = record {
   in_rows = subst (λ n. n < length drawn.rows) at.number (slice_get_within drawn.rows at.told.number at.told.row at.is_of.is_row);
@@ -111,10 +111,10 @@ next_of noted drawn found k place at = record {
       let row_is : at.told.row ≡ row = some_same (sym at.is_of.is_row ∙ ap (slice_get drawn.rows) at.number ∙ is_row) in
       let found_is : at.told.found ≡ of_row = found_at found at.told.number at.told.found d at.is_of.is_found ∙ ap (λ n. get_or found n d) at.number ∙ sym is_found in
       let told_is : at.told ≡ record { number = place.number; row = row; found = of_row } = told_same at.told place.number row of_row at.number row_is found_is in
-      let others : List Told = drop (suc k) (ordered (told_of drawn found)) in
+      let others : List NumberedRow = drop (suc k) (ordered (numbered_rows drawn found)) in
       let one_more : suc k ≡ k + 1 = omega arith in
-      ap (flat_map (told_text noted drawn)) at.left ∙ ap (λ told. told_text noted drawn told ++ flat_map (told_text noted drawn) others) told_is
-      ∙ ap (λ n. told_text noted drawn (record { number = place.number; row = row; found = of_row }) ++ flat_map (told_text noted drawn) (drop n (ordered (told_of drawn found)))) one_more;
+      ap (flat_map (numbered_row_text noted drawn)) at.left ∙ ap (λ told. numbered_row_text noted drawn told ++ flat_map (numbered_row_text noted drawn) others) told_is
+      ∙ ap (λ n. numbered_row_text noted drawn (record { number = place.number; row = row; found = of_row }) ++ flat_map (numbered_row_text noted drawn) (drop n (ordered (numbered_rows drawn found)))) one_more;
 }
   where
     some_same : {A : Type 0} {x y : A} → Some x ≡ Some y → x ≡ y
@@ -125,17 +125,17 @@ next_of noted drawn found k place at = record {
     found_at (x ∷ found) zero f d e = sym (same_Some x f e)
     found_at (x ∷ found) (suc n) f d e = found_at found n f d e
 
-    told_same : (told : Told) (number : ℕ) (row : Row) (found : RowFound) → told.number ≡ number → told.row ≡ row → told.found ≡ found
+    told_same : (told : NumberedRow) (number : ℕ) (row : Row) (found : RowFound) → told.number ≡ number → told.row ≡ row → told.found ≡ found
         → told ≡ record { number = number; row = row; found = found }
     told_same told number row found a b c = rw (← a, ← b, ← c) refl
 
 -- at the place of each number
-pub next_is : (noted : Noted) (drawn : Drawn) (found : List RowFound) (places : List Place) (k : ℕ) (d : Place) → places ≡ map place_of (ordered (told_of drawn found)) → k < length places
+pub next_is : (noted : Noted) (drawn : Drawn) (found : List RowFound) (places : List RowRank) (k : ℕ) (d : RowRank) → places ≡ map place_of (ordered (numbered_rows drawn found)) → k < length places
     → IsNext noted drawn found k (get_or places k d).number
 next_is noted drawn found places k d is h =
     subst (λ ps. IsNext noted drawn found k (get_or ps k d).number) (sym is)
-    (next_of noted drawn found k (get_or (map place_of (ordered (told_of drawn found))) k d)
-    (at_place drawn.rows found (ordered (told_of drawn found)) k d (each_ordered drawn.rows found) (subst (λ ps. k < length ps) is h)))
+    (next_of noted drawn found k (get_or (map place_of (ordered (numbered_rows drawn found))) k d)
+    (at_place drawn.rows found (ordered (numbered_rows drawn found)) k d (each_ordered drawn.rows found) (subst (λ ps. k < length ps) is h)))
 
 -- ---- words
 
@@ -148,7 +148,7 @@ pieces_same row row' least least' most most' judged judged' by by' order order' 
     append_assoc row (least ++ most) (judged ++ (by ++ order)) ∙ ap (λ l. row ++ l) (append_assoc least most (judged ++ (by ++ order))) ∙ rw (a, b, c, d, e, f) refl
 
 -- what a line says of a row is what is told of it
-pub told_is : (noted : Noted) (drawn : Drawn) (told : Told) (line : RowLine) → line.number ≡ told.number → line.kind ≡ told.row.kind → name_view line.from ≡ name_of drawn told.row.from
+pub told_is : (noted : Noted) (drawn : Drawn) (told : NumberedRow) (line : RowLine) → line.number ≡ told.number → line.kind ≡ told.row.kind → name_view line.from ≡ name_of drawn told.row.from
     → name_view line.to ≡ name_of drawn told.row.to → line.both.least ≡ bound_of told.found.least → line.both.greatest ≡ bound_of told.found.greatest
     → line.judged ≡ judged_in told.row.kind told.found → by_words line.by ≡ origin_words noted (part_of drawn told.row.from) told.row.origin
     → line.rests_on_order ≡ is_some told.found.apart → row_line_words line ≡ told_words noted drawn told
@@ -163,7 +163,7 @@ told_is noted drawn told line number kind from to least greatest judged by order
     (ap bound_words least) (ap bound_words greatest) (ap judgement_words judged ∙ judged_are told.row.kind told.found) by (ap order_word order ∙ order_is told.found.apart))
 
 -- what the rows come to
-pub counts_are : (rows : List Told) (places : List Place) (counts : Counts) → places ≡ map place_of (ordered rows) → counts.rows ≡ length places → counts.pass ≡ place_count 2 places
+pub counts_are : (rows : List NumberedRow) (places : List RowRank) (counts : RowCounts) → places ≡ map place_of (ordered rows) → counts.rows ≡ length places → counts.pass ≡ place_count 2 places
     → counts.fail ≡ place_count 0 places → counts.undecided ≡ place_count 1 places → counts_words counts ≡ count_words rows
 counts_are rows places counts is all pass fail undecided =
     rw (

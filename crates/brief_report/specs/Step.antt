@@ -11,13 +11,13 @@ use Rattle.drawn.specs.Drawn.{Drawn}
 use Rattle.explained.specs.Answers.{bound_of, verdict_in}
 use Rattle.explained.specs.declared.row.RowFound.{RowFound}
 use Rattle.why_report.specs.Step.{by_words}
-use Rattle.brief_report.specs.declared.counts.Counts.{Counts}
+use Rattle.brief_report.specs.declared.counts.RowCounts.{RowCounts}
 use Rattle.brief_report.specs.declared.judged.Judged.{Judged}
 use Rattle.brief_report.specs.declared.line.Line.{Line}
 use Rattle.brief_report.specs.declared.line.Line.TheVariants as lines
 use Rattle.brief_report.specs.declared.line.RowLine.{RowLine}
-use Rattle.brief_report.specs.declared.place.Place.{Place}
-use Rattle.brief_report.specs.Text.{Told, is_worse, lesser, rank_of, told_from, verdict_rank, worst_of}
+use Rattle.brief_report.specs.declared.place.RowRank.{RowRank}
+use Rattle.brief_report.specs.Text.{NumberedRow, is_worse, lesser, rank_of, told_from, verdict_rank, worst_of}
 
 -- ---- what becomes of rows
 
@@ -30,30 +30,30 @@ judged_in (kinds.Req range) found =
 -- ---- places
 
 -- the place of a row
-abbrev pub place_of : Told → Place
+abbrev pub place_of : NumberedRow → RowRank
 place_of told = record { number = told.number; rank = rank_of told; worst = worst_of told }
 
 -- the place of a row of a number, by what becomes of it
-abbrev pub place_by : ℕ → Option Judged → Place
+abbrev pub place_by : ℕ → Option Judged → RowRank
 place_by number None = record { number = number; rank = 3; worst = None }
 place_by number (Some judged) = record { number = number; rank = verdict_rank judged.word; worst = lesser judged.slack.low judged.slack.high }
 
 -- a row of a place stands before one of another place
-abbrev pub stands_before : Place → Place → Bool
+abbrev pub stands_before : RowRank → RowRank → Bool
 stands_before a b = nat_lt a.rank b.rank || ((a.rank == b.rank) && is_worse a.worst b.worst)
 
 -- a place among others: behind all that it is not before
-abbrev pub put_in : Place → List Place → List Place
+abbrev pub put_in : RowRank → List RowRank → List RowRank
 put_in place [] = place ∷ []
 put_in place (other ∷ others) = if stands_before place other then place ∷ other ∷ others else other ∷ put_in place others
 
 -- how many places are of a rank
-abbrev pub place_count : ℕ → List Place → ℕ
-place_count rank places = count_by (λ (place : Place). place.rank == rank) places
+abbrev pub place_count : ℕ → List RowRank → ℕ
+place_count rank places = count_by (λ (place : RowRank). place.rank == rank) places
 
 -- the rows of which something is found
-abbrev pub told_of : Drawn → List RowFound → List Told
-told_of drawn found = told_from 0 drawn.rows found
+abbrev pub numbered_rows : Drawn → List RowFound → List NumberedRow
+numbered_rows drawn found = told_from 0 drawn.rows found
 
 -- ---- lines
 
@@ -76,7 +76,7 @@ back_words row = judgement_words row.judged ++ (by_words row.by ++ order_word ro
 abbrev pub row_line_words : RowLine → List Word
 row_line_words row = codes "row" ∷ number_text row.number ∷ (front_words row ++ back_words row)
 
-abbrev pub counts_words : Counts → List Word
+abbrev pub counts_words : RowCounts → List Word
 counts_words counts =
     codes "rows" ∷ number_text counts.rows ∷ codes "pass" ∷ number_text counts.pass ∷ codes "fail" ∷ number_text counts.fail
     ∷ codes "undecided" ∷ number_text counts.undecided ∷ []

@@ -3,11 +3,11 @@
 ghost use Rattle.std.specs.Prelude.{◌≡◌, length};
 ghost use Rattle.brief_report.specs.Step.{place_count};
 
-use crate::place::{FAILS, PASSES, Place, UNDECIDED};
+use crate::place::{FAILS, PASSES, RowRank, UNDECIDED};
 
 /// How many rows there are, and how many requirements pass, fail and are left undecided.
 #[derive(Clone, Copy, Debug)]
-pub struct Counts {
+pub struct RowCounts {
     pub rows: u64,
     pub pass: u64,
     pub fail: u64,
@@ -15,13 +15,13 @@ pub struct Counts {
 }
 
 /// What rows of some places come to.
-pub fn counts_of(places: &[Place]) -> Counts
+pub fn counts_of(places: &[RowRank]) -> RowCounts
     ensures rows { result.rows ≡ length places.now }
     ensures pass { result.pass ≡ place_count 2 places.now }
     ensures fail { result.fail ≡ place_count 0 places.now }
     ensures undecided { result.undecided ≡ place_count 1 places.now }
 {
-    Counts {
+    RowCounts {
         rows: places.len() as u64,
         pass: rank_count(places, PASSES),
         fail: rank_count(places, FAILS),
@@ -30,7 +30,7 @@ pub fn counts_of(places: &[Place]) -> Counts
 }
 
 // How many places are of a rank.
-fn rank_count(places: &[Place], rank: u8) -> u64
+fn rank_count(places: &[RowRank], rank: u8) -> u64
     ensures { result ≡ place_count rank places.now }
 {
     places.iter().filter(|place| place.rank == rank).count() as u64

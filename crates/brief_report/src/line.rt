@@ -1,6 +1,6 @@
 //! The lines of this job.
 
-use crate::counts::Counts;
+use crate::counts::RowCounts;
 use crate::judged::Judged;
 use itv_base::{EventName, RowKind};
 use requirements::BothBounds;
@@ -28,5 +28,5 @@ pub enum Line<'a> {
     /// A row.
     Row(RowLine<'a>),
     /// How many rows there are.
-    Counts(Counts),
+    Counts(RowCounts),
 }

@@ -8,7 +8,7 @@ ghost use Rattle.line_words.specs.Lines.{ended, line_of, spaced};
 ghost use Rattle.slack_report.specs.Text.{bound_words};
 ghost use Rattle.brief_report.specs.Step.{back_words, counts_words, front_words, judgement_words, line_words, order_word, row_line_words};
 
-use crate::counts::Counts;
+use crate::counts::RowCounts;
 use crate::judged::Judged;
 use crate::line::{Line, RowLine};
 use itoa::Buffer;
@@ -121,7 +121,7 @@ fn put_order<K: Sink>(rests_on_order: bool, sink: &mut K) -> Result<(), PutFaile
     }
 }
 
-fn put_counts<K: Sink>(counts: &Counts, sink: &mut K) -> Result<(), PutFailed>
+fn put_counts<K: Sink>(counts: &RowCounts, sink: &mut K) -> Result<(), PutFailed>
     ensures { Puts (K.told sink.old) (K.told sink.new) (ended (line_of (counts_words counts.now))) result }
 {
     put_passes(counts.rows, counts.pass, sink)?;

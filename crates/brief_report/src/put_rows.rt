@@ -5,13 +5,13 @@ ghost use Rattle.std.specs.List.{flat_map};
 ghost use Rattle.itv_base.specs.Outside.{Puts};
 ghost use Rattle.drawn.specs.Drawn.{IsRowOf};
 ghost use Rattle.explained.specs.Answers.{HasRowTimes};
-ghost use Rattle.brief_report.specs.Step.{place_of, told_of};
-ghost use Rattle.brief_report.specs.Text.{ordered, rows_text, told_text};
+ghost use Rattle.brief_report.specs.Step.{place_of, numbered_rows};
+ghost use Rattle.brief_report.specs.Text.{ordered, rows_text, numbered_row_text};
 
 use crate::counts::counts_of;
 use crate::judged::judged_of;
 use crate::line::{Line, RowLine};
-use crate::place::Place;
+use crate::place::RowRank;
 use crate::put_line::put_line;
 use drawn::{DrawnNetwork, Row};
 use explained::RowFound;
@@ -26,15 +26,15 @@ pub fn put_rows<N: Notes, K: Sink>(
     notes: &N,
     drawn: &DrawnNetwork,
     found: &[RowFound],
-    places: &[Place],
+    places: &[RowRank],
     buffer: &mut LineBuffer,
     sink: &mut K,
 ) -> Result<(), PutFailed>
     requires count { length found.now ≤ length drawn.now.rows }
     requires times { All HasRowTimes found.now }
-    requires places { places.now ≡ map place_of (ordered (told_of drawn.now found.now)) }
+    requires places { places.now ≡ map place_of (ordered (numbered_rows drawn.now found.now)) }
     ensures puts { Puts (K.told sink.old) (K.told sink.new)
-        (rows_text (N.noted notes.now) drawn.now (told_of drawn.now found.now)) result }
+        (rows_text (N.noted notes.now) drawn.now (numbered_rows drawn.now found.now)) result }
 {
     put_each(notes, drawn, found, places, buffer, sink)?;
     put_line(&Line::Counts(counts_of(places)), buffer, sink)
@@ -45,15 +45,15 @@ fn put_each<N: Notes, K: Sink>(
     notes: &N,
     drawn: &DrawnNetwork,
     found: &[RowFound],
-    places: &[Place],
+    places: &[RowRank],
     buffer: &mut LineBuffer,
     sink: &mut K,
 ) -> Result<(), PutFailed>
     requires count { length found.now ≤ length drawn.now.rows }
     requires times { All HasRowTimes found.now }
-    requires places { places.now ≡ map place_of (ordered (told_of drawn.now found.now)) }
+    requires places { places.now ≡ map place_of (ordered (numbered_rows drawn.now found.now)) }
     ensures puts { Puts (K.told sink.old) (K.told sink.new)
-        (flat_map (told_text (N.noted notes.now) drawn.now) (ordered (told_of drawn.now found.now))) result }
+        (flat_map (numbered_row_text (N.noted notes.now) drawn.now) (ordered (numbered_rows drawn.now found.now))) result }
 {
     for at in 0..places.len() {
         let number = places[at].number;
@@ -77,7 +77,7 @@ fn put_row<N: Notes, K: Sink>(
     requires row { IsRowOf drawn.now.net row.now }
     requires times { HasRowTimes found.now }
     ensures puts { Puts (K.told sink.old) (K.told sink.new)
-        (told_text (N.noted notes.now) drawn.now (record { number = number; row = row.now; found = found.now })) result }
+        (numbered_row_text (N.noted notes.now) drawn.now (record { number = number; row = row.now; found = found.now })) result }
 {
     let from = drawn.name(row.from);
     let line = RowLine {

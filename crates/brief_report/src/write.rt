@@ -3,15 +3,15 @@
 ghost use Rattle.std.specs.Prelude.{◌≡◌, ◌≤◌, ℕ, List, All, IfOk, OnErr, length, map};
 ghost use Rattle.itv_base.specs.Outside.{CutShort, Puts, grown};
 ghost use Rattle.itv_base.specs.declared.limits.TheConstants.{MAX_BUDGET};
-ghost use Rattle.jobs.specs.Works.{Works};
+ghost use Rattle.jobs.specs.Works.{JobWrote};
 ghost use Rattle.explained.specs.Answers.{AreFound, HasRowTimes, IsFindingFound, SettlesWithin};
 ghost use Rattle.why_report.specs.Text.{ending_of};
 ghost use Rattle.brief_report.specs.Brief.{AnswersBrief, BeginsBrief};
-ghost use Rattle.brief_report.specs.Step.{place_of, told_of};
+ghost use Rattle.brief_report.specs.Step.{place_of, numbered_rows};
 ghost use Rattle.brief_report.specs.Text.{brief_text, ordered};
 
 use crate::order::places_of;
-use crate::place::Place;
+use crate::place::RowRank;
 use crate::put_rows::put_rows;
 use drawn::DrawnNetwork;
 use explained::{NetworkFound, explain};
@@ -34,7 +34,7 @@ pub fn write_brief<N: Notes, K: Sink>(
 ) -> Result<Answer, Unanswered>
     requires least { 1 ≤ budget }
     requires most { budget ≤ MAX_BUDGET }
-    ensures works { Works (AnswersBrief (N.noted notes.now) drawn.now budget) (BeginsBrief (N.noted notes.now) drawn.now budget)
+    ensures works { JobWrote (AnswersBrief (N.noted notes.now) drawn.now budget) (BeginsBrief (N.noted notes.now) drawn.now budget)
         (K.told sink.old) (K.told sink.new) result }
 {
     let found = explain(alloc, drawn, budget)?;
@@ -48,14 +48,14 @@ fn put_found<N: Notes, K: Sink>(
     notes: &N,
     drawn: &DrawnNetwork,
     found: &NetworkFound,
-    places: &[Place],
+    places: &[RowRank],
     buffer: &mut LineBuffer,
     sink: &mut K,
 ) -> Result<Answer, PutFailed>
     requires finding { IsFindingFound drawn.now.net found.now.finding }
     requires rows { AreFound drawn.now found.now.finding found.now.rows.items }
     requires times { All HasRowTimes found.now.rows.items }
-    requires places { places.now ≡ map place_of (ordered (told_of drawn.now found.now.rows.items)) }
+    requires places { places.now ≡ map place_of (ordered (numbered_rows drawn.now found.now.rows.items)) }
     ensures answers { (budget : ℕ) → SettlesWithin drawn.now.net budget found.now.finding found.now.rows.items
         → IfOk result (λ answer. (text : List ℕ) × AnswersBrief (N.noted notes.now) drawn.now budget answer text
         × (K.told sink.new ≡ grown (K.told sink.old) text)) }
@@ -73,14 +73,14 @@ fn put_text<N: Notes, K: Sink>(
     notes: &N,
     drawn: &DrawnNetwork,
     found: &NetworkFound,
-    places: &[Place],
+    places: &[RowRank],
     word: EndWord,
     buffer: &mut LineBuffer,
     sink: &mut K,
 ) -> Result<(), PutFailed>
     requires count { length found.now.rows.items ≤ length drawn.now.rows }
     requires times { All HasRowTimes found.now.rows.items }
-    requires places { places.now ≡ map place_of (ordered (told_of drawn.now found.now.rows.items)) }
+    requires places { places.now ≡ map place_of (ordered (numbered_rows drawn.now found.now.rows.items)) }
     requires word { word ≡ ending_of drawn.now.rows found.now.finding found.now.rows.items }
     ensures puts { Puts (K.told sink.old) (K.told sink.new)
         (brief_text (N.noted notes.now) drawn.now found.now.finding found.now.rows.items) result }

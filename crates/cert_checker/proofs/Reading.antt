@@ -9,11 +9,11 @@ use Rattle.itv_base.specs.declared.names.EventId.{EventId}
 use Rattle.event_graph.specs.declared.edge.Edge.{Edge}
 use Rattle.event_graph.specs.Edges.{edge}
 use Rattle.event_graph.specs.Network.{Net}
-use Rattle.event_graph.specs.Proof.{Bound, Case, ClosesByLoop, ClosesByPath, IsUsable, IsWalk, Loop, Nothing, Path, ProofGoal, ProofLine, Reads, Split, cases_of, path_sum}
+use Rattle.event_graph.specs.Proof.{Bound, Case, ClosesByLoop, ClosesByPath, IsUsable, IsWalk, Loop, Nothing, Path, ProofGoal, ProofLine, ProofLeaves, Split, cases_of, path_sum}
 use Rattle.event_graph.proofs.ReadingOn.{reads-append}
 use Rattle.cert_checker.specs.declared.check_fault.CheckFault.{CheckFault}
 use Rattle.cert_checker.specs.declared.check_fault.CheckFault.TheVariants.{Broken, NotNegative, SumTooGreat, TooLong}
-use Rattle.cert_checker.specs.Faults.{behind_line, begin_of, end_of, fault_of_edge, fault_of_length, fault_of_line, fault_of_loop, fault_of_loop_sum, fault_of_path, fault_of_path_sum, fault_of_walk, is_usable, loop_begin}
+use Rattle.cert_checker.specs.Faults.{behind_line, begin_of, edge_end, fault_of_edge, fault_of_length, fault_of_line, fault_of_loop, fault_of_loop_sum, fault_of_path, fault_of_path_sum, fault_of_walk, is_usable, loop_begin}
 use Rattle.cert_checker.specs.Laws.{LinesAreReadOneByOne, NoFaultIsRead}
 use Rattle.cert_checker.proofs.Deciding.{first_none, if_none, is_usable_of, none_first, none_split, some_and, split_none, usable_is}
 
@@ -51,10 +51,10 @@ walk_none : (net : Net) (chosen : Case) (to : EventId) (place : ℕ) (at : Event
     → IsWalk net at names to × All (IsUsable net chosen) names
 walk_none net chosen to place at [] h = (same_event at to (eqb-true at.0 to.0 (if_none (at.0 == to.0) (Broken place) h)), All-nil (IsUsable net chosen))
 walk_none net chosen to place at (name ∷ names) h =
-    let parts = first_none (fault_of_edge place at (is_usable net chosen name) (edge net name)) (fault_of_walk net chosen to (place + 1) (end_of (edge net name)) names) h in
+    let parts = first_none (fault_of_edge place at (is_usable net chosen name) (edge net name)) (fault_of_walk net chosen to (place + 1) (edge_end (edge net name)) names) h in
     let here = edge_none place at (is_usable net chosen name) (edge net name) parts.0 in
-    let rest = walk_none net chosen to (place + 1) (end_of (edge net name)) names parts.1 in
-    let on : IsWalk net here.0.to names to = subst (λ o. IsWalk net (end_of o) names to) here.1 rest.0 in
+    let rest = walk_none net chosen to (place + 1) (edge_end (edge net name)) names parts.1 in
+    let on : IsWalk net here.0.to names to = subst (λ o. IsWalk net (edge_end o) names to) here.1 rest.0 in
     (rw here.1 (here.3, on), All-cons (IsUsable net chosen) name names (usable_is net chosen name here.0 here.1 here.2) rest.1)
 
 none_walk : (net : Net) (chosen : Case) (to : EventId) (place : ℕ) (at : EventId) (names : List EdgeName) → IsWalk net at names to → All (IsUsable net chosen) names
@@ -62,10 +62,10 @@ none_walk : (net : Net) (chosen : Case) (to : EventId) (place : ℕ) (at : Event
 none_walk net chosen to place at [] walk usable = rw (eq-eqb at.0 to.0 (ap (λ (v : EventId). v.0) walk)) refl
 none_walk net chosen to place at (name ∷ names) walk usable =
     let here = some_and (edge net name) (λ e. (e.from ≡ at) × IsWalk net e.to names to) walk in
-    let on : IsWalk net (end_of (edge net name)) names to = rw here.1 here.2.1 in
-    none_first (fault_of_edge place at (is_usable net chosen name) (edge net name)) (fault_of_walk net chosen to (place + 1) (end_of (edge net name)) names)
+    let on : IsWalk net (edge_end (edge net name)) names to = rw here.1 here.2.1 in
+    none_first (fault_of_edge place at (is_usable net chosen name) (edge net name)) (fault_of_walk net chosen to (place + 1) (edge_end (edge net name)) names)
     (none_edge place at (is_usable net chosen name) (edge net name) here.0 here.1 (is_usable_of net chosen name (All-head (IsUsable net chosen) name names usable)) here.2.0)
-    (none_walk net chosen to (place + 1) (end_of (edge net name)) names on (All-tail (IsUsable net chosen) name names usable))
+    (none_walk net chosen to (place + 1) (edge_end (edge net name)) names on (All-tail (IsUsable net chosen) name names usable))
 
 -- ---- what closes a case
 
@@ -118,14 +118,14 @@ none_loop net chosen names closes =
 -- ---- lines
 
 reads_none : (net : Net) (goal : ProofGoal) (cases : List Case) (line : ProofLine) (lines : List ProofLine) (left : List Case)
-    → (fault_of_line net goal cases line ≡ None) × Reads net goal (behind_line net cases line) lines left → Reads net goal cases (line ∷ lines) left
+    → (fault_of_line net goal cases line ≡ None) × ProofLeaves net goal (behind_line net cases line) lines left → ProofLeaves net goal cases (line ∷ lines) left
 reads_none net goal [] line lines left h = absurd (let e = h.0 in (cc))
 reads_none net goal (chosen ∷ cases) (Split number) lines left h = (split_none net chosen number h.0, h.1)
 reads_none net goal (chosen ∷ cases) (Path names) lines left h = (path_none net goal chosen names h.0, h.1)
 reads_none net goal (chosen ∷ cases) (Loop names) lines left h = (loop_none net chosen names h.0, h.1)
 
-none_reads : (net : Net) (goal : ProofGoal) (cases : List Case) (line : ProofLine) (lines : List ProofLine) (left : List Case) → Reads net goal cases (line ∷ lines) left
-    → (fault_of_line net goal cases line ≡ None) × Reads net goal (behind_line net cases line) lines left
+none_reads : (net : Net) (goal : ProofGoal) (cases : List Case) (line : ProofLine) (lines : List ProofLine) (left : List Case) → ProofLeaves net goal cases (line ∷ lines) left
+    → (fault_of_line net goal cases line ≡ None) × ProofLeaves net goal (behind_line net cases line) lines left
 none_reads net goal [] line lines left reads = absurd reads
 none_reads net goal (chosen ∷ cases) (Split number) lines left reads = (none_split net chosen number reads.0, reads.1)
 none_reads net goal (chosen ∷ cases) (Path names) lines left reads = (none_path net goal chosen names reads.0, reads.1)
@@ -135,9 +135,9 @@ pub lines_are_read_one_by_one : LinesAreReadOneByOne
 lines_are_read_one_by_one net goal cases line lines left = (none_reads net goal cases line lines left, reads_none net goal cases line lines left)
 
 -- lines lead to one list of open cases alone
-reads_on : (net : Net) (goal : ProofGoal) (lines more : List ProofLine) (cases mid left : List Case) → Reads net goal cases lines mid → Reads net goal cases (lines ++ more) left
-    → Reads net goal mid more left
-reads_on net goal [] more cases mid left first whole = subst (λ (cs : List Case). Reads net goal cs more left) first whole
+reads_on : (net : Net) (goal : ProofGoal) (lines more : List ProofLine) (cases mid left : List Case) → ProofLeaves net goal cases lines mid → ProofLeaves net goal cases (lines ++ more) left
+    → ProofLeaves net goal mid more left
+reads_on net goal [] more cases mid left first whole = subst (λ (cs : List Case). ProofLeaves net goal cs more left) first whole
 reads_on net goal (line ∷ lines) more [] mid left first whole = absurd first
 reads_on net goal (Split number ∷ lines) more (chosen ∷ cases) mid left first whole = reads_on net goal lines more (cases_of net chosen number ++ cases) mid left first.1 whole.1
 reads_on net goal (Path names ∷ lines) more (chosen ∷ cases) mid left first whole = reads_on net goal lines more cases mid left first.1 whole.1

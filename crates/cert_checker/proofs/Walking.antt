@@ -12,7 +12,7 @@ use Rattle.event_graph.specs.Edges.{edge}
 use Rattle.event_graph.specs.Network.{Net}
 use Rattle.event_graph.specs.Proof.{Case, path_sum, weight_of}
 use Rattle.cert_checker.specs.declared.check_fault.CheckFault.{CheckFault}
-use Rattle.cert_checker.specs.Faults.{end_of, fault_of_edge, fault_of_walk, is_usable}
+use Rattle.cert_checker.specs.Faults.{edge_end, fault_of_edge, fault_of_walk, is_usable}
 
 -- the greatest sum of so many weights
 abbrev pub farthest : ℕ → ℕ
@@ -47,10 +47,10 @@ walks_none net chosen from to names = record {
 module _ (net : Net) (chosen : Case) (from to : EventId) (names : List EdgeName) (place : ℕ) (at : EventId) (sum : ℤ) (name : EdgeName)
     (within : place < length names) (is_name : name ≡ get_or names place name) (w : Walks net chosen from to names place at sum) where
   fault_on : fault_of_walk net chosen to place at (drop place names)
-      ≡ option_or (fault_of_edge place at (is_usable net chosen name) (edge net name)) (fault_of_walk net chosen to (place + 1) (end_of (edge net name)) (drop (place + 1) names))
+      ≡ option_or (fault_of_edge place at (is_usable net chosen name) (edge net name)) (fault_of_walk net chosen to (place + 1) (edge_end (edge net name)) (drop (place + 1) names))
   fault_on =
       at_drop_more (fault_of_walk net chosen to place at) names place name within
-      ∙ ap (λ (n : EdgeName). option_or (fault_of_edge place at (is_usable net chosen n) (edge net n)) (fault_of_walk net chosen to (place + 1) (end_of (edge net n)) (drop (place + 1) names)))
+      ∙ ap (λ (n : EdgeName). option_or (fault_of_edge place at (is_usable net chosen n) (edge net n)) (fault_of_walk net chosen to (place + 1) (edge_end (edge net n)) (drop (place + 1) names)))
       (sym is_name)
 
   sum_on : path_sum net (drop place names) ≡ weight_of (edge net name) +ℤ path_sum net (drop (place + 1) names)
@@ -62,8 +62,8 @@ module _ (net : Net) (chosen : Case) (from to : EventId) (names : List EdgeName)
   pub walks_more : (e : Edge) → edge net name ≡ Some e → IsEnd (Some e.weight) → fault_of_edge place at (is_usable net chosen name) (edge net name) ≡ None
       → Walks net chosen from to names (place + 1) e.to (sum +ℤ e.weight)
   walks_more e is_edge is_end none =
-      let here : fault_of_walk net chosen to (place + 1) (end_of (edge net name)) (drop (place + 1) names) ≡ fault_of_walk net chosen to (place + 1) e.to (drop (place + 1) names) =
-      ap (λ (o : Option Edge). fault_of_walk net chosen to (place + 1) (end_of o) (drop (place + 1) names)) is_edge in
+      let here : fault_of_walk net chosen to (place + 1) (edge_end (edge net name)) (drop (place + 1) names) ≡ fault_of_walk net chosen to (place + 1) e.to (drop (place + 1) names) =
+      ap (λ (o : Option Edge). fault_of_walk net chosen to (place + 1) (edge_end o) (drop (place + 1) names)) is_edge in
       let weight : weight_of (edge net name) ≡ e.weight = ap weight_of is_edge in
       let total : path_sum net names ≡ sum +ℤ path_sum net (drop place names) = w.total in
       let rest : path_sum net (drop place names) ≡ e.weight +ℤ path_sum net (drop (place + 1) names) = sum_on ∙ ap (λ z. z +ℤ path_sum net (drop (place + 1) names)) weight in

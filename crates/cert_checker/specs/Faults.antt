@@ -53,9 +53,9 @@ fault_of_edge place at usable None = Some (BadEdge place)
 fault_of_edge place at usable (Some e) = if usable then (if e.from.0 == at.0 then None else Some (Broken place)) else Some (NotChosen place)
 
 -- where an edge that is there ends
-abbrev pub end_of : Option Edge → EventId
-end_of None = record { 0 = 0 }
-end_of (Some e) = e.to
+abbrev pub edge_end : Option Edge → EventId
+edge_end None = record { 0 = 0 }
+edge_end (Some e) = e.to
 
 -- where an edge that is there begins
 abbrev pub begin_of : Option Edge → EventId
@@ -67,7 +67,7 @@ abbrev pub fault_of_walk : Net → Case → EventId → ℕ → EventId → List
 fault_of_walk net chosen to place at [] = if at.0 == to.0 then None else Some (Broken place)
 fault_of_walk net chosen to place at (name ∷ names) =
     option_or (fault_of_edge place at (is_usable net chosen name) (edge net name))
-    (fault_of_walk net chosen to (place + 1) (end_of (edge net name)) names)
+    (fault_of_walk net chosen to (place + 1) (edge_end (edge net name)) names)
 
 -- of more edges than events
 abbrev pub fault_of_length : Net → List EdgeName → Option CheckFault

@@ -1,16 +1,16 @@
 -- Laws of the faults of lines.
 use Rattle.std.specs.Prelude.{◌≡◌, ◌↔◌, ◌++◌, List, [], ◌∷◌, None}
 use Rattle.event_graph.specs.Network.{Net}
-use Rattle.event_graph.specs.Proof.{Case, ProofGoal, ProofLine, Reads}
+use Rattle.event_graph.specs.Proof.{Case, ProofGoal, ProofLine, ProofLeaves}
 use Rattle.cert_checker.specs.Faults.{behind_line, fault_of_line}
 
 -- the reading of a proof accepts a line next exactly where the line has no fault, and then it leads to the cases behind it
 abbrev pub LinesAreReadOneByOne : Type 0
 LinesAreReadOneByOne = (net : Net) (goal : ProofGoal) (cases : List Case) (line : ProofLine) (lines : List ProofLine) (left : List Case)
-    → (Reads net goal cases (line ∷ lines) left ↔ ((fault_of_line net goal cases line ≡ None) × Reads net goal (behind_line net cases line) lines left))
+    → (ProofLeaves net goal cases (line ∷ lines) left ↔ ((fault_of_line net goal cases line ≡ None) × ProofLeaves net goal (behind_line net cases line) lines left))
 
 -- behind lines that were read, one more is read exactly where it has no fault, and then it leads to the cases behind it
 abbrev pub NoFaultIsRead : Type 0
 NoFaultIsRead = (net : Net) (goal : ProofGoal) (lines : List ProofLine) (cases : List Case) (line : ProofLine) (left : List Case)
-    → Reads net goal ([] ∷ []) lines cases
-    → (Reads net goal ([] ∷ []) (lines ++ line ∷ []) left ↔ ((fault_of_line net goal cases line ≡ None) × (behind_line net cases line ≡ left)))
+    → ProofLeaves net goal ([] ∷ []) lines cases
+    → (ProofLeaves net goal ([] ∷ []) (lines ++ line ∷ []) left ↔ ((fault_of_line net goal cases line ≡ None) × (behind_line net cases line ≡ left)))

@@ -4,7 +4,7 @@ ghost use Rattle.std.specs.Prelude.{◌≡◌, ◌↔◌, ◌∷◌, [], IsTrue,
 ghost use Rattle.event_graph.specs.Lines.{lent_line};
 ghost use Rattle.event_graph.specs.Network.{Net};
 ghost use Rattle.event_graph.specs.Cases.{IsCase, first_of, siblings};
-ghost use Rattle.cert_checker.specs.Checking.{StandsFor, Tells, goal_view, open_cases};
+ghost use Rattle.cert_checker.specs.Checking.{IsProofCheckerFor, AnswersFault, goal_view, open_cases};
 ghost use Rattle.cert_checker.specs.Faults.{behind_line, fault_of_line, fault_of_split};
 
 use crate::check_fault::CheckFault;
@@ -59,7 +59,7 @@ impl Checker {
         requires room { self.old.room ≡ length net.now.constraints }
         ensures goal { self.new.goal ≡ goal_view goal }
         ensures open { open_cases net.now self.new ≡ [] ∷ [] }
-        ensures stands { StandsFor net.now self.new }
+        ensures stands { IsProofCheckerFor net.now self.new }
     {
         self.goal = goal;
         self.is_open = true;
@@ -68,13 +68,13 @@ impl Checker {
 
     /// Takes the next line of the proof that was begun, or tells its first fault and changes nothing.
     pub fn take(&mut self, net: &Network, line: &Line<'_>) -> Result<(), CheckFault>
-        requires stands { StandsFor net.now self.old }
-        ensures fault { Tells result
+        requires stands { IsProofCheckerFor net.now self.old }
+        ensures fault { AnswersFault result
             (fault_of_line net.now self.old.goal (open_cases net.now self.old) (lent_line line.now)) }
         ensures taken { OnOk result (open_cases net.now self.new
             ≡ behind_line net.now (open_cases net.now self.old) (lent_line line.now)) }
         ensures goal { self.new.goal ≡ self.old.goal }
-        ensures stands { StandsFor net.now self.new }
+        ensures stands { IsProofCheckerFor net.now self.new }
         ensures unchanged { OnErr result (self.new ≡ self.old) }
     {
         if !self.is_open {
@@ -106,7 +106,7 @@ impl Checker {
 fn split(net: &Network, chosen: &mut Decisions, constraint: u32) -> Result<(), CheckFault>
     requires room { chosen.old.room ≡ length net.now.constraints }
     requires case { IsCase net.now chosen.old.chosen }
-    ensures fault { Tells result (fault_of_split net.now chosen.old.chosen constraint) }
+    ensures fault { AnswersFault result (fault_of_split net.now chosen.old.chosen constraint) }
     ensures chosen { OnOk result
         (chosen.new ≡ record chosen.old { chosen = first_of constraint chosen.old.chosen }) }
     ensures case { IsCase net.now chosen.new.chosen }

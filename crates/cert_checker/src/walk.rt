@@ -5,7 +5,7 @@ ghost use Rattle.itv_base.specs.Range.{IsEnd};
 ghost use Rattle.event_graph.specs.Edges.{edge};
 ghost use Rattle.event_graph.specs.Proof.{path_sum};
 ghost use Rattle.event_graph.specs.Cases.{IsCase};
-ghost use Rattle.cert_checker.specs.Checking.{Tells, goal_view};
+ghost use Rattle.cert_checker.specs.Checking.{AnswersFault, goal_view};
 ghost use Rattle.cert_checker.specs.Faults.{fault_of_edge, fault_of_length, fault_of_loop, fault_of_path, fault_of_walk, is_choice_side, is_usable, loop_begin};
 
 use crate::check_fault::CheckFault;
@@ -22,7 +22,7 @@ pub fn check_path(
     names: &[EdgeName],
 ) -> Result<(), CheckFault>
     requires case { IsCase net.now chosen.now.chosen }
-    ensures { Tells result (fault_of_path net.now (goal_view goal) chosen.now.chosen names.now) }
+    ensures { AnswersFault result (fault_of_path net.now (goal_view goal) chosen.now.chosen names.now) }
 {
     match goal {
         Goal::Nothing => Err(CheckFault::PathHere),
@@ -42,7 +42,7 @@ pub fn check_path(
 /// negative.
 pub fn check_loop(net: &Network, chosen: &Decisions, names: &[EdgeName]) -> Result<(), CheckFault>
     requires case { IsCase net.now chosen.now.chosen }
-    ensures { Tells result (fault_of_loop net.now chosen.now.chosen names.now) }
+    ensures { AnswersFault result (fault_of_loop net.now chosen.now.chosen names.now) }
 {
     check_length(net, names)?;
     let begin = loop_begin(net, names);
@@ -56,7 +56,7 @@ pub fn check_loop(net: &Network, chosen: &Decisions, names: &[EdgeName]) -> Resu
 
 // That there are no more edges than events.
 fn check_length(net: &Network, names: &[EdgeName]) -> Result<(), CheckFault>
-    ensures fault { Tells result (fault_of_length net.now names.now) }
+    ensures fault { AnswersFault result (fault_of_length net.now names.now) }
     ensures few { IfOk result (λ _. length names.now ≤ MAX_EVENTS) }
 {
     if names.len() <= net.events() as usize {
@@ -90,7 +90,7 @@ fn check_walk(
     requires case { IsCase net.now chosen.now.chosen }
     requires few { length names.now ≤ MAX_EVENTS }
     ensures sum { IfOk result (λ sum. sum ≡ path_sum net.now names.now) }
-    ensures fault { Tells result (fault_of_walk net.now chosen.now.chosen to 0 from names.now) }
+    ensures fault { AnswersFault result (fault_of_walk net.now chosen.now.chosen to 0 from names.now) }
 {
     let mut at = from;
     let mut sum = 0;
@@ -127,7 +127,7 @@ fn check_edge(
     requires case { IsCase net.now chosen.now.chosen }
     ensures edge { IfOk result (λ e. edge net.now name ≡ Some e) }
     ensures weight { IfOk result (λ e. IsEnd (Some e.weight)) }
-    ensures fault { Tells result
+    ensures fault { AnswersFault result
         (fault_of_edge place at (is_usable net.now chosen.now.chosen name) (edge net.now name)) }
 {
     let Some(edge) = net.edge(name) else {

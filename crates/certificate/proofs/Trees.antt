@@ -9,27 +9,27 @@ use Rattle.certificate.specs.declared.stored.Stored.{Stored}
 use Rattle.certificate.specs.declared.stored.StoredKind.{StoredKind}
 use Rattle.certificate.specs.declared.stored.StoredKind.TheVariants as kinds
 use Rattle.certificate.specs.Scribing.{FitsTree, edge_count}
-use Rattle.certificate.specs.Step.Stored.{AreEnds, IsEnd, start_from, start_of, stored_line, stored_lines}
+use Rattle.certificate.specs.Step.Stored.{EndsRise, IsSplitEnd, start_from, start_of, stored_line, stored_lines}
 
 -- ---- where edges begin and end
 
-end_above : (start : ℕ) (kind : StoredKind) (end : ℕ) → IsEnd start kind end → start ≤ end
+end_above : (start : ℕ) (kind : StoredKind) (end : ℕ) → IsSplitEnd start kind end → start ≤ end
 end_above start (kinds.Split constraint) end h = omega arith
 end_above start kinds.Path end h = h
 end_above start kinds.Loop end h = h
 
-ends_above : (start : ℕ) (stored : List Stored) (last : ℕ) → AreEnds start stored last → start ≤ last
+ends_above : (start : ℕ) (stored : List Stored) (last : ℕ) → EndsRise start stored last → start ≤ last
 ends_above start [] last h = omega arith
 ends_above start (s ∷ stored) last h =
     let here : start ≤ s.end = end_above start s.kind s.end h.0 in
     let rest : s.end ≤ last = ends_above s.end stored last h.1 in
     omega arith
 
-ends_more : (start : ℕ) (stored : List Stored) (last : ℕ) (s : Stored) → AreEnds start stored last → IsEnd last s.kind s.end → AreEnds start (stored ++ s ∷ []) s.end
-ends_more start [] last s h e = (subst (λ n. IsEnd n s.kind s.end) (sym h) e, refl)
+ends_more : (start : ℕ) (stored : List Stored) (last : ℕ) (s : Stored) → EndsRise start stored last → IsSplitEnd last s.kind s.end → EndsRise start (stored ++ s ∷ []) s.end
+ends_more start [] last s h e = (subst (λ n. IsSplitEnd n s.kind s.end) (sym h) e, refl)
 ends_more start (t ∷ stored) last s h e = (h.0, ends_more t.end stored last s h.1 e)
 
-end_shifts : (kind : StoredKind) (count last : ℕ) → IsEnd 0 kind count → IsEnd last kind (last + count)
+end_shifts : (kind : StoredKind) (count last : ℕ) → IsSplitEnd 0 kind count → IsSplitEnd last kind (last + count)
 end_shifts (kinds.Split constraint) count last h = omega arith
 end_shifts kinds.Path count last h = omega arith
 end_shifts kinds.Loop count last h = omega arith
@@ -58,13 +58,13 @@ stored_at start [] edges k d h = absurd (omega arith)
 stored_at start (s ∷ stored) edges zero d h = refl
 stored_at start (s ∷ stored) edges (suc k) d h = stored_at s.end stored edges k d (omega arith)
 
-ends_within : (start : ℕ) (stored : List Stored) (last k : ℕ) (d : Stored) → AreEnds start stored last → k < length stored
+ends_within : (start : ℕ) (stored : List Stored) (last k : ℕ) (d : Stored) → EndsRise start stored last → k < length stored
     → (start_from start stored k ≤ (get_or stored k d).end) × ((get_or stored k d).end ≤ last)
 ends_within start [] last k d ends h = absurd (omega arith)
 ends_within start (s ∷ stored) last zero d ends h = (end_above start s.kind s.end ends.0, ends_above s.end stored last ends.1)
 ends_within start (s ∷ stored) last (suc k) d ends h = ends_within s.end stored last k d ends.1 (omega arith)
 
-pub part_within : (stored : List Stored) (last k : ℕ) (d : Stored) → AreEnds 0 stored last → k < length stored
+pub part_within : (stored : List Stored) (last k : ℕ) (d : Stored) → EndsRise 0 stored last → k < length stored
     → (start_of stored k ≤ (get_or stored k d).end) × ((get_or stored k d).end ≤ last)
 part_within stored last k d ends h = ends_within 0 stored last k d ends h
 
@@ -88,7 +88,7 @@ part_same start end all more h k =
     let short : end - start ≤ length (drop start all) = omega (arith, length-drop start all) in
     ap (take (end - start)) (drop-append-le start all more within) ∙ take-append-le (end - start) (drop start all) more short
 
-stored_more : (start : ℕ) (stored : List Stored) (all more : List EdgeName) (s : Stored) → AreEnds start stored (length all) → s.end ≡ length all + length more
+stored_more : (start : ℕ) (stored : List Stored) (all more : List EdgeName) (s : Stored) → EndsRise start stored (length all) → s.end ≡ length all + length more
     → stored_lines start (stored ++ s ∷ []) (all ++ more) ≡ stored_lines start stored all ++ stored_line s.kind more ∷ []
 stored_more start [] all more s ends last =
     let count : s.end - start ≡ length more = omega arith in
@@ -102,26 +102,26 @@ stored_more start (t ∷ stored) all more s ends last =
     ∙ ap (λ lines. stored_line t.kind (take (t.end - start) (drop start all)) ∷ lines) (stored_more t.end stored all more s ends.1 last)
 
 -- what keeping a line leaves
-pub kept_ends : (stored : List Stored) (all more : List EdgeName) (kind : StoredKind) (end : ℕ) → AreEnds 0 stored (length all) → IsEnd 0 kind (length more) → end ≡ length (all ++ more)
-    → AreEnds 0 (stored ++ (record { kind = kind; end = end }) ∷ []) (length (all ++ more))
+pub kept_ends : (stored : List Stored) (all more : List EdgeName) (kind : StoredKind) (end : ℕ) → EndsRise 0 stored (length all) → IsSplitEnd 0 kind (length more) → end ≡ length (all ++ more)
+    → EndsRise 0 (stored ++ (record { kind = kind; end = end }) ∷ []) (length (all ++ more))
 kept_ends stored all more kind end ends is last =
     let count : length all + length more ≡ length (all ++ more) = sym (length-append all more) in
     rw (last, ← count) (ends_more 0 stored (length all) (record { kind = kind; end = length all + length more }) ends (end_shifts kind (length more) (length all) is))
 
-pub kept_lines : (stored : List Stored) (all more : List EdgeName) (kind : StoredKind) (end : ℕ) → AreEnds 0 stored (length all) → end ≡ length (all ++ more)
+pub kept_lines : (stored : List Stored) (all more : List EdgeName) (kind : StoredKind) (end : ℕ) → EndsRise 0 stored (length all) → end ≡ length (all ++ more)
     → stored_lines 0 (stored ++ (record { kind = kind; end = end }) ∷ []) (all ++ more) ≡ stored_lines 0 stored all ++ stored_line kind more ∷ []
 kept_lines stored all more kind end ends last =
     stored_more 0 stored all more (record { kind = kind; end = end }) ends (last ∙ length-append all more)
 
 -- ---- the edges of all lines
 
-edges_line : (start end : ℕ) (kind : StoredKind) (all : List EdgeName) → IsEnd start kind end → end ≤ length all
+edges_line : (start end : ℕ) (kind : StoredKind) (all : List EdgeName) → IsSplitEnd start kind end → end ≤ length all
     → edge_count (stored_line kind (take (end - start) (drop start all))) + start ≡ end
 edges_line start end (kinds.Split constraint) all is h = omega arith
 edges_line start end kinds.Path all is h = omega (arith, length-take (end - start) (drop start all), length-drop start all)
 edges_line start end kinds.Loop all is h = omega (arith, length-take (end - start) (drop start all), length-drop start all)
 
-stored_sum : (start : ℕ) (stored : List Stored) (last : ℕ) (all : List EdgeName) → AreEnds start stored last → last ≤ length all
+stored_sum : (start : ℕ) (stored : List Stored) (last : ℕ) (all : List EdgeName) → EndsRise start stored last → last ≤ length all
     → sum_by edge_count (stored_lines start stored all) + start ≡ last
 stored_sum start [] last all ends h = omega arith
 stored_sum start (s ∷ stored) last all ends h =
@@ -133,13 +133,13 @@ stored_sum start (s ∷ stored) last all ends h =
     ∙ ap (λ n. n + sum_by edge_count (stored_lines s.end stored all)) (zero-add (edge_count (stored_line s.kind (take (s.end - start) (drop start all))))) in
     omega arith
 
-edges_in_line : (kind : StoredKind) (edges : List EdgeName) → IsEnd 0 kind (length edges) → edge_count (stored_line kind edges) ≡ length edges
+edges_in_line : (kind : StoredKind) (edges : List EdgeName) → IsSplitEnd 0 kind (length edges) → edge_count (stored_line kind edges) ≡ length edges
 edges_in_line (kinds.Split constraint) edges h = sym h
 edges_in_line kinds.Path edges h = refl
 edges_in_line kinds.Loop edges h = refl
 
 -- a line that is not kept does not fit beside those that are
-pub too_full : (stored : List Stored) (all edges : List EdgeName) (kind : StoredKind) (line_room edge_room : ℕ) → AreEnds 0 stored (length all) → IsEnd 0 kind (length edges)
+pub too_full : (stored : List Stored) (all edges : List EdgeName) (kind : StoredKind) (line_room edge_room : ℕ) → EndsRise 0 stored (length all) → IsSplitEnd 0 kind (length edges)
     → ((length stored < line_room) × (length all + length edges ≤ edge_room) → ⊥) → FitsTree line_room edge_room (stored_lines 0 stored all ++ stored_line kind edges ∷ []) → ⊥
 too_full stored all edges kind line_room edge_room ends is full fits =
     let lines : length (stored_lines 0 stored all ++ stored_line kind edges ∷ []) ≡ length stored + 1 = length-append (stored_lines 0 stored all) (stored_line kind edges ∷ []) ∙ ap (λ n. n + 1) (length-stored 0 stored all) in

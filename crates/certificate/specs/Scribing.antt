@@ -2,17 +2,17 @@
 use Rattle.std.specs.Prelude.{◌≡◌, ◌≤◌, ℕ, List, [], ◌∷◌, ◌++◌, length}
 use Rattle.std.specs.List.{sum_by}
 use Rattle.event_graph.specs.Proof.{Loop, Path, ProofLine, Split}
-use Rattle.itv_base.specs.Outside.{CutShort, SinkTold, grown, raised}
+use Rattle.itv_base.specs.Outside.{CutShort, SinkView, grown, one_more_fault}
 use Rattle.certificate.specs.Text.{proof_text}
 
 -- ---- writing them
 
 -- what a sink tells grew by just the texts of the lines
-abbrev pub SinkGrew : SinkTold → List ProofLine → SinkTold → Type 0
+abbrev pub SinkGrew : SinkView → List ProofLine → SinkView → Type 0
 SinkGrew old lines new = new ≡ grown old (proof_text lines)
 
 -- it grew by a front of their texts, and its count of faults rose
-abbrev pub SinkWasCut : SinkTold → List ProofLine → SinkTold → Type 0
+abbrev pub SinkWasCut : SinkView → List ProofLine → SinkView → Type 0
 SinkWasCut old lines new = CutShort old new (proof_text lines)
 
 -- ---- keeping them
@@ -45,5 +45,5 @@ pub record TreeWasCut (old : Tree) (lines : List ProofLine) (new : Tree) : Type 
   pub kept : new.lines ≡ old.lines ++ before
   pub line_room : new.line_room ≡ old.line_room
   pub edge_room : new.edge_room ≡ old.edge_room
-  pub faults : new.faults ≡ raised old.faults
+  pub faults : new.faults ≡ one_more_fault old.faults
   pub full : FitsTree new.line_room new.edge_room (new.lines ++ last ∷ []) → ⊥

@@ -2,7 +2,7 @@
 
 ghost use Rattle.std.specs.Prelude.{◌≡◌};
 ghost use Rattle.std.proofs.Common.{ap, refl, ◌∙◌};
-ghost use Rattle.itv_base.specs.Outside.{Puts, SinkTold};
+ghost use Rattle.itv_base.specs.Outside.{Puts, SinkView};
 ghost use Rattle.event_graph.specs.Lines.{lent_line};
 ghost use Rattle.certificate.specs.Text.{proof_line_text};
 ghost use Rattle.certificate.specs.Scribing.{SinkGrew, SinkWasCut};
@@ -75,5 +75,5 @@ impl<'a, K: Sink> Scribe for SinkScribe<'a, K> {
 
     ghost cut_after = { λ s t u xs ys p q. (q.0 ∙ p.0, q.1 ∙ p.1, sink_cut (K.told s.sink.now) (K.told t.sink.now) (K.told u.sink.now) xs ys p.2 q.2) };
 
-    ghost grew_faults = { λ s t xs p. ap (λ (told : SinkTold). told.faults) p.2 };
+    ghost grew_faults = { λ s t xs p. ap (λ (told : SinkView). told.faults) p.2 };
 }

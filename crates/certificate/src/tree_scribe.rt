@@ -1,11 +1,11 @@
 //! A scribe that keeps the lines of a proof.
 
 ghost use Rattle.std.specs.Prelude.{◌≡◌, ◌==◌, ◌<◌, ◌≤◌, ◌+◌, ◌-◌, ◌↔◌, ◌∷◌, [], IfOk, IsTrue, OnErr, OnOk, Some, drop, length, slice_get, take};
-ghost use Rattle.itv_base.specs.Outside.{Rose};
+ghost use Rattle.itv_base.specs.Outside.{FaultCounted};
 ghost use Rattle.event_graph.specs.Lines.{lent_line};
 ghost use Rattle.certificate.specs.Scribing.{TreeGrew, TreeWasCut};
 ghost use Rattle.certificate.specs.ScribeLaws.{tree_cut, tree_faults, tree_more, tree_none};
-ghost use Rattle.certificate.specs.Step.Stored.{AreEnds, IsEnd, start_of, stored_line, stored_lines};
+ghost use Rattle.certificate.specs.Step.Stored.{EndsRise, IsSplitEnd, start_of, stored_line, stored_lines};
 
 use crate::stored::{Stored, StoredKind};
 use event_graph::{Line, Scribe, ScribeFailed};
@@ -26,13 +26,13 @@ pub struct TreeScribe {
 impl Model for TreeScribe {
     ghost use Rattle.std.specs.Prelude.{◌≤◌, length, vec_capacity};
     ghost use Rattle.certificate.specs.Scribing.{Tree};
-    ghost use Rattle.certificate.specs.Step.Stored.{AreEnds, stored_lines};
+    ghost use Rattle.certificate.specs.Step.Stored.{EndsRise, stored_lines};
 
     ghost Value = { Tree };
 
     ghost view = { λ s. record { lines = stored_lines 0 s.stored.items s.edges.items; line_room = s.line_room; edge_room = s.edge_room; faults = s.count } };
 
-    ghost invariant = { λ s. AreEnds 0 s.stored.items (length s.edges.items) × (length s.stored.items ≤ s.line_room) × (s.line_room ≤ vec_capacity s.stored)
+    ghost invariant = { λ s. EndsRise 0 s.stored.items (length s.edges.items) × (length s.stored.items ≤ s.line_room) × (s.line_room ≤ vec_capacity s.stored)
         × (length s.edges.items ≤ s.edge_room) × (s.edge_room ≤ vec_capacity s.edges) };
 }
 
@@ -84,10 +84,10 @@ impl TreeScribe {
 
     // Keeps a line, or counts a fault.
     fn keep(&mut self, kind: StoredKind, edges: &[EdgeName]) -> Result<(), ScribeFailed>
-        requires { IsEnd 0 kind (length edges.now) }
+        requires { IsSplitEnd 0 kind (length edges.now) }
         ensures ok { OnOk result (TreeGrew self.old (stored_line kind edges.now ∷ []) self.new) }
         ensures failed { OnErr result (TreeWasCut self.old (stored_line kind edges.now ∷ []) self.new) }
-        ensures rose { OnErr result (Rose self.old.faults self.new.faults) }
+        ensures rose { OnErr result (FaultCounted self.old.faults self.new.faults) }
     {
         if !has_room(
             self.stored.len(),
@@ -133,7 +133,7 @@ fn has_room(lines: usize, line_room: usize, edges: usize, more: usize, edge_room
 
 // A stored line, lent.
 fn line_at<'a>(stored: &[Stored], edges: &'a [EdgeName], k: usize) -> Line<'a>
-    requires ends { AreEnds 0 stored.now (length edges.now) }
+    requires ends { EndsRise 0 stored.now (length edges.now) }
     requires line { k < length stored.now }
     ensures { slice_get (stored_lines 0 stored.now edges.now) k ≡ Some (lent_line result) }
 {

@@ -15,7 +15,7 @@ use Rattle.event_graph.specs.Edges.{edge}
 use Rattle.event_graph.specs.Network.{Constraint, IsCauseCount, IsConstraint, IsNet, Net, cause_count_of, named_causes}
 use Rattle.event_graph.proofs.EdgesMet.{All-found, cause_of}
 use Rattle.chains.specs.Chain.{IsTight}
-use Rattle.chains.specs.Closed.{Has, IsClosed, IsClosedAt}
+use Rattle.chains.specs.Closed.{Has, IsClosedSet, DoesNotEnter}
 use Rattle.chains.specs.Step.Spreading.{IsSpread, IsTightEdge, LooksAt, Spread, spread_at, spread_by}
 use Rattle.chains.proofs.Raised.{some_and}
 
@@ -23,21 +23,21 @@ use Rattle.chains.proofs.Raised.{some_and}
 
 -- the edge leads into no set that lacks its end or has its start
 pub closed_at : (net : Net) (times : List ℤ) (set : List Bool) (name : EdgeName) (e : Edge) → edge net name ≡ Some e → (Has set e.to → Has set e.from)
-    → IsClosedAt net times set name
+    → DoesNotEnter net times set name
 closed_at net times set name e is_edge enters tight = rw is_edge enters
 
 -- an edge that the times do not meet with equality leads into no set
-pub closed_loose : (net : Net) (times : List ℤ) (set : List Bool) (name : EdgeName) → (IsTight net times name → ⊥) → IsClosedAt net times set name
+pub closed_loose : (net : Net) (times : List ℤ) (set : List Bool) (name : EdgeName) → (IsTight net times name → ⊥) → DoesNotEnter net times set name
 closed_loose net times set name loose tight = absurd (loose tight)
 
 -- an edge was looked at by which no event is reached
-pub looked_past : (net : Net) (times : List ℤ) (name : EdgeName) (spread : Spread) → IsClosedAt net times spread.reached name
+pub looked_past : (net : Net) (times : List ℤ) (name : EdgeName) (spread : Spread) → DoesNotEnter net times spread.reached name
     → LooksAt net times (λ other. other ≡ name) spread spread
 looked_past net times name spread closed = record {
   events = refl;
   spreads = λ to is. is;
   more = omega arith;
-  none = λ same. (refl, λ other is. subst (IsClosedAt net times spread.reached) (sym is) closed);
+  none = λ same. (refl, λ other is. subst (DoesNotEnter net times spread.reached) (sym is) closed);
 }
 
 same_event : (a b : EventId) → a.0 ≡ b.0 → a ≡ b
@@ -88,7 +88,7 @@ looked_further net times First Second Seen old mid new first second among = reco
         after.0 ∙ before.0,
         λ name seen tight. elim (among name tight seen) [
           | inl in_first ↦ before.1 name in_first tight
-          | inr in_second ↦ subst (λ (s : Spread). IsClosedAt net times s.reached name) before.0 (after.1 name in_second) tight
+          | inr in_second ↦ subst (λ (s : Spread). DoesNotEnter net times s.reached name) before.0 (after.1 name in_second) tight
         ],
       );
 }
@@ -212,9 +212,9 @@ looked_again net times Again old mid new all again = looked_further net times Is
 
 -- where no event is new the reached events are closed
 pub closed_then : (net : Net) (times : List ℤ) (old new : Spread) → LooksAt net times IsAny old new → length new.found ≡ length old.found
-    → IsClosed net times new.reached
+    → IsClosedSet net times new.reached
 closed_then net times old new looked same name =
-    subst (λ (s : Spread). IsClosedAt net times s.reached name) (sym (looked.none same).0) ((looked.none same).1 name tt)
+    subst (λ (s : Spread). DoesNotEnter net times s.reached name) (sym (looked.none same).0) ((looked.none same).1 name tt)
 
 -- and one that was not reached is not reached
 pub unreached_then : (net : Net) (times : List ℤ) (old new : Spread) (event : EventId) → LooksAt net times IsAny old new → length new.found ≡ length old.found

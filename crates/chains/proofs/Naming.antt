@@ -9,7 +9,7 @@ use Rattle.event_graph.specs.declared.edge.Edge.{Edge}
 use Rattle.event_graph.specs.Network.{Constraint, Net}
 use Rattle.event_graph.specs.Satisfying.{Holds, IsAfter, IsBefore}
 use Rattle.event_graph.specs.Edges.{choice_side, edge, holds_always, side_edge}
-use Rattle.event_graph.specs.Proof.{Bound, Case, ClosesByLoop, ClosesByPath, HasChoice, IsProof, IsUsable, IsWalk, Loop, MaySplit, Nothing, Path, ProofGoal, ProofLine, Reads, Split, cases_from, cases_of, count_causes, path_sum, weight_of}
+use Rattle.event_graph.specs.Proof.{Bound, Case, ClosesByLoop, ClosesByPath, HasChoice, IsProof, IsUsable, IsWalk, Loop, MaySplit, Nothing, Path, ProofGoal, ProofLine, ProofLeaves, Split, cases_from, cases_of, count_causes, path_sum, weight_of}
 use Rattle.event_graph.proofs.EdgesMet.{found_below}
 use Rattle.event_graph.proofs.SoundProofs.{proof_bounds, proof_of_nothing}
 use Rattle.chains.specs.Laws.{NamedBound, NamedContradict, OnlyIsOf, OnlyIsWider}
@@ -175,12 +175,12 @@ module _ (other net : Net) (events : other.events ≡ net.events) where
 
   -- lines are read alike in networks that agree in each constraint that they name
   agree_reads : (goal : ProofGoal) (lines : List ProofLine) (cases left : List Case) → ((number : ℕ) → SomeNames lines number → Agree other net number)
-      → Reads net goal cases lines left → Reads other goal cases lines left
+      → ProofLeaves net goal cases lines left → ProofLeaves other goal cases lines left
   agree_reads goal [] cases left agrees reads = reads
   agree_reads goal (line ∷ lines) [] left agrees reads = reads
   agree_reads goal (Split number ∷ lines) (chosen ∷ cases) left agrees reads = (
     split_agrees chosen number (agrees number (inl refl)) reads.0,
-    subst (λ (cs : List Case). Reads other goal (cs ++ cases) lines left) (sym (cases_agree chosen number (agrees number (inl refl))))
+    subst (λ (cs : List Case). ProofLeaves other goal (cs ++ cases) lines left) (sym (cases_agree chosen number (agrees number (inl refl))))
         (agree_reads goal lines (cases_of net chosen number ++ cases) left (λ n some. agrees n (inr some)) reads.1),
   )
   agree_reads goal (Path names ∷ lines) (chosen ∷ cases) left agrees reads =

@@ -17,7 +17,7 @@ use Rattle.event_graph.proofs.ByEdges.{holds_by_edges}
 use Rattle.event_graph.proofs.EdgesMet.{at_some, met_if_some}
 use Rattle.event_graph.proofs.Rays.{length-raised}
 use Rattle.chains.specs.Chain.{AreBest, IsChain, IsExceeded, IsTight}
-use Rattle.chains.specs.Closed.{Has, IsClosed, IsClosedAt}
+use Rattle.chains.specs.Closed.{Has, IsClosedSet, DoesNotEnter}
 use Rattle.chains.specs.Laws.{ChainSums, ClosedSetRises}
 
 -- ---- times of raised events
@@ -53,7 +53,7 @@ kept earlier later weight false true meets closed =
     (λ least. let tight : (later -ℤ earlier) ≡ weight = omega (arith, ints) in absurd (false≢true (closed tight refl)))
 
 -- an edge that the times meet is met by the raised ones
-meets_raised : (net : Net) (times : List ℤ) (set : List Bool) (name : EdgeName) (e : Edge) → length set ≡ length times → IsClosedAt net times set name
+meets_raised : (net : Net) (times : List ℤ) (set : List Bool) (name : EdgeName) (e : Edge) → length set ≡ length times → DoesNotEnter net times set name
     → edge net name ≡ Some e → Meets times e → Meets (raised set 1 times) e
 meets_raised net times set name e same closed is_edge meets =
     let tight : separation times e.from e.to ≡ e.weight → IsTight net times name = λ is_tight. rw is_edge is_tight in
@@ -64,12 +64,12 @@ meets_raised net times set name e same closed is_edge meets =
 
 -- ---- all constraints
 
-always_raised : (net : Net) (times : List ℤ) (set : List Bool) (number : ℕ) → length set ≡ length times → IsClosed net times set → MeetsAlwaysOf times net number
+always_raised : (net : Net) (times : List ℤ) (set : List Bool) (number : ℕ) → length set ≡ length times → IsClosedSet net times set → MeetsAlwaysOf times net number
     → MeetsAlwaysOf (raised set 1 times) net number
 always_raised net times set number same closed meets name e is_number always is_edge =
     meets_raised net times set name e same (closed name) is_edge (meets name e is_number always is_edge)
 
-choice_raised : (net : Net) (times : List ℤ) (set : List Bool) (number : ℕ) (c : Constraint) → length set ≡ length times → IsClosed net times set
+choice_raised : (net : Net) (times : List ℤ) (set : List Bool) (number : ℕ) (c : Constraint) → length set ≡ length times → IsClosedSet net times set
     → MeetsSomeChoice times net number c → MeetsSomeChoice (raised set 1 times) net number c
 choice_raised net times set number c same closed (cause, within, met) =
     let name : EdgeName = record { constraint = number; cause = cause; side = choice_side c.kind } in (
@@ -79,7 +79,7 @@ choice_raised net times set number c same closed (cause, within, met) =
           (λ e is_edge. meets_raised net times set name e same (closed name) is_edge (at_some (Meets times) (edge net name) e is_edge met)),
     )
 
-constraint_raised : (net : Net) (times : List ℤ) (set : List Bool) (number : ℕ) (c : Constraint) → IsNet net → length set ≡ length times → IsClosed net times set
+constraint_raised : (net : Net) (times : List ℤ) (set : List Bool) (number : ℕ) (c : Constraint) → IsNet net → length set ≡ length times → IsClosedSet net times set
     → slice_get net.constraints number ≡ Some c → Holds times c → Holds (raised set 1 times) c
 constraint_raised net times set number c is_net same closed at_c holds =
     let met : MeetsAlwaysOf times net number × (HasChoice c.kind → MeetsSomeChoice times net number c) = (holds_by_edges net number c times is_net at_c).0 holds in
@@ -98,7 +98,7 @@ closed_set_rises net times set is_net count satisfies closed =
     }
 
 -- where the from-event is outside of a closed set that has the to-event, the raised times have a greater separation
-pub unreached_exceeded : (net : Net) (times : List ℤ) (set : List Bool) (from to : EventId) → IsNet net → length set ≡ net.events → IsClosed net times set
+pub unreached_exceeded : (net : Net) (times : List ℤ) (set : List Bool) (from to : EventId) → IsNet net → length set ≡ net.events → IsClosedSet net times set
     → Has set to → (Has set from → ⊥) → Satisfies times net → IsExceeded net times from to
 unreached_exceeded net times set from to is_net count closed has lacks satisfies =
     let same : length set ≡ length times = count ∙ sym satisfies.count in
@@ -149,7 +149,7 @@ pub chain_sums : ChainSums
 chain_sums net times from to names chain = sums net times to names from chain.walk chain.tight
 
 -- a closed set that has the end of a walk along tight edges has its start
-pub walk_within : (net : Net) (times : List ℤ) (set : List Bool) (to : EventId) (names : List EdgeName) (from : EventId) → IsClosed net times set → Has set to
+pub walk_within : (net : Net) (times : List ℤ) (set : List Bool) (to : EventId) (names : List EdgeName) (from : EventId) → IsClosedSet net times set → Has set to
     → IsWalk net from names to → All (IsTight net times) names → Has set from
 walk_within net times set to [] from closed has walk tight = subst (Has set) (sym walk) has
 walk_within net times set to (name ∷ names) from closed has walk tight =
@@ -160,6 +160,6 @@ walk_within net times set to (name ∷ names) from closed has walk tight =
     subst (Has set) found.2.0 (enters later)
 
 -- so no chain leads into one from outside
-pub no_chain : (net : Net) (times : List ℤ) (set : List Bool) (from to : EventId) → IsClosed net times set → Has set to → (Has set from → ⊥) → (names : List EdgeName)
+pub no_chain : (net : Net) (times : List ℤ) (set : List Bool) (from to : EventId) → IsClosedSet net times set → Has set to → (Has set from → ⊥) → (names : List EdgeName)
     → IsChain net times from to names → ⊥
 no_chain net times set from to closed has lacks names chain = lacks (walk_within net times set to names from closed has chain.walk chain.tight)

@@ -27,6 +27,6 @@ pub record AreBest (net : Net) (times : List ℤ) (from to : EventId) : Type 0 w
   pub most : (others : List ℤ) → Satisfies others net → separation others from to ≤ℤ separation times from to
 
 -- the number of events of the networks that a memory is for, and the chain that was found last
-pub record Found : Type 0 where
+pub record ChainsView : Type 0 where
   pub events : ℕ
   pub names : List EdgeName

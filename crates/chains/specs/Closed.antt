@@ -11,9 +11,9 @@ abbrev pub Has : List Bool → EventId → Type 0
 Has set event = IsTrue (slice_index_or set event.0 false)
 
 -- the named edge does not lead into the set from outside, or the times do not meet it with equality
-abbrev pub IsClosedAt : Net → List ℤ → List Bool → EdgeName → Type 0
-IsClosedAt net times set name = IsTight net times name → IfSome (edge net name) (λ e. Has set e.to → Has set e.from)
+abbrev pub DoesNotEnter : Net → List ℤ → List Bool → EdgeName → Type 0
+DoesNotEnter net times set name = IsTight net times name → IfSome (edge net name) (λ e. Has set e.to → Has set e.from)
 
 -- no edge that the times meet with equality leads into the set from outside
-abbrev pub IsClosed : Net → List ℤ → List Bool → Type 0
-IsClosed net times set = (name : EdgeName) → IsClosedAt net times set name
+abbrev pub IsClosedSet : Net → List ℤ → List Bool → Type 0
+IsClosedSet net times set = (name : EdgeName) → DoesNotEnter net times set name

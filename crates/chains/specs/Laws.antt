@@ -7,7 +7,7 @@ use Rattle.event_graph.specs.Proof.{Bound, IsProof, Nothing, ProofLine, path_sum
 use Rattle.event_graph.specs.Satisfying.{Satisfies}
 use Rattle.event_graph.specs.Times.{raised, separation}
 use Rattle.chains.specs.Chain.{IsChain}
-use Rattle.chains.specs.Closed.{IsClosed}
+use Rattle.chains.specs.Closed.{IsClosedSet}
 use Rattle.chains.specs.Named.{HasNames, IsContradiction, SatisfiesOf}
 use Rattle.chains.specs.Only.{only_net}
 
@@ -18,7 +18,7 @@ ChainSums = (net : Net) (times : List ℤ) (from to : EventId) (names : List Edg
 
 -- satisfying times go on satisfying with one picosecond more for each event of a closed set
 abbrev pub ClosedSetRises : Type 0
-ClosedSetRises = (net : Net) (times : List ℤ) (set : List Bool) → IsNet net → length set ≡ net.events → Satisfies times net → IsClosed net times set
+ClosedSetRises = (net : Net) (times : List ℤ) (set : List Bool) → IsNet net → length set ≡ net.events → Satisfies times net → IsClosedSet net times set
     → Satisfies (raised set 1 times) net
 
 -- the constraints that a proof of nothing names contradict each other by themselves

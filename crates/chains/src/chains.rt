@@ -24,9 +24,9 @@ pub struct Chains {
 
 impl Model for Chains {
     ghost use Rattle.std.specs.Prelude.{◌≤◌, length, vec_capacity};
-    ghost use Rattle.chains.specs.Chain.{Found};
+    ghost use Rattle.chains.specs.Chain.{ChainsView};
 
-    ghost Value = { Found };
+    ghost Value = { ChainsView };
 
     ghost view = { λ c. record { events = length c.spread.reached; names = c.names.items } };
 

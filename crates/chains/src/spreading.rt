@@ -6,7 +6,7 @@ ghost use Rattle.itv_base.specs.declared.names.EventId.{EventId as EventIdOf};
 ghost use Rattle.event_graph.specs.Network.{IsNet};
 ghost use Rattle.event_graph.specs.Times.{IsTime, separation};
 ghost use Rattle.chains.specs.Chain.{IsTight};
-ghost use Rattle.chains.specs.Closed.{Has, IsClosed};
+ghost use Rattle.chains.specs.Closed.{Has, IsClosedSet};
 ghost use Rattle.chains.specs.Step.Spreading.{IsSpread, IsTightEdge, LooksAt};
 
 use crate::spread::Spread;
@@ -25,7 +25,7 @@ pub fn spread_back(net: &Network, times: &[i64], from: EventId, spread: &mut Spr
         → IsSpread net.now times.now to spread.new }
     ensures reached { IsTrue result → Has spread.new.reached from }
     ensures unreached { result ≡ false → Has spread.new.reached from → ⊥ }
-    ensures closed { result ≡ false → IsClosed net.now times.now spread.new.reached }
+    ensures closed { result ≡ false → IsClosedSet net.now times.now spread.new.reached }
 {
     while !spread.has(from) {
         let count = spread.len();

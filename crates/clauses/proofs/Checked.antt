@@ -12,11 +12,11 @@ use Rattle.falling.specs.Course.{AreLimits}
 use Rattle.falling.specs.Derivation.{starting_values}
 use Rattle.falling.proofs.Bounding.{length-starting, past_end, replicated, set_at, some_and}
 use Rattle.clauses.specs.declared.way.Way.{Way}
-use Rattle.clauses.specs.declared.basis.Step.{Step}
+use Rattle.clauses.specs.declared.basis.WalkStep.{WalkStep}
 use Rattle.clauses.specs.Checking.{IsNearClause, IsNearFrame, IsNearState}
 use Rattle.clauses.specs.Clauses.{Clause}
 use Rattle.clauses.specs.Laws.{RaisedKeepsChecking, StartIsChecking, TakenLineKeepsChecking, claiming}
-use Rattle.clauses.specs.Lines.{Assume, Block, ClauseLine, Close, Fall, Frame, Goal, IsLine, IsNear, IsNearWalk, Know, Leads, Loop, State, Walk, Walks, frame_in, loop_clause, lowest, refuting, starting, with_frame_in}
+use Rattle.clauses.specs.Lines.{Assume, Block, ClauseLine, Close, Fall, Frame, Goal, IsLine, IsAddable, IsNearWalk, Know, ProofLeads, Loop, State, Walk, Walks, frame_in, loop_clause, lowest, refuting, starting, with_frame_in}
 use Rattle.clauses.proofs.Anys.{all_none}
 use Rattle.clauses.proofs.Proving.{claim_can_rise}
 use Rattle.clauses.proofs.Walking.{near_start}
@@ -90,7 +90,7 @@ changed_near : (net : Net) (state : State) (block : Option Block) (after : Frame
 changed_near net state None after is near follows = record { frame = follows near.frame; kept = near.kept; block = tt }
 changed_near net state (Some block) after is near follows = record { frame = near.frame; kept = near.kept; block = follows (near_frame_in net state (Some block) is near) }
 
-walks_near : (net : Net) (kept : List Clause) (walk : Walk) (steps : List Step) (after : Walk) → IsNearWalk walk → Walks net kept walk steps after → IsNearWalk after
+walks_near : (net : Net) (kept : List Clause) (walk : Walk) (steps : List WalkStep) (after : Walk) → IsNearWalk walk → Walks net kept walk steps after → IsNearWalk after
 walks_near net kept walk [] after near walks = subst IsNearWalk walks near
 walks_near net kept walk (step ∷ steps) after near (next, leads, rest) = walks_near net kept next steps after leads.6 rest
 
@@ -117,13 +117,13 @@ line_near net goal state Close next near closes =
     let (block, at_block, (ended, is_next)) = some_and state.block _ closes in
     subst (IsNearState net) (sym is_next) (record {
       frame = near.frame;
-      kept = All-push IsNearClause state.kept (refuting goal.from block.assumed) near.kept (all_none (λ (way : Way). IsNear way.weight));
+      kept = All-push IsNearClause state.kept (refuting goal.from block.assumed) near.kept (all_none (λ (way : Way). IsAddable way.weight));
       block = tt;
     })
 
 -- a line behind lines
-pub leads_more : (net : Net) (goal : Goal) (state : State) (lines : List ClauseLine) (after : State) (line : ClauseLine) (next : State) → Leads net goal state lines after
-    → IsLine net goal after line next → Leads net goal state (lines ++ line ∷ []) next
+pub leads_more : (net : Net) (goal : Goal) (state : State) (lines : List ClauseLine) (after : State) (line : ClauseLine) (next : State) → ProofLeads net goal state lines after
+    → IsLine net goal after line next → ProofLeads net goal state (lines ++ line ∷ []) next
 leads_more net goal state [] after line next leads is = (next, subst (λ (s : State). IsLine net goal s line next) (sym leads) is, refl)
 leads_more net goal state (first ∷ lines) after line next (between, is_first, rest) is = (between, is_first, leads_more net goal between lines after line next rest is)
 
@@ -138,9 +138,9 @@ start_is_checking net check are_limits in_from in_to is_start = record {
   near = subst (IsNearState net) (sym is_start) (near_starting net check.goal.from);
 }
 
-led_in : (net : Net) (goal other : Goal) (lines : List ClauseLine) (after : State) → other ≡ goal → Leads net goal (starting net goal.from) lines after
-    → Leads net other (starting net other.from) lines after
-led_in net goal other lines after same leads = subst (λ (g : Goal). Leads net g (starting net g.from) lines after) (sym same) leads
+led_in : (net : Net) (goal other : Goal) (lines : List ClauseLine) (after : State) → other ≡ goal → ProofLeads net goal (starting net goal.from) lines after
+    → ProofLeads net other (starting net other.from) lines after
+led_in net goal other lines after same leads = subst (λ (g : Goal). ProofLeads net g (starting net g.from) lines after) (sym same) leads
 
 pub taken_line_keeps_checking : TakenLineKeepsChecking
 taken_line_keeps_checking net old new line checking takes =
@@ -166,7 +166,7 @@ raised_keeps_checking net old new claim checking more same_limits is_goal same_s
       to = subst (λ (g : Goal). g.to.0 < net.events) (sym is_goal) checking.to;
       lines = (
         lines,
-        subst (λ (s : State). Leads net new.goal (starting net new.goal.from) lines s) (sym same_state)
+        subst (λ (s : State). ProofLeads net new.goal (starting net new.goal.from) lines s) (sym same_state)
             (led_in net (claiming old.goal claim) new.goal lines old.state is_goal (claim_can_rise net old.goal claim (starting net old.goal.from) lines old.state more leads)),
       );
       near = subst (IsNearState net) (sym same_state) checking.near;

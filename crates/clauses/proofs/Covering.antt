@@ -10,12 +10,12 @@ use Rattle.event_graph.specs.Satisfying.{Satisfies}
 use Rattle.event_graph.specs.Times.{time_of}
 use Rattle.falling.specs.Cap.{cap}
 use Rattle.falling.proofs.Bounding.{AreAbove, past_end, set_at, some_and}
-use Rattle.clauses.specs.declared.basis.Step.{Step}
+use Rattle.clauses.specs.declared.basis.WalkStep.{WalkStep}
 use Rattle.clauses.specs.declared.literal.Literal.{Literal}
 use Rattle.clauses.specs.declared.way.Way.{Way}
 use Rattle.clauses.specs.Clauses.{Clause, literal_edge, opposite}
 use Rattle.clauses.specs.Step.Clauses.{HoldsClause, HoldsLiteral, IsInWay}
-use Rattle.clauses.specs.Lines.{Assume, Block, ClauseLine, Close, Fall, Falls, Forces, Frame, Goal, IsEnded, IsLine, IsLoop, IsRefused, Know, Leads, Loop, State, StepsTo, Walk, Walks, frame_in, loop_clause, refuting, starting_walk, with_frame_in, with_others}
+use Rattle.clauses.specs.Lines.{Assume, Block, ClauseLine, Close, Fall, LowersTarget, Forces, Frame, Goal, IsEnded, IsLine, IsClauseLoop, IsKnownFalse, Know, ProofLeads, Loop, State, StepsTo, Walk, Walks, frame_in, loop_clause, refuting, starting_walk, with_frame_in, with_others}
 use Rattle.clauses.proofs.Anys.{any_element, any_left, any_none, any_right, any_weaker}
 use Rattle.clauses.proofs.Between.{IsBetween}
 use Rattle.clauses.proofs.Holding.{clause_holds}
@@ -60,10 +60,10 @@ above_set values times event value above least =
 -- ---- clauses in a frame
 
 -- none of the literals holds, where all are refused
-none_holds : (net : Net) (times : List ℤ) (frame : Frame) (literals : List Literal) → Covers net times frame → All (IsRefused frame) literals
+none_holds : (net : Net) (times : List ℤ) (frame : Frame) (literals : List Literal) → Covers net times frame → All (IsKnownFalse frame) literals
     → Any (HoldsLiteral net times) literals → ⊥
 none_holds net times frame literals covers refused some =
-    let (l, holds, is_refused) = any_element (HoldsLiteral net times) (IsRefused frame) literals refused some in
+    let (l, holds, is_refused) = any_element (HoldsLiteral net times) (IsKnownFalse frame) literals refused some in
     not_both net times l holds (All-contains (HoldsLiteral net times) frame.known (opposite l) covers.known is_refused)
 
 in_way_value : (values times : List ℤ) (target : EventId) (way : Way) (value : ℤ) → AreAbove values times → IsInWay times target way
@@ -73,13 +73,13 @@ in_way_value values times target way value above within gives =
     omega (arith, ints)
 
 falls_least : (net : Net) (times : List ℤ) (frame : Frame) (event : EventId) (value : ℤ) (c : Clause) → Covers net times frame → HoldsClause net times c
-    → Falls net frame event value c → time_of times event ≤ℤ value
+    → LowersTarget net frame event value c → time_of times event ≤ℤ value
 falls_least net times frame event value c covers (inl some) falls = absurd (none_holds net times frame c.literals covers falls.refused some)
 falls_least net times frame event value c covers (inr some) falls =
     let (way, within, gives) = any_element (IsInWay times c.target) (λ (way : Way). (time_of frame.values way.from +ℤ way.weight) ≤ℤ value) c.ways falls.ways some in
     subst (λ (e : EventId). time_of times e ≤ℤ value) falls.target (in_way_value frame.values times c.target way value covers.above within gives)
 
-forced_literal : (net : Net) (times : List ℤ) (frame : Frame) (l other : Literal) → Covers net times frame → HoldsLiteral net times other → (other ≡ l) ⊎ IsRefused frame other
+forced_literal : (net : Net) (times : List ℤ) (frame : Frame) (l other : Literal) → Covers net times frame → HoldsLiteral net times other → (other ≡ l) ⊎ IsKnownFalse frame other
     → HoldsLiteral net times l
 forced_literal net times frame l other covers holds (inl is) = subst (HoldsLiteral net times) is holds
 forced_literal net times frame l other covers holds (inr refused) =
@@ -88,7 +88,7 @@ forced_literal net times frame l other covers holds (inr refused) =
 forces_holds : (net : Net) (times : List ℤ) (frame : Frame) (l : Literal) (c : Clause) → Covers net times frame → HoldsClause net times c → Forces frame l c
     → HoldsLiteral net times l
 forces_holds net times frame l c covers (inl some) forces =
-    let (other, holds, either) = any_element (HoldsLiteral net times) (λ (other : Literal). (other ≡ l) ⊎ IsRefused frame other) c.literals forces.others some in
+    let (other, holds, either) = any_element (HoldsLiteral net times) (λ (other : Literal). (other ≡ l) ⊎ IsKnownFalse frame other) c.literals forces.others some in
     forced_literal net times frame l other covers holds either
 forces_holds net times frame l c covers (inr some) forces =
     absurd (any_none (IsInWay times c.target) (subst (Any (IsInWay times c.target)) forces.none some))
@@ -131,7 +131,7 @@ one_way c through way at i other at_other e =
 led_on : (event_time at_time from_time sum weight : ℤ) → event_time ≤ℤ (at_time +ℤ sum) → at_time ≤ℤ (from_time +ℤ weight) → event_time ≤ℤ (from_time +ℤ (sum +ℤ weight))
 led_on event_time at_time from_time sum weight p q = omega (arith, ints)
 
-step_holds : (net : Net) (kept : List Clause) (times : List ℤ) (event : EventId) (walk : Walk) (step : Step) (next : Walk) → Satisfies times net → All (HoldsClause net times) kept
+step_holds : (net : Net) (kept : List Clause) (times : List ℤ) (event : EventId) (walk : Walk) (step : WalkStep) (next : Walk) → Satisfies times net → All (HoldsClause net times) kept
     → StepsTo net kept walk step next → WalkHolds net times event walk → WalkHolds net times event next
 step_holds net kept times event walk step next h all (c, way, is_clause, is_target, at_way, is_next, near) (inl some) =
     subst (WalkHolds net times event) (sym is_next) (inl (any_left (HoldsLiteral net times) walk.literals c.literals some))
@@ -149,14 +149,14 @@ step_holds net kept times event walk step next h all (c, way, is_clause, is_targ
     subst (WalkHolds net times event) (sym is_next) (through_way net times event walk c step.through way _ refl refl refl refl
     (with_others_holds times event walk.sum 0 step.through c.ways walk.ways way (one_way c step.through way at_way) (inr some)))
 
-walk_holds : (net : Net) (kept : List Clause) (times : List ℤ) (event : EventId) (walk : Walk) (steps : List Step) (after : Walk) → Satisfies times net
+walk_holds : (net : Net) (kept : List Clause) (times : List ℤ) (event : EventId) (walk : Walk) (steps : List WalkStep) (after : Walk) → Satisfies times net
     → All (HoldsClause net times) kept → Walks net kept walk steps after → WalkHolds net times event walk → WalkHolds net times event after
 walk_holds net kept times event walk [] after h all walks holds = subst (WalkHolds net times event) walks holds
 walk_holds net kept times event walk (step ∷ steps) after h all (next, steps_to, rest) holds =
     walk_holds net kept times event next steps after h all rest (step_holds net kept times event walk step next h all steps_to holds)
 
-loop_holds : (net : Net) (kept : List Clause) (times : List ℤ) (event : EventId) (steps : List Step) (after : Walk) → Satisfies times net → All (HoldsClause net times) kept
-    → IsLoop net kept event steps after → HoldsClause net times (loop_clause event after)
+loop_holds : (net : Net) (kept : List Clause) (times : List ℤ) (event : EventId) (steps : List WalkStep) (after : Walk) → Satisfies times net → All (HoldsClause net times) kept
+    → IsClauseLoop net kept event steps after → HoldsClause net times (loop_clause event after)
 loop_holds net kept times event steps after h all loop =
     elim (walk_holds net kept times event (starting_walk event) steps after h all loop.walks (inr (inl (at_start (time_of times event))))) [
       | inl some ↦ inl some
@@ -231,7 +231,7 @@ line_keeps net goal times state Close next between keeps closes =
     })
 
 pub lead_keeps : (net : Net) (goal : Goal) (times : List ℤ) (state : State) (lines : List ClauseLine) (after : State) → IsBetween net goal times → Keeps net times state
-    → Leads net goal state lines after → Keeps net times after
+    → ProofLeads net goal state lines after → Keeps net times after
 lead_keeps net goal times state [] after between keeps leads = subst (Keeps net times) leads keeps
 lead_keeps net goal times state (line ∷ lines) after between keeps (next, is_line, rest) =
     lead_keeps net goal times next lines after between (line_keeps net goal times state line next between keeps is_line) rest

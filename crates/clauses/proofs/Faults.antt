@@ -7,7 +7,7 @@ use Rattle.event_graph.specs.Times.{time_of}
 use Rattle.event_graph.proofs.EdgesMet.{All-found}
 use Rattle.falling.proofs.Bounding.{some_and}
 use Rattle.clauses.specs.declared.basis.Basis.{Basis}
-use Rattle.clauses.specs.declared.basis.Step.{Step}
+use Rattle.clauses.specs.declared.basis.WalkStep.{WalkStep}
 use Rattle.clauses.specs.declared.fault.AssumeFault.TheVariants.{OpenEnd, NoMemory as AssumeWantsMemory}
 use Rattle.clauses.specs.declared.fault.CloseFault.TheVariants.{NoBlock, NotEnded, NoMemory as CloseWantsMemory}
 use Rattle.clauses.specs.declared.fault.FallLineFault.{FallLineFault}
@@ -23,7 +23,7 @@ use Rattle.clauses.specs.declared.way.Way.{Way}
 use Rattle.clauses.specs.Checking.{GivesMost, IsFallLineFault, IsFirstWithout, IsKnowFault, IsLoopFault, IsStepFault, IsThisOrRefused, MayFall, MayKnow}
 use Rattle.clauses.specs.Clauses.{Clause, IsClause, literal_edge}
 use Rattle.clauses.specs.Laws.{AssumeFaultForbids, CloseFaultForbids, FallFaultForbids, KnowFaultForbids, LoopFaultForbids}
-use Rattle.clauses.specs.Lines.{Block, Frame, IsEnded, IsLoop, IsNearWalk, IsRefused, StepsTo, Walk, frame_of, lowest, starting_walk, stepped}
+use Rattle.clauses.specs.Lines.{Block, Frame, IsEnded, IsClauseLoop, IsNearWalk, IsKnownFalse, StepsTo, Walk, frame_of, lowest, starting_walk, stepped}
 use Rattle.clauses.proofs.Shapes.{one_clause}
 use Rattle.clauses.proofs.Walking.{one_walk, step_at}
 
@@ -41,7 +41,7 @@ fall_refuted net kept frame event value basis NothingLowers none (d, is_d, falls
 fall_refuted net kept frame event value basis (LowersAnother target) ((c, is_c, is_target), other) (d, is_d, falls) =
     other (sym (moved net kept basis c d (λ (x : Clause). x.target ≡ target) is_c is_d is_target) ∙ falls.target)
 fall_refuted net kept frame event value basis (MayHold l) (c, is_c, (is_target, first)) (d, is_d, falls) =
-    first_refutes (IsRefused frame) d.literals l (moved net kept basis c d (λ (x : Clause). IsFirstWithout (IsRefused frame) x.literals l) is_c is_d first) falls.refused
+    first_refutes (IsKnownFalse frame) d.literals l (moved net kept basis c d (λ (x : Clause). IsFirstWithout (IsKnownFalse frame) x.literals l) is_c is_d first) falls.refused
 fall_refuted net kept frame event value basis (TooLow given) (c, is_c, (only, (way, first, is_given))) (d, is_d, falls) =
     first_refutes (GivesMost frame.values value) d.ways way (moved net kept basis c d (λ (x : Clause). IsFirstWithout (GivesMost frame.values value) x.ways way) is_c is_d first) falls.ways
 fall_refuted net kept frame event value basis (NotLower current) (some, is_current, not_lower) (d, is_d, falls) =
@@ -64,7 +64,7 @@ know_refuted net kept frame l basis (OtherMayHold held) other (c, is_c, (none, a
 know_refuted net kept frame l basis Known other (some, known) (d, is_d, forces) = forces.unknown known
 know_refuted net kept frame l basis KnowWantsMemory other h (d, is_d, forces) = other refl
 
-step_refuted : (net : Net) (kept : List Clause) (walk : Walk) (step : Step) (fault : StepFault) (next : Walk) → (fault ≡ StepWantsMemory → ⊥)
+step_refuted : (net : Net) (kept : List Clause) (walk : Walk) (step : WalkStep) (fault : StepFault) (next : Walk) → (fault ≡ StepWantsMemory → ⊥)
     → IsStepFault net kept walk step fault → StepsTo net kept walk step next → ⊥
 step_refuted net kept walk step NothingLeads next other none (d, way, is_d, target, at, is_next, near) = none d is_d
 step_refuted net kept walk step (LeadsFromAnother event) next other ((c, is_c, is_event), apart) (d, way, is_d, target, at, is_next, near) =
@@ -80,8 +80,8 @@ step_refuted net kept walk step TooWide next other (c, is_c, (is_target, wide)) 
     not_near (subst IsNearWalk is_next near)
 step_refuted net kept walk step StepWantsMemory next other h leads = other refl
 
-loop_refuted : (net : Net) (kept : List Clause) (event : EventId) (steps : List Step) (fault : LoopFault) (after : Walk) → (fault ≡ LoopWantsMemory → ⊥)
-    → IsLoopFault net kept event steps fault → IsLoop net kept event steps after → ⊥
+loop_refuted : (net : Net) (kept : List Clause) (event : EventId) (steps : List WalkStep) (fault : LoopFault) (after : Walk) → (fault ≡ LoopWantsMemory → ⊥)
+    → IsLoopFault net kept event steps fault → IsClauseLoop net kept event steps after → ⊥
 loop_refuted net kept event steps (AtStep number fault) after other (walk, step, walks, at, is_fault, not_memory) loop =
     let (next, leads) = step_at net kept (starting_walk event) steps number walk after step at walks loop.walks in
     step_refuted net kept walk step fault next not_memory is_fault leads

@@ -10,7 +10,7 @@ use Rattle.clauses.specs.declared.shape.Shape.{Shape}
 use Rattle.clauses.specs.declared.way.Way.{Way}
 use Rattle.clauses.specs.Checking.{AllowsValue, GivesMost, HasShape, MayFall, OfClause, SomeClause}
 use Rattle.clauses.specs.Clauses.{Clause}
-use Rattle.clauses.specs.Lines.{Frame, IsRefused, lowest}
+use Rattle.clauses.specs.Lines.{Frame, IsKnownFalse, lowest}
 use Rattle.clauses.proofs.Shapes.{one_clause}
 
 -- the one clause has the shape
@@ -57,7 +57,7 @@ literals_more net kept basis n P before here c is k x below at = elim (less_or_s
 -- ---- falls
 
 pub allows_value : (net : Net) (kept : List Clause) (frame : Frame) (event : EventId) (value : ℤ) (basis : Basis) (shape : Shape) → HasShape net kept basis shape
-    → shape.target ≡ event → OfClause net kept basis (λ c. All (IsRefused frame) c.literals) → OfClause net kept basis (λ c. All (GivesMost frame.values value) c.ways)
+    → shape.target ≡ event → OfClause net kept basis (λ c. All (IsKnownFalse frame) c.literals) → OfClause net kept basis (λ c. All (GivesMost frame.values value) c.ways)
     → SomeClause net kept basis (AllowsValue frame event value)
 allows_value net kept frame event value basis shape (d, is_d, target, literals, ways) same refused gives =
     (d, is_d, record { only = record { target = target ∙ same; refused = refused d is_d }; ways = gives d is_d })

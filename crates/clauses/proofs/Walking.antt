@@ -5,7 +5,7 @@ use Rattle.std.proofs.lemmas.List.{drop_all, drop_more, take_all, take_more}
 use Rattle.std.proofs.lemmas.Option.{get_or_from_slice_get, same_Some, slice_get_within}
 use Rattle.itv_base.specs.declared.names.EventId.{EventId}
 use Rattle.event_graph.specs.Network.{Net}
-use Rattle.clauses.specs.declared.basis.Step.{Step}
+use Rattle.clauses.specs.declared.basis.WalkStep.{WalkStep}
 use Rattle.clauses.specs.declared.literal.Literal.{Literal}
 use Rattle.clauses.specs.declared.way.Way.{Way}
 use Rattle.clauses.specs.Clauses.{Clause}
@@ -122,40 +122,40 @@ pub near_start : (event : EventId) → IsNearWalk (starting_walk event)
 near_start event = record { sum = (omega (arith, ints), omega (arith, ints)); ways = all_none _ }
 
 -- a step behind others
-walks_more : (net : Net) (kept : List Clause) (walk : Walk) (steps : List Step) (after : Walk) (step : Step) (next : Walk) → Walks net kept walk steps after
+walks_more : (net : Net) (kept : List Clause) (walk : Walk) (steps : List WalkStep) (after : Walk) (step : WalkStep) (next : Walk) → Walks net kept walk steps after
     → StepsTo net kept after step next → Walks net kept walk (steps ++ step ∷ []) next
 walks_more net kept walk [] after step next walks leads = (next, subst (λ (w : Walk). StepsTo net kept w step next) (sym walks) leads, refl)
 walks_more net kept walk (first ∷ steps) after step next (between, leads_first, rest) leads =
     (between, leads_first, walks_more net kept between steps after step next rest leads)
 
-pub walks_at : (net : Net) (kept : List Clause) (walk : Walk) (all : List Step) (place : ℕ) (after : Walk) (step : Step) (next : Walk) → slice_get all place ≡ Some step
+pub walks_at : (net : Net) (kept : List Clause) (walk : Walk) (all : List WalkStep) (place : ℕ) (after : Walk) (step : WalkStep) (next : Walk) → slice_get all place ≡ Some step
     → Walks net kept walk (take place all) after → StepsTo net kept after step next → Walks net kept walk (take (place + 1) all) next
 walks_at net kept walk all place after step next at walks leads =
-    subst (λ (steps : List Step). Walks net kept walk steps next) (take_at all place step at) (walks_more net kept walk (take place all) after step next walks leads)
+    subst (λ (steps : List WalkStep). Walks net kept walk steps next) (take_at all place step at) (walks_more net kept walk (take place all) after step next walks leads)
 
 -- ---- what leads nowhere
 
 -- a step leads to one walk
-one_step : (net : Net) (kept : List Clause) (walk : Walk) (step : Step) (a b : Walk) → StepsTo net kept walk step a → StepsTo net kept walk step b → a ≡ b
+one_step : (net : Net) (kept : List Clause) (walk : Walk) (step : WalkStep) (a b : Walk) → StepsTo net kept walk step a → StepsTo net kept walk step b → a ≡ b
 one_step net kept walk step a b (c, way, is_c, target_c, at_c, is_a, near_a) (d, other, is_d, target_d, at_d, is_b, near_b) =
     let same : c ≡ d = one_clause net kept step.basis c d is_c is_d in
     let at_same : slice_get d.ways step.through ≡ Some way = subst (λ (x : Clause). slice_get x.ways step.through ≡ Some way) same at_c in
     let same_way : way ≡ other = same_Some way other (sym at_same ∙ at_d) in
     is_a ∙ (ap (λ (x : Clause). stepped walk x step.through way) same ∙ (ap (λ (w : Way). stepped walk d step.through w) same_way ∙ sym is_b))
 
-pub one_walk : (net : Net) (kept : List Clause) (walk : Walk) (steps : List Step) (a b : Walk) → Walks net kept walk steps a → Walks net kept walk steps b → a ≡ b
+pub one_walk : (net : Net) (kept : List Clause) (walk : Walk) (steps : List WalkStep) (a b : Walk) → Walks net kept walk steps a → Walks net kept walk steps b → a ≡ b
 one_walk net kept walk [] a b p q = sym p ∙ q
 one_walk net kept walk (step ∷ steps) a b (next, leads_a, rest_a) (other, leads_b, rest_b) =
     let same : next ≡ other = one_step net kept walk step next other leads_a leads_b in
     one_walk net kept next steps a b rest_a (subst (λ (w : Walk). Walks net kept w steps b) (sym same) rest_b)
 
 -- the step at a place of steps that lead on leads on from where those before it lead
-pub step_at : (net : Net) (kept : List Clause) (walk : Walk) (all : List Step) (place : ℕ) (between after : Walk) (step : Step) → slice_get all place ≡ Some step
+pub step_at : (net : Net) (kept : List Clause) (walk : Walk) (all : List WalkStep) (place : ℕ) (between after : Walk) (step : WalkStep) → slice_get all place ≡ Some step
     → Walks net kept walk (take place all) between → Walks net kept walk all after → (next : Walk) × StepsTo net kept between step next
 step_at net kept walk [] place between after step at walks leads = absurd (cc)
 step_at net kept walk (first ∷ all) zero between after step at walks (next, leads_first, rest) =
     let same : first ≡ step = same_Some first step at in
-    (next, subst (λ (s : Step). StepsTo net kept between s next) same (subst (λ (w : Walk). StepsTo net kept w first next) walks leads_first))
+    (next, subst (λ (s : WalkStep). StepsTo net kept between s next) same (subst (λ (w : Walk). StepsTo net kept w first next) walks leads_first))
 step_at net kept walk (first ∷ all) (suc place) between after step at (near, leads_near, rest_near) (next, leads_first, rest) =
     let same : next ≡ near = one_step net kept walk first next near leads_first leads_near in
     step_at net kept near all place between after step at rest_near (subst (λ (w : Walk). Walks net kept w all after) same rest)

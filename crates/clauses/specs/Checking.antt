@@ -9,9 +9,9 @@ use Rattle.falling.specs.declared.limits.Limits.{Limits}
 use Rattle.falling.specs.Cap.{cap, cap_limit}
 use Rattle.falling.specs.Course.{AreLimits}
 use Rattle.clauses.specs.declared.basis.Basis.{Basis}
-use Rattle.clauses.specs.declared.basis.Step.{Step}
-use Rattle.clauses.specs.declared.decided.Verdict.{Verdict}
-use Rattle.clauses.specs.declared.decided.Verdict.TheVariants.{Closed, Inconsistent, Open}
+use Rattle.clauses.specs.declared.basis.WalkStep.{WalkStep}
+use Rattle.clauses.specs.declared.decided.ProofVerdict.{ProofVerdict}
+use Rattle.clauses.specs.declared.decided.ProofVerdict.TheVariants.{Closed, Inconsistent, Open}
 use Rattle.clauses.specs.declared.fault.AssumeFault.{AssumeFault}
 use Rattle.clauses.specs.declared.fault.AssumeFault.TheVariants.{OpenEnd, NoMemory as AssumeWantsMemory}
 use Rattle.clauses.specs.declared.fault.CloseFault.{CloseFault}
@@ -28,7 +28,7 @@ use Rattle.clauses.specs.declared.literal.Literal.{Literal}
 use Rattle.clauses.specs.declared.shape.Shape.{Shape}
 use Rattle.clauses.specs.declared.way.Way.{Way}
 use Rattle.clauses.specs.Clauses.{Clause, IsClause, literal_edge}
-use Rattle.clauses.specs.Lines.{Block, ClauseLine, Falls, Forces, Frame, Goal, IsEnded, IsLine, IsNear, IsNearWalk, IsOver, IsRefused, Leads, State, Walk, Walks, lowest, starting, starting_walk, stepped}
+use Rattle.clauses.specs.Lines.{Block, ClauseLine, LowersTarget, Forces, Frame, Goal, IsEnded, IsLine, IsAddable, IsNearWalk, IsOver, IsKnownFalse, ProofLeads, State, Walk, Walks, lowest, starting, starting_walk, stepped}
 
 -- there is a clause of the basis, with this target and these numbers of literals and ways
 abbrev pub HasShape : Net → List Clause → Basis → Shape → Type 0
@@ -49,7 +49,7 @@ SomeClause net kept basis P = (c : Clause) × IsClause net kept basis c × P c
 
 -- an event may fall to a value by the basis
 abbrev pub MayFall : Net → List Clause → Frame → EventId → ℤ → Basis → Type 0
-MayFall net kept frame event value basis = SomeClause net kept basis (Falls net frame event value)
+MayFall net kept frame event value basis = SomeClause net kept basis (LowersTarget net frame event value)
 
 -- a literal may be known by the basis
 abbrev pub MayKnow : Net → List Clause → Frame → Literal → Basis → Type 0
@@ -76,7 +76,7 @@ IsFirstMore values value ways given =
 -- a clause with this target, none of whose literals can hold
 pub record HasOnlyWays (frame : Frame) (event : EventId) (c : Clause) : Type 0 where
   pub target : c.target ≡ event
-  pub refused : All (IsRefused frame) c.literals
+  pub refused : All (IsKnownFalse frame) c.literals
 
 -- a clause with this target, none of whose literals can hold and none of whose ways gives more than a value
 pub record AllowsValue (frame : Frame) (event : EventId) (value : ℤ) (c : Clause) : Type 0 where
@@ -89,7 +89,7 @@ IsFallLineFault net kept frame event value basis NothingLowers = HasNoClause net
 IsFallLineFault net kept frame event value basis (LowersAnother target) =
     SomeClause net kept basis (λ c. c.target ≡ target) × (target ≡ event → ⊥)
 IsFallLineFault net kept frame event value basis (MayHold l) =
-    SomeClause net kept basis (λ c. (c.target ≡ event) × IsFirstWithout (IsRefused frame) c.literals l)
+    SomeClause net kept basis (λ c. (c.target ≡ event) × IsFirstWithout (IsKnownFalse frame) c.literals l)
 IsFallLineFault net kept frame event value basis (TooLow given) =
     SomeClause net kept basis (λ c. HasOnlyWays frame event c × IsFirstMore frame.values value c.ways given)
 IsFallLineFault net kept frame event value basis (NotLower current) =
@@ -99,7 +99,7 @@ IsFallLineFault net kept frame event value basis BelowLeast =
 
 -- a literal of a clause is this one, or is known not to hold
 abbrev pub IsThisOrRefused : Frame → Literal → Literal → Type 0
-IsThisOrRefused frame l other = (other ≡ l) ⊎ IsRefused frame other
+IsThisOrRefused frame l other = (other ≡ l) ⊎ IsKnownFalse frame other
 
 -- the first fault of a literal that is to be known
 abbrev pub IsKnowFault : Net → List Clause → Frame → Literal → Basis → KnowFault → Type 0
@@ -114,7 +114,7 @@ IsKnowFault net kept frame l basis Known =
 IsKnowFault net kept frame l basis KnowWantsMemory = Unit {0}
 
 -- the first fault of a step from a walk
-abbrev pub IsStepFault : Net → List Clause → Walk → Step → StepFault → Type 0
+abbrev pub IsStepFault : Net → List Clause → Walk → WalkStep → StepFault → Type 0
 IsStepFault net kept walk step NothingLeads = HasNoClause net kept step.basis
 IsStepFault net kept walk step (LeadsFromAnother target) =
     SomeClause net kept step.basis (λ c. c.target ≡ target) × (target ≡ walk.at → ⊥)
@@ -126,9 +126,9 @@ IsStepFault net kept walk step TooWide =
 IsStepFault net kept walk step StepWantsMemory = Unit {0}
 
 -- the first fault of a loop: that of the step of a number from 0, which those before lead to, or that all steps lead elsewhere, or by too much
-abbrev pub IsLoopFault : Net → List Clause → EventId → List Step → LoopFault → Type 0
+abbrev pub IsLoopFault : Net → List Clause → EventId → List WalkStep → LoopFault → Type 0
 IsLoopFault net kept event steps (AtStep number fault) =
-    (walk : Walk) × (step : Step) × Walks net kept (starting_walk event) (take number steps) walk × (slice_get steps number ≡ Some step)
+    (walk : Walk) × (step : WalkStep) × Walks net kept (starting_walk event) (take number steps) walk × (slice_get steps number ≡ Some step)
     × IsStepFault net kept walk step fault × (fault ≡ StepWantsMemory → ⊥)
 IsLoopFault net kept event steps (NotBack at) =
     (walk : Walk) × Walks net kept (starting_walk event) steps walk × (walk.at ≡ at) × (at ≡ event → ⊥)
@@ -151,7 +151,7 @@ IsCloseFault net goal state CloseWantsMemory = Unit {0}
 
 -- the weights of a clause can be added to values
 abbrev pub IsNearClause : Clause → Type 0
-IsNearClause c = All (λ (way : Way). IsNear way.weight) c.ways
+IsNearClause c = All (λ (way : Way). IsAddable way.weight) c.ways
 
 -- a value of a frame is from one below minus the greatest cap up to that cap, so that the weight of a way can be added to it
 abbrev pub IsFrameValue : ℤ → Type 0
@@ -180,7 +180,7 @@ pub record IsChecking (net : Net) (check : Checking) : Type 0 where
   pub limits : AreLimits net check.limits
   pub from : check.goal.from.0 < net.events
   pub to : check.goal.to.0 < net.events
-  pub lines : (lines : List ClauseLine) × Leads net check.goal (starting net check.goal.from) lines check.state
+  pub lines : (lines : List ClauseLine) × ProofLeads net check.goal (starting net check.goal.from) lines check.state
   pub near : IsNearState net check.state
 
 -- the line leads from one to the other
@@ -190,7 +190,7 @@ pub record TakesLine (net : Net) (old : Checking) (taken : ClauseLine) (new : Ch
   pub line : IsLine net old.goal old.state taken new.state
 
 -- what a proof and times say of the pair of a goal: the claim is the greatest separation and they attain it, or no times satisfy, or it is open
-abbrev pub IsVerdict : Net → Goal → List ℤ → Verdict → Type 0
+abbrev pub IsVerdict : Net → Goal → List ℤ → ProofVerdict → Type 0
 IsVerdict net goal times (Closed value) =
     (value ≡ goal.claim) × IsGreatest net goal.from goal.to value × Satisfies times net × (separation times goal.from goal.to ≡ value)
 IsVerdict net goal times Inconsistent = IsInconsistent net

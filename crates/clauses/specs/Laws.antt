@@ -9,7 +9,7 @@ use Rattle.falling.specs.Cap.{far_line}
 use Rattle.falling.specs.Kinds.{negated}
 use Rattle.falling.specs.Course.{AreLimits}
 use Rattle.clauses.specs.declared.basis.Basis.{Basis}
-use Rattle.clauses.specs.declared.basis.Step.{Step}
+use Rattle.clauses.specs.declared.basis.WalkStep.{WalkStep}
 use Rattle.clauses.specs.declared.fault.AssumeFault.{AssumeFault}
 use Rattle.clauses.specs.declared.fault.AssumeFault.TheVariants.{NoMemory as AssumeWantsMemory}
 use Rattle.clauses.specs.declared.fault.CloseFault.{CloseFault}
@@ -21,7 +21,7 @@ use Rattle.clauses.specs.declared.fault.LoopFault.{LoopFault}
 use Rattle.clauses.specs.declared.fault.LoopFault.TheVariants.{NoMemory as LoopWantsMemory}
 use Rattle.clauses.specs.declared.literal.Literal.{Literal}
 use Rattle.clauses.specs.Checking.{Checking, IsAssumeFault, IsChecking, IsCloseFault, IsFallLineFault, IsKnowFault, IsLoopFault, TakesLine}
-use Rattle.clauses.specs.Lines.{Assume, ClauseLine, Close, Fall, Goal, IsClauseProof, IsLine, Know, Leads, Loop, State, frame_of, starting}
+use Rattle.clauses.specs.Lines.{Assume, ClauseLine, Close, Fall, Goal, IsClauseProof, IsLine, Know, ProofLeads, Loop, State, frame_of, starting}
 
 -- no satisfying separation of the pair exceeds the claim of a proof that is below the far line
 abbrev pub ClauseProofBounds : Type 0
@@ -50,8 +50,8 @@ claiming goal claim = record { from = goal.from; to = goal.to; claim = claim }
 
 -- lines lead as far where more is claimed
 abbrev pub ClaimCanRise : Type 0
-ClaimCanRise = (net : Net) (goal : Goal) (claim : ℤ) (state : State) (lines : List ClauseLine) (after : State) → goal.claim ≤ℤ claim → Leads net goal state lines after
-    → Leads net (claiming goal claim) state lines after
+ClaimCanRise = (net : Net) (goal : Goal) (claim : ℤ) (state : State) (lines : List ClauseLine) (after : State) → goal.claim ≤ℤ claim → ProofLeads net goal state lines after
+    → ProofLeads net (claiming goal claim) state lines after
 
 -- a proof and times that attain its claim give the greatest separation
 abbrev pub ProofAndTimesClose : Type 0
@@ -71,7 +71,7 @@ KnowFaultForbids = (net : Net) (goal : Goal) (state : State) (l : Literal) (basi
 
 -- a loop
 abbrev pub LoopFaultForbids : Type 0
-LoopFaultForbids = (net : Net) (goal : Goal) (state : State) (event : EventId) (steps : List Step) (fault : LoopFault) (next : State) → (fault ≡ LoopWantsMemory → ⊥)
+LoopFaultForbids = (net : Net) (goal : Goal) (state : State) (event : EventId) (steps : List WalkStep) (fault : LoopFault) (next : State) → (fault ≡ LoopWantsMemory → ⊥)
     → IsLoopFault net state.kept event steps fault → IsLine net goal state (Loop event steps) next → ⊥
 
 -- a block that opens

@@ -6,7 +6,7 @@ use Rattle.event_graph.specs.Times.{time_of}
 use Rattle.falling.specs.Cap.{cap}
 use Rattle.falling.specs.Derivation.{starting_values}
 use Rattle.clauses.specs.declared.basis.Basis.{Basis}
-use Rattle.clauses.specs.declared.basis.Step.{Step}
+use Rattle.clauses.specs.declared.basis.WalkStep.{WalkStep}
 use Rattle.clauses.specs.declared.literal.Literal.{Literal}
 use Rattle.clauses.specs.declared.way.Way.{Way}
 use Rattle.clauses.specs.Clauses.{Clause, IsClause, literal_edge, opposite}
@@ -22,7 +22,7 @@ pub record Goal : Type 0 where
 pub data ClauseLine : Type 0 where
   Fall : EventId → ℤ → Basis → ClauseLine
   Know : Literal → Basis → ClauseLine
-  Loop : EventId → List Step → ClauseLine
+  Loop : EventId → List WalkStep → ClauseLine
   Assume : List Literal → ClauseLine
   Close : ClauseLine
 
@@ -63,17 +63,17 @@ abbrev pub with_frame : State → Frame → State
 with_frame state frame = with_frame_in state state.block frame
 
 -- the literal is known not to hold
-abbrev pub IsRefused : Frame → Literal → Type 0
-IsRefused frame l = Contains frame.known (opposite l)
+abbrev pub IsKnownFalse : Frame → Literal → Type 0
+IsKnownFalse frame l = Contains frame.known (opposite l)
 
 -- the least value that a line may give
 abbrev pub lowest : Net → ℤ
 lowest net = neg_ℤ (pos (cap net + 1))
 
 -- a clause none of whose literals can hold gives its target a value, which lies below the one it has
-pub record Falls (net : Net) (frame : Frame) (event : EventId) (value : ℤ) (c : Clause) : Type 0 where
+pub record LowersTarget (net : Net) (frame : Frame) (event : EventId) (value : ℤ) (c : Clause) : Type 0 where
   pub target : c.target ≡ event
-  pub refused : All (IsRefused frame) c.literals
+  pub refused : All (IsKnownFalse frame) c.literals
   pub ways : All (λ (way : Way). (time_of frame.values way.from +ℤ way.weight) ≤ℤ value) c.ways
   pub least : lowest net ≤ℤ value
   pub lower : value <ℤ time_of frame.values event
@@ -81,7 +81,7 @@ pub record Falls (net : Net) (frame : Frame) (event : EventId) (value : ℤ) (c 
 -- a clause without ways, of whose literals only this one can hold
 pub record Forces (frame : Frame) (l : Literal) (c : Clause) : Type 0 where
   pub among : Contains c.literals l
-  pub others : All (λ (other : Literal). (other ≡ l) ⊎ IsRefused frame other) c.literals
+  pub others : All (λ (other : Literal). (other ≡ l) ⊎ IsKnownFalse frame other) c.literals
   pub none : c.ways ≡ []
   pub unknown : Contains frame.known l → ⊥
 
@@ -120,22 +120,22 @@ stepped walk c through way =
     record { literals = walk.literals ++ c.literals; at = way.from; sum = walk.sum +ℤ way.weight; ways = with_others walk.sum 0 through c.ways walk.ways }
 
 -- a number to which another can be added
-abbrev pub IsNear : ℤ → Type 0
-IsNear z = (neg_ℤ (pos (2 ^ 60)) ≤ℤ z) × (z ≤ℤ pos (2 ^ 60))
+abbrev pub IsAddable : ℤ → Type 0
+IsAddable z = (neg_ℤ (pos (2 ^ 60)) ≤ℤ z) × (z ≤ℤ pos (2 ^ 60))
 
 -- the numbers of a walk can be added
 pub record IsNearWalk (walk : Walk) : Type 0 where
-  pub sum : IsNear walk.sum
-  pub ways : All (λ (way : Way). IsNear way.weight) walk.ways
+  pub sum : IsAddable walk.sum
+  pub ways : All (λ (way : Way). IsAddable way.weight) walk.ways
 
 -- a step leads from a walk to a walk
-abbrev pub StepsTo : Net → List Clause → Walk → Step → Walk → Type 0
+abbrev pub StepsTo : Net → List Clause → Walk → WalkStep → Walk → Type 0
 StepsTo net kept walk step next =
     (c : Clause) × (way : Way) × IsClause net kept step.basis c × (c.target ≡ walk.at) × (slice_get c.ways step.through ≡ Some way)
     × (next ≡ stepped walk c step.through way) × IsNearWalk next
 
 -- steps lead from a walk to a walk
-abbrev pub Walks : Net → List Clause → Walk → List Step → Walk → Type 0
+abbrev pub Walks : Net → List Clause → Walk → List WalkStep → Walk → Type 0
 Walks net kept walk [] after = walk ≡ after
 Walks net kept walk (step ∷ steps) after = (next : Walk) × StepsTo net kept walk step next × Walks net kept next steps after
 
@@ -144,7 +144,7 @@ abbrev pub starting_walk : EventId → Walk
 starting_walk event = record { literals = []; at = event; sum = pos 0; ways = [] }
 
 -- the walk is back where it started with a sum below 0, and so its event comes within one of the ways
-pub record IsLoop (net : Net) (kept : List Clause) (event : EventId) (steps : List Step) (after : Walk) : Type 0 where
+pub record IsClauseLoop (net : Net) (kept : List Clause) (event : EventId) (steps : List WalkStep) (after : Walk) : Type 0 where
   pub walks : Walks net kept (starting_walk event) steps after
   pub back : after.at ≡ event
   pub below : after.sum <ℤ pos 0
@@ -168,13 +168,13 @@ refuting event assumed = record { literals = map opposite assumed; target = even
 -- a line leads from a state to a state
 abbrev pub IsLine : Net → Goal → State → ClauseLine → State → Type 0
 IsLine net goal state (Fall event value basis) next =
-    ((c : Clause) × IsClause net state.kept basis c × Falls net (frame_of state) event value c)
+    ((c : Clause) × IsClause net state.kept basis c × LowersTarget net (frame_of state) event value c)
     × (next ≡ with_frame state (record { values = set (frame_of state).values event.0 value; known = (frame_of state).known }))
 IsLine net goal state (Know l basis) next =
     ((c : Clause) × IsClause net state.kept basis c × Forces (frame_of state) l c)
     × (next ≡ with_frame state (record { values = (frame_of state).values; known = (frame_of state).known ++ l ∷ [] }))
 IsLine net goal state (Loop event steps) next =
-    (after : Walk) × IsLoop net state.kept event steps after
+    (after : Walk) × IsClauseLoop net state.kept event steps after
     × (next ≡ record { frame = state.frame; kept = state.kept ++ loop_clause event after ∷ []; block = state.block })
 IsLine net goal state (Assume literals) next =
     All (λ (l : Literal). IsSome (literal_edge net l)) literals
@@ -188,9 +188,9 @@ IsLine net goal state Close next =
     × (next ≡ record { frame = state.frame; kept = state.kept ++ refuting goal.from block.assumed ∷ []; block = None }))
 
 -- lines lead from a state to a state
-abbrev pub Leads : Net → Goal → State → List ClauseLine → State → Type 0
-Leads net goal state [] after = state ≡ after
-Leads net goal state (line ∷ lines) after = (next : State) × IsLine net goal state line next × Leads net goal next lines after
+abbrev pub ProofLeads : Net → Goal → State → List ClauseLine → State → Type 0
+ProofLeads net goal state [] after = state ≡ after
+ProofLeads net goal state (line ∷ lines) after = (next : State) × IsLine net goal state line next × ProofLeads net goal next lines after
 
 -- a state with no open block that has ended
 pub record IsOver (net : Net) (goal : Goal) (state : State) : Type 0 where
@@ -199,4 +199,4 @@ pub record IsOver (net : Net) (goal : Goal) (state : State) : Type 0 where
 
 -- the lines are a proof of the goal
 abbrev pub IsClauseProof : Net → Goal → List ClauseLine → Type 0
-IsClauseProof net goal lines = (after : State) × Leads net goal (starting net goal.from) lines after × IsOver net goal after
+IsClauseProof net goal lines = (after : State) × ProofLeads net goal (starting net goal.from) lines after × IsOver net goal after

@@ -20,7 +20,7 @@ pub enum Basis {
 
 /// A step of a walk back from an event: by the clause of a basis, through one of its ways, which have numbers from 0.
 #[derive(Clone, Copy, Debug, PartialEq, Eq)]
-pub struct Step {
+pub struct WalkStep {
     pub basis: Basis,
     pub through: u32,
 }

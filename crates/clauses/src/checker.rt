@@ -7,7 +7,7 @@ ghost use Rattle.clauses.specs.Checking.{IsAssumeFault, IsChecking, IsCloseFault
 ghost use Rattle.clauses.specs.Laws.{claiming};
 ghost use Rattle.clauses.specs.Lines.{Assume, Close, Fall, IsEnded, IsOver, Know, Loop, frame_of, refuting, starting};
 
-use crate::basis::{Basis, Step};
+use crate::basis::{Basis, WalkStep};
 use crate::block::Block;
 use crate::claim::Claim;
 use crate::clause::Clause;
@@ -120,7 +120,7 @@ impl ClauseChecker {
         alloc: Global,
         net: &Network,
         event: EventId,
-        steps: &[Step],
+        steps: &[WalkStep],
     ) -> Result<(), LoopFault>
         requires checking { IsChecking net.now self.old }
         ensures taken { OnOk result (TakesLine net.now self.old (Loop event steps.now) self.new) }

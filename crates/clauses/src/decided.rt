@@ -3,7 +3,7 @@
 ghost use Rattle.std.specs.Prelude.{◌≡◌, ◌↔◌, ◌<◌, ◌<ℤ◌, IsTrue, All, length};
 ghost use Rattle.event_graph.specs.Satisfying.{Satisfies};
 ghost use Rattle.event_graph.specs.Times.{IsTime, separation};
-ghost use Rattle.clauses.specs.declared.decided.Verdict.TheVariants.{Closed, Open};
+ghost use Rattle.clauses.specs.declared.decided.ProofVerdict.TheVariants.{Closed, Open};
 ghost use Rattle.clauses.specs.Checking.{IsChecking, IsVerdict, SaysNothing};
 
 use crate::checker::ClauseChecker;
@@ -15,7 +15,7 @@ use itv_base::EventId;
 /// What a proof and times say of the pair of a goal: its greatest separation, in picoseconds, that no times satisfy the
 /// network, or nothing.
 #[derive(Clone, Copy, Debug, PartialEq, Eq)]
-pub enum Verdict {
+pub enum ProofVerdict {
     Closed(i64),
     Inconsistent,
     Open,
@@ -24,7 +24,7 @@ pub enum Verdict {
 /// What a checker and times, in picoseconds and one per event, say of the pair of its goal. The greatest separation is
 /// closed where the lines are a proof with a claim below the far line, and the times satisfy and attain it. No times
 /// satisfy where the lines are a proof with a claim below minus the far line. In every other case nothing is said.
-pub fn decide(net: &Network, checker: &ClauseChecker, times: &[i64]) -> Verdict
+pub fn decide(net: &Network, checker: &ClauseChecker, times: &[i64]) -> ProofVerdict
     requires checking { IsChecking net.now checker.now }
     requires count { length times.now ≡ net.now.events }
     requires times { All IsTime times.now }
@@ -33,16 +33,16 @@ pub fn decide(net: &Network, checker: &ClauseChecker, times: &[i64]) -> Verdict
 {
     let _events = net.events();
     if !checker.is_over(net) {
-        return Verdict::Open;
+        return ProofVerdict::Open;
     }
     if is_low(checker.claim(), checker.limits()) {
-        return Verdict::Inconsistent;
+        return ProofVerdict::Inconsistent;
     }
     if !is_near(checker.claim(), checker.limits()) {
-        return Verdict::Open;
+        return ProofVerdict::Open;
     }
     if !attains(net, checker, times) {
-        return Verdict::Open;
+        return ProofVerdict::Open;
     }
     closed_at(checker.claim())
 }
@@ -62,10 +62,10 @@ fn is_near(claim: Claim, limits: Limits) -> bool
 }
 
 // The verdict that the greatest separation is what is claimed.
-fn closed_at(claim: Claim) -> Verdict
+fn closed_at(claim: Claim) -> ProofVerdict
     ensures { result ≡ Closed claim.value }
 {
-    Verdict::Closed(claim.value)
+    ProofVerdict::Closed(claim.value)
 }
 
 // Whether times satisfy and attain what a checker's goal claims.

@@ -23,7 +23,7 @@ impl Model for Frame {
 }
 
 impl Frame {
-    ghost use Rattle.clauses.specs.Lines.{IsRefused};
+    ghost use Rattle.clauses.specs.Lines.{IsKnownFalse};
 
     /// The value of an event, and 0 for one that is not there.
     pub fn value(&self, event: EventId) -> i64
@@ -44,7 +44,7 @@ impl Frame {
 
     /// Whether a literal is known not to hold.
     pub fn is_refused(&self, literal: Literal) -> bool
-        ensures refused { IsTrue result ↔ IsRefused self.now literal }
+        ensures refused { IsTrue result ↔ IsKnownFalse self.now literal }
     {
         self.is_known(literal.opposite())
     }

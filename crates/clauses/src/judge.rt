@@ -5,7 +5,7 @@ ghost use Rattle.event_graph.specs.Network.{IsNet};
 ghost use Rattle.event_graph.specs.Times.{time_of};
 ghost use Rattle.falling.specs.Course.{AreLimits};
 ghost use Rattle.clauses.specs.Checking.{GivesMost, HasShape, IsFallLineFault, IsFirstMore, IsFirstWithout, IsFrameValue, IsKnowFault, IsNearClause, IsThisOrRefused, MayFall, MayKnow, OfClause};
-ghost use Rattle.clauses.specs.Lines.{IsNear, IsRefused};
+ghost use Rattle.clauses.specs.Lines.{IsAddable, IsKnownFalse};
 
 use crate::basis::Basis;
 use crate::clause::Clause;
@@ -99,9 +99,9 @@ fn first_open(
 ) -> Option<Literal>
     requires shape { HasShape net.now kept.now basis shape }
     ensures first { IfSome result (λ l. OfClause net.now kept.now basis
-        (λ c. IsFirstWithout (IsRefused frame.now) c.literals l)) }
+        (λ c. IsFirstWithout (IsKnownFalse frame.now) c.literals l)) }
     ensures none { IfNone result (OfClause net.now kept.now basis
-        (λ c. All (IsRefused frame.now) c.literals)) }
+        (λ c. All (IsKnownFalse frame.now) c.literals)) }
 {
     for place in 0..shape.literals {
         if let Some(literal) = open_at(net, kept, frame, basis, place) {
@@ -121,9 +121,9 @@ fn open_at(
 ) -> Option<Literal>
     ensures here { IfSome result (λ l. OfClause net.now kept.now basis
         (λ c. slice_get c.literals place ≡ Some l)) }
-    ensures not { IfSome result (λ l. IsRefused frame.now l → ⊥) }
+    ensures not { IfSome result (λ l. IsKnownFalse frame.now l → ⊥) }
     ensures none { IfNone result (OfClause net.now kept.now basis
-        (λ c. (l : Literal) → slice_get c.literals place ≡ Some l → IsRefused frame.now l)) }
+        (λ c. (l : Literal) → slice_get c.literals place ≡ Some l → IsKnownFalse frame.now l)) }
 {
     match literal_at(net, kept, basis, place) {
         Some(literal) if !frame.is_refused(literal) => Some(literal),
@@ -165,7 +165,7 @@ fn more_at(
 ) -> Option<Way>
     requires near { All IsFrameValue frame.now.values }
     requires kept { All IsNearClause kept.now }
-    ensures near { IfSome result (λ way. IsNear way.weight) }
+    ensures near { IfSome result (λ way. IsAddable way.weight) }
     ensures here { IfSome result (λ way. OfClause net.now kept.now fall.basis
         (λ c. slice_get c.ways place ≡ Some way)) }
     ensures not { IfSome result (λ way. GivesMost frame.now.values fall.value way → ⊥) }
@@ -181,7 +181,7 @@ fn more_at(
 // Whether a way gives more than the value of a fall.
 fn gives_more(frame: &Frame, way: Way, fall: EventFall) -> bool
     requires near { All IsFrameValue frame.now.values }
-    requires weight { IsNear way.weight }
+    requires weight { IsAddable way.weight }
     ensures more { IsTrue result → GivesMost frame.now.values fall.value way → ⊥ }
     ensures most { IsFalse result → GivesMost frame.now.values fall.value way }
 {
@@ -191,7 +191,7 @@ fn gives_more(frame: &Frame, way: Way, fall: EventFall) -> bool
 // What a way gives its target.
 fn given_by(frame: &Frame, way: Way) -> Given
     requires near { All IsFrameValue frame.now.values }
-    requires weight { IsNear way.weight }
+    requires weight { IsAddable way.weight }
     ensures { result.value ≡ time_of frame.now.values way.from +ℤ way.weight }
 {
     Given {

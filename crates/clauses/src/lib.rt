@@ -21,11 +21,11 @@ mod taking;
 mod walk;
 mod way;
 
-pub use basis::{Basis, Step};
+pub use basis::{Basis, WalkStep};
 pub use checker::ClauseChecker;
 pub use claim::Claim;
 pub use clause::Clause;
-pub use decided::{Verdict, decide};
+pub use decided::{ProofVerdict, decide};
 pub use fault::{AssumeFault, CloseFault, FallLineFault, KnowFault, LoopFault, StepFault};
 pub use judge::EventFall;
 pub use literal::Literal;

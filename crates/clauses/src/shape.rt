@@ -7,7 +7,7 @@ ghost use Rattle.event_graph.specs.Network.{IsNet, Net};
 ghost use Rattle.clauses.specs.declared.basis.Basis.TheVariants.{ByEarliest, ByEdge, ByKept, ByLatest, BySide};
 ghost use Rattle.clauses.specs.Checking.{HasNoClause, HasShape, IsNearClause, OfClause};
 ghost use Rattle.clauses.specs.Clauses.{Clause, edge_as, edge_way, literal_edge};
-ghost use Rattle.clauses.specs.Lines.{IsNear};
+ghost use Rattle.clauses.specs.Lines.{IsAddable};
 
 use crate::basis::Basis;
 use crate::clause::Clause;
@@ -74,7 +74,7 @@ fn side_shape(net: &Network, literal: Literal) -> Option<Shape>
 
 /// The edge that a literal says is met, if the low end of its cause is not open.
 pub fn edge_of(net: &Network, literal: Literal) -> Option<Edge>
-    ensures weight { IfSome result (λ e. IsNear e.weight) }
+    ensures weight { IfSome result (λ e. IsAddable e.weight) }
     ensures edge { result ≡ literal_edge net.now literal }
 {
     let name = EdgeName {
@@ -91,7 +91,7 @@ pub fn edge_of(net: &Network, literal: Literal) -> Option<Edge>
 // The edge, or the one that is met exactly where it is not.
 fn edge_as(is_met: bool, edge: Edge) -> Edge
     requires { IsEnd (Some edge.weight) }
-    ensures weight { IsNear result.weight }
+    ensures weight { IsAddable result.weight }
     ensures edge { result ≡ edge_as is_met edge }
 {
     if is_met {
@@ -222,7 +222,7 @@ fn kept_literal(kept: &[Clause], number: u32, place: usize) -> Option<Literal>
 pub fn way_at(net: &Network, kept: &[Clause], basis: Basis, place: usize) -> Option<Way>
     requires kept { All IsNearClause kept.now }
     ensures way { OfClause net.now kept.now basis (λ c. result ≡ slice_get c.ways place) }
-    ensures near { IfSome result (λ way. IsNear way.weight) }
+    ensures near { IfSome result (λ way. IsAddable way.weight) }
 {
     match basis {
         Basis::ByEdge(name) => way_of(net.edge(name), place),
@@ -235,8 +235,8 @@ pub fn way_at(net: &Network, kept: &[Clause], basis: Basis, place: usize) -> Opt
 
 // The one way by an edge.
 fn way_of(edge: Option<Edge>, place: usize) -> Option<Way>
-    requires weight { IfSome edge (λ e. IsNear e.weight) }
-    ensures near { IfSome result (λ way. IsNear way.weight) }
+    requires weight { IfSome edge (λ e. IsAddable e.weight) }
+    ensures near { IfSome result (λ way. IsAddable way.weight) }
     ensures way { (e : Edge) → edge ≡ Some e → result ≡ slice_get (edge_way e ∷ []) place }
 {
     match edge {
@@ -250,7 +250,7 @@ fn way_of(edge: Option<Edge>, place: usize) -> Option<Way>
 
 // The way by a cause of a latest constraint.
 fn high_way(net: &Network, number: u32, place: usize) -> Option<Way>
-    ensures near { IfSome result (λ way. IsNear way.weight) }
+    ensures near { IfSome result (λ way. IsAddable way.weight) }
     ensures way { (kept : List Clause)
         → OfClause net.now kept (ByLatest number) (λ c. result ≡ slice_get c.ways place) }
 {
@@ -270,7 +270,7 @@ fn high_way(net: &Network, number: u32, place: usize) -> Option<Way>
 // The way of a number of a clause that was kept.
 fn kept_way(kept: &[Clause], number: u32, place: usize) -> Option<Way>
     requires kept { All IsNearClause kept.now }
-    ensures near { IfSome result (λ way. IsNear way.weight) }
+    ensures near { IfSome result (λ way. IsAddable way.weight) }
     ensures way { (net : Net)
         → OfClause net kept.now (ByKept number) (λ c. result ≡ slice_get c.ways place) }
 {

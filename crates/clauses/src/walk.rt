@@ -6,9 +6,9 @@ ghost use Rattle.clauses.specs.declared.fault.LoopFault.TheVariants.{AtStep, NoM
 ghost use Rattle.clauses.specs.declared.fault.StepFault.TheVariants.{NoMemory};
 ghost use Rattle.clauses.specs.declared.literal.Literal.{Literal};
 ghost use Rattle.clauses.specs.Checking.{HasShape, IsLoopFault, IsNearClause, IsStepFault, OfClause};
-ghost use Rattle.clauses.specs.Lines.{IsLoop, IsNear, IsNearWalk, StepsTo, way_after, wider, with_others, with_way};
+ghost use Rattle.clauses.specs.Lines.{IsClauseLoop, IsAddable, IsNearWalk, StepsTo, way_after, wider, with_others, with_way};
 
-use crate::basis::{Basis, Step};
+use crate::basis::{Basis, WalkStep};
 use crate::clause::Clause;
 use crate::fault::{LoopFault, StepFault};
 use crate::literal::Literal;
@@ -42,11 +42,11 @@ pub fn walk_round(
     net: &Network,
     kept: &[Clause],
     event: EventId,
-    steps: &[Step],
+    steps: &[WalkStep],
 ) -> Result<Walk, LoopFault>
     requires net { IsNet net.now }
     requires kept { All IsNearClause kept.now }
-    ensures round { IfOk result (λ walk. IsLoop net.now kept.now event steps.now walk) }
+    ensures round { IfOk result (λ walk. IsClauseLoop net.now kept.now event steps.now walk) }
     ensures near { IfOk result (λ walk. IsNearWalk walk) }
     ensures fault { IfErr result (IsLoopFault net.now kept.now event steps.now) }
 {
@@ -74,7 +74,7 @@ pub fn walk_round(
 }
 
 // The step at a place.
-fn step_in(steps: &[Step], place: usize) -> Step
+fn step_in(steps: &[WalkStep], place: usize) -> WalkStep
     requires { place < length steps.now }
     ensures { slice_get steps.now place ≡ Some result }
 {
@@ -93,7 +93,7 @@ fn at_step(number: usize, fault: StepFault) -> LoopFault
 }
 
 // The walk after a step, or the first fault.
-fn stepped(net: &Network, kept: &[Clause], walk: Walk, step: Step) -> Result<Walk, StepFault>
+fn stepped(net: &Network, kept: &[Clause], walk: Walk, step: WalkStep) -> Result<Walk, StepFault>
     requires net { IsNet net.now }
     requires kept { All IsNearClause kept.now }
     requires near { IsNearWalk walk }
@@ -177,7 +177,7 @@ fn join_others(
 ) -> Result<(), StepFault>
     requires kept { All IsNearClause kept.now }
     requires shape { HasShape net.now kept.now basis shape }
-    requires here { IsNear here.weight }
+    requires here { IsAddable here.weight }
     ensures fault { IfErr result (λ fault. fault ≡ NoMemory) }
     ensures joined { OnOk result (OfClause net.now kept.now basis
         (λ c. ways.new.items ≡ with_others here.weight 0 through c.ways ways.old.items)) }
@@ -199,7 +199,7 @@ fn join_other(
     ways: &mut Vec<Way>,
 ) -> Result<(), StepFault>
     requires kept { All IsNearClause kept.now }
-    requires here { IsNear here.weight }
+    requires here { IsAddable here.weight }
     ensures fault { IfErr result (λ fault. fault ≡ NoMemory) }
     ensures joined { OnOk result (OfClause net.now kept.now basis (λ c.
         with_others here.weight place through (drop place c.ways) ways.old.items
@@ -263,8 +263,8 @@ fn wider(way: Way, other: Way) -> Way
 
 // The way led on by the sum of where a walk is.
 fn led_on(here: Way, way: Way) -> Way
-    requires here { IsNear here.weight }
-    requires way { IsNear way.weight }
+    requires here { IsAddable here.weight }
+    requires way { IsAddable way.weight }
     ensures { result ≡ way_after here.weight way }
 {
     Way {
@@ -275,14 +275,14 @@ fn led_on(here: Way, way: Way) -> Way
 
 // Whether the weight of a way can be added to a number.
 fn is_near(way: Way) -> bool
-    ensures { IsTrue result ↔ IsNear way.weight }
+    ensures { IsTrue result ↔ IsAddable way.weight }
 {
     -1_152_921_504_606_846_976 <= way.weight && way.weight <= 1_152_921_504_606_846_976
 }
 
 // Whether the weights of all ways can be added to numbers.
 fn are_near(ways: &Vec<Way>) -> bool
-    ensures { IsTrue result ↔ All (λ (way : Way). IsNear way.weight) ways.now.items }
+    ensures { IsTrue result ↔ All (λ (way : Way). IsAddable way.weight) ways.now.items }
 {
     ways.iter().all(|way| is_near(*way))
 }

@@ -1,11 +1,11 @@
 -- The design of a netlist on its sheets, step by step.
 use Rattle.std.proofs.Common.{◌≡◌, ℕ, List, map, Result, Ok, Err, ap}
-use Rattle.itv_base.specs.Reading.{◌>>=◌, HasFault}
-use Rattle.itv_base.proofs.Faults.{HasFault-first, HasFault-on}
+use Rattle.itv_base.specs.Reading.{◌>>=◌, IsReadingFault}
+use Rattle.itv_base.proofs.Faults.{IsReadingFault-first, IsReadingFault-on}
 use Rattle.netlist.specs.declared.part.Part.{Part}
-use Rattle.netlist.specs.Contents.{Contents as Netlist}
+use Rattle.netlist.specs.Contents.{NetlistContents as Netlist}
 use Rattle.sheet.specs.declared.row.SheetRow.{SheetRow}
-use Rattle.sheet.specs.Contents.{Contents}
+use Rattle.sheet.specs.Contents.{SheetContents}
 use Rattle.sheet.specs.Links.{Link, link_rows, link_rules}
 use Rattle.sheet.specs.Rule.{SheetRule}
 use Rattle.compose.specs.declared.fault.JoinFault.{JoinFault}
@@ -27,15 +27,15 @@ same_design (Ok links) f wires e =
     let same : record { rules = link_rules links; rows = link_rows links } ≡ wires = cc in ap (λ (w : NumberedWires). Ok (f w.rules w.rows)) same
 same_design (Err d) f wires e = absurd cc
 
-module _ (netlist : Netlist) (sheets : List Contents) where
-  pub joins-fault : (fault : JoinFault) → HasFault is_memory (joins_of netlist.parts sheets netlist.nets) fault → HasFault is_memory (composed_on netlist sheets) fault
+module _ (netlist : Netlist) (sheets : List SheetContents) where
+  pub joins-fault : (fault : JoinFault) → IsReadingFault is_memory (joins_of netlist.parts sheets netlist.nets) fault → IsReadingFault is_memory (composed_on netlist sheets) fault
   unfolding composed_on
-  joins-fault fault h = HasFault-first is_memory (joins_of netlist.parts sheets netlist.nets) _ fault h
+  joins-fault fault h = IsReadingFault-first is_memory (joins_of netlist.parts sheets netlist.nets) _ fault h
 
   module _ (joins : List Join) (joined : joins_of netlist.parts sheets netlist.nets ≡ Ok joins) where
-    pub wires-fault : (fault : JoinFault) → HasFault is_memory (rules_and_rows (wire_links netlist.parts sheets netlist.wires)) fault → HasFault is_memory (composed_on netlist sheets) fault
+    pub wires-fault : (fault : JoinFault) → IsReadingFault is_memory (rules_and_rows (wire_links netlist.parts sheets netlist.wires)) fault → IsReadingFault is_memory (composed_on netlist sheets) fault
     unfolding composed_on
-    wires-fault fault h = rw joined (HasFault-on is_memory _ _ fault (λ d is. same_fault (wire_links netlist.parts sheets netlist.wires) _ d is) h)
+    wires-fault fault h = rw joined (IsReadingFault-on is_memory _ _ fault (λ d is. same_fault (wire_links netlist.parts sheets netlist.wires) _ d is) h)
 
     pub composed-ok : (wires : NumberedWires) (cycles : ℕ) (parts : List (List ℕ)) → rules_and_rows (wire_links netlist.parts sheets netlist.wires) ≡ Ok wires
         → cycles ≡ netlist.cycles → parts ≡ map (λ (part : Part). part.name) netlist.parts

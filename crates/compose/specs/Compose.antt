@@ -2,7 +2,7 @@
 use Rattle.std.specs.Prelude.{map, List, Result, Ok}
 use Rattle.itv_base.specs.Reading.{◌>>=◌}
 use Rattle.netlist.specs.declared.part.Part.{Part}
-use Rattle.netlist.specs.Contents.{Contents}
+use Rattle.netlist.specs.Contents.{NetlistContents}
 use Rattle.sheet.specs.Contents as sheet
 use Rattle.sheet.specs.Links.{link_rules, link_rows}
 use Rattle.compose.specs.declared.fault.JoinFault.{JoinFault}
@@ -13,7 +13,7 @@ use Rattle.compose.specs.Wires.{wire_links}
 
 -- The design of a netlist whose parts are drawn on these sheets. The wires are grouped into rules as the edges of a sheet are,
 -- as links between the numbers of their marks.
-unfoldable pub composed_on : Contents → List sheet.Contents → Result Composed JoinFault
+unfoldable pub composed_on : NetlistContents → List sheet.SheetContents → Result Composed JoinFault
 composed_on netlist sheets = do
   joins ← joins_of netlist.parts sheets netlist.nets
   links ← wire_links netlist.parts sheets netlist.wires
@@ -27,5 +27,5 @@ composed_on netlist sheets = do
   })
 
 -- the design of a netlist and the sheets that its parts name
-abbrev pub composed : Contents → SheetMap → Result Composed JoinFault
+abbrev pub composed : NetlistContents → SheetMap → Result Composed JoinFault
 composed netlist sheets = composed_on netlist (sheets_of sheets netlist.parts)

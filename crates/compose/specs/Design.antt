@@ -1,7 +1,7 @@
 -- What a design holds, and what holds of every design.
 use Rattle.std.specs.Prelude.{◌≡◌, ◌<◌, ◌≤◌, ℕ, List, length, All, IsSomeAnd, slice_get}
 use Rattle.itv_base.specs.declared.limits.TheConstants.{MAX_CYCLES, MAX_PARTS}
-use Rattle.sheet.specs.Contents.{Contents}
+use Rattle.sheet.specs.Contents.{SheetContents}
 use Rattle.sheet.specs.Rule.{SheetRule}
 use Rattle.sheet.specs.Whole.{IsWhole, IsWholeRow, IsWholeRule}
 use Rattle.sheet.specs.declared.row.SheetRow.{SheetRow}
@@ -15,16 +15,16 @@ use Rattle.compose.specs.Numbers.{mark_count}
 pub record Composed : Type 0 where
   pub cycles : ℕ
   pub parts : List (List ℕ)
-  pub sheets : List Contents
+  pub sheets : List SheetContents
   pub joins : List Join
   pub rules : List SheetRule
   pub rows : List SheetRow
 
 -- the part is there, and so is the mark on its sheet
-abbrev pub IsMarkOf : List Contents → DesignMark → Type 0
+abbrev pub IsMarkOf : List SheetContents → DesignMark → Type 0
 IsMarkOf sheets mark = IsSomeAnd (slice_get sheets mark.part) (λ sheet. mark.mark < length sheet.marks)
 
-abbrev pub IsJoinOf : List Contents → Join → Type 0
+abbrev pub IsJoinOf : List SheetContents → Join → Type 0
 IsJoinOf sheets join = IsMarkOf sheets join.from × IsMarkOf sheets join.to
 
 -- one cycle or more, each part with a name and a sheet, all that joins name is there, and rules and rows are between the numbers

@@ -3,20 +3,20 @@
 use Rattle.std.specs.Prelude.{ℕ, ◌+◌, List, [], ◌∷◌, length, sum_by, take}
 use Rattle.itv_base.specs.declared.names.RuleKind.TheVariants.{Lin}
 use Rattle.sheet.specs.Rule.{SheetRule}
-use Rattle.sheet.specs.Contents.{Contents}
+use Rattle.sheet.specs.Contents.{SheetContents}
 use Rattle.compose.specs.declared.mark.DesignMark.{DesignMark}
 use Rattle.compose.specs.declared.joins.Join.{Join}
 
 -- how many marks sheets have together
-abbrev pub mark_count : List Contents → ℕ
+abbrev pub mark_count : List SheetContents → ℕ
 mark_count sheets = sum_by (λ sheet. length sheet.marks) sheets
 
 -- the number of a mark: those of the parts before its own come first
-abbrev pub number_of : List Contents → DesignMark → ℕ
+abbrev pub number_of : List SheetContents → DesignMark → ℕ
 number_of sheets mark = mark_count (take mark.part sheets) + mark.mark
 
 -- a join is a linear rule within one cycle
-abbrev pub join_rule : List Contents → Join → SheetRule
+abbrev pub join_rule : List SheetContents → Join → SheetRule
 join_rule sheets join = record {
   kind = Lin;
   target = number_of sheets join.to;

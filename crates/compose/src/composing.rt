@@ -1,7 +1,7 @@
 //! Composing a design of a netlist and its sheets.
 
 ghost use Rattle.std.specs.Prelude.{◌≡◌, All, IfOk, IsSome, map};
-ghost use Rattle.itv_base.specs.Reading.{Gives};
+ghost use Rattle.itv_base.specs.Reading.{AgreesWith};
 ghost use Rattle.netlist.specs.declared.part.Part.{Part as PartSeen};
 ghost use Rattle.compose.specs.Compose.{composed};
 ghost use Rattle.compose.specs.Fault.{is_memory};
@@ -30,7 +30,7 @@ pub fn compose<'a>(
     sheets: &'a Sheets,
 ) -> Result<Design<'a>, JoinFault>
     requires sheets { All (λ (part : PartSeen). IsSome (sheet_named sheets.now (key_of part))) netlist.now.parts }
-    ensures answer { Gives is_memory (λ design. design) result (composed netlist.now sheets.now) }
+    ensures answer { AgreesWith is_memory (λ design. design) result (composed netlist.now sheets.now) }
 {
     let cycles = netlist.cycles();
     let parts = netlist.parts().as_slice();

@@ -1,7 +1,7 @@
 //! The joins of nets.
 
 ghost use Rattle.std.specs.Prelude.{◌≡◌, ◌+◌, ◌<◌, ◌≤◌, All, length, map};
-ghost use Rattle.itv_base.specs.Reading.{Gives, walk, walk_to};
+ghost use Rattle.itv_base.specs.Reading.{AgreesWith, walk, walk_to};
 ghost use Rattle.compose.specs.Fault.{is_memory};
 ghost use Rattle.compose.specs.Nets.{joins_of, kind_at, kinds_fit, marks_at, pins_joined, same_count, with_net, with_pin, with_terminals};
 ghost use Rattle.compose.specs.declared.terminal.Terminal.{Terminal as TerminalSeen};
@@ -11,7 +11,7 @@ use crate::joins::{Joins, PinJoins};
 use crate::mark::DesignMark;
 use crate::terminal::{Terminal, sheet_at, terminals_of};
 use itv_base::{MAX_PARTS, Range};
-use netlist::{Net, Part};
+use netlist::{Part, PinNet};
 use origin::Origin;
 use sheet::{MAX_MARKS, Mark, Sheet};
 use std::alloc::Global;
@@ -22,11 +22,11 @@ pub fn join_nets(
     alloc: Global,
     parts: &[Part],
     sheets: &[&Sheet],
-    nets: &[Net],
+    nets: &[PinNet],
 ) -> Result<Joins, JoinFault>
     requires parts { length parts.now ≡ length sheets.now }
     requires few { length parts.now ≤ MAX_PARTS }
-    ensures { Gives is_memory (λ joins. joins) result (joins_of parts.now (map (λ s. s.now) sheets.now) nets.now) }
+    ensures { AgreesWith is_memory (λ joins. joins) result (joins_of parts.now (map (λ s. s.now) sheets.now) nets.now) }
 {
     let mut joins = Joins::new(alloc);
     for (n, net) in nets.iter().enumerate() {
@@ -42,11 +42,11 @@ fn push_net(
     parts: &[Part],
     sheets: &[&Sheet],
     n: u64,
-    net: &Net,
+    net: &PinNet,
 ) -> Result<(), JoinFault>
     requires parts { length parts.now ≡ length sheets.now }
     requires few { length parts.now ≤ MAX_PARTS }
-    ensures { Gives is_memory (λ _. joins.new) result
+    ensures { AgreesWith is_memory (λ _. joins.new) result
         (with_net parts.now (map (λ s. s.now) sheets.now) n joins.old net.now) }
 {
     let terminals = terminals_of(alloc, parts, sheets, n, net.pins().as_slice())?;
@@ -62,7 +62,7 @@ fn push_terminals(
     terminals: &[Terminal],
 ) -> Result<(), JoinFault>
     requires { All (λ (t : TerminalSeen). t.first + t.count ≤ MAX_MARKS) terminals.now }
-    ensures { Gives is_memory (λ _. joins.new) result
+    ensures { AgreesWith is_memory (λ _. joins.new) result
         (with_terminals (map (λ s. s.now) sheets.now) delay n joins.old terminals.now) }
 {
     let [driver, others @ ..] = terminals else {
@@ -74,7 +74,7 @@ fn push_terminals(
 
 // Whether each pin from number 1 on has as many marks as the driver.
 fn check_counts(driver: Terminal, n: u64, others: &[Terminal]) -> Result<(), JoinFault>
-    ensures { Gives is_memory (λ x. x) result (walk (same_count driver n) 1 tt others.now) }
+    ensures { AgreesWith is_memory (λ x. x) result (walk (same_count driver n) 1 tt others.now) }
 {
     for (k, other) in others.iter().enumerate() {
         if other.count != driver.count {
@@ -95,7 +95,7 @@ fn push_pins(
 ) -> Result<(), JoinFault>
     requires driver { driver.first + driver.count ≤ MAX_MARKS }
     requires others { All (λ (t : TerminalSeen). t.first + t.count ≤ MAX_MARKS) others.now }
-    ensures { Gives is_memory (λ _. joins.new) result
+    ensures { AgreesWith is_memory (λ _. joins.new) result
         (walk (with_pin (map (λ s. s.now) sheets.now) driver delay n) 1 joins.old others.now) }
 {
     for (k, other) in others.iter().enumerate() {
@@ -116,7 +116,7 @@ fn push_pin(
 ) -> Result<(), JoinFault>
     requires driver { driver.first + driver.count ≤ MAX_MARKS }
     requires other { other.first ≤ MAX_MARKS }
-    ensures { Gives is_memory (λ _. joins.new) result
+    ensures { AgreesWith is_memory (λ _. joins.new) result
         (with_pin (map (λ s. s.now) sheets.now) driver delay n k joins.old other) }
 {
     check_kinds(sheets, driver, other, n, k)?;
@@ -153,7 +153,7 @@ fn check_kinds(
 ) -> Result<(), JoinFault>
     requires driver { driver.first + driver.count ≤ MAX_MARKS }
     requires other { other.first ≤ MAX_MARKS }
-    ensures { Gives is_memory (λ x. x) result
+    ensures { AgreesWith is_memory (λ x. x) result
         (walk_to (kinds_fit (map (λ s. s.now) sheets.now) driver other n k) 0 tt driver.count) }
 {
     let driver_marks = marks_at(sheets, driver.part);

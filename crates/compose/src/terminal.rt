@@ -2,7 +2,7 @@
 
 ghost use Rattle.std.specs.Prelude.{◌≡◌, ◌+◌, ◌<◌, ◌≤◌, All, IfOk, IfSome, Some, find, length, map, option_map, slice_get};
 ghost use Rattle.std.specs.Str.{bytes_eq};
-ghost use Rattle.itv_base.specs.Reading.{Gives};
+ghost use Rattle.itv_base.specs.Reading.{AgreesWith};
 ghost use Rattle.sheet.specs.declared.pin.Pin.{Pin as PinSeen};
 ghost use Rattle.compose.specs.Fault.{is_memory};
 ghost use Rattle.compose.specs.Nets.{part_named, terminal_by, terminal_of, terminals_of};
@@ -33,7 +33,7 @@ pub fn terminals_of(
     requires parts { length parts.now ≡ length sheets.now }
     requires few { length parts.now ≤ MAX_PARTS }
     ensures within { IfOk result (λ found. All (λ (t : TerminalSeen). t.first + t.count ≤ MAX_MARKS) found.items) }
-    ensures found { Gives is_memory (λ found. found.items) result
+    ensures found { AgreesWith is_memory (λ found. found.items) result
         (terminals_of parts.now (map (λ s. s.now) sheets.now) n pins.now) }
 {
     let mut found = Vec::new(alloc);
@@ -55,7 +55,7 @@ fn terminal_of(
     requires parts { length parts.now ≡ length sheets.now }
     requires few { length parts.now ≤ MAX_PARTS }
     ensures within { IfOk result (λ t. t.first + t.count ≤ MAX_MARKS) }
-    ensures found { Gives is_memory (λ t. t) result
+    ensures found { AgreesWith is_memory (λ t. t) result
         (terminal_of parts.now (map (λ s. s.now) sheets.now) n k text.now) }
 {
     let Some(part) = part_named(parts, &text.part) else {

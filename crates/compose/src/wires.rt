@@ -1,7 +1,7 @@
 //! The rules and rows of wires, between the numbers of their marks.
 
 ghost use Rattle.std.specs.Prelude.{◌≡◌, ◌==◌, ◌*◌, ◌<◌, ◌≤◌, IfOk, IfSome, length, map, position, take};
-ghost use Rattle.itv_base.specs.Reading.{Gives};
+ghost use Rattle.itv_base.specs.Reading.{AgreesWith};
 ghost use Rattle.compose.specs.Fault.{is_memory};
 ghost use Rattle.compose.specs.Numbers.{mark_count, number_of};
 ghost use Rattle.compose.specs.Step.{rules_and_rows};
@@ -42,7 +42,7 @@ pub fn read_wires(
 ) -> Result<NumberedWires, JoinFault>
     requires parts { length parts.now ≡ length sheets.now }
     requires few { length parts.now ≤ MAX_PARTS }
-    ensures { Gives is_memory (λ read. read) result
+    ensures { AgreesWith is_memory (λ read. read) result
         (rules_and_rows (wire_links parts.now (map (λ s. s.now) sheets.now) wires.now)) }
 {
     let mut rules = Vec::new(alloc);
@@ -74,7 +74,7 @@ pub fn read_wires(
 fn ends_of(parts: &[Part], sheets: &[&Sheet], n: u64, wire: &Wire) -> Result<WireEnds, JoinFault>
     requires parts { length parts.now ≡ length sheets.now }
     requires few { length parts.now ≤ MAX_PARTS }
-    ensures found { Gives is_memory (λ ends. ends) result
+    ensures found { AgreesWith is_memory (λ ends. ends) result
         (ends_of parts.now (map (λ s. s.now) sheets.now) n wire.now) }
     ensures from { IfOk result (λ ends. (ends.from.part < length sheets.now) × (ends.from.mark < MAX_MARKS)) }
     ensures to { IfOk result (λ ends. (ends.to.part < length sheets.now) × (ends.to.mark < MAX_MARKS)) }

@@ -4,17 +4,17 @@ use Rattle.std.proofs.lemmas.List.{take-append-drop}
 use Rattle.std.proofs.lemmas.Option.{same_Some}
 use Rattle.std.specs.Option.{option_map_or}
 use Rattle.itv_base.specs.Memory.{MemSink, sink_told}
-use Rattle.itv_base.specs.Outside.{CutShort, Files, Rose, file_of}
+use Rattle.itv_base.specs.Outside.{CutShort, Files, FaultCounted, file_of}
 use Rattle.drawn.specs.Drawn.{Drawn}
-use Rattle.reading.specs.declared.place.Place.{Place}
+use Rattle.reading.specs.declared.place.RefusalPlace.{RefusalPlace}
 use Rattle.reading.specs.Design.{design_at}
-use Rattle.reading.specs.Opening.{Opening, gives, refuses, fetches, ◌>>=◌, End, ready, refused, unread, told_end}
+use Rattle.reading.specs.Opening.{FileReading, gives, refuses, fetches, ◌>>=◌, End, ready, refused, unread, told_end}
 use Rattle.reading.specs.Refusal.{unread_text}
-use Rattle.bounds_report.specs.Reports.{BeginsReport}
+use Rattle.bounds_report.specs.Reports.{MayHaveBegun}
 use Rattle.bounds_report.proofs.WrittenLaws.{begun_is_right}
 use Rattle.words.specs.Task.{Task, bounds}
 use Rattle.itv_cli.specs.Job.{opening}
-use Rattle.itv_cli.specs.Run.{Call, CameTo, HasReadFault, IsUntouched, Means, ToWrite, Wanted, for_help, for_bad_words, at_end}
+use Rattle.itv_cli.specs.Run.{Call, HasRead, HasReadFault, IsUntouched, OutcomeMeans, ToWrite, IntendedText, for_help, for_bad_words, at_end}
 use Rattle.itv_cli.specs.declared.outcome.Outcome.{Outcome}
 use Rattle.itv_cli.specs.declared.outcome.Outcome.TheVariants as ends
 use Rattle.itv_cli.specs.declared.ready.Ready.{Ready}
@@ -25,14 +25,14 @@ use Rattle.conformance.proofs.Telling.{came_over, ready_over, refused_over, same
 -- ---- an output that failed
 
 -- a reading that goes on behind something comes to what it goes on to
-on_by : {A B : Type 0} (files : Files) (next : List ℕ → Opening A) (k : A → Opening B) (most : ℕ) (place : Place) (name : List ℕ) (x : A) (file : Option (List ℕ))
+on_by : {A B : Type 0} (files : Files) (next : List ℕ → FileReading A) (k : A → FileReading B) (most : ℕ) (place : RefusalPlace) (name : List ℕ) (x : A) (file : Option (List ℕ))
     → ((bytes : List ℕ) → told_end files (next bytes) ≡ ready x → told_end files (next bytes >>= k) ≡ told_end files (k x))
     → option_map_or (λ bytes. told_end files (next (take most bytes))) file (unread place name) ≡ ready x
     → option_map_or (λ bytes. told_end files (next (take most bytes) >>= k)) file (unread place name) ≡ told_end files (k x)
 on_by files next k most place name x None more e = absurd (cc e)
 on_by files next k most place name x (Some bytes) more e = more (take most bytes) e
 
-told_on : {A B : Type 0} (files : Files) (o : Opening A) (k : A → Opening B) (x : A) → told_end files o ≡ ready x → told_end files (o >>= k) ≡ told_end files (k x)
+told_on : {A B : Type 0} (files : Files) (o : FileReading A) (k : A → FileReading B) (x : A) → told_end files o ≡ ready x → told_end files (o >>= k) ≡ told_end files (k x)
 told_on files (gives y) k x e = ap (λ z. told_end files (k z)) (same_ready y x e)
 told_on files (refuses place why) k x e = absurd (cc e)
 told_on files (fetches place name most next) k x e = on_by files next k most place name x (file_of files name) (λ bytes h. told_on files (next bytes) k x h) e
@@ -41,25 +41,25 @@ told_on files (fetches place name most next) k x e = on_by files next k most pla
 bounds_ready : (files : Files) (design : List ℕ) (budget : ℕ) (cert : Bool) (drawn : Drawn) → Draws files design drawn → told_end files (opening (bounds design budget cert)) ≡ ready (given.Bounds drawn budget cert)
 bounds_ready files design budget cert drawn draws = told_on files (design_at design) (λ d. gives (given.Bounds d budget cert)) drawn draws
 
-module _ (call : Call) (files : Files) (asked : Task) (told : call.shelf_before.files ≡ Some files) (asks : Asks call.words asked) (quiet : ¬ (Rose call.shelf_before.faults call.shelf_after.faults)) where
+module _ (call : Call) (files : Files) (asked : Task) (told : call.shelf_before.files ≡ Some files) (asks : Asks call.words asked) (quiet : ¬ (FaultCounted call.shelf_before.faults call.shelf_after.faults)) where
   -- where no fetch failed, the reading came to the end that the files say
-  told_is : (end : End Ready) → CameTo call end → told_end files (opening asked) ≡ end
+  told_is : (end : End Ready) → HasRead call end → told_end files (opening asked) ≡ end
   told_is (ready given) came = ready_over call files asked given told asks came
   told_is (refused place why) came = refused_over call files asked place why told asks came
   told_is (unread place name) came = absurd (quiet (came_over call asked (unread place name) asks came).1.rose)
 
-  wanted_over : (text : List ℕ) → Wanted call text → ToWrite (told_end files (opening asked)) text
+  wanted_over : (text : List ℕ) → IntendedText call text → ToWrite (told_end files (opening asked)) text
   wanted_over text (for_help is kept) = absurd (cc (is, asks.words))
   wanted_over text (for_bad_words is kept same) = absurd (cc (is, asks.words))
   wanted_over text (at_end end came wants) = subst (λ e. ToWrite e text) (sym (told_is end came)) wants
 
-  pub front_over : (text bytes : List ℕ) (n : ℕ) → Wanted call text → take n text ≡ bytes → IsFrontOf files asked bytes
+  pub front_over : (text bytes : List ℕ) (n : ℕ) → IntendedText call text → take n text ≡ bytes → IsFrontOf files asked bytes
   front_over text bytes n wanted is = record { text = text; wanted = wanted_over text wanted; rest = drop n text; front = sym (take-append-drop n text) ∙ ap (λ front. front ++ drop n text) is }
 
 -- of job bounds it is a front of a right report
 pub front_right : (files : Files) (design : List ℕ) (budget : ℕ) (cert : Bool) (drawn : Drawn) (bytes : List ℕ) → Draws files design drawn → IsFrontOf files (bounds design budget cert) bytes → IsFrontOfRight drawn bytes
 front_right files design budget cert drawn bytes draws f =
-    let begins : BeginsReport drawn budget cert f.text = subst (λ e. ToWrite e f.text) (bounds_ready files design budget cert drawn draws) f.wanted in
+    let begins : MayHaveBegun drawn budget cert f.text = subst (λ e. ToWrite e f.text) (bounds_ready files design budget cert drawn draws) f.wanted in
     let (lines, right, same) = begun_is_right drawn budget cert f.text begins in
     record { lines = lines; begins_right = right; rest = f.rest; text = sym same ∙ f.front }
 
@@ -76,5 +76,5 @@ unread_so call bytes m is asked asks =
 
 -- ---- memory that was not found
 
-pub untouched : (call : Call) (result : Outcome) → Means call result → result ≡ ends.NoMemory → IsUntouched call
-untouched call result means e = subst (λ end. Means call end) e means
+pub untouched : (call : Call) (result : Outcome) → OutcomeMeans call result → result ≡ ends.NoMemory → IsUntouched call
+untouched call result means e = subst (λ end. OutcomeMeans call end) e means

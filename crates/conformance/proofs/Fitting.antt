@@ -10,11 +10,11 @@ use Rattle.serde_json.specs.Data.{Data}
 use Rattle.wavejson.specs.Drawing.{Drawing, diagram_of}
 use Rattle.design_gen.specs.Files.{IsSize, design_files}
 use Rattle.design_gen.proofs.Lengths.{files_fit}
-use Rattle.netlist.specs.Contents.{Contents}
+use Rattle.netlist.specs.Contents.{NetlistContents}
 use Rattle.netlist.specs.declared.part.Part.{Part}
 use Rattle.grades.specs.declared.grade.Grade.{Grade}
-use Rattle.reading.specs.declared.place.Place.{Place}
-use Rattle.reading.specs.declared.place.Place.TheVariants as places
+use Rattle.reading.specs.declared.place.RefusalPlace.{RefusalPlace}
+use Rattle.reading.specs.declared.place.RefusalPlace.TheVariants as places
 use Rattle.reading.specs.declared.refusal.Refusal.{Refusal}
 use Rattle.reading.specs.declared.refusal.Refusal.TheVariants as refusals
 use Rattle.plan.specs.Plan.{NamedSheets, sheets_on}
@@ -29,14 +29,14 @@ use Rattle.serde_json.specs.Find.{as_object, get}
 use Rattle.sheet.specs.Links.{plain}
 use Rattle.sheet.specs.Sheet.{sheet_by, sheet_of}
 use Rattle.unroll.specs.Limits.{unrolled}
-use Rattle.reading.specs.Opening.{End, Opening, at, each, fetches, file_at, gives, ready, refused, refuses, told_end, unread, within_limit, ◌>>=◌}
+use Rattle.reading.specs.Opening.{End, FileReading, at, each, fetches, file_at, gives, ready, refused, refuses, told_end, unread, within_limit, ◌>>=◌}
 use Rattle.reading.specs.Refusal.{refusal_text}
 use Rattle.words.specs.Task.{KeepsLimits}
 use Rattle.words.proofs.Limits.{taken_limits}
 use Rattle.itv_cli.specs.Task.{generated, taken, task}
 use Rattle.jobs.specs.declared.answer.Answer.TheVariants as answers
 use Rattle.itv_cli.specs.Job.{Answers, opening}
-use Rattle.itv_cli.specs.Run.{Call, HasAnswered, IsRefused, Means}
+use Rattle.itv_cli.specs.Run.{Call, HasAnswered, IsRefused, OutcomeMeans}
 use Rattle.itv_cli.specs.declared.outcome.Outcome.{Outcome}
 use Rattle.itv_cli.specs.declared.outcome.Outcome.TheVariants as ends
 use Rattle.itv_cli.specs.declared.ready.Ready.TheVariants as given
@@ -51,27 +51,27 @@ Fits (unread place name) = Unit {0}
 
 module _ (files : Files) (short : (name : List ℕ) → IfSome (file_of files name) (λ bytes. length bytes ≤ FILE_LIMIT)) where
   -- one reading and then another
-  fits_by : {A B : Type 0} (next : List ℕ → Opening A) (k : A → Opening B) (most : ℕ) (place : Place) (name : List ℕ) (file : Option (List ℕ))
+  fits_by : {A B : Type 0} (next : List ℕ → FileReading A) (k : A → FileReading B) (most : ℕ) (place : RefusalPlace) (name : List ℕ) (file : Option (List ℕ))
       → ((bytes : List ℕ) → Fits (told_end files (next bytes)) → Fits (told_end files (next bytes >>= k)))
       → Fits (option_map_or (λ bytes. told_end files (next (take most bytes))) file (unread place name)) → Fits (option_map_or (λ bytes. told_end files (next (take most bytes) >>= k)) file (unread place name))
   fits_by next k most place name None more h = tt
   fits_by next k most place name (Some bytes) more h = more (take most bytes) h
 
-  fits_then : {A B : Type 0} (o : Opening A) (k : A → Opening B) → Fits (told_end files o) → ((x : A) → Fits (told_end files (k x))) → Fits (told_end files (o >>= k))
+  fits_then : {A B : Type 0} (o : FileReading A) (k : A → FileReading B) → Fits (told_end files o) → ((x : A) → Fits (told_end files (k x))) → Fits (told_end files (o >>= k))
   fits_then (gives x) k h more = more x
   fits_then (refuses place why) k h more = h
   fits_then (fetches place name most next) k h more = fits_by next k most place name (file_of files name) (λ bytes g. fits_then (next bytes) k g more) h
 
-  fits_at : {A F : Type 0} (place : Place) (why : F → Refusal) (r : Result A F) → ((fault : F) → why fault ≡ refusals.TooLong → ⊥) → Fits (told_end files (at place why r))
+  fits_at : {A F : Type 0} (place : RefusalPlace) (why : F → Refusal) (r : Result A F) → ((fault : F) → why fault ≡ refusals.TooLong → ⊥) → Fits (told_end files (at place why r))
   fits_at place why (Ok x) other = tt
   fits_at place why (Err fault) other = other fault
 
-  fits_each : {A X : Type 0} (step : ℕ → A → X → Opening A) (n : ℕ) (done : A) (xs : List X) → ((k : ℕ) (d : A) (x : X) → Fits (told_end files (step k d x))) → Fits (told_end files (each step n done xs))
+  fits_each : {A X : Type 0} (step : ℕ → A → X → FileReading A) (n : ℕ) (done : A) (xs : List X) → ((k : ℕ) (d : A) (x : X) → Fits (told_end files (step k d x))) → Fits (told_end files (each step n done xs))
   fits_each step n done [] one = tt
   fits_each step n done (x ∷ xs) one = fits_then (step n done x) (λ more. each step (n + 1) more xs) (one n done x) (λ more. fits_each step (n + 1) more xs one)
 
   -- a file
-  limit_by : (place : Place) (bytes : List ℕ) (test : Bool) → nat_lt FILE_LIMIT (length (take (FILE_LIMIT + 1) bytes)) ≡ test → length bytes ≤ FILE_LIMIT
+  limit_by : (place : RefusalPlace) (bytes : List ℕ) (test : Bool) → nat_lt FILE_LIMIT (length (take (FILE_LIMIT + 1) bytes)) ≡ test → length bytes ≤ FILE_LIMIT
       → Fits (told_end files (if test then refuses place refusals.TooLong else gives (take (FILE_LIMIT + 1) bytes)))
   limit_by place bytes false is h = tt
   limit_by place bytes true is h =
@@ -79,38 +79,38 @@ module _ (files : Files) (short : (name : List ℕ) → IfSome (file_of files na
       let over : FILE_LIMIT < length (take (FILE_LIMIT + 1) bytes) = ltb-true FILE_LIMIT (length (take (FILE_LIMIT + 1) bytes)) is in
       absurd (omega (arith, over, count, h))
 
-  file_by : (place : Place) (name : List ℕ) (file : Option (List ℕ)) → IfSome file (λ bytes. length bytes ≤ FILE_LIMIT)
+  file_by : (place : RefusalPlace) (name : List ℕ) (file : Option (List ℕ)) → IfSome file (λ bytes. length bytes ≤ FILE_LIMIT)
       → Fits (option_map_or (λ bytes. told_end files (within_limit place FILE_LIMIT (take (FILE_LIMIT + 1) bytes))) file (unread place name))
   file_by place name None h = tt
   file_by place name (Some bytes) h = limit_by place bytes (nat_lt FILE_LIMIT (length (take (FILE_LIMIT + 1) bytes))) refl h
 
-  fits_file : (place : Place) (name : List ℕ) → Fits (told_end files (file_at place name FILE_LIMIT))
+  fits_file : (place : RefusalPlace) (name : List ℕ) → Fits (told_end files (file_at place name FILE_LIMIT))
   fits_file place name = file_by place name (file_of files name) (short name)
 
-  tree_by : (place : Place) (tree : Option Data) → Fits (told_end files (at place (λ fault. fault) (ok_or tree refusals.NotJson)))
+  tree_by : (place : RefusalPlace) (tree : Option Data) → Fits (told_end files (at place (λ fault. fault) (ok_or tree refusals.NotJson)))
   tree_by place None = λ e. cc e
   tree_by place (Some tree) = tt
 
-  fits_tree : (place : Place) (name : List ℕ) → Fits (told_end files (tree_in place name))
+  fits_tree : (place : RefusalPlace) (name : List ℕ) → Fits (told_end files (tree_in place name))
   unfolding tree_at
   fits_tree place name = fits_then (file_at place name FILE_LIMIT) (tree_at place) (fits_file place name) (λ bytes. tree_by place _)
 
   -- sheets
-  fits_if : {A : Type 0} (test : Bool) (one two : Opening A) → Fits (told_end files one) → Fits (told_end files two) → Fits (told_end files (if test then one else two))
+  fits_if : {A : Type 0} (test : Bool) (one two : FileReading A) → Fits (told_end files one) → Fits (told_end files two) → Fits (told_end files (if test then one else two))
   fits_if true one two h k = h
   fits_if false one two h k = k
 
-  fits_part : (place : Place) (name : List ℕ) (grades : Option (List Grade)) (drawing : Drawing) (n : ℕ) (sheets : NamedSheets) (part : Part) → Fits (told_end files (with_part place name grades drawing n sheets part))
+  fits_part : (place : RefusalPlace) (name : List ℕ) (grades : Option (List Grade)) (drawing : Drawing) (n : ℕ) (sheets : NamedSheets) (part : Part) → Fits (told_end files (with_part place name grades drawing n sheets part))
   fits_part place name grades drawing n sheets part =
       fits_if (is_unread sheets name part) (at place refusals.Sheet (sheet_by grades part.grade drawing) >>= (λ sheet. gives (with_sheet sheets (key_of part) sheet))) (gives sheets)
       (fits_then (at place refusals.Sheet (sheet_by grades part.grade drawing)) (λ sheet. gives (with_sheet sheets (key_of part) sheet)) (fits_at place refusals.Sheet (sheet_by grades part.grade drawing) (λ fault e. cc e)) (λ sheet. tt)) tt
 
-  fits_grades : (version : ℕ) (place : Place) (tree : Data) → Fits (told_end files (grades_in version place tree))
+  fits_grades : (version : ℕ) (place : RefusalPlace) (tree : Data) → Fits (told_end files (grades_in version place tree))
   fits_grades version place tree =
       fits_if (version == 2) (at place refusals.Grades (grades_of tree) >>= (λ grades. gives (Some grades))) (gives None)
       (fits_then (at place refusals.Grades (grades_of tree)) (λ grades. gives (Some grades)) (fits_at place refusals.Grades (grades_of tree) (λ fault e. cc e)) (λ grades. tt)) tt
 
-  fits_sheets : (netlist : Contents) (number : ℕ) (sheets : NamedSheets) (name : List ℕ) → Fits (told_end files (sheets_in netlist number sheets name))
+  fits_sheets : (netlist : NetlistContents) (number : ℕ) (sheets : NamedSheets) (name : List ℕ) → Fits (told_end files (sheets_in netlist number sheets name))
   fits_sheets netlist number sheets name =
       fits_then (tree_in (places.File number) name) (sheets_at netlist number sheets name) (fits_tree (places.File number) name)
       (λ tree. fits_then (at (places.File number) refusals.Diagram (diagram_of tree)) _ (fits_at (places.File number) refusals.Diagram (diagram_of tree) (λ fault e. cc e))
@@ -118,13 +118,13 @@ module _ (files : Files) (short : (name : List ℕ) → IfSome (file_of files na
       (λ grades. fits_each (with_part (places.File number) name grades drawing) 0 sheets netlist.parts (λ k d part. fits_part (places.File number) name grades drawing k d part))))
 
   -- designs
-  fits_drawn : (netlist : Contents) (sheets : NamedSheets) → Fits (told_end files (drawn_at netlist sheets))
+  fits_drawn : (netlist : NetlistContents) (sheets : NamedSheets) → Fits (told_end files (drawn_at netlist sheets))
   unfolding drawn_at
   fits_drawn netlist sheets =
       fits_then (at places.Design refusals.Joins (composed_on netlist (sheets_on sheets netlist.parts))) _ (fits_at places.Design refusals.Joins (composed_on netlist (sheets_on sheets netlist.parts)) (λ fault e. cc e))
       (λ design. fits_at places.Design refusals.Limits (unrolled design) (λ fault e. cc e))
 
-  fits_plain : (place : Place) (tree : Data) → Fits (told_end files (plain_sheet_at place tree))
+  fits_plain : (place : RefusalPlace) (tree : Data) → Fits (told_end files (plain_sheet_at place tree))
   fits_plain place tree =
       fits_then (at place refusals.Diagram (diagram_of tree)) _ (fits_at place refusals.Diagram (diagram_of tree) (λ fault e. cc e))
       (λ drawing. fits_at place refusals.Sheet (sheet_of plain drawing) (λ fault e. cc e))
@@ -153,15 +153,15 @@ refused_made call size budget is m =
     let answered : Answers (given.Generated drawn size budget) answers.DesignRefused m.text = subst (λ g. Answers g answers.DesignRefused m.text) (sym same) m.answers in
     never_refused answered.0.summary.end answered.0.is_answer
 
-refused_by : (call : Call) (size budget : ℕ) → taken call.words ≡ task (generated size budget) → Means call ends.Refused → IsRefused call
+refused_by : (call : Call) (size budget : ℕ) → taken call.words ≡ task (generated size budget) → OutcomeMeans call ends.Refused → IsRefused call
 refused_by call size budget is (inl m) = m
 refused_by call size budget is (inr m) = absurd (refused_made call size budget is m)
 
 -- a run of job self that is refused is so for something else
-pub self_fits : (call : Call) (size budget : ℕ) (result : Outcome) → taken call.words ≡ task (generated size budget) → Means call result → result ≡ ends.Refused
-    → (place : Place) × (why : Refusal) × (why ≡ refusals.TooLong → ⊥) × (call.sink_after ≡ grown call.sink_before (refusal_text place why))
+pub self_fits : (call : Call) (size budget : ℕ) (result : Outcome) → taken call.words ≡ task (generated size budget) → OutcomeMeans call result → result ≡ ends.Refused
+    → (place : RefusalPlace) × (why : Refusal) × (why ≡ refusals.TooLong → ⊥) × (call.sink_after ≡ grown call.sink_before (refusal_text place why))
 self_fits call size budget result is means e =
-    let m : IsRefused call = refused_by call size budget is (subst (λ end. Means call end) e means) in
+    let m : IsRefused call = refused_by call size budget is (subst (λ end. OutcomeMeans call end) e means) in
     let limits = (subst KeepsLimits is (taken_limits call.words)).0 in
     let sized : IsSize size = record { low = limits.low; high = limits.high } in
     let fits : Fits (told_end (design_files size) (opening (generated size budget))) =

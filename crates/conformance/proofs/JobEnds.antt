@@ -5,7 +5,7 @@ use Rattle.std.proofs.lemmas.List.{length-take, take_all}
 use Rattle.std.specs.Option.{option_map_or}
 use Rattle.event_graph.specs.Bounds.{IsInconsistent}
 use Rattle.event_graph.specs.RootBound.{HasNoRoot}
-use Rattle.itv_base.specs.Outside.{Files, ShelfTold, file_of, grown}
+use Rattle.itv_base.specs.Outside.{Files, ShelfView, file_of, grown}
 use Rattle.itv_base.specs.declared.limits.TheConstants.{MAX_MATRIX_EVENTS, REPORT_LIMIT}
 use Rattle.design_gen.specs.Files.{design_files}
 use Rattle.jobs.specs.Ending.{answer_of}
@@ -21,12 +21,12 @@ use Rattle.right_report.proofs.Ending.{fail_end_is_so, inconsistent_end_is_so, p
 use Rattle.right_report.proofs.Refusing.{accepted_text_is_right, one_refused_line}
 use Rattle.drawn.specs.Drawn.{Drawn}
 use Rattle.drawn_names.proofs.Designs.{drawn_names_have_form, drawn_ranges_have_form}
-use Rattle.reading.specs.declared.place.Place.{Place}
-use Rattle.reading.specs.declared.place.Place.TheVariants.{Report}
+use Rattle.reading.specs.declared.place.RefusalPlace.{RefusalPlace}
+use Rattle.reading.specs.declared.place.RefusalPlace.TheVariants.{Report}
 use Rattle.reading.specs.Design.{design_at}
 use Rattle.reading.specs.declared.refusal.Refusal.{Refusal}
 use Rattle.reading.specs.declared.refusal.Refusal.TheVariants.{TooLong}
-use Rattle.reading.specs.Opening.{Comes, End, Opening, gives, refuses, fetches, ◌>>=◌, ready, unread, told_end, file_at, within_limit}
+use Rattle.reading.specs.Opening.{RunsTo, End, FileReading, gives, refuses, fetches, ◌>>=◌, ready, unread, told_end, file_at, within_limit}
 use Rattle.bounds_report.proofs.WrittenLaws.{written_is_accepted, written_is_right}
 use Rattle.matrix_report.specs.Matrix.{AnswersMatrix, IsMatrixText}
 use Rattle.report_check.specs.Check.{AnswersCheck, refused_text}
@@ -35,7 +35,7 @@ use Rattle.settle_check.specs.Confirm.{AnswersConfirm}
 use Rattle.settle_report.specs.Settle.{AnswersSettle}
 use Rattle.itv_cli.specs.Task.{bounds, check, confirm, generated, matrix, settle, taken, task}
 use Rattle.itv_cli.specs.Job.{Answers, made_for, matrix_at, opening}
-use Rattle.itv_cli.specs.Run.{Call, CameTo, EndsOver, HasAnswered, Means, outcome_of}
+use Rattle.itv_cli.specs.Run.{Call, HasRead, ReadsOver, HasAnswered, OutcomeMeans, outcome_of}
 use Rattle.itv_cli.specs.declared.outcome.Outcome.{Outcome}
 use Rattle.itv_cli.specs.declared.outcome.Outcome.TheVariants as ends
 use Rattle.itv_cli.specs.declared.ready.Ready.{Ready}
@@ -45,7 +45,7 @@ use Rattle.conformance.proofs.Telling.{answer_over, never_refused, reported_over
 
 -- ---- what was answered
 
-means_answered : (call : Call) (answer : Answer) → (answer ≡ answers.DesignRefused → ⊥) → Means call (outcome_of answer) → HasAnswered call answer
+means_answered : (call : Call) (answer : Answer) → (answer ≡ answers.DesignRefused → ⊥) → OutcomeMeans call (outcome_of answer) → HasAnswered call answer
 means_answered call answers.AllPass other m = m
 means_answered call answers.SomeFail other m = m
 means_answered call answers.Inconsistent other m = m
@@ -53,21 +53,21 @@ means_answered call answers.Undecided other m = m
 means_answered call answers.CheckRefused other m = m
 means_answered call answers.DesignRefused other m = absurd (other refl)
 
-pub answered_by : (call : Call) (result : Outcome) (answer : Answer) → (answer ≡ answers.DesignRefused → ⊥) → Means call result → result ≡ outcome_of answer → HasAnswered call answer
-answered_by call result answer other means e = means_answered call answer other (subst (λ end. Means call end) e means)
+pub answered_by : (call : Call) (result : Outcome) (answer : Answer) → (answer ≡ answers.DesignRefused → ⊥) → OutcomeMeans call result → result ≡ outcome_of answer → HasAnswered call answer
+answered_by call result answer other means e = means_answered call answer other (subst (λ end. OutcomeMeans call end) e means)
 
 -- a reading that comes to something over told files comes to it
-told_shelf : Files → ShelfTold
+told_shelf : Files → ShelfView
 told_shelf files = record { files = Some files; faults = 0; last = codes ""; is_faithful = true }
 
-comes_by : {A : Type 0} (files : Files) (next : List ℕ → Opening A) (most : ℕ) (place : Place) (name : List ℕ) (x : A) (file : Option (List ℕ)) → file_of files name ≡ file
-    → ((bytes : List ℕ) → told_end files (next bytes) ≡ ready x → Comes (told_shelf files) (next bytes) (ready x))
-    → option_map_or (λ bytes. told_end files (next (take most bytes))) file (unread place name) ≡ ready x → Comes (told_shelf files) (fetches place name most next) (ready x)
+comes_by : {A : Type 0} (files : Files) (next : List ℕ → FileReading A) (most : ℕ) (place : RefusalPlace) (name : List ℕ) (x : A) (file : Option (List ℕ)) → file_of files name ≡ file
+    → ((bytes : List ℕ) → told_end files (next bytes) ≡ ready x → RunsTo (told_shelf files) (next bytes) (ready x))
+    → option_map_or (λ bytes. told_end files (next (take most bytes))) file (unread place name) ≡ ready x → RunsTo (told_shelf files) (fetches place name most next) (ready x)
 unfolding told_shelf
 comes_by files next most place name x None is more e = absurd (cc e)
 comes_by files next most place name x (Some bytes) is more e = inr (take most bytes, rw is refl, more (take most bytes) e)
 
-told_comes : {A : Type 0} (files : Files) (o : Opening A) (x : A) → told_end files o ≡ ready x → Comes (told_shelf files) o (ready x)
+told_comes : {A : Type 0} (files : Files) (o : FileReading A) (x : A) → told_end files o ≡ ready x → RunsTo (told_shelf files) o (ready x)
 told_comes files (gives y) x e = sym e
 told_comes files (refuses place why) x e = absurd (cc e)
 told_comes files (fetches place name most next) x e = comes_by files next most place name x (file_of files name) refl (λ bytes h. told_comes files (next bytes) x h) e
@@ -101,26 +101,26 @@ module _ (call : Call) (files : Files) (budget : ℕ) (cert : Bool) (drawn : Dra
   begins : (answer : Answer) (text : List ℕ) (a : AnswersBounds drawn budget cert answer text) → BeginsRightReport drawn a.reports.lines
   begins answer text a = (at_last, written_is_right drawn budget cert a.reports.lines a.reports.is_written)
 
-  pub bounds_met : (result : Outcome) → Means call result → result ≡ ends.AllPass → SomeSatisfy drawn.net × AllMet drawn
+  pub bounds_met : (result : Outcome) → OutcomeMeans call result → result ≡ ends.AllPass → SomeSatisfy drawn.net × AllMet drawn
   bounds_met result means e =
       let m = answered_by call result answers.AllPass (λ same. cc same) means e in
       let a = bounds_said answers.AllPass m in
       pass_end_is_so drawn a.reports.lines (begins answers.AllPass m.text a) (a.reports.sums.ends ∙ ap (λ word. Some word) (passes a.summary.end a.is_answer))
 
-  pub bounds_broken : (result : Outcome) → Means call result → result ≡ ends.SomeFail → SomeBroken drawn
+  pub bounds_broken : (result : Outcome) → OutcomeMeans call result → result ≡ ends.SomeFail → SomeBroken drawn
   bounds_broken result means e =
       let m = answered_by call result answers.SomeFail (λ same. cc same) means e in
       let a = bounds_said answers.SomeFail m in
       fail_end_is_so drawn a.reports.lines (begins answers.SomeFail m.text a) (a.reports.sums.ends ∙ ap (λ word. Some word) (fails a.summary.end a.is_answer))
 
-  pub bounds_none : (result : Outcome) → Means call result → result ≡ ends.Inconsistent → IsInconsistent drawn.net
+  pub bounds_none : (result : Outcome) → OutcomeMeans call result → result ≡ ends.Inconsistent → IsInconsistent drawn.net
   bounds_none result means e =
       let m = answered_by call result answers.Inconsistent (λ same. cc same) means e in
       let a = bounds_said answers.Inconsistent m in
       inconsistent_end_is_so drawn a.reports.lines (begins answers.Inconsistent m.text a) (a.reports.sums.ends ∙ ap (λ word. Some word) (none_word a.summary.end a.is_answer))
 
 -- with the lines of proofs the text is accepted
-pub bounds_accepted : (call : Call) (files : Files) (budget : ℕ) (drawn : Drawn) (result : Outcome) → call.shelf_before.files ≡ Some files → AsksBounds call.words files budget true drawn → Means call result → IsReportEnd result
+pub bounds_accepted : (call : Call) (files : Files) (budget : ℕ) (drawn : Drawn) (result : Outcome) → call.shelf_before.files ≡ Some files → AsksBounds call.words files budget true drawn → OutcomeMeans call result → IsReportEnd result
     → (text : List ℕ) × IsAcceptedText drawn text × (call.sink_after ≡ grown call.sink_before text)
 bounds_accepted call files budget drawn result told asks means end =
     let answer = answer_of end.0 in
@@ -133,7 +133,7 @@ bounds_accepted call files budget drawn result told asks means end =
 -- ---- job check
 
 -- bytes within a limit are the whole file
-whole_by : (place : Place) (limit : ℕ) (file bytes : List ℕ) (test : Bool) → nat_lt limit (length (take (limit + 1) file)) ≡ test → (files : Files)
+whole_by : (place : RefusalPlace) (limit : ℕ) (file bytes : List ℕ) (test : Bool) → nat_lt limit (length (take (limit + 1) file)) ≡ test → (files : Files)
     → told_end files (if test then refuses place TooLong else gives (take (limit + 1) file)) ≡ ready bytes → file ≡ bytes
 whole_by place limit file bytes true is files e = absurd (cc e)
 whole_by place limit file bytes false is files e =
@@ -144,12 +144,12 @@ whole_by place limit file bytes false is files e =
     not_less : (a b : ℕ) → nat_lt a b ≡ false → b ≤ a
     not_less a b e = ltb-false a b e
 
-file_by : (files : Files) (place : Place) (name : List ℕ) (limit : ℕ) (bytes : List ℕ) (file : Option (List ℕ)) → file_of files name ≡ file
+file_by : (files : Files) (place : RefusalPlace) (name : List ℕ) (limit : ℕ) (bytes : List ℕ) (file : Option (List ℕ)) → file_of files name ≡ file
     → option_map_or (λ whole. told_end files (within_limit place limit (take (limit + 1) whole))) file (unread place name) ≡ ready bytes → file_of files name ≡ Some bytes
 file_by files place name limit bytes None is e = absurd (cc e)
 file_by files place name limit bytes (Some whole) is e = is ∙ ap (λ all. Some all) (whole_by place limit whole bytes (nat_lt limit (length (take (limit + 1) whole))) refl files e)
 
-file_had : (files : Files) (place : Place) (name : List ℕ) (limit : ℕ) (bytes : List ℕ) → told_end files (file_at place name limit) ≡ ready bytes → file_of files name ≡ Some bytes
+file_had : (files : Files) (place : RefusalPlace) (name : List ℕ) (limit : ℕ) (bytes : List ℕ) → told_end files (file_at place name limit) ≡ ready bytes → file_of files name ≡ Some bytes
 file_had files place name limit bytes e = file_by files place name limit bytes (file_of files name) refl e
 
 record HasChecked (files : Files) (report : List ℕ) (drawn : Drawn) (answer : Answer) (text : List ℕ) : Type 0 where
@@ -170,13 +170,13 @@ module _ (call : Call) (files : Files) (report : List ℕ) (drawn : Drawn) (told
         answers = subst (λ (d : Drawn). AnswersCheck d bytes answer m.text) same (subst (λ g. Answers g answer m.text) (sym is) a.answers);
       }
 
-  pub check_right : (result : Outcome) → Means call result → result ≡ ends.AllPass → IsRightFile files report drawn
+  pub check_right : (result : Outcome) → OutcomeMeans call result → result ≡ ends.AllPass → IsRightFile files report drawn
   check_right result means e =
       let m = answered_by call result answers.AllPass (λ same. cc same) means e in
       let h = check_said answers.AllPass m in
       record { bytes = h.bytes; is_file = h.is_file; is_right = accepted_text_is_right drawn h.bytes h.answers.0 }
 
-  pub check_wrong : (result : Outcome) → Means call result → result ≡ ends.CheckRefused
+  pub check_wrong : (result : Outcome) → OutcomeMeans call result → result ≡ ends.CheckRefused
       → (line : ℕ) × IsWrongFile files report drawn line × (call.sink_after ≡ grown call.sink_before (refused_text line))
   check_wrong result means e =
       let m = answered_by call result answers.CheckRefused (λ same. cc same) means e in
@@ -188,7 +188,7 @@ module _ (call : Call) (files : Files) (report : List ℕ) (drawn : Drawn) (told
       )
 
   -- a file without a wrong line is right, where the run answers
-  pub check_whole : (result : Outcome) → Means call result → (result ≡ ends.AllPass) ⊎ (result ≡ ends.CheckRefused) → ((bytes : List ℕ) (line : ℕ) → file_of files report ≡ Some bytes → IsRefusedText drawn bytes line → ⊥)
+  pub check_whole : (result : Outcome) → OutcomeMeans call result → (result ≡ ends.AllPass) ⊎ (result ≡ ends.CheckRefused) → ((bytes : List ℕ) (line : ℕ) → file_of files report ≡ Some bytes → IsRefusedText drawn bytes line → ⊥)
       → IsRightFile files report drawn
   check_whole result means (inl e) none = check_right result means e
   check_whole result means (inr e) none =
@@ -198,7 +198,7 @@ module _ (call : Call) (files : Files) (report : List ℕ) (drawn : Drawn) (told
 -- ---- jobs settle and confirm
 
 module _ (call : Call) (files : Files) (report : List ℕ) (drawn : Drawn) (told : call.shelf_before.files ≡ Some files) (asks : AsksConfirm call.words files report drawn) where
-  pub confirm_right : (result : Outcome) → Means call result → result ≡ ends.AllPass → IsSettledFile files report drawn
+  pub confirm_right : (result : Outcome) → OutcomeMeans call result → result ≡ ends.AllPass → IsSettledFile files report drawn
   confirm_right result means e =
       let m = answered_by call result answers.AllPass (λ same. cc same) means e in
       let a = answer_over call files (confirm asks.design report) answers.AllPass m.text told m refl (record { words = asks.words; own = refl }) in
@@ -217,14 +217,14 @@ module _ (call : Call) (files : Files) (budget : ℕ) (cert : Bool) (drawn : Dra
       let same : other ≡ drawn = same_ready other drawn (sym draws ∙ asks.draws) in
       subst (λ (d : Drawn). AnswersSettle d cert answer m.text) same (subst (λ g. Answers g answer m.text) (sym is) a.answers)
 
-  pub settle_wrote : (result : Outcome) → Means call result → (end : IsReportEnd result) → (text : List ℕ) × AnswersSettle drawn cert (answer_of end.0) text × (call.sink_after ≡ grown call.sink_before text)
+  pub settle_wrote : (result : Outcome) → OutcomeMeans call result → (end : IsReportEnd result) → (text : List ℕ) × AnswersSettle drawn cert (answer_of end.0) text × (call.sink_after ≡ grown call.sink_before text)
   settle_wrote result means end =
       let m = answered_by call result (answer_of end.0) (λ same. never_refused end.0 (sym same)) means end.1 in (m.text, settle_said (answer_of end.0) m, m.wrote)
 
 -- ---- job matrix
 
 -- a network that is not refused is given
-matrix_had : (files : Files) (drawn : Drawn) (to : Ready) (test : Bool) (place : Place) (why : Refusal) → told_end files (if test then refuses place why else gives (given.Matrix drawn)) ≡ ready to → given.Matrix drawn ≡ to
+matrix_had : (files : Files) (drawn : Drawn) (to : Ready) (test : Bool) (place : RefusalPlace) (why : Refusal) → told_end files (if test then refuses place why else gives (given.Matrix drawn)) ≡ ready to → given.Matrix drawn ≡ to
 matrix_had files drawn to true place why e = absurd (cc e)
 matrix_had files drawn to false place why e = same_ready (given.Matrix drawn) to e
 
@@ -236,20 +236,20 @@ module _ (call : Call) (files : Files) (drawn : Drawn) (told : call.shelf_before
       let is : given.Matrix other ≡ a.given = matrix_had files other a.given (nat_lt MAX_MATRIX_EVENTS other.net.events) _ _ more in
       subst (λ (d : Drawn). AnswersMatrix d answer m.text) (same_ready other drawn (sym draws ∙ asks.draws)) (subst (λ g. Answers g answer m.text) (sym is) a.answers)
 
-  pub matrix_bounds : (result : Outcome) → Means call result → result ≡ ends.AllPass → (text : List ℕ) × IsMatrixText drawn text × (call.sink_after ≡ grown call.sink_before text)
+  pub matrix_bounds : (result : Outcome) → OutcomeMeans call result → result ≡ ends.AllPass → (text : List ℕ) × IsMatrixText drawn text × (call.sink_after ≡ grown call.sink_before text)
   matrix_bounds result means e = let m = answered_by call result answers.AllPass (λ same. cc same) means e in (m.text, matrix_said answers.AllPass m, m.wrote)
 
-  pub matrix_none : (result : Outcome) → Means call result → result ≡ ends.Inconsistent → HasNoRoot drawn.net
+  pub matrix_none : (result : Outcome) → OutcomeMeans call result → result ≡ ends.Inconsistent → HasNoRoot drawn.net
   matrix_none result means e = let m = answered_by call result answers.Inconsistent (λ same. cc same) means e in (matrix_said answers.Inconsistent m).0
 
 -- ---- job self
 
 -- the end of a reading over made files is theirs
-pub came_made : (call : Call) (size budget : ℕ) (end : End Ready) → taken call.words ≡ task (generated size budget) → CameTo call end → end ≡ told_end (design_files size) (opening (generated size budget))
+pub came_made : (call : Call) (size budget : ℕ) (end : End Ready) → taken call.words ≡ task (generated size budget) → HasRead call end → end ≡ told_end (design_files size) (opening (generated size budget))
 came_made call size budget end is came =
-    (subst (λ t. EndsOver (made_for t) call.shelf_before call.shelf_after t end) (same_asked call.words (generated size budget) came.asked is came.words) came.ends).0
+    (subst (λ t. ReadsOver (made_for t) call.shelf_before call.shelf_after t end) (same_asked call.words (generated size budget) came.asked is came.words) came.ends).0
 
-pub self_sums : (call : Call) (size budget : ℕ) (result : Outcome) → taken call.words ≡ task (generated size budget) → Means call result → IsReportEnd result
+pub self_sums : (call : Call) (size budget : ℕ) (result : Outcome) → taken call.words ≡ task (generated size budget) → OutcomeMeans call result → IsReportEnd result
     → (text : List ℕ) × IsSummaryOf size text × (call.sink_after ≡ grown call.sink_before text)
 self_sums call size budget result is means end =
     let answer = answer_of end.0 in

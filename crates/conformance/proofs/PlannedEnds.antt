@@ -23,7 +23,7 @@ use Rattle.slack_report.specs.declared.words.FindingWord.{FindingWord}
 use Rattle.slack_report.specs.declared.words.FindingWord.TheVariants as findings
 use Rattle.requirements.specs.declared.bound.Bound.{Bound}
 use Rattle.requirements.specs.declared.bound.Bound.TheVariants as bounds
-use Rattle.right_report.specs.Right.At.{Course, course_of, end_word, is_within, undecided_or_pass}
+use Rattle.right_report.specs.Right.At.{ReportTally, course_of, end_word, is_within, undecided_or_pass}
 use Rattle.plan.specs.Notes.{plan_note}
 use Rattle.plan.specs.Plan.{Planned, sheets_on}
 use Rattle.explained.specs.declared.finding.Finding.{Finding}
@@ -41,7 +41,7 @@ use Rattle.reading.specs.Opening.{◌>>=◌, gives, ready, told_end}
 use Rattle.words.specs.Task as tasks
 use Rattle.words.specs.Task.{Task}
 use Rattle.itv_cli.specs.Job.{Answers, made_for, opening, planned_at}
-use Rattle.itv_cli.specs.Run.{Call, HasAnswered, Means}
+use Rattle.itv_cli.specs.Run.{Call, HasAnswered, OutcomeMeans}
 use Rattle.itv_cli.specs.declared.outcome.Outcome.{Outcome}
 use Rattle.itv_cli.specs.declared.outcome.Outcome.TheVariants as ends
 use Rattle.itv_cli.specs.declared.ready.Ready.{Ready}
@@ -65,7 +65,7 @@ module _ (job : List ℕ → ℕ → Task) (made : Planned × Drawn → ℕ → 
         subst (λ (p : Planned × Drawn). Answers (made p budget) answer m.text) same (subst (λ g. Answers g answer m.text) (sym is) a.answers)
 
     -- with an end of a report it writes a text
-    planned_wrote : (result : Outcome) → Means call result → (end : IsReportEnd result)
+    planned_wrote : (result : Outcome) → OutcomeMeans call result → (end : IsReportEnd result)
         → (text : List ℕ) × Answers (made (plan, drawn) budget) (answer_of end.0) text × (call.sink_after ≡ grown call.sink_before text)
     planned_wrote result means end =
         let m = answered_by call result (answer_of end.0) (λ same. never_refused end.0 (sym same)) means end.1 in (m.text, planned_said (answer_of end.0) m, m.wrote)
@@ -73,11 +73,11 @@ module _ (job : List ℕ → ℕ → Task) (made : Planned × Drawn → ℕ → 
 -- ---- job why
 
 -- rows leave the finding as it is
-row_keeps : (course : Course) (kind : RowKind) (found : RowFound) → (with_row course kind found).found ≡ course.found
+row_keeps : (course : ReportTally) (kind : RowKind) (found : RowFound) → (with_row course kind found).found ≡ course.found
 row_keeps course kinds.Ask found = refl
 row_keeps course (kinds.Req range) found = refl
 
-rows_keep : (course : Course) (rows : List Row) (found : List RowFound) → (with_rows course rows found).found ≡ course.found
+rows_keep : (course : ReportTally) (rows : List Row) (found : List RowFound) → (with_rows course rows found).found ≡ course.found
 rows_keep course [] found = refl
 rows_keep course (row ∷ rows) [] = refl
 rows_keep course (row ∷ rows) (found ∷ others) = rows_keep (with_row course row.kind found) rows others ∙ row_keeps course row.kind found
@@ -93,7 +93,7 @@ never_none false findings.Unsettled within other e = cc e
 no_end : (word : FindingWord) (rows : List Row) (found : List RowFound) → (word ≡ findings.Inconsistent → ⊥)
     → answers.Inconsistent ≡ answer_of (end_word (with_rows (course_of word) rows found)) → ⊥
 no_end word rows found other e =
-    let course : Course = with_rows (course_of word) rows found in
+    let course : ReportTally = with_rows (course_of word) rows found in
     never_none course.fails course.found course.within (λ same. other (sym (rows_keep (course_of word) rows found) ∙ same)) e
 
 -- where the answer is that the network is inconsistent, the finding is
@@ -113,11 +113,11 @@ within_none bounds.Unbounded (bounds.Within limit attained) l m = absurd m
 within_none bounds.Unbounded (bounds.Closed other) l m = refl
 within_none bounds.Unbounded bounds.Unbounded l m = refl
 
-row_within : (course : Course) (kind : RowKind) (found : RowFound) → IsRowSettled found → course.within ≡ false → (with_row course kind found).within ≡ false
+row_within : (course : ReportTally) (kind : RowKind) (found : RowFound) → IsRowSettled found → course.within ≡ false → (with_row course kind found).within ≡ false
 row_within course kinds.Ask found settled none = rw (none, within_none (bound_of found.least) (bound_of found.greatest) settled.least settled.greatest) refl
 row_within course (kinds.Req range) found settled none = rw (none, within_none (bound_of found.least) (bound_of found.greatest) settled.least settled.greatest) refl
 
-rows_within : (course : Course) (rows : List Row) (found : List RowFound) → All IsRowSettled found → course.within ≡ false → (with_rows course rows found).within ≡ false
+rows_within : (course : ReportTally) (rows : List Row) (found : List RowFound) → All IsRowSettled found → course.within ≡ false → (with_rows course rows found).within ≡ false
 rows_within course [] found all none = none
 rows_within course (row ∷ rows) [] all none = none
 rows_within course (row ∷ rows) (found ∷ others) all none =
@@ -130,7 +130,7 @@ never_open false false none e = cc e
 
 consistent_end : (rows : List Row) (found : List RowFound) → All IsRowSettled found → answers.Undecided ≡ answer_of (end_word (with_rows (course_of findings.Consistent) rows found)) → ⊥
 consistent_end rows found all e =
-    let course : Course = with_rows (course_of findings.Consistent) rows found in
+    let course : ReportTally = with_rows (course_of findings.Consistent) rows found in
     never_open course.fails course.within (rows_within (course_of findings.Consistent) rows found all refl)
     (subst (λ (w : FindingWord). answers.Undecided ≡ answer_of (if course.fails then endings.Fail else undecided_or_pass w course.within)) (rows_keep (course_of findings.Consistent) rows found) e)
 
@@ -147,17 +147,17 @@ module _ (call : Call) (files : Files) (budget : ℕ) (plan : Planned) (drawn : 
   why_said : (answer : Answer) (m : HasAnswered call answer) → AnswersWhy (plan_note plan) drawn budget answer m.text
   why_said answer m = planned_said tasks.why (λ p b. given.Why p.0 p.1 b) (λ design b. refl) (λ design b. refl) call files budget plan drawn told asks answer m
 
-  pub why_wrote : (result : Outcome) → Means call result → (end : IsReportEnd result)
+  pub why_wrote : (result : Outcome) → OutcomeMeans call result → (end : IsReportEnd result)
       → (text : List ℕ) × AnswersWhy (plan_note plan) drawn budget (answer_of end.0) text × (call.sink_after ≡ grown call.sink_before text)
   why_wrote result means end = planned_wrote tasks.why (λ p b. given.Why p.0 p.1 b) (λ design b. refl) (λ design b. refl) call files budget plan drawn told asks result means end
 
-  pub why_none : (result : Outcome) → Means call result → result ≡ ends.Inconsistent → IsInconsistent drawn.net
+  pub why_none : (result : Outcome) → OutcomeMeans call result → result ≡ ends.Inconsistent → IsInconsistent drawn.net
   why_none result means e =
       let m = answered_by call result answers.Inconsistent (λ same. cc same) means e in
       let a = why_said answers.Inconsistent m in
       none_found drawn.net drawn.rows a.finding a.found a.is_finding a.is_answer
 
-  pub why_decides : (result : Outcome) → Means call result → result ≡ ends.Undecided → budget < cause_choices drawn.net.constraints
+  pub why_decides : (result : Outcome) → OutcomeMeans call result → result ≡ ends.Undecided → budget < cause_choices drawn.net.constraints
   why_decides result means e =
       let m = answered_by call result answers.Undecided (λ same. cc same) means e in
       let a = why_said answers.Undecided m in
@@ -170,11 +170,11 @@ module _ (call : Call) (files : Files) (budget : ℕ) (plan : Planned) (drawn : 
   brief_said : (answer : Answer) (m : HasAnswered call answer) → AnswersBrief (plan_note plan) drawn budget answer m.text
   brief_said answer m = planned_said tasks.brief (λ p b. given.Brief p.0 p.1 b) (λ design b. refl) (λ design b. refl) call files budget plan drawn told asks answer m
 
-  pub brief_wrote : (result : Outcome) → Means call result → (end : IsReportEnd result)
+  pub brief_wrote : (result : Outcome) → OutcomeMeans call result → (end : IsReportEnd result)
       → (text : List ℕ) × AnswersBrief (plan_note plan) drawn budget (answer_of end.0) text × (call.sink_after ≡ grown call.sink_before text)
   brief_wrote result means end = planned_wrote tasks.brief (λ p b. given.Brief p.0 p.1 b) (λ design b. refl) (λ design b. refl) call files budget plan drawn told asks result means end
 
-  pub brief_decides : (result : Outcome) → Means call result → result ≡ ends.Undecided → budget < cause_choices drawn.net.constraints
+  pub brief_decides : (result : Outcome) → OutcomeMeans call result → result ≡ ends.Undecided → budget < cause_choices drawn.net.constraints
   brief_decides result means e =
       let m = answered_by call result answers.Undecided (λ same. cc same) means e in
       let a = brief_said answers.Undecided m in
@@ -206,11 +206,11 @@ module _ (call : Call) (files : Files) (budget : ℕ) (plan : Planned) (drawn : 
   lint_said : (answer : Answer) (m : HasAnswered call answer) → AnswersLint plan drawn budget answer m.text
   lint_said answer m = planned_said tasks.lint (λ p b. given.Lint p.0 p.1 b) (λ design b. refl) (λ design b. refl) call files budget plan drawn told asks answer m
 
-  pub lint_wrote : (result : Outcome) → Means call result → (end : IsReportEnd result)
+  pub lint_wrote : (result : Outcome) → OutcomeMeans call result → (end : IsReportEnd result)
       → (text : List ℕ) × AnswersLint plan drawn budget (answer_of end.0) text × (call.sink_after ≡ grown call.sink_before text)
   lint_wrote result means end = planned_wrote tasks.lint (λ p b. given.Lint p.0 p.1 b) (λ design b. refl) (λ design b. refl) call files budget plan drawn told asks result means end
 
-  pub lint_clean : (result : Outcome) → Means call result → result ≡ ends.AllPass → HasNoWarning plan
+  pub lint_clean : (result : Outcome) → OutcomeMeans call result → result ≡ ends.AllPass → HasNoWarning plan
   lint_clean result means e =
       let m = answered_by call result answers.AllPass (λ same. cc same) means e in
       let a = lint_said answers.AllPass m in

@@ -8,7 +8,7 @@ use Rattle.words.proofs.Limits.{taken_limits}
 use Rattle.event_graph.proofs.EdgesMet.{All-found}
 use Rattle.falling.proofs.Near.{below_or_not}
 use Rattle.falling.proofs.Removed.{is_le}
-use Rattle.itv_base.specs.Outside.{Files, IsMissing, ShelfTold, file_of}
+use Rattle.itv_base.specs.Outside.{Files, IsMissing, ShelfView, file_of}
 use Rattle.itv_base.specs.Range.{Allows, Ends, IsEnd, IsRange}
 use Rattle.itv_base.specs.declared.limits.TheConstants.{END_LIMIT}
 use Rattle.itv_base.specs.declared.row_kind.RowKind.{RowKind}
@@ -27,15 +27,15 @@ use Rattle.jobs.specs.Ending.{answer_of}
 use Rattle.drawn.specs.Drawn.{Drawn}
 use Rattle.drawn.specs.declared.row.Row.{Row}
 use Rattle.right_report.specs.Right.At.{at_last}
-use Rattle.right_report.specs.Right.Facts.{BeginsRightReport, Breaks}
+use Rattle.right_report.specs.Right.Facts.{BeginsRightReport, BreaksEnd}
 use Rattle.right_report.specs.Told.{end_in}
 use Rattle.right_report.proofs.Ending.{inconsistent_end_is_so, pass_end_is_so}
 use Rattle.bounds_report.proofs.WrittenLaws.{written_is_right}
-use Rattle.reading.specs.declared.place.Place.{Place}
-use Rattle.reading.specs.declared.place.Place.TheVariants.{Design}
+use Rattle.reading.specs.declared.place.RefusalPlace.{RefusalPlace}
+use Rattle.reading.specs.declared.place.RefusalPlace.TheVariants.{Design}
 use Rattle.reading.specs.declared.refusal.Refusal.TheVariants.{Wide}
 use Rattle.reading.specs.Design.{design_at}
-use Rattle.reading.specs.Opening.{Comes, Opening, gives, refuses, fetches, ◌>>=◌, ready, told_end, unread}
+use Rattle.reading.specs.Opening.{RunsTo, FileReading, gives, refuses, fetches, ◌>>=◌, ready, told_end, unread}
 use Rattle.reading.specs.Refusal.{refusal_text}
 use Rattle.reading.proofs.Opens.{told_unread}
 use Rattle.drawn_names.proofs.Designs.{drawn_names_differ, drawn_names_have_form, drawn_ranges_have_form}
@@ -43,15 +43,15 @@ use Rattle.redraw.specs.Drawing.{demand_of, drawn_times, nowhere, stands_drawn}
 use Rattle.redraw.specs.Laws.{IsInnerHigh, IsInnerLow}
 use Rattle.redraw.specs.Text.{redrawn}
 use Rattle.redraw.proofs.Names.{names_differ}
-use Rattle.redraw_design.specs.Again.{IsPast, row_again}
+use Rattle.redraw_design.specs.Again.{IsPastEnd, row_again}
 use Rattle.redraw_design.proofs.Again.{redrawn_is_read}
 use Rattle.redraw_design.proofs.Breaks.{redrawn_breaks}
 use Rattle.redraw_report.specs.Failed.{Failed, IsBroken, is_end_at, is_same, is_wide_on}
-use Rattle.redraw_report.specs.Redraw.{AnswersRedraw, Draws, Says, is_wide}
+use Rattle.redraw_report.specs.Redraw.{AnswersRedraw, Draws, AnswersEndWord, is_wide}
 use Rattle.words.specs.Task.{KeepsLimits, bounds, redraw, taken, task}
 use Rattle.itv_cli.specs.Bounds.{AnswersBounds}
 use Rattle.itv_cli.specs.Job.{Answers, opening}
-use Rattle.itv_cli.specs.Run.{Call, HasAnswered, Means}
+use Rattle.itv_cli.specs.Run.{Call, HasAnswered, OutcomeMeans}
 use Rattle.itv_cli.specs.declared.outcome.Outcome as ends
 use Rattle.itv_cli.specs.declared.outcome.Outcome.TheVariants.{AllPass, Help, SomeFail, Inconsistent, Undecided, Refused, ReadFault, WriteFault, NoMemory, BadWords, CheckRefused}
 use Rattle.itv_cli.specs.declared.ready.Ready.{Ready}
@@ -61,17 +61,17 @@ use Rattle.conformance.proofs.Telling.{answer_over, came_over, refused_over, rep
 
 -- ---- a reading over told files, step by step
 
-abbrev told_by : Files → ShelfTold
+abbrev told_by : Files → ShelfView
 told_by files = record { files = Some files; faults = 0; last = []; is_faithful = true }
 
-by_file : {A : Type 0} (files : Files) (place : Place) (most : ℕ) (next : List ℕ → Opening A) (name : List ℕ) (x : A) (file : Option (List ℕ)) → file_of files name ≡ file
-    → ((bytes : List ℕ) → told_end files (next bytes) ≡ ready x → Comes (told_by files) (next bytes) (ready x))
-    → option_map_or (λ bytes. told_end files (next (take most bytes))) file (unread place name) ≡ ready x → Comes (told_by files) (fetches place name most next) (ready x)
+by_file : {A : Type 0} (files : Files) (place : RefusalPlace) (most : ℕ) (next : List ℕ → FileReading A) (name : List ℕ) (x : A) (file : Option (List ℕ)) → file_of files name ≡ file
+    → ((bytes : List ℕ) → told_end files (next bytes) ≡ ready x → RunsTo (told_by files) (next bytes) (ready x))
+    → option_map_or (λ bytes. told_end files (next (take most bytes))) file (unread place name) ≡ ready x → RunsTo (told_by files) (fetches place name most next) (ready x)
 by_file files place most next name x None is more e = absurd (cc e)
 by_file files place most next name x (Some bytes) is more e = inr (take most bytes, ap (option_map (take most)) is, more (take most bytes) e)
 
 -- what a reading of told files comes to
-comes_of : {A : Type 0} (files : Files) (o : Opening A) (x : A) → told_end files o ≡ ready x → Comes (told_by files) o (ready x)
+comes_of : {A : Type 0} (files : Files) (o : FileReading A) (x : A) → told_end files o ≡ ready x → RunsTo (told_by files) o (ready x)
 comes_of files (gives y) x e = sym e
 comes_of files (refuses place why) x e = absurd (cc e)
 comes_of files (fetches place name most next) x e = by_file files place most next name x (file_of files name) refl (λ bytes h. comes_of files (next bytes) x h) e
@@ -106,7 +106,7 @@ past_low : (low : Option ℤ) (s : ℤ) → IsEnd low → is_end_at low (neg_ℤ
 past_low None s end inner past = absurd past
 past_low (Some low) s end inner past = (over_limit low end inner, past)
 
-past_by : (asked : Row) (range : Ends) (side : Verdict) (times : List ℤ) → IsRange range → is_wide_on range side ≡ false → Breaks asked range side times → IsPast range (separation times asked.from asked.to)
+past_by : (asked : Row) (range : Ends) (side : Verdict) (times : List ℤ) → IsRange range → is_wide_on range side ≡ false → BreaksEnd asked range side times → IsPastEnd range (separation times asked.from asked.to)
 past_by asked range verdicts.Pass times ends inner broken = absurd broken
 past_by asked range verdicts.FailHigh times ends inner broken = inl (past_high range.high (separation times asked.from asked.to) ends.1 inner broken)
 past_by asked range verdicts.FailLow times ends inner broken = inr (past_low range.low (separation times asked.from asked.to) ends.0 inner broken)
@@ -146,7 +146,7 @@ bounds_fails again budget cert answer bytes some always a =
 
 -- ---- what was drawn
 
-draws_by : (drawn : Drawn) (lines : List Entry) (word : EndWord) (text : List ℕ) → Says drawn lines word answers.SomeFail text → Draws drawn lines answers.SomeFail text
+draws_by : (drawn : Drawn) (lines : List Entry) (word : EndWord) (text : List ℕ) → AnswersEndWord drawn lines word answers.SomeFail text → Draws drawn lines answers.SomeFail text
 draws_by drawn lines endings.Pass text s = absurd (cc s.0)
 draws_by drawn lines endings.Fail text s = s
 draws_by drawn lines endings.Inconsistent text s = absurd (cc s.0)
@@ -216,11 +216,11 @@ fails_so call files name budget cert answer told words some d m =
     bounds_fails d.again budget cert answer m.text some d.always (subst (λ (x : Drawn). AnswersBounds x budget cert answer m.text) same r.answers)
 
 -- the reading of the task gives the drawn network
-gives_again : (files : Files) (o : Opening Drawn) (f : Drawn → Ready) (x : Drawn) → told_end files o ≡ ready x → told_end files (o >>= (λ d. gives (f d))) ≡ ready (f x)
+gives_again : (files : Files) (o : FileReading Drawn) (f : Drawn → Ready) (x : Drawn) → told_end files o ≡ ready x → told_end files (o >>= (λ d. gives (f d))) ≡ ready (f x)
 gives_again files (gives y) f x e = ap (λ d. ready (f d)) (same_ready y x e)
 gives_again files (refuses place why) f x e = absurd (cc e)
 gives_again files (fetches place name most next) f x e = given_file files most next f x place name (file_of files name) (λ bytes h. gives_again files (next bytes) f x h) e where
-  given_file : (files : Files) (most : ℕ) (next : List ℕ → Opening Drawn) (f : Drawn → Ready) (x : Drawn) (place : Place) (name : List ℕ) (file : Option (List ℕ))
+  given_file : (files : Files) (most : ℕ) (next : List ℕ → FileReading Drawn) (f : Drawn → Ready) (x : Drawn) (place : RefusalPlace) (name : List ℕ) (file : Option (List ℕ))
       → ((bytes : List ℕ) → told_end files (next bytes) ≡ ready x → told_end files (next bytes >>= (λ d. gives (f d))) ≡ ready (f x))
       → option_map_or (λ bytes. told_end files (next (take most bytes))) file (unread place name) ≡ ready x
       → option_map_or (λ bytes. told_end files (next (take most bytes) >>= (λ d. gives (f d)))) file (unread place name) ≡ ready (f x)
@@ -239,7 +239,7 @@ module _ (call : Call) (files : Files) (name : List ℕ) (budget : ℕ) (cert : 
   missing_in o n e h = subst (λ x. IsMissing x n) e h
 
   -- the end of such a run
-  pub ends_with_fail : (result : ends.Outcome) → Means call result → (result ≡ SomeFail) ⊎ ((result ≡ WriteFault) ⊎ (result ≡ NoMemory))
+  pub ends_with_fail : (result : ends.Outcome) → OutcomeMeans call result → (result ≡ SomeFail) ⊎ ((result ≡ WriteFault) ⊎ (result ≡ NoMemory))
   ends_with_fail AllPass m = absurd (cc (fails_so call files name budget cert answers.AllPass told words some d m))
   ends_with_fail Help m = absurd (cc (m.words, words))
   ends_with_fail SomeFail m = inl refl
@@ -268,12 +268,12 @@ faithful_by shelf fresh name bytes added none = ap (λ (s : MemShelf). length s.
 pub redrawn_ends : (first second : Call) (files : Files) (shelf fresh : MemShelf) (design name bytes : List ℕ) (budget most : ℕ) (cert : Bool) (result : ends.Outcome)
     → first.shelf_before.files ≡ Some files → (m : HasAnswered first answers.SomeFail) → m.text ≡ bytes → taken first.words ≡ task (redraw design budget)
     → second.shelf_before ≡ shelf_told shelf → shelf ≡ record fresh { files = finite.insert fresh.files name bytes } → fresh.failing ≡ [] → taken second.words ≡ task (bounds name most cert)
-    → Means second result → (result ≡ SomeFail) ⊎ ((result ≡ WriteFault) ⊎ (result ≡ NoMemory))
+    → OutcomeMeans second result → (result ≡ SomeFail) ⊎ ((result ≡ WriteFault) ⊎ (result ≡ NoMemory))
 redrawn_ends first second files shelf fresh design name bytes budget most cert result told m is words on added none again means =
     let (drawn, draws, a) = redrawn_over files design budget answers.SomeFail bytes (answer_over first files (redraw design budget) answers.SomeFail bytes told m is (record { words = words; own = refl })) in
     let (network, reads, always) = drawn_again files (finite.insert fresh.files name bytes) design name drawn budget bytes draws a (there fresh.files name bytes) in
     let holds : second.shelf_before.files ≡ Some (finite.insert fresh.files name bytes) =
-    ap (λ (t : ShelfTold). t.files) on ∙ ap (λ (s : MemShelf). Some s.files) added in
-    let faithful : second.shelf_before.is_faithful ≡ true = ap (λ (t : ShelfTold). t.is_faithful) on ∙ faithful_by shelf fresh name bytes added none in
+    ap (λ (t : ShelfView). t.files) on ∙ ap (λ (s : MemShelf). Some s.files) added in
+    let faithful : second.shelf_before.is_faithful ≡ true = ap (λ (t : ShelfView). t.is_faithful) on ∙ faithful_by shelf fresh name bytes added none in
     let limits = subst KeepsLimits again (taken_limits second.words) in
     ends_with_fail second (finite.insert fresh.files name bytes) name most cert holds faithful again limits.low (record { again = network; reads = reads; always = always }) result means

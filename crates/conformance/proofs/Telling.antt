@@ -15,7 +15,7 @@ use Rattle.falling.specs.declared.view.View.{View}
 use Rattle.itv_base.specs.Range.{Allows, Ends as RangeEnds}
 use Rattle.itv_base.specs.declared.limits.TheConstants.{MAX_MATRIX_EVENTS, REPORT_LIMIT}
 use Rattle.itv_base.specs.Memory.{MemSink, sink_told}
-use Rattle.itv_base.specs.Outside.{Files, Rose, ShelfTold, SinkTold, file_of, grown}
+use Rattle.itv_base.specs.Outside.{Files, FaultCounted, ShelfView, SinkView, file_of, grown}
 use Rattle.jobs.specs.declared.answer.Answer.{Answer}
 use Rattle.jobs.specs.declared.answer.Answer.TheVariants as answers
 use Rattle.jobs.specs.Ending.{answer_of}
@@ -25,27 +25,27 @@ use Rattle.slack_report.specs.Entry.{Entry}
 use Rattle.slack_report.specs.declared.words.EndWord.{EndWord}
 use Rattle.slack_report.specs.declared.words.EndWord.TheVariants as endings
 use Rattle.right_report.specs.Right.At.{at_last}
-use Rattle.right_report.specs.Right.Facts.{Breaks}
+use Rattle.right_report.specs.Right.Facts.{BreaksEnd}
 use Rattle.right_report.specs.Told.{end_in}
 use Rattle.right_report.proofs.Ending.{pass_end_is_so}
 use Rattle.drawn.specs.Drawn.{Drawn}
 use Rattle.drawn.specs.declared.row.Row.{Row}
 use Rattle.redraw_report.specs.Failed.{Failed, IsBroken}
-use Rattle.redraw_report.specs.Redraw.{AnswersRedraw, Says, is_wide}
-use Rattle.reading.specs.declared.place.Place.{Place}
-use Rattle.reading.specs.declared.place.Place.TheVariants.{Design, Edits, Report}
+use Rattle.redraw_report.specs.Redraw.{AnswersRedraw, AnswersEndWord, is_wide}
+use Rattle.reading.specs.declared.place.RefusalPlace.{RefusalPlace}
+use Rattle.reading.specs.declared.place.RefusalPlace.TheVariants.{Design, Edits, Report}
 use Rattle.reading.specs.declared.refusal.Refusal.TheVariants as refusals
 use Rattle.edits.specs.EditsFile.{edits_of}
 use Rattle.edits.specs.declared.edit.RangeEdit.{RangeEdit}
 use Rattle.edits.specs.declared.file.TheConstants.{MAX_EDITS_BYTES}
 use Rattle.itv_base.specs.declared.row_kind.RowKind.{RowKind}
 use Rattle.unroll.specs.declared.limit.TheConstants.{MAX_SESSION_ROWS}
-use Rattle.whatif.specs.Session.{View as SessionView}
+use Rattle.whatif.specs.Session.{SessionView}
 use Rattle.whatif_report.specs.Text.{ending_of, last_note}
 use Rattle.whatif_report.specs.Whatif.{AnswersFrom, kinds_of}
 use Rattle.reading.specs.declared.refusal.Refusal.{Refusal}
 use Rattle.reading.specs.Design.{design_at}
-use Rattle.reading.specs.Opening.{Opening, gives, refuses, fetches, at, file_at, ◌>>=◌, End, Ends, ready, refused, unread, told_end}
+use Rattle.reading.specs.Opening.{FileReading, gives, refuses, fetches, at, file_at, ◌>>=◌, End, RunsToEnd, ready, refused, unread, told_end}
 use Rattle.reading.specs.Refusal.{refusal_text}
 use Rattle.reading.proofs.Opens.{told_ready, told_refused}
 use Rattle.settle_report.specs.Text.{ending_of as settled_ending}
@@ -58,7 +58,7 @@ use Rattle.lint_report.specs.Text.{is_clean}
 use Rattle.warnings.specs.Warnings.{warnings_of}
 use Rattle.why_report.specs.Text.{ending_of as explained_ending}
 use Rattle.itv_cli.specs.Job.{Answers, edits_at, edits_in, fall_at, fall_in, made_for, matrix_at, opening, planned_at, whatif_at}
-use Rattle.itv_cli.specs.Run.{Call, CameTo, Completes, EndsBy, EndsOver, FilesDecide, HasAnswered, HasRefused, IsRefused, Means, Wrote, call_of}
+use Rattle.itv_cli.specs.Run.{Call, HasRead, Completes, OutcomeBy, ReadsOver, FilesDecide, HasAnswered, HasRefused, IsRefused, OutcomeMeans, Wrote, call_of}
 use Rattle.itv_cli.specs.declared.outcome.Outcome.{Outcome}
 use Rattle.itv_cli.specs.declared.outcome.Outcome.TheVariants as ends
 use Rattle.itv_cli.specs.declared.ready.Ready.{Ready}
@@ -66,14 +66,14 @@ use Rattle.itv_cli.specs.declared.ready.Ready.TheVariants as given
 use Rattle.conformance.specs.Clients.{Asks, Draws, IsAnswerOf, IsRefusalOf, IsRightReportOf}
 
 -- a reading that comes to something behind another one comes to it by what that one gives
-then_by : {A B : Type 0} (files : Files) (next : List ℕ → Opening A) (k : A → Opening B) (most : ℕ) (place : Place) (name : List ℕ) (y : B) (file : Option (List ℕ))
+then_by : {A B : Type 0} (files : Files) (next : List ℕ → FileReading A) (k : A → FileReading B) (most : ℕ) (place : RefusalPlace) (name : List ℕ) (y : B) (file : Option (List ℕ))
     → ((bytes : List ℕ) → told_end files (next bytes >>= k) ≡ ready y → (x : A) × (told_end files (next bytes) ≡ ready x) × (told_end files (k x) ≡ ready y))
     → option_map_or (λ bytes. told_end files (next (take most bytes) >>= k)) file (unread place name) ≡ ready y
     → (x : A) × (option_map_or (λ bytes. told_end files (next (take most bytes))) file (unread place name) ≡ ready x) × (told_end files (k x) ≡ ready y)
 then_by files next k most place name y None more e = absurd (cc e)
 then_by files next k most place name y (Some bytes) more e = more (take most bytes) e
 
-pub told_behind : {A B : Type 0} (files : Files) (o : Opening A) (k : A → Opening B) (y : B) → told_end files (o >>= k) ≡ ready y → (x : A) × (told_end files o ≡ ready x) × (told_end files (k x) ≡ ready y)
+pub told_behind : {A B : Type 0} (files : Files) (o : FileReading A) (k : A → FileReading B) (y : B) → told_end files (o >>= k) ≡ ready y → (x : A) × (told_end files o ≡ ready x) × (told_end files (k x) ≡ ready y)
 told_behind files (gives x) k y e = (x, refl, e)
 told_behind files (refuses place why) k y e = absurd (cc e)
 told_behind files (fetches place name most next) k y e = then_by files next k most place name y (file_of files name) (λ bytes h. told_behind files (next bytes) k y h) e
@@ -81,7 +81,7 @@ told_behind files (fetches place name most next) k y e = then_by files next k mo
 pub same_ready : {A : Type 0} (x y : A) → ready x ≡ ready y → x ≡ y
 same_ready x y e = cc
 
-pub told_then : {A B : Type 0} (files : Files) (o : Opening A) (f : A → B) (y : B) → told_end files (o >>= (λ x. gives (f x))) ≡ ready y → (x : A) × (told_end files o ≡ ready x) × (f x ≡ y)
+pub told_then : {A B : Type 0} (files : Files) (o : FileReading A) (f : A → B) (y : B) → told_end files (o >>= (λ x. gives (f x))) ≡ ready y → (x : A) × (told_end files o ≡ ready x) × (f x ≡ y)
 told_then files o f y e = let (x, comes, is) = told_behind files o (λ x. gives (f x)) y e in (x, comes, same_ready (f x) y is)
 
 task_is : (a b : Task) → task a ≡ task b → a ≡ b
@@ -91,14 +91,14 @@ pub same_asked : (given : List (List ℕ)) (asked other : Task) → taken given 
 same_asked given asked other is also = task_is other asked (sym also ∙ is)
 
 -- over told files the end of a run's reading is theirs
-pub came_over : (call : Call) (asked : Task) (end : End Ready) → Asks call.words asked → CameTo call end → Ends call.shelf_before call.shelf_after (opening asked) end
+pub came_over : (call : Call) (asked : Task) (end : End Ready) → Asks call.words asked → HasRead call end → RunsToEnd call.shelf_before call.shelf_after (opening asked) end
 came_over call asked end asks came =
-    rw asks.own at (subst (λ t. EndsOver (made_for t) call.shelf_before call.shelf_after t end) (same_asked call.words asked came.asked asks.words came.words) came.ends)
+    rw asks.own at (subst (λ t. ReadsOver (made_for t) call.shelf_before call.shelf_after t end) (same_asked call.words asked came.asked asks.words came.words) came.ends)
 
-pub ready_over : (call : Call) (files : Files) (asked : Task) (given : Ready) → call.shelf_before.files ≡ Some files → Asks call.words asked → CameTo call (ready given) → told_end files (opening asked) ≡ ready given
+pub ready_over : (call : Call) (files : Files) (asked : Task) (given : Ready) → call.shelf_before.files ≡ Some files → Asks call.words asked → HasRead call (ready given) → told_end files (opening asked) ≡ ready given
 ready_over call files asked given told asks came = told_ready call.shelf_before files (opening asked) given told (came_over call asked (ready given) asks came).0
 
-pub refused_over : (call : Call) (files : Files) (asked : Task) (place : Place) (why : Refusal) → call.shelf_before.files ≡ Some files → Asks call.words asked → CameTo call (refused place why)
+pub refused_over : (call : Call) (files : Files) (asked : Task) (place : RefusalPlace) (why : Refusal) → call.shelf_before.files ≡ Some files → Asks call.words asked → HasRead call (refused place why)
     → told_end files (opening asked) ≡ refused place why
 refused_over call files asked place why told asks came = told_refused call.shelf_before files (opening asked) place why told (came_over call asked (refused place why) asks came).0
 
@@ -166,17 +166,17 @@ fallen_of files design budget cert answer bytes drawn h draws =
 
 -- what a sink in memory holds behind a text
 pub sink_bytes : (old new : MemSink) (text : List ℕ) → sink_told new ≡ grown (sink_told old) text → new.bytes ≡ old.bytes ++ text
-sink_bytes old new text e = same_Some new.bytes (old.bytes ++ text) (ap (λ (t : SinkTold). t.written) e)
+sink_bytes old new text e = same_Some new.bytes (old.bytes ++ text) (ap (λ (t : SinkView). t.written) e)
 
 -- where it was new, that text
 pub sink_holds : (old new : MemSink) (text : List ℕ) → sink_told new ≡ grown (sink_told old) text → old.bytes ≡ [] → text ≡ new.bytes
 sink_holds old new text e fresh = sym (sink_bytes old new text e ∙ ap (λ before. before ++ text) fresh)
 
 -- a run of job bounds that ends undecided
-pub bounds_below : (call : Call) (files : Files) (result : Outcome) (design : List ℕ) (budget : ℕ) (cert : Bool) (drawn : Drawn) → call.shelf_before.files ≡ Some files → Means call result
+pub bounds_below : (call : Call) (files : Files) (result : Outcome) (design : List ℕ) (budget : ℕ) (cert : Bool) (drawn : Drawn) → call.shelf_before.files ≡ Some files → OutcomeMeans call result
     → taken call.words ≡ task (bounds design budget cert) → Draws files design drawn → result ≡ ends.Undecided → budget < cause_choices drawn.net.constraints
 bounds_below call files result design budget cert drawn told means is draws e =
-    let m : HasAnswered call answers.Undecided = subst (λ end. Means call end) e means in
+    let m : HasAnswered call answers.Undecided = subst (λ end. OutcomeMeans call end) e means in
     below_over files design budget cert m.text drawn
     (reported_over files design budget cert answers.Undecided m.text (answer_over call files (bounds design budget cert) answers.Undecided m.text told m refl (record { words = is; own = refl }))) draws
 
@@ -232,7 +232,7 @@ never_warned false e = cc e
 never_from : (first : SessionView) (kinds : List RowKind) (edits : List RangeEdit) (text : List ℕ) → AnswersFrom first kinds edits answers.DesignRefused text → ⊥
 never_from first kinds edits text a = never_refused (ending_of kinds (last_note a.note a.notes).found (last_note a.note a.notes).answers) a.is_answer
 
-few_by : (files : Files) (b : Bool) (why : Refusal) (next : Opening Ready) (to : Ready) → told_end files (if b then refuses Design why else next) ≡ ready to → told_end files next ≡ ready to
+few_by : (files : Files) (b : Bool) (why : Refusal) (next : FileReading Ready) (to : Ready) → told_end files (if b then refuses Design why else next) ≡ ready to → told_end files next ≡ ready to
 few_by files true why next to e = absurd (cc e)
 few_by files false why next to e = e
 
@@ -299,14 +299,14 @@ drawn_or_refused true answer e f = cc (e, f)
 drawn_or_refused false answer e f = cc (e, f)
 
 -- what the word at the end says where nothing failed
-passes_end : (drawn : Drawn) (lines : List Entry) (word : EndWord) (text : List ℕ) → Says drawn lines word answers.AllPass text → word ≡ endings.Pass
+passes_end : (drawn : Drawn) (lines : List Entry) (word : EndWord) (text : List ℕ) → AnswersEndWord drawn lines word answers.AllPass text → word ≡ endings.Pass
 passes_end drawn lines endings.Pass text s = refl
 passes_end drawn lines endings.Fail text s = absurd (drawn_or_refused (is_wide drawn s.failed) answers.AllPass refl s.is_answer)
 passes_end drawn lines endings.Inconsistent text s = absurd (cc s.0)
 passes_end drawn lines endings.Undecided text s = absurd (cc s.0)
 
 -- and where a design is refused
-refused_fails : (drawn : Drawn) (lines : List Entry) (word : EndWord) (text : List ℕ) → Says drawn lines word answers.DesignRefused text → (failed : Failed) × IsBroken drawn failed
+refused_fails : (drawn : Drawn) (lines : List Entry) (word : EndWord) (text : List ℕ) → AnswersEndWord drawn lines word answers.DesignRefused text → (failed : Failed) × IsBroken drawn failed
 refused_fails drawn lines endings.Pass text s = absurd (cc s.0)
 refused_fails drawn lines endings.Fail text s = (s.failed, s.broken)
 refused_fails drawn lines endings.Inconsistent text s = absurd (cc s.0)
@@ -320,7 +320,7 @@ past_low : (low : Option ℤ) (s : ℤ) → IsSomeAnd low (λ l. s <ℤ l) → I
 past_low None s past allows = absurd past
 past_low (Some l) s past allows = omega (arith, ints, past, allows)
 
-breaks_none : (asked : Row) (range : RangeEnds) (side : Verdict) (times : List ℤ) → Breaks asked range side times → Allows range (separation times asked.from asked.to) → ⊥
+breaks_none : (asked : Row) (range : RangeEnds) (side : Verdict) (times : List ℤ) → BreaksEnd asked range side times → Allows range (separation times asked.from asked.to) → ⊥
 breaks_none asked range verdicts.Pass times b a = absurd b
 breaks_none asked range verdicts.FailHigh times b a = past_high range.high (separation times asked.from asked.to) b a.1
 breaks_none asked range verdicts.FailLow times b a = past_low range.low (separation times asked.from asked.to) b a.0
@@ -356,26 +356,26 @@ pub passed_kept : (call : Call) → HasAnswered call answers.AllPass → (asked 
 passed_kept call m asked asks = (came_over call asked (ready m.given) asks m.came).1
 
 -- two runs on a shelf, of which the first passed
-pub twice : (words : List (List ℕ)) (shelf mid last : ShelfTold) (one one' two two' : SinkTold) (files : Files) (asked : Task) (once again : Outcome) → shelf.files ≡ Some files
-    → Means (call_of words shelf mid one one') once → Means (call_of words mid last two two') again → Asks words asked → once ≡ ends.AllPass → again ≡ ends.Refused → ⊥
+pub twice : (words : List (List ℕ)) (shelf mid last : ShelfView) (one one' two two' : SinkView) (files : Files) (asked : Task) (once again : Outcome) → shelf.files ≡ Some files
+    → OutcomeMeans (call_of words shelf mid one one') once → OutcomeMeans (call_of words mid last two two') again → Asks words asked → once ≡ ends.AllPass → again ≡ ends.Refused → ⊥
 twice words shelf mid last one one' two two' files asked once again told means means' asks e e' =
-    let m : HasAnswered (call_of words shelf mid one one') answers.AllPass = subst (λ end. Means (call_of words shelf mid one one') end) e means in
-    let again_told = ap (λ (t : ShelfTold). t.files) (passed_kept (call_of words shelf mid one one') m asked asks) ∙ told in
-    elim (subst (λ end. Means (call_of words mid last two two') end) e' means') [
+    let m : HasAnswered (call_of words shelf mid one one') answers.AllPass = subst (λ end. OutcomeMeans (call_of words shelf mid one one') end) e means in
+    let again_told = ap (λ (t : ShelfView). t.files) (passed_kept (call_of words shelf mid one one') m asked asks) ∙ told in
+    elim (subst (λ end. OutcomeMeans (call_of words mid last two two') end) e' means') [
       | inl r ↦ not_both (call_of words shelf mid one one') (call_of words mid last two two') files asked told again_told asks asks m r
       | inr r ↦ not_found (call_of words shelf mid one one') (call_of words mid last two two') files asked told again_told asks asks m r
     ]
 
 -- which end comes over told files
-pub decided : (call : Call) (files : Files) (result : Outcome) (asked : Task) → call.shelf_before.files ≡ Some files → Completes call result → Asks call.words asked → ¬ (Rose call.shelf_before.faults call.shelf_after.faults)
-    → ¬ (Rose call.sink_before.faults call.sink_after.faults) → (result ≡ ends.NoMemory) ⊎ EndsBy (told_end files (opening asked)) result
+pub decided : (call : Call) (files : Files) (result : Outcome) (asked : Task) → call.shelf_before.files ≡ Some files → Completes call result → Asks call.words asked → ¬ (FaultCounted call.shelf_before.faults call.shelf_after.faults)
+    → ¬ (FaultCounted call.sink_before.faults call.sink_after.faults) → (result ≡ ends.NoMemory) ⊎ OutcomeBy (told_end files (opening asked)) result
 decided call files result asked told completes asks quiet silent = by_files (rw asks.own at (completes asked asks.words (record { shelf = quiet; sink = silent })))
   where
-    some_files : (o : Option Files) → o ≡ Some files → IfSome o (λ fs. EndsBy (told_end fs (opening asked)) result) → EndsBy (told_end files (opening asked)) result
+    some_files : (o : Option Files) → o ≡ Some files → IfSome o (λ fs. OutcomeBy (told_end fs (opening asked)) result) → OutcomeBy (told_end files (opening asked)) result
     some_files None e h = absurd (cc e)
-    some_files (Some fs) e h = subst (λ all. EndsBy (told_end all (opening asked)) result) (same_Some fs files e) h
+    some_files (Some fs) e h = subst (λ all. OutcomeBy (told_end all (opening asked)) result) (same_Some fs files e) h
 
-    by_files : (result ≡ ends.NoMemory) ⊎ FilesDecide None call.shelf_before.files asked result → (result ≡ ends.NoMemory) ⊎ EndsBy (told_end files (opening asked)) result
+    by_files : (result ≡ ends.NoMemory) ⊎ FilesDecide None call.shelf_before.files asked result → (result ≡ ends.NoMemory) ⊎ OutcomeBy (told_end files (opening asked)) result
     by_files (inl none) = inl none
     by_files (inr by) = inr (some_files call.shelf_before.files told by)
 
@@ -389,15 +389,15 @@ fall_answered call files answer design budget cert drawn told m is draws = (
 )
 
 -- one that ends undecided
-pub fall_below : (call : Call) (files : Files) (result : Outcome) (design : List ℕ) (budget : ℕ) (cert : Bool) (drawn : Drawn) → call.shelf_before.files ≡ Some files → Means call result
+pub fall_below : (call : Call) (files : Files) (result : Outcome) (design : List ℕ) (budget : ℕ) (cert : Bool) (drawn : Drawn) → call.shelf_before.files ≡ Some files → OutcomeMeans call result
     → taken call.words ≡ task (fall design budget cert) → Draws files design drawn → result ≡ ends.Undecided → budget < enough_turns drawn.net
 fall_below call files result design budget cert drawn told means is draws e =
-    let (bytes, a) = fall_answered call files answers.Undecided design budget cert drawn told (subst (λ end. Means call end) e means) is draws in
+    let (bytes, a) = fall_answered call files answers.Undecided design budget cert drawn told (subst (λ end. OutcomeMeans call end) e means) is draws in
     undecided_has_few_turns drawn budget cert bytes a
 
 -- one that ends inconsistent
-pub fall_none : (call : Call) (files : Files) (result : Outcome) (design : List ℕ) (budget : ℕ) (cert : Bool) (drawn : Drawn) → call.shelf_before.files ≡ Some files → Means call result
+pub fall_none : (call : Call) (files : Files) (result : Outcome) (design : List ℕ) (budget : ℕ) (cert : Bool) (drawn : Drawn) → call.shelf_before.files ≡ Some files → OutcomeMeans call result
     → taken call.words ≡ task (fall design budget cert) → Draws files design drawn → result ≡ ends.Inconsistent → IsInconsistent drawn.net
 fall_none call files result design budget cert drawn told means is draws e =
-    let (bytes, a) = fall_answered call files answers.Inconsistent design budget cert drawn told (subst (λ end. Means call end) e means) is draws in
+    let (bytes, a) = fall_answered call files answers.Inconsistent design budget cert drawn told (subst (λ end. OutcomeMeans call end) e means) is draws in
     inconsistent_has_no_times drawn budget cert bytes a

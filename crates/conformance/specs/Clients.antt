@@ -1,7 +1,7 @@
 -- What callers of `run` know of files and a sink in memory, from its clauses alone.
 use Rattle.std.specs.Prelude.{◌≡◌, ℕ, Bool, true, List, [], ◌++◌, Some, None, Ok, codes}
 use Rattle.itv_base.specs.Memory.{MemSink}
-use Rattle.itv_base.specs.Outside.{FailedFor, Files, ShelfTold, file_of}
+use Rattle.itv_base.specs.Outside.{FailedFor, Files, ShelfView, file_of}
 use Rattle.design_gen.specs.Files.{design_files}
 use Rattle.bounds_report.specs.Reports.{Sums}
 use Rattle.bounds_report.specs.declared.summary.Summary.{Summary}
@@ -14,11 +14,11 @@ use Rattle.slack_report.specs.Text.{report_text}
 use Rattle.right_report.specs.Right.Facts.{BeginsRightReport, IsRightReport}
 use Rattle.right_report.specs.Texts.{IsRefusedText, IsRightText}
 use Rattle.drawn.specs.Drawn.{Drawn}
-use Rattle.reading.specs.declared.place.Place.{Place}
+use Rattle.reading.specs.declared.place.RefusalPlace.{RefusalPlace}
 use Rattle.reading.specs.declared.refusal.Refusal.{Refusal}
 use Rattle.reading.specs.Design.{design_at}
 use Rattle.plan.specs.Plan.{Planned}
-use Rattle.reading.specs.Opening.{Comes, ready, refused, told_end, unread}
+use Rattle.reading.specs.Opening.{RunsTo, ready, refused, told_end, unread}
 use Rattle.reading.specs.Refusal.{refusal_text, unread_text}
 use Rattle.settle_report.specs.Settle.{IsSettleText}
 use Rattle.words.specs.Task.{Task, bounds, check, confirm, matrix, settle, taken, task}
@@ -57,7 +57,7 @@ pub record IsAnswerOf (files : Files) (asked : Task) (answer : Answer) (bytes : 
 
 -- the files of a task are refused, and the bytes are the line of the first refusal
 pub record IsRefusalOf (files : Files) (asked : Task) (bytes : List ℕ) : Type 0 where
-  pub place : Place
+  pub place : RefusalPlace
   pub why : Refusal
   pub reads : told_end files (opening asked) ≡ refused place why
   pub text : bytes ≡ refusal_text place why
@@ -78,10 +78,10 @@ pub record IsFrontOfRight (drawn : Drawn) (bytes : List ℕ) : Type 0 where
 
 -- the reading of a task came to a file whose fetch failed, so that its name is the last that failed, and the bytes are the line of
 -- its place
-pub record IsUnreadOf (old new : ShelfTold) (asked : Task) (bytes : List ℕ) : Type 0 where
-  pub place : Place
+pub record IsUnreadOf (old new : ShelfView) (asked : Task) (bytes : List ℕ) : Type 0 where
+  pub place : RefusalPlace
   pub name : List ℕ
-  pub reads : Comes old (opening asked) (unread place name)
+  pub reads : RunsTo old (opening asked) (unread place name)
   pub failed : FailedFor name old new
   pub text : bytes ≡ unread_text place
 

@@ -1,16 +1,16 @@
 -- Laws on what the jobs write.
 use Rattle.std.specs.Prelude.{ℕ, true, List}
-use Rattle.itv_base.specs.Outside.{ShelfTold}
+use Rattle.itv_base.specs.Outside.{ShelfView}
 use Rattle.slack_report.specs.Entry.{Entry}
 use Rattle.slack_report.specs.Text.{report_text}
 use Rattle.right_report.specs.Texts.{IsAcceptedText}
 use Rattle.drawn.specs.Drawn.{Drawn}
 use Rattle.reading.specs.Design.{design_at}
-use Rattle.reading.specs.Opening.{Comes, ready}
+use Rattle.reading.specs.Opening.{RunsTo, ready}
 use Rattle.bounds_report.specs.Reports.{IsWrittenReport}
 
 -- where the reading of a design comes to a drawn network, the text of a report that job bounds writes for it with the lines of proofs is
 -- one that job check accepts for it
 abbrev pub OwnReportIsAccepted : Type 0
-OwnReportIsAccepted = (shelf : ShelfTold) (design : List ℕ) (drawn : Drawn) (most : ℕ) (lines : List Entry) → Comes shelf (design_at design) (ready drawn)
+OwnReportIsAccepted = (shelf : ShelfView) (design : List ℕ) (drawn : Drawn) (most : ℕ) (lines : List Entry) → RunsTo shelf (design_at design) (ready drawn)
     → IsWrittenReport drawn most true lines → IsAcceptedText drawn (report_text lines)

@@ -6,15 +6,15 @@ ghost use Rattle.event_graph.specs.Bounds.{IsInconsistent};
 ghost use Rattle.event_graph.specs.Edges.{cause_choices};
 ghost use Rattle.falling.specs.Cap.{enough_turns};
 ghost use Rattle.itv_base.specs.Memory.{shelf_told, sink_told};
-ghost use Rattle.itv_base.specs.Outside.{Rose};
+ghost use Rattle.itv_base.specs.Outside.{FaultCounted};
 ghost use Rattle.jobs.specs.declared.answer.Answer.TheVariants as answers;
-ghost use Rattle.reading.specs.declared.place.Place.{Place};
+ghost use Rattle.reading.specs.declared.place.RefusalPlace.{RefusalPlace};
 ghost use Rattle.reading.specs.Opening.{told_end};
 ghost use Rattle.reading.specs.Refusal.{unread_text};
 ghost use Rattle.drawn.specs.Drawn.{Drawn};
 ghost use Rattle.words.specs.Task.{Task, bad_words, bounds, fall, help, redraw, taken, task};
 ghost use Rattle.itv_cli.specs.Job.{opening};
-ghost use Rattle.itv_cli.specs.Run.{EndsBy};
+ghost use Rattle.itv_cli.specs.Run.{OutcomeBy};
 ghost use Rattle.conformance.specs.Clients.{Asks, Draws, IsAnswerOf, IsFrontOf, IsFrontOfRight, IsRefusalOf, IsRightReportOf, IsUnreadOf};
 
 use itv_base::{NoMemory, ShelfMem, SinkMem, Texts};
@@ -72,12 +72,12 @@ pub fn front_of(
     room: u32,
 ) -> Result<Option<Vec<u8>>, NoMemory>
     ensures begins { IfOk result (λ front. IfSome front (λ bytes.
-        (asked : Task) → Asks words.now asked → ¬ (Rose shelf.old.faults shelf.new.faults)
+        (asked : Task) → Asks words.now asked → ¬ (FaultCounted shelf.old.faults shelf.new.faults)
         → IsFrontOf shelf.old.files asked bytes.items)) }
     ensures right { IfOk result (λ front. IfSome front (λ bytes.
         (design : List ℕ) (budget : ℕ) (cert : Bool) (drawn : Drawn)
         → taken words.now ≡ task (bounds design budget cert) → Draws shelf.old.files design drawn
-        → ¬ (Rose shelf.old.faults shelf.new.faults) → IsFrontOfRight drawn bytes.items)) }
+        → ¬ (FaultCounted shelf.old.faults shelf.new.faults) → IsFrontOfRight drawn bytes.items)) }
 {
     let mut sink = SinkMem::new(alloc, room)?;
     match run(alloc, words, shelf, &mut sink) {
@@ -94,7 +94,7 @@ pub fn unread_of(
     shelf: &mut ShelfMem,
     room: u32,
 ) -> Result<Option<Vec<u8>>, NoMemory>
-    ensures line { IfOk result (λ unread. IfSome unread (λ bytes. (place : Place) × (bytes.items ≡ unread_text place))) }
+    ensures line { IfOk result (λ unread. IfSome unread (λ bytes. (place : RefusalPlace) × (bytes.items ≡ unread_text place))) }
     ensures fetch { IfOk result (λ unread. IfSome unread (λ bytes.
         (asked : Task) → Asks words.now asked
         → IsUnreadOf (shelf_told shelf.old) (shelf_told shelf.new) asked bytes.items)) }
@@ -137,11 +137,11 @@ pub fn run_twice(
 /// A run where nothing fails ends as its files say, or memory was not found.
 pub fn end_of(alloc: Global, words: &Texts, shelf: &mut ShelfMem, sink: &mut SinkMem) -> Outcome
     ensures ends { (asked : Task) → Asks words.now asked
-        → ¬ (Rose shelf.old.faults shelf.new.faults) → ¬ (Rose sink.old.faults sink.new.faults)
-        → (result ≡ Outcome.NoMemory) ⊎ EndsBy (told_end shelf.old.files (opening asked)) result }
-    ensures bad_words { taken words.now ≡ bad_words → ¬ (Rose sink.old.faults sink.new.faults)
+        → ¬ (FaultCounted shelf.old.faults shelf.new.faults) → ¬ (FaultCounted sink.old.faults sink.new.faults)
+        → (result ≡ Outcome.NoMemory) ⊎ OutcomeBy (told_end shelf.old.files (opening asked)) result }
+    ensures bad_words { taken words.now ≡ bad_words → ¬ (FaultCounted sink.old.faults sink.new.faults)
         → (result ≡ Outcome.NoMemory) ⊎ (result ≡ Outcome.BadWords) }
-    ensures help { taken words.now ≡ help → ¬ (Rose sink.old.faults sink.new.faults)
+    ensures help { taken words.now ≡ help → ¬ (FaultCounted sink.old.faults sink.new.faults)
         → (result ≡ Outcome.NoMemory) ⊎ (result ≡ Outcome.Help) }
     ensures faults { sink.old.faults < sink.new.faults → result ≡ Outcome.WriteFault }
     ensures fetches { shelf.old.faults < shelf.new.faults

@@ -10,7 +10,7 @@ ghost use Rattle.right_report.specs.Laws.{AllMet, SomeBroken, SomeSatisfy};
 ghost use Rattle.right_report.specs.Texts.{IsAcceptedText};
 ghost use Rattle.drawn.specs.Drawn.{Drawn};
 ghost use Rattle.reading.specs.declared.refusal.Refusal.{Refusal};
-ghost use Rattle.reading.specs.declared.place.Place.{Place};
+ghost use Rattle.reading.specs.declared.place.RefusalPlace.{RefusalPlace};
 ghost use Rattle.reading.specs.Refusal.{refusal_text};
 ghost use Rattle.words.specs.Task.{bounds, generated, redraw, taken, task};
 ghost use Rattle.plan.specs.Notes.{plan_note};
@@ -138,7 +138,7 @@ pub fn self_of(alloc: Global, words: &Texts, shelf: &mut ShelfMem, sink: &mut Si
     ensures sums { (size budget : ℕ) → taken words.now ≡ task (generated size budget)
         → IsReportEnd result → WroteOne sink.old sink.new (IsSummaryOf size) }
     ensures fits { (size budget : ℕ) → taken words.now ≡ task (generated size budget) → result ≡ Outcome.Refused
-        → (place : Place) × (why : Refusal) × (why ≡ Refusal.TooLong → ⊥)
+        → (place : RefusalPlace) × (why : Refusal) × (why ≡ Refusal.TooLong → ⊥)
         × (sink.new.bytes ≡ sink.old.bytes ++ refusal_text place why) }
 {
     run(alloc, words, shelf, sink)

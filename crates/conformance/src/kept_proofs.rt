@@ -4,7 +4,7 @@ ghost use Rattle.std.specs.Prelude.{◌<◌, IfOk, IfSome};
 ghost use Rattle.event_graph.specs.Network.{IsNet};
 ghost use Rattle.event_graph.specs.Proof.{IsProof, Nothing};
 
-use branch::{Found, Work, find};
+use branch::{SearchFinding, Work, find};
 use certificate::TreeScribe;
 use event_graph::Network;
 use itv_base::NoMemory;
@@ -25,7 +25,7 @@ pub fn kept_proof(
     let mut work = Work::new(alloc, net)?;
     let mut kept = TreeScribe::new(alloc, lines, edges)?;
     match find(&mut work, net, budget, &mut kept) {
-        Ok(Found::Inconsistent) => Ok(Some(kept)),
+        Ok(SearchFinding::Inconsistent) => Ok(Some(kept)),
         _ => Ok(None),
     }
 }

@@ -1,7 +1,7 @@
 //! Proofs line by line: which are taken, and the fault of each other line.
 
 ghost use Rattle.std.specs.Prelude.{◌≡◌};
-ghost use Rattle.cert_checker.specs.Checking.{StandsFor};
+ghost use Rattle.cert_checker.specs.Checking.{IsProofCheckerFor};
 
 use crate::building::of_two_causes;
 use CheckFault::{
@@ -45,8 +45,8 @@ fn take_each(
     checker: &mut Checker,
     rows: &[(Line<'_>, Option<CheckFault>)],
 )
-    requires { StandsFor net.now checker.old }
-    ensures { StandsFor net.now checker.new }
+    requires { IsProofCheckerFor net.now checker.old }
+    ensures { IsProofCheckerFor net.now checker.new }
 {
     for (line, want) in rows {
         assert_eq!(rt; checker.take(net, line).err(), *want, "{line:?}");

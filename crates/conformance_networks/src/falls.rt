@@ -5,7 +5,7 @@ ghost use Rattle.falling.specs.Checking.{IsBegun};
 
 use crate::building::{add, cause, of_two_causes};
 use event_graph::Network;
-use falling::{FallCheckFault, FallChecker, Fallen, Falling, Mixed, NoNotes, View};
+use falling::{FallCheckFault, FallChecker, Fallen, Falling, Mixed, QuietFall, View};
 use itv_base::{EdgeName, EventId, RuleKind, Side};
 use std::alloc::Global;
 use std::test::Fail;
@@ -33,7 +33,7 @@ fn answer(
     if net.events() <= from || net.events() <= to {
         Err("no such event")?;
     }
-    let fallen = falling.greatest(net, EventId(from), EventId(to), turns, &mut NoNotes)?;
+    let fallen = falling.greatest(net, EventId(from), EventId(to), turns, &mut QuietFall)?;
     let times = Vec::from_slice(alloc, falling.times())?;
     let ray = Vec::from_slice(alloc, falling.ray())?;
     Ok((fallen, times, ray, falling.turns()))

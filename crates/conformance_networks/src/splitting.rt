@@ -2,7 +2,7 @@
 
 use crate::building::{add, cause};
 use RuleKind::{Early, Late, Lin};
-use branch::{Answer, Found, Quiet, Scribe, ScribeFailed, Work, find, greatest};
+use branch::{GreatestAnswer, Quiet, Scribe, ScribeFailed, SearchFinding, Work, find, greatest};
 use event_graph::Network;
 use itv_base::{EdgeName, EventId, RuleKind};
 use std::alloc::Global;
@@ -51,10 +51,10 @@ impl Scribe for Splits {
 }
 
 // Bounds the last event of a network from the first one: the answer, how many cases were closed, and the splits up to the eighth.
-fn bound(alloc: Global, net: &Network) -> Result<(Answer, u64, Splits), Fail> {
+fn bound(alloc: Global, net: &Network) -> Result<(GreatestAnswer, u64, Splits), Fail> {
     let events = net.events();
     let mut work = Work::new(alloc, net)?;
-    if find(&mut work, net, 100, &mut Quiet)? != Found::Consistent {
+    if find(&mut work, net, 100, &mut Quiet)? != SearchFinding::Consistent {
         Err("no times")?;
     }
     if events == 0 {
@@ -112,7 +112,7 @@ fn splits_go_back_along_choices(rt: HostRuntime) -> Result<(), Fail> {
         ],
     )?;
     let (answer, leaves, splits) = bound(alloc, &net)?;
-    assert_eq!(&rt; answer, Answer::Closed(30));
+    assert_eq!(&rt; answer, GreatestAnswer::Closed(30));
     assert_eq!(&rt; leaves, 4);
     assert_eq!(&rt; splits.numbers, [2, 1, 0, 0, 0, 0, 0, 0]);
     assert_eq!(&rt; splits.count, 3);
@@ -143,7 +143,7 @@ fn the_nearest_broken_constraint_is_split(rt: HostRuntime) -> Result<(), Fail> {
     add(alloc, &mut net, Lin, 2, &[cause(0, (Some(0), Some(20)))?])?;
     add(alloc, &mut net, Lin, 3, &[cause(0, (Some(0), Some(3)))?])?;
     let (answer, leaves, splits) = bound(alloc, &net)?;
-    assert_eq!(&rt; answer, Answer::Closed(25));
+    assert_eq!(&rt; answer, GreatestAnswer::Closed(25));
     assert_eq!(&rt; leaves, 4);
     assert_eq!(&rt; splits.numbers, [1, 0, 0, 0, 0, 0, 0, 0]);
     assert_eq!(&rt; splits.count, 3);
@@ -176,7 +176,7 @@ fn of_the_nearest_the_least_is_split(rt: HostRuntime) -> Result<(), Fail> {
     add(alloc, &mut net, Lin, 3, &[cause(0, (Some(0), Some(50)))?])?;
     add(alloc, &mut net, Lin, 4, &[cause(0, (Some(0), Some(100)))?])?;
     let (answer, leaves, splits) = bound(alloc, &net)?;
-    assert_eq!(&rt; answer, Answer::Closed(60));
+    assert_eq!(&rt; answer, GreatestAnswer::Closed(60));
     assert_eq!(&rt; leaves, 3);
     assert_eq!(&rt; splits.numbers, [1, 2, 0, 0, 0, 0, 0, 0]);
     assert_eq!(&rt; splits.count, 2);

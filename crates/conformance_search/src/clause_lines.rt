@@ -8,7 +8,7 @@ use Row::{Assume, Close, Fall, Know, Loop};
 use Side::{Lower, Upper};
 use Steps::{NoStep, One, Two};
 use clauses::laws::{start_is_checking, taken_line_keeps_checking};
-use clauses::{Basis, Claim, ClauseChecker, EventFall, Literal, Step};
+use clauses::{Basis, Claim, ClauseChecker, EventFall, Literal, WalkStep};
 use event_graph::Network;
 use itv_base::{EdgeName, EventId, Side};
 use std::alloc::Global;
@@ -18,8 +18,8 @@ use std::test::Fail;
 #[derive(Clone, Copy)]
 enum Steps {
     NoStep,
-    One(Step),
-    Two(Step, Step),
+    One(WalkStep),
+    Two(WalkStep, WalkStep),
 }
 
 // A line: a fall of an event, which is told by its letter; a literal that is known; a loop from an event; two assumptions, or one twice; the
@@ -56,8 +56,8 @@ const fn side(cause: u32, is_met: bool) -> Literal {
     }
 }
 
-const fn step(basis: Basis, through: u32) -> Step {
-    Step { basis, through }
+const fn step(basis: Basis, through: u32) -> WalkStep {
+    WalkStep { basis, through }
 }
 
 // The text of the fault of a line, or an empty one where the line is taken.
@@ -132,7 +132,7 @@ fn keep_loop(
     net: &Network,
     checker: &mut ClauseChecker,
     event: u32,
-    steps: &[Step],
+    steps: &[WalkStep],
 ) -> Result<String, Fail>
     requires checking { IsChecking net.now checker.old }
     ensures checking { IsChecking net.now checker.new }

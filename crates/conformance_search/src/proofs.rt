@@ -1,7 +1,7 @@
 //! Proofs that a search writes down, and a checker that goes on after a refusal.
 
 use crate::networks::{network_of, rules_of};
-use branch::{Found, Work, find};
+use branch::{SearchFinding, Work, find};
 use cert_checker::{CheckFault, Checker, Goal};
 use certificate::TreeScribe;
 use event_graph::Line;
@@ -26,7 +26,7 @@ fn the_proof_of_a_contradiction_is_kept(rt: HostRuntime) -> Result<(), Fail> {
     let mut work = Work::new(rt.alloc(), &net)?;
     let mut kept = TreeScribe::new(rt.alloc(), 3, 4)?;
     let found = find(&mut work, &net, 2, &mut kept)?;
-    assert_eq!(rt; found, Found::Inconsistent);
+    assert_eq!(rt; found, SearchFinding::Inconsistent);
     assert_eq!(rt; kept.len(), 3);
     assert_eq!(rt; kept.line(0), Line::Split(0));
     let first = (edge(0, 0, Side::Upper), edge(1, 0, Side::Lower));

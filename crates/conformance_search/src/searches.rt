@@ -5,7 +5,7 @@ ghost use Rattle.std.specs.Prelude.{◌<◌};
 use crate::chance::Chance;
 use crate::networks::{Rule, network_of};
 use crate::plain::{choices_of, greatest_by_all};
-use branch::{Answer, Found, Quiet, Work, find, greatest};
+use branch::{GreatestAnswer, Quiet, SearchFinding, Work, find, greatest};
 use event_graph::{Cause, Network};
 use itv_base::{EventId, Range};
 use std::alloc::Global;
@@ -16,8 +16,8 @@ use std::test::Fail;
 // says, and how many cases the last search closed.
 #[derive(Clone, Copy, Debug)]
 struct Outcome {
-    found: Found,
-    answer: Option<Answer>,
+    found: SearchFinding,
+    answer: Option<GreatestAnswer>,
     leaves: u64,
 }
 
@@ -32,7 +32,7 @@ fn searched(alloc: Global, net: &Network, pair: (u32, u32), budget: u64) -> Resu
     let mut work = Work::new(alloc, net)?;
     let found = find(&mut work, net, budget, &mut Quiet)?;
     let answer = match found {
-        Found::Consistent => Some(greatest(
+        SearchFinding::Consistent => Some(greatest(
             &mut work,
             net,
             EventId(from),
@@ -77,10 +77,10 @@ fn a_chain_of_latest_pairs_closes_25_cases(rt: HostRuntime) -> Result<(), Fail> 
     assert_eq!(rt; choices_of(rules.as_slice()), 1 << 24);
     let net = network_of(rt.alloc(), 25, rules.as_slice())?;
     let forth = searched(rt.alloc(), &net, (0, 24), 100_000)?;
-    assert_eq!(rt; forth.answer, Some(Answer::Closed(240)));
+    assert_eq!(rt; forth.answer, Some(GreatestAnswer::Closed(240)));
     assert_eq!(rt; forth.leaves, 25);
     let back = searched(rt.alloc(), &net, (24, 0), 100_000)?;
-    assert_eq!(rt; back.answer, Some(Answer::Closed(0)));
+    assert_eq!(rt; back.answer, Some(GreatestAnswer::Closed(0)));
     Ok(())
 }
 
@@ -88,12 +88,12 @@ fn a_chain_of_latest_pairs_closes_25_cases(rt: HostRuntime) -> Result<(), Fail> 
 // below the number of choices.
 fn is_right(searched: &Outcome, wanted: Option<Option<i64>>, is_enough: bool) -> bool {
     match (searched.found, searched.answer, wanted) {
-        (Found::Inconsistent, None, None) => true,
-        (Found::Unsettled, None, _) => !is_enough,
-        (Found::Consistent, Some(answer), Some(greatest)) => match (answer, greatest) {
-            (Answer::Closed(value), Some(greatest)) => value == greatest,
-            (Answer::Unbounded, None) => true,
-            (Answer::Enclosed { upper, attained }, greatest) => {
+        (SearchFinding::Inconsistent, None, None) => true,
+        (SearchFinding::Unsettled, None, _) => !is_enough,
+        (SearchFinding::Consistent, Some(answer), Some(greatest)) => match (answer, greatest) {
+            (GreatestAnswer::Closed(value), Some(greatest)) => value == greatest,
+            (GreatestAnswer::Unbounded, None) => true,
+            (GreatestAnswer::Enclosed { upper, attained }, greatest) => {
                 !is_enough
                     && greatest.is_none_or(|greatest| attained <= greatest)
                     && upper.is_none_or(|upper| greatest.is_some_and(|greatest| greatest <= upper))

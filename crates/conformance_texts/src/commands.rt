@@ -3,14 +3,14 @@
 use itv_base::Texts;
 use std::alloc::{AllocError, Global};
 use std::test::Fail;
-use words::{Answer, Task, read_words};
+use words::{Invocation, Task, read_words};
 
 // An answer on one line: the job with what it needs, or `help` or `bad words`.
-fn line(alloc: Global, answer: &Answer<'_>) -> Result<String, AllocError> {
+fn line(alloc: Global, answer: &Invocation<'_>) -> Result<String, AllocError> {
     match answer {
-        Answer::Task(task) => task_line(alloc, *task),
-        Answer::Help(_) => String::from_str(alloc, "help"),
-        Answer::BadWords => String::from_str(alloc, "bad words"),
+        Invocation::Task(task) => task_line(alloc, *task),
+        Invocation::Help(_) => String::from_str(alloc, "help"),
+        Invocation::BadWords => String::from_str(alloc, "bad words"),
     }
 }
 
@@ -205,7 +205,7 @@ fn help_tells_what_a_person_needs(rt: HostRuntime) -> Result<(), Fail> {
     let mut texts = Texts::new(rt.alloc())?;
     texts.push(rt.alloc(), "--help")?;
     match read_words(rt.alloc(), &texts)? {
-        Answer::Help(text) => {
+        Invocation::Help(text) => {
             for part in [
                 "Usage: itv [OPTIONS] [DESIGN]",
                 "--budget <N>",

@@ -16,7 +16,7 @@ use Rattle.serde_json.specs.Written.{comma_if, compact_text, items_text, members
 use Rattle.itv_base.specs.Outside.{Files, file_of}
 use Rattle.itv_base.specs.declared.limits.TheConstants.{FILE_LIMIT, MAX_SELF_SIZE}
 use Rattle.design_gen.specs.Files.{FilesFit, IsSize, design_files, with_tree}
-use Rattle.design_gen.specs.Trees.{bus, clock_pins, list, master, merge, net, netlist, nets, part, parts, request_pins, slave, slave_name, slave_part, slave_texts, whole, wires}
+use Rattle.design_gen.specs.Trees.{bus, clock_pins, list, master, merge, net, netlist, nets, part, parts, request_pins, slave, slave_name, slave_part, slave_texts, whole_number, wires}
 
 either : (b : Bool) (one other : List ℕ) → length one ≤ 6 → length other ≤ 6 → length (cond b one other) ≤ 6
 either true one other h k = h
@@ -147,14 +147,14 @@ requests_short n h = (string_long (codes "M.req") 27 (omega arith), texts_short 
 requests_count : (n : ℕ) → n ≤ 64 → length (request_pins n) ≤ 66
 requests_count n h = let slaves = texts_count n (codes ".req") in omega (arith, slaves, h)
 
-number_short : (number : ℕ) → number < 1000 → IsShort 164 (whole number)
+number_short : (number : ℕ) → number < 1000 → IsShort 164 (whole_number number)
 number_short number h = let digits = length-decimal-le 3 number (omega arith) (omega (arith, h)) (omega (arith, h)) in omega (arith, digits)
 
 net_long : (pins : List Data) (low high : ℕ) → AreShort 164 pins → length pins ≤ 66 → low < 1000 → high < 1000 → IsShort 11400 (net pins low high)
 net_long pins low high h few small less =
-    let delay = list_long 2 (whole low ∷ whole high ∷ []) (number_short low small, (number_short high less, tt)) (omega arith) in
+    let delay = list_long 2 (whole_number low ∷ whole_number high ∷ []) (number_short low small, (number_short high less, tt)) (omega arith) in
     let last = member_long true (codes "pins") (list pins) no_members 4 10892 1 (omega arith) (list_long 66 pins h few) (omega arith) in
-    let all = member_long false (codes "delay") (list (whole low ∷ whole high ∷ [])) (member (codes "pins") (list pins) no_members) 5 332 10921 (omega arith) delay (omega (arith, last)) in
+    let all = member_long false (codes "delay") (list (whole_number low ∷ whole_number high ∷ [])) (member (codes "pins") (list pins) no_members) 5 332 10921 (omega arith) delay (omega (arith, last)) in
     omega (arith, all)
 
 nets_long : (n : ℕ) → n ≤ 64 → IsShort 22900 (list (nets n))
@@ -174,9 +174,9 @@ netlist_long : (all joins edges : Data) → IsShort 11000 all → IsShort 22900 
 netlist_long all joins edges h k l =
     let one = member_long true (codes "parts") all no_members 5 11000 1 (omega arith) h (omega arith) in
     let two = member_long true (codes "nets") joins (member (codes "parts") all no_members) 4 22900 11035 (omega arith) k (omega (arith, one)) in
-    let three = member_long true (codes "itv") (whole 1) (member (codes "nets") joins (member (codes "parts") all no_members)) 3 164 33963 (omega arith) (number_short 1 (omega arith)) (omega (arith, two)) in
-    let four = member_long true (codes "edges") edges (member (codes "itv") (whole 1) (member (codes "nets") joins (member (codes "parts") all no_members))) 5 11000 34149 (omega arith) l (omega (arith, three)) in
-    let five = member_long false (codes "cycles") (whole 2) (member (codes "edges") edges (member (codes "itv") (whole 1) (member (codes "nets") joins (member (codes "parts") all no_members)))) 6 164 45183 (omega arith) (number_short 2 (omega arith)) (omega (arith, four)) in
+    let three = member_long true (codes "itv") (whole_number 1) (member (codes "nets") joins (member (codes "parts") all no_members)) 3 164 33963 (omega arith) (number_short 1 (omega arith)) (omega (arith, two)) in
+    let four = member_long true (codes "edges") edges (member (codes "itv") (whole_number 1) (member (codes "nets") joins (member (codes "parts") all no_members))) 5 11000 34149 (omega arith) l (omega (arith, three)) in
+    let five = member_long false (codes "cycles") (whole_number 2) (member (codes "edges") edges (member (codes "itv") (whole_number 1) (member (codes "nets") joins (member (codes "parts") all no_members)))) 6 164 45183 (omega arith) (number_short 2 (omega arith)) (omega (arith, four)) in
     omega (arith, five)
 
 bus_long : (n : ℕ) → n ≤ 64 → IsShort 45500 (bus n)

@@ -22,8 +22,8 @@ design_files n =
     with_tree (with_tree (with_tree (with_tree map.empty (codes "bus.json") (bus n)) (codes "master.json") master) (codes "slave.json") slave) (codes "merge.json") merge
 
 -- a new shelf with the files of the design, no call of which is to fail
-abbrev pub IsDesign : ℕ → MemShelf → Type 0
-IsDesign n shelf = shelf ≡ record { files = design_files n; failing = []; calls = 0; faults = 0; last = [] }
+abbrev pub IsDesignShelf : ℕ → MemShelf → Type 0
+IsDesignShelf n shelf = shelf ≡ record { files = design_files n; failing = []; calls = 0; faults = 0; last = [] }
 
 -- there is a design of this size
 pub record IsSize (n : ℕ) : Type 0 where

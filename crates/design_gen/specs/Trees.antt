@@ -7,11 +7,11 @@ use Rattle.serde_json.specs.View.{items_of}
 abbrev pub list : List Data → Data
 list trees = array (items_of trees)
 
-abbrev pub texts : List (List ℕ) → Data
-texts lines = list (map string lines)
+abbrev pub text_list : List (List ℕ) → Data
+text_list lines = list (map string lines)
 
-abbrev pub whole : ℕ → Data
-whole n = number (unsigned n)
+abbrev pub whole_number : ℕ → Data
+whole_number n = number (unsigned n)
 
 -- ---- sheets
 
@@ -21,7 +21,7 @@ lane name wave node =
     object (member (codes "name") (string name) (member (codes "node") (string node) (member (codes "wave") (string wave) no_members)))
 
 abbrev pub sheet : List Data → List (List ℕ) → Data
-sheet lanes edges = object (member (codes "edge") (texts edges) (member (codes "signal") (list lanes) no_members))
+sheet lanes edges = object (member (codes "edge") (text_list edges) (member (codes "signal") (list lanes) no_members))
 
 abbrev pub clock_lane : Data
 clock_lane = lane (codes "clk") (codes "p") (codes "c")
@@ -62,7 +62,7 @@ parts n = part (codes "M") (codes "master.json") ∷ (map slave_part (range_with
 -- a net over pins, with the ends of its delay in picoseconds
 abbrev pub net : List Data → ℕ → ℕ → Data
 net pins low high =
-    object (member (codes "delay") (list (whole low ∷ whole high ∷ [])) (member (codes "pins") (list pins) no_members))
+    object (member (codes "delay") (list (whole_number low ∷ whole_number high ∷ [])) (member (codes "pins") (list pins) no_members))
 
 abbrev pub clock_pins : ℕ → List Data
 clock_pins n = string (codes "M.clk") ∷ (slave_texts n (codes ".clk") ++ string (codes "Z.clk") ∷ [])
@@ -78,7 +78,7 @@ wires n = slave_texts n (codes ".a Z.d @late [0,1000]")
 
 -- a netlist of two cycles
 abbrev pub netlist : Data → Data → Data → Data
-netlist parts nets edges = object (member (codes "cycles") (whole 2) (member (codes "edges") edges (member (codes "itv") (whole 1)
+netlist parts nets edges = object (member (codes "cycles") (whole_number 2) (member (codes "edges") edges (member (codes "itv") (whole_number 1)
     (member (codes "nets") nets (member (codes "parts") parts no_members)))))
 
 -- the netlist of n slaves

@@ -5,7 +5,7 @@ ghost use Rattle.serde_json.specs.Data.{depth};
 ghost use Rattle.serde_json.specs.View.{view};
 ghost use Rattle.serde_json.specs.Read.{max_depth};
 ghost use Rattle.serde_json.specs.Written.{has_float};
-ghost use Rattle.design_gen.specs.Files.{IsDesign, IsGenFault, IsSize, ReadBack, ReadsBack, with_tree};
+ghost use Rattle.design_gen.specs.Files.{IsDesignShelf, IsGenFault, IsSize, ReadBack, ReadsBack, with_tree};
 
 use crate::fault::GenFault;
 use crate::netlist::bus;
@@ -19,7 +19,7 @@ use std::alloc::Global;
 /// of its tree without spaces, which reads as the tree. For any other size the answer is `OutOfRange`, and takes
 /// no memory.
 pub fn make(alloc: Global, n: u32) -> Result<ShelfMem, GenFault>
-    ensures design { IfOk result (IsDesign n) }
+    ensures design { IfOk result (IsDesignShelf n) }
     ensures reads_back { OnOk result (ReadBack n) }
     ensures size { OnOk result (IsSize n) }
     ensures fault { IfErr result (IsGenFault n) }
@@ -32,7 +32,7 @@ pub fn make(alloc: Global, n: u32) -> Result<ShelfMem, GenFault>
 
 // The files of a size.
 fn files(alloc: Global, n: u32) -> Result<ShelfMem, NoMemory>
-    ensures design { IfOk result (IsDesign n) }
+    ensures design { IfOk result (IsDesignShelf n) }
     ensures reads_back { OnOk result (ReadBack n) }
 {
     let mut shelf = ShelfMem::new(alloc)?;

@@ -11,7 +11,7 @@ use Rattle.diff_bounds.specs.declared.falling.Run.{Run}
 use Rattle.diff_bounds.specs.Current.{IsCurrent}
 use Rattle.diff_bounds.specs.Labels.{HaveSettled, IsForest, Scope, labels_from, parents_from}
 use Rattle.diff_bounds.specs.Settled.{IsFeasible, zeros}
-use Rattle.diff_bounds.specs.Step.Falling.{AllDone, HasRun, IsPlaced, IsPotential, IsRunning, RunsOn}
+use Rattle.diff_bounds.specs.Step.Falling.{AllDone, RunHasFallen, IsPlaced, IsPotential, IsRunning, RunsOn}
 use Rattle.diff_bounds.specs.Step.Poised.{HasBegun, scope_from}
 use Rattle.diff_bounds.specs.Step.Waiting.{Waiting, is_waiting}
 use Rattle.diff_bounds.proofs.Networks.{edge_within}
@@ -63,7 +63,7 @@ feasible_at_once net st st' times w w' none begun meets runs settled =
     let run : Run = run_at_once net in
     let forest = begun_forest net st begun in
     let above = zeros_above s (labels_from st.current.stamps net.events) (parents_from st.current.stamps net.events) forest in
-    let ran : HasRun s run st.current.stamps st'.current.stamps =
+    let ran : RunHasFallen s run st.current.stamps st'.current.stamps =
     ran_of s run st st' w w' (running_at_once net st times none begun meets) (begun_near net.events st.current.stamps begun) above runs in
     record {
       slots = ran.count ∙ begun.slots;

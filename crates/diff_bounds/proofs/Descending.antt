@@ -15,7 +15,7 @@ use Rattle.diff_bounds.specs.Current.{HasNoTimes, IsLoop, with_choice}
 use Rattle.diff_bounds.specs.Labels.{HasFallen, IsAmong, stamp_at}
 use Rattle.diff_bounds.specs.Settled.{AreSettled, IsFeasible, IsSettled, at_source, whole, zeros}
 use Rattle.diff_bounds.specs.Standing.{HasDescended, Standing, Stands, chosen_of}
-use Rattle.diff_bounds.specs.Step.Falling.{HasRun, with_stamps}
+use Rattle.diff_bounds.specs.Step.Falling.{RunHasFallen, with_stamps}
 use Rattle.diff_bounds.specs.Step.Poised.{IsAdded, feasible_run, upper_run}
 use Rattle.diff_bounds.specs.Step.Waiting.{Waiting}
 use Rattle.diff_bounds.specs.Step.Walking.{HasLoop}
@@ -109,7 +109,7 @@ choice_added net b choice e w stands is marks =
 
 -- after it, before the labels from the source fall
 pub uppers_added : (net : Net) (b : Standing) (choice : EdgeName) (e : Edge) (source : EventId) (st : Stack) (w : Waiting) → Stands net b → edge net choice ≡ Some e → b.source ≡ Some source → length w.marks ≡ net.events
-    → st ≡ with_stamps (chosen_stack b choice) st.current.stamps → HasRun (whole net (chosen_of b ++ choice ∷ [])) (feasible_run net e.from 0) b.trail.current.stamps st.current.stamps
+    → st ≡ with_stamps (chosen_stack b choice) st.current.stamps → RunHasFallen (whole net (chosen_of b ++ choice ∷ [])) (feasible_run net e.from 0) b.trail.current.stamps st.current.stamps
     → (source.0 < net.events) × IsAdded net b.out (b.arcs ++ (choice_arc choice e) ∷ []) upper_run (choice_arc choice e) (at_source source) st w
 uppers_added net b choice e source st w stands is from marks stack ran =
     let P : Option EventId → Type 0 = λ o. IsSettled (whole net (chosen_of b)) o b.trail.current.stamps in
@@ -137,7 +137,7 @@ uppers_added net b choice e source st w stands is from marks stack ran =
     )
 
 -- without a source the feasible times are all
-pub unsourced_settled : (net : Net) (b : Standing) (choice : EdgeName) (e : Edge) (new : List Stamp) → Stands net b → b.source ≡ None → HasRun (whole net (chosen_of b ++ choice ∷ [])) (feasible_run net e.from 0) b.trail.current.stamps new
+pub unsourced_settled : (net : Net) (b : Standing) (choice : EdgeName) (e : Edge) (new : List Stamp) → Stands net b → b.source ≡ None → RunHasFallen (whole net (chosen_of b ++ choice ∷ [])) (feasible_run net e.from 0) b.trail.current.stamps new
     → IsFeasible (whole net (chosen_of b ++ choice ∷ [])) new → IsSettled (whole net (chosen_of b ++ choice ∷ [])) b.source new
 unsourced_settled net b choice e new stands from ran feasible =
     let P : Option EventId → Type 0 = λ o. IsSettled (whole net (chosen_of b)) o b.trail.current.stamps in
@@ -210,14 +210,14 @@ some_there (Some x) is = (x, refl)
 pub record HasAdded (net : Net) (b : Standing) (choice : EdgeName) (e : Edge) (st : Stack) : Type 0 where
   pub is : edge net choice ≡ Some e
   pub stack : st ≡ with_stamps (chosen_stack b choice) st.current.stamps
-  pub ran : HasRun (whole net (chosen_of b ++ choice ∷ [])) (feasible_run net e.from 0) b.trail.current.stamps st.current.stamps
+  pub ran : RunHasFallen (whole net (chosen_of b ++ choice ∷ [])) (feasible_run net e.from 0) b.trail.current.stamps st.current.stamps
 
 pub has_added : (net : Net) (b : Standing) (choice : EdgeName) (e : Edge) (st₂ st : Stack) → edge net choice ≡ Some e → st₂ ≡ chosen_stack b choice → st ≡ with_stamps st₂ st.current.stamps
-    → HasRun (whole net st₂.current.edges) (feasible_run net e.from 0) st₂.current.stamps st.current.stamps → HasAdded net b choice e st
+    → RunHasFallen (whole net st₂.current.edges) (feasible_run net e.from 0) st₂.current.stamps st.current.stamps → HasAdded net b choice e st
 has_added net b choice e st₂ st is chosen stack ran = record {
   is = is;
   stack = stack ∙ ap (λ (t : Stack). with_stamps t st.current.stamps) chosen;
-  ran = let P : Stack → Type 0 = λ t. HasRun (whole net t.current.edges) (feasible_run net e.from 0) t.current.stamps st.current.stamps in subst P chosen ran;
+  ran = let P : Stack → Type 0 = λ t. RunHasFallen (whole net t.current.edges) (feasible_run net e.from 0) t.current.stamps st.current.stamps in subst P chosen ran;
 }
 
 pub added_feasible : (net : Net) (b : Standing) (choice : EdgeName) (st₂ : Stack) (new : List Stamp) → st₂ ≡ chosen_stack b choice → IsFeasible (whole net st₂.current.edges) new → IsFeasible (whole net (chosen_of b ++ choice ∷ [])) new

@@ -13,7 +13,7 @@ use Rattle.event_graph.specs.Network.{Net}
 use Rattle.trail.specs.declared.stamp.Stamp.{Stamp}
 use Rattle.trail.specs.Stack.{Stack}
 use Rattle.diff_bounds.specs.declared.falling.Run.{Run}
-use Rattle.diff_bounds.specs.Labels.{Follows, Labels, Scope, is_lower, labels_from}
+use Rattle.diff_bounds.specs.Labels.{Follows, GraphLabels, Scope, is_lower, labels_from}
 use Rattle.diff_bounds.specs.Step.Falling.{Falls, IsDone, IsPlaced, IsRunning, KeepsRuns, scope_of, with_stamps}
 use Rattle.diff_bounds.specs.Step.Waiting.{Pushes, Waiting, is_waiting}
 use Rattle.diff_bounds.proofs.Forests.{lower_number}
@@ -67,7 +67,7 @@ scope_same net s run a b u v falls = ap (λ (x : Stack). scope_of net x run) fal
 -- ---- one fall
 
 -- the labels after it
-pub record FallenAt (label label' : Labels) (to : ℕ) (sum : ℤ) : Type 0 where
+pub record FallenAt (label label' : GraphLabels) (to : ℕ) (sum : ℤ) : Type 0 where
   pub here : label' to ≡ Some sum
   pub others : (u : ℕ) → u ≢ to → label' u ≡ label u
   pub lower : is_lower (Some sum) (label to) ≡ true
@@ -76,13 +76,13 @@ pub fallen_at : (s : Scope) (run : Run) (stamps : List Stamp) (name : EdgeName) 
 fallen_at s run stamps name e f = record { here = label_here s run stamps name e f; others = label_there s run stamps name e f; lower = f.under.lower }
 
 -- the edge itself is followed then
-pub follows_itself : (label label' : Labels) (e : Edge) (near : ℤ) → FallenAt label label' e.to.0 (near +ℤ e.weight) → label e.from.0 ≡ Some near → e.from.0 ≢ e.to.0 → Follows label' e
+pub follows_itself : (label label' : GraphLabels) (e : Edge) (near : ℤ) → FallenAt label label' e.to.0 (near +ℤ e.weight) → label e.from.0 ≡ Some near → e.from.0 ≢ e.to.0 → Follows label' e
 follows_itself label label' e near fallen start off = λ other at.
     let same : near ≡ other = same_Some near other (sym start ∙ sym (fallen.others e.from.0 off) ∙ at) in
     record { far = near +ℤ e.weight; here = fallen.here; within = omega (arith, ints) }
 
 -- so is any edge that was, unless it starts where the label has fallen
-follows_on : (label label' : Labels) (to : ℕ) (sum : ℤ) (e : Edge) → FallenAt label label' to sum → e.from.0 ≢ to → Follows label e → Follows label' e
+follows_on : (label label' : GraphLabels) (to : ℕ) (sum : ℤ) (e : Edge) → FallenAt label label' to sum → e.from.0 ≢ to → Follows label e → Follows label' e
 follows_on label label' to sum e fallen off follows = λ near at.
     let was = follows near (sym (fallen.others e.from.0 off) ∙ at) in
     let within : was.far ≤ℤ (near +ℤ e.weight) = was.within in

@@ -12,7 +12,7 @@ use Rattle.event_graph.specs.Edges.{edge}
 use Rattle.event_graph.specs.Network.{Net}
 use Rattle.event_graph.specs.Proof.{IsWalk, path_sum, weight_of}
 use Rattle.diff_bounds.specs.Current.{IsCurrent}
-use Rattle.diff_bounds.specs.Labels.{Follows, IsAmong, IsClimb, IsForest, IsHeld, IsWithin, Labels, Parents, Scope, is_lower, number}
+use Rattle.diff_bounds.specs.Labels.{Follows, IsAmong, IsClimb, IsForest, IsHeld, IsEdgeWithin, GraphLabels, Parents, Scope, is_lower, number}
 use Rattle.event_graph.specs.Limits.{weight_limit}
 use Rattle.diff_bounds.specs.Step.Falling.{IsPotential, Undercuts, fresh}
 use Rattle.diff_bounds.proofs.NamedWalks.{and_some, event, walk-append}
@@ -47,7 +47,7 @@ not_lower_itself None lower = cc lower
 not_lower_itself (Some a) lower = let less : a <ℤ a = lower_number a a lower in omega (arith, ints)
 
 -- an edge that does not undercut is followed
-pub followed_from_test : (label : Labels) (e : Edge) (near : ℤ) → label e.from.0 ≡ Some near → is_lower (Some (near +ℤ e.weight)) (label e.to.0) ≡ false → Follows label e
+pub followed_from_test : (label : GraphLabels) (e : Edge) (near : ℤ) → label e.from.0 ≡ Some near → is_lower (Some (near +ℤ e.weight)) (label e.to.0) ≡ false → Follows label e
 followed_from_test label e near start test = λ other at.
     let same : near ≡ other = same_Some near other (sym start ∙ at) in
     let found = not_lower (near +ℤ e.weight) (label e.to.0) test in
@@ -59,21 +59,21 @@ number-at o z is = ap number is
 
 -- ---- what the parents say of the labels
 
-abbrev pub AllHeld : Scope → Labels → Parents → Type 0
+abbrev pub AllHeld : Scope → GraphLabels → Parents → Type 0
 AllHeld s label parent = (v : ℕ) (name : EdgeName) → v < s.net.events → parent v ≡ Some name → IsHeld s label v name
 
 -- the edge of a name
 one_edge : (net : Net) (name : EdgeName) (e f : Edge) → edge net name ≡ Some e → edge net name ≡ Some f → e ≡ f
 one_edge net name e f first second = same_Some e f (sym first ∙ second)
 
-pub starts_below : (s : Scope) (label : Labels) (parent : Parents) → AllHeld s label parent → StartBelow s.net parent s.net.events
+pub starts_below : (s : Scope) (label : GraphLabels) (parent : Parents) → AllHeld s label parent → StartBelow s.net parent s.net.events
 starts_below s label parent held v name e below at is =
     let h = held v name below at in
     let P : Edge → Type 0 = λ x. x.from.0 < s.net.events in
     subst P (one_edge s.net name h.e e h.among.is is) h.within.from
 
 -- the label at the top of a climb and the sum of the climb are at most the label below
-pub climb_weight : (s : Scope) (label : Labels) (parent : Parents) → AllHeld s label parent → (v r : ℕ) (es : List EdgeName) → v < s.net.events → IsClimb s.net parent v es r
+pub climb_weight : (s : Scope) (label : GraphLabels) (parent : Parents) → AllHeld s label parent → (v r : ℕ) (es : List EdgeName) → v < s.net.events → IsClimb s.net parent v es r
     → (number (label r) +ℤ path_sum s.net es) ≤ℤ number (label v)
 climb_weight s label parent held v r [] below climb =
     let same : number (label v) ≡ number (label r) = ap (λ (x : ℕ). number (label x)) climb in omega (arith, ints)
@@ -88,14 +88,14 @@ climb_weight s label parent held v r (name ∷ es) below climb =
     omega (arith, ints)
 
 -- the top of a climb from an event with a label has one
-pub climb_labelled : (s : Scope) (label : Labels) (parent : Parents) → AllHeld s label parent → (v r : ℕ) (es : List EdgeName) (x : ℤ) → v < s.net.events → IsClimb s.net parent v es r → label v ≡ Some x → (y : ℤ) × (label r ≡ Some y)
+pub climb_labelled : (s : Scope) (label : GraphLabels) (parent : Parents) → AllHeld s label parent → (v r : ℕ) (es : List EdgeName) (x : ℤ) → v < s.net.events → IsClimb s.net parent v es r → label v ≡ Some x → (y : ℤ) × (label r ≡ Some y)
 climb_labelled s label parent held v r [] x below climb at = (x, ap label (sym climb) ∙ at)
 climb_labelled s label parent held v r (name ∷ es) x below climb at =
     let h = held v name below climb.0 in
     climb_labelled s label parent held h.e.from.0 r es h.near h.within.from (rest_of s.net parent v r name h.e es climb h.among.is) h.start
 
 -- read from the top, a climb is a walk along edges of the scope
-pub climb_walk : (s : Scope) (label : Labels) (parent : Parents) → AllHeld s label parent → (v r : ℕ) (es : List EdgeName) → v < s.net.events → IsClimb s.net parent v es r
+pub climb_walk : (s : Scope) (label : GraphLabels) (parent : Parents) → AllHeld s label parent → (v r : ℕ) (es : List EdgeName) → v < s.net.events → IsClimb s.net parent v es r
     → IsWalk s.net (event r) (reverse es) (event v) × All (IsCurrent s.net s.chosen) (reverse es)
 climb_walk s label parent held v r [] below climb = (ap event (sym climb), All-nil (IsCurrent s.net s.chosen))
 climb_walk s label parent held v r (name ∷ es) below climb =
@@ -107,7 +107,7 @@ climb_walk s label parent held v r (name ∷ es) below climb =
     (walk-append s.net (event r) (event h.e.from.0) (event v) (reverse es) (name ∷ []) rest.0 last, All-push (IsCurrent s.net s.chosen) (reverse es) name rest.1 h.among.current)
 
 -- a climb loses and gains at most the limit of a weight an edge
-pub climb_low : (s : Scope) (label : Labels) (parent : Parents) → AllHeld s label parent → (v r : ℕ) (es : List EdgeName) → v < s.net.events → IsClimb s.net parent v es r
+pub climb_low : (s : Scope) (label : GraphLabels) (parent : Parents) → AllHeld s label parent → (v r : ℕ) (es : List EdgeName) → v < s.net.events → IsClimb s.net parent v es r
     → pos 0 ≤ℤ (path_sum s.net es +ℤ pos (weight_limit * length es))
 climb_low s label parent held v r [] below climb = omega (arith, ints)
 climb_low s label parent held v r (name ∷ es) below climb =
@@ -118,7 +118,7 @@ climb_low s label parent held v r (name ∷ es) below climb =
     let low : neg_ℤ (pos weight_limit) ≤ℤ h.e.weight = h.within.low in
     omega (arith, ints)
 
-pub climb_high : (s : Scope) (label : Labels) (parent : Parents) → AllHeld s label parent → (v r : ℕ) (es : List EdgeName) → v < s.net.events → IsClimb s.net parent v es r
+pub climb_high : (s : Scope) (label : GraphLabels) (parent : Parents) → AllHeld s label parent → (v r : ℕ) (es : List EdgeName) → v < s.net.events → IsClimb s.net parent v es r
     → path_sum s.net es ≤ℤ pos (weight_limit * length es)
 climb_high s label parent held v r [] below climb = omega (arith, ints)
 climb_high s label parent held v r (name ∷ es) below climb =
@@ -130,7 +130,7 @@ climb_high s label parent held v r (name ∷ es) below climb =
     omega (arith, ints)
 
 -- labels fall no lower than the least start and the limit an event
-pub label_low : (s : Scope) (start label : Labels) (parent : Parents) (low : ℕ) → IsForest s start label parent → ((v : ℕ) → v < s.net.events → pos 0 ≤ℤ (number (start v) +ℤ pos low)) → (v : ℕ) → v < s.net.events
+pub label_low : (s : Scope) (start label : GraphLabels) (parent : Parents) (low : ℕ) → IsForest s start label parent → ((v : ℕ) → v < s.net.events → pos 0 ≤ℤ (number (start v) +ℤ pos low)) → (v : ℕ) → v < s.net.events
     → pos 0 ≤ℤ (number (label v) +ℤ pos (low + weight_limit * s.net.events))
 label_low s start label parent low forest starts v below =
     let up = forest.rooted v below in
@@ -146,16 +146,16 @@ label_low s start label parent low forest starts v below =
 -- ---- one fall
 
 -- the label at the end of an edge falls, and the edge is its parent
-pub record FallsBy (s : Scope) (label label' : Labels) (parent parent' : Parents) (name : EdgeName) (e : Edge) : Type 0 where
+pub record FallsBy (s : Scope) (label label' : GraphLabels) (parent parent' : Parents) (name : EdgeName) (e : Edge) : Type 0 where
   pub among : IsAmong s name e
-  pub within : IsWithin s.net.events e
+  pub within : IsEdgeWithin s.net.events e
   pub under : Undercuts label e
   pub here : label' e.to.0 ≡ Some (under.near +ℤ e.weight)
   pub others : (u : ℕ) → u ≢ e.to.0 → label' u ≡ label u
   pub parents : ChangesAt parent parent' e.to.0 name
 
 -- the start of a parent's edge, after the fall
-start_after : (s : Scope) (label label' : Labels) (parent parent' : Parents) (name : EdgeName) (e : Edge) → FallsBy s label label' parent parent' name e
+start_after : (s : Scope) (label label' : GraphLabels) (parent parent' : Parents) (name : EdgeName) (e : Edge) → FallsBy s label label' parent parent' name e
     → (u : ℕ) (near : ℤ) → label u ≡ Some near → (now : ℤ) × (label' u ≡ Some now) × (now ≤ℤ near)
 start_after s label label' parent parent' name e f u near at =
     elim (cases_eq u e.to.0) [
@@ -166,7 +166,7 @@ start_after s label label' parent parent' name e f u near at =
       | inr off ↦ (near, f.others u off ∙ at, omega (arith, ints))
     ]
 
-held_after : (s : Scope) (label label' : Labels) (parent parent' : Parents) (name : EdgeName) (e : Edge) → FallsBy s label label' parent parent' name e
+held_after : (s : Scope) (label label' : GraphLabels) (parent parent' : Parents) (name : EdgeName) (e : Edge) → FallsBy s label label' parent parent' name e
     → (v : ℕ) (other : EdgeName) → v ≢ e.to.0 → IsHeld s label v other → IsHeld s label' v other
 held_after s label label' parent parent' name e f v other off h =
     let start = start_after s label label' parent parent' name e f h.e.from.0 h.near h.start in
@@ -184,7 +184,7 @@ held_after s label label' parent parent' name e f v other off h =
       below = omega (arith, ints);
     }
 
-held_here : (s : Scope) (label label' : Labels) (parent parent' : Parents) (name : EdgeName) (e : Edge) → FallsBy s label label' parent parent' name e
+held_here : (s : Scope) (label label' : GraphLabels) (parent parent' : Parents) (name : EdgeName) (e : Edge) → FallsBy s label label' parent parent' name e
     → e.from.0 ≢ e.to.0 → IsHeld s label' e.to.0 name
 held_here s label label' parent parent' name e f off = record {
   e = e;
@@ -199,7 +199,7 @@ held_here s label label' parent parent' name e f off = record {
 }
 
 -- a fall keeps the forest, where its edge closes no climb
-pub forest_kept : (s : Scope) (start label label' : Labels) (parent parent' : Parents) (name : EdgeName) (e : Edge) → IsForest s start label parent → FallsBy s label label' parent parent' name e
+pub forest_kept : (s : Scope) (start label label' : GraphLabels) (parent parent' : Parents) (name : EdgeName) (e : Edge) → IsForest s start label parent → FallsBy s label label' parent parent' name e
     → ((fs : List EdgeName) → IsClimb s.net parent e.from.0 fs e.to.0 → ⊥) → IsForest s start label' parent'
 forest_kept s start label label' parent parent' name e forest f off = record {
   rooted = all_rooted s.net parent parent' e.to.0 name e s.net.events f.parents f.among.is forest.rooted f.within.from off;
@@ -232,7 +232,7 @@ stays net parent stop x r es top is climb off =
     ]
 
 -- a climb to another event than the stop uses no edge that leaves the stop, so the potential bounds its sum from below
-pub climb_potential : (s : Scope) (stop : Option EventId) (potential : ℕ → ℤ) (label : Labels) (parent : Parents) → IsPotential s stop potential → AllHeld s label parent → StopIsTop stop parent
+pub climb_potential : (s : Scope) (stop : Option EventId) (potential : ℕ → ℤ) (label : GraphLabels) (parent : Parents) → IsPotential s stop potential → AllHeld s label parent → StopIsTop stop parent
     → (u v : ℕ) (es : List EdgeName) → u < s.net.events → IsClimb s.net parent u es v → (stop ≡ Some (event v) → ⊥) → (potential u -ℤ potential v) ≤ℤ path_sum s.net es
 climb_potential s stop potential label parent meets held top u v [] below climb off =
     let same : potential u ≡ potential v = ap potential climb in omega (arith, ints)
@@ -247,7 +247,7 @@ climb_potential s stop potential label parent meets held top u v (name ∷ es) b
     omega (arith, ints)
 
 -- an edge that undercuts closes no climb, unless it leads to the stop
-pub no_climb : (s : Scope) (stop : Option EventId) (potential : ℕ → ℤ) (label : Labels) (parent : Parents) (name : EdgeName) (e : Edge) → IsPotential s stop potential → AllHeld s label parent → StopIsTop stop parent
+pub no_climb : (s : Scope) (stop : Option EventId) (potential : ℕ → ℤ) (label : GraphLabels) (parent : Parents) (name : EdgeName) (e : Edge) → IsPotential s stop potential → AllHeld s label parent → StopIsTop stop parent
     → IsAmong s name e → e.from.0 < s.net.events → Undercuts label e → (stop ≡ Some e.to → ⊥) → (es : List EdgeName) → IsClimb s.net parent e.from.0 es e.to.0 → ⊥
 no_climb s stop potential label parent name e meets held top among within under off es climb =
     let sum : (potential e.from.0 -ℤ potential e.to.0) ≤ℤ path_sum s.net es = climb_potential s stop potential label parent meets held top e.from.0 e.to.0 es within climb off in
@@ -263,16 +263,16 @@ no_climb s stop potential label parent name e meets held top among within under 
 -- ---- fresh parents
 
 -- an event whose label stays has no fresh parent
-pub fresh_same : (old label : Labels) (parent : Parents) (v : ℕ) → label v ≡ old v → fresh old label parent v ≡ None
+pub fresh_same : (old label : GraphLabels) (parent : Parents) (v : ℕ) → label v ≡ old v → fresh old label parent v ≡ None
 fresh_same old label parent v same =
     let P : Option ℤ → Type 0 = λ o. is_lower o (old v) ≡ true in
     cond-false (is_lower (label v) (old v)) (parent v) None (false_from_ne_true _ (λ lower. not_lower_itself (old v) (subst P same lower)))
 
-pub fresh_fallen : (old label : Labels) (parent : Parents) (v : ℕ) → is_lower (label v) (old v) ≡ true → fresh old label parent v ≡ parent v
+pub fresh_fallen : (old label : GraphLabels) (parent : Parents) (v : ℕ) → is_lower (label v) (old v) ≡ true → fresh old label parent v ≡ parent v
 fresh_fallen old label parent v lower = cond-true (is_lower (label v) (old v)) (parent v) None lower
 
 -- a fresh parent is a parent
-pub fresh_is_parent : (old label : Labels) (parent : Parents) (v : ℕ) (name : EdgeName) → fresh old label parent v ≡ Some name → parent v ≡ Some name
+pub fresh_is_parent : (old label : GraphLabels) (parent : Parents) (v : ℕ) (name : EdgeName) → fresh old label parent v ≡ Some name → parent v ≡ Some name
 fresh_is_parent old label parent v name at =
     elim (cases_Bool (is_lower (label v) (old v))) [
       | inl lower ↦ sym (fresh_fallen old label parent v lower) ∙ at
@@ -280,7 +280,7 @@ fresh_is_parent old label parent v name at =
     ]
 
 -- at first there are none
-pub fresh_none : (s : Scope) (old : Labels) (parent : Parents) → IsForest s old old (fresh old old parent)
+pub fresh_none : (s : Scope) (old : GraphLabels) (parent : Parents) → IsForest s old old (fresh old old parent)
 fresh_none s old parent = record {
   rooted = λ v below. record { root = v; way = []; climb = refl; top = fresh_same old old parent v refl };
   held = λ v name below at. absurd (none-some name (sym (fresh_same old old parent v refl) ∙ at));
@@ -288,11 +288,11 @@ fresh_none s old parent = record {
 }
 
 -- labels that have fallen from old ones, or have not
-abbrev pub AllFallen : Labels → Labels → Type 0
+abbrev pub AllFallen : GraphLabels → GraphLabels → Type 0
 AllFallen old label = (v : ℕ) → (label v ≡ old v) ⊎ (is_lower (label v) (old v) ≡ true)
 
 -- one fall changes the fresh parents as it does the parents
-pub fresh_changes : (old label label' : Labels) (parent parent' : Parents) (to : ℕ) (sum : ℤ) (name : EdgeName) → AllFallen old label → is_lower (Some sum) (label to) ≡ true → label' to ≡ Some sum
+pub fresh_changes : (old label label' : GraphLabels) (parent parent' : Parents) (to : ℕ) (sum : ℤ) (name : EdgeName) → AllFallen old label → is_lower (Some sum) (label to) ≡ true → label' to ≡ Some sum
     → ((u : ℕ) → u ≢ to → label' u ≡ label u) → ChangesAt parent parent' to name → ChangesAt (fresh old label parent) (fresh old label' parent') to name
 fresh_changes old label label' parent parent' to sum name fallen lower here others changes = record {
   here = fresh_fallen old label' parent' to (ap (λ (o : Option ℤ). is_lower o (old to)) here ∙ lower_trans sum (label to) (old to) lower (fallen to)) ∙ changes.here;
@@ -302,7 +302,7 @@ fresh_changes old label label' parent parent' to sum name fallen lower here othe
 }
 
 -- the labels have fallen still
-pub all_fallen : (old label label' : Labels) (to : ℕ) (sum : ℤ) → AllFallen old label → is_lower (Some sum) (label to) ≡ true → label' to ≡ Some sum → ((u : ℕ) → u ≢ to → label' u ≡ label u) → AllFallen old label'
+pub all_fallen : (old label label' : GraphLabels) (to : ℕ) (sum : ℤ) → AllFallen old label → is_lower (Some sum) (label to) ≡ true → label' to ≡ Some sum → ((u : ℕ) → u ≢ to → label' u ≡ label u) → AllFallen old label'
 all_fallen old label label' to sum fallen lower here others v =
     let P : Option ℤ → Type 0 = λ o. (o ≡ old v) ⊎ (is_lower o (old v) ≡ true) in
     elim (cases_eq v to) [

@@ -12,7 +12,7 @@ use Rattle.event_graph.specs.declared.edge.Edge.{Edge}
 use Rattle.event_graph.specs.Edges.{edge, side_edge}
 use Rattle.event_graph.specs.Network.{AreEnds, IsConstraint, IsNet, Net, cause_at}
 use Rattle.event_graph.proofs.EdgesMet.{All-found, cause_of}
-use Rattle.diff_bounds.specs.Labels.{IsWithin}
+use Rattle.diff_bounds.specs.Labels.{IsEdgeWithin}
 
 mapped : {X Y : Type 0} (f : X → Y) (o : Option X) (y : Y) → option_map f o ≡ Some y → (x : X) × (o ≡ Some x) × (f x ≡ y)
 mapped f None y is = absurd (cc is)
@@ -21,19 +21,19 @@ mapped f (Some x) y is = (x, refl, same_Some (f x) y is)
 at_end : (o : Option ℤ) (x : ℤ) → o ≡ Some x → IsEnd o → IsEnd (Some x)
 at_end o x is end = let P : Option ℤ → Type 0 = IsEnd in subst P is end
 
-side_within : (side : Side) (events : ℕ) (target : EventId) (c : Cause) (e : Edge) → target.0 < events → c.event.0 < events → AreEnds c.range → side_edge side target c ≡ Some e → IsWithin events e
+side_within : (side : Side) (events : ℕ) (target : EventId) (c : Cause) (e : Edge) → target.0 < events → c.event.0 < events → AreEnds c.range → side_edge side target c ≡ Some e → IsEdgeWithin events e
 side_within Upper events target c e to from ends is =
     let found = mapped (λ (high : ℤ). record { from = c.event; to = target; weight = high }) c.range.high e is in
     let end = at_end c.range.high found.0 found.1 ends.1 in
-    let P : Edge → Type 0 = λ x. IsWithin events x in
+    let P : Edge → Type 0 = λ x. IsEdgeWithin events x in
     subst P found.2 (record { from = from; to = to; low = omega (arith, ints, end.0); high = omega (arith, ints, end.1) })
 side_within Lower events target c e to from ends is =
     let found = mapped (λ (low : ℤ). record { from = target; to = c.event; weight = neg_ℤ low }) c.range.low e is in
     let end = at_end c.range.low found.0 found.1 ends.0 in
-    let P : Edge → Type 0 = λ x. IsWithin events x in
+    let P : Edge → Type 0 = λ x. IsEdgeWithin events x in
     subst P found.2 (record { from = to; to = from; low = omega (arith, ints, end.1); high = omega (arith, ints, end.0) })
 
-pub edge_within : (net : Net) (name : EdgeName) (e : Edge) → IsNet net → edge net name ≡ Some e → IsWithin net.events e
+pub edge_within : (net : Net) (name : EdgeName) (e : Edge) → IsNet net → edge net name ≡ Some e → IsEdgeWithin net.events e
 edge_within net name e is_net is =
     option_and_then_some _ _ _ is
     (λ k at _.

@@ -19,7 +19,7 @@ use Rattle.diff_bounds.specs.declared.arc.Arc.{Arc}
 use Rattle.event_graph.specs.EventLists.{at_event}
 use Rattle.event_graph.proofs.EventLists.{each_at, empty_at, set_at}
 use Rattle.diff_bounds.specs.Arcs.{AreAlwaysArcs, HasLight, IsArc}
-use Rattle.diff_bounds.specs.Step.Listing.{AreArcsSoFar, Grows, HasCause, HasName, IsPlaceOf, Joins, JoinsAt}
+use Rattle.diff_bounds.specs.Step.Listing.{AreArcsSoFar, Grows, HasCause, HasName, IsPlaceOf, HasJoined, JoinsAt}
 
 pub grows_on : (net : Net) (old mid new : List (List Arc)) → Grows net old mid → Grows net mid new → Grows net old new
 grows_on net old mid new first second = record { arcs = second.arcs; kept = λ v e light. second.kept v e (first.kept v e light) }
@@ -44,7 +44,7 @@ heavier_stays a b e to light same lighter = (same ∙ to, omega (arith, ints))
 itself_light : (a : Arc) → a.edge.weight ≤ℤ a.edge.weight
 itself_light a = omega (arith, ints)
 
-pub joins_end : (arc : Arc) (list : List Arc) → Joins arc list (list ++ arc ∷ [])
+pub joins_end : (arc : Arc) (list : List Arc) → HasJoined arc list (list ++ arc ∷ [])
 joins_end arc list = record {
   among = λ k d below.
       elim (Contains-push_cases list arc (get_or (list ++ arc ∷ []) k d) (Contains-get_or (list ++ arc ∷ []) k d below)) [ inl was ↦ inl was | inr same ↦ inr (sym same) ];
@@ -56,7 +56,7 @@ set_contains : (list : List Arc) (place : ℕ) (arc : Arc) → place < length li
 set_contains list place arc within = (place, rw length-set within, get_or-set_at list place place arc arc refl within)
 
 pub joins_place : (arc : Arc) (list : List Arc) (place : ℕ) (other : Arc) → place < length list → other ≡ get_or list place other → other.edge.to ≡ arc.edge.to → arc.edge.weight ≤ℤ other.edge.weight
-    → Joins arc list (set list place arc)
+    → HasJoined arc list (set list place arc)
 joins_place arc list place other within is to lighter = record {
   among = λ k d below. elim (cases_eq k place) [
     | inl same ↦ inr (get_or-set_at list place k arc d same within)
@@ -79,7 +79,7 @@ joins_place arc list place other within is to lighter = record {
           | inr off ↦ (a, (k, rw length-set below, get_or-set_other list place k arc a off ∙ at), a_to, a_light)
         ]
 
-pub joins_not : (arc : Arc) (list : List Arc) (place : ℕ) (other : Arc) → place < length list → other ≡ get_or list place other → other.edge.to ≡ arc.edge.to → other.edge.weight ≤ℤ arc.edge.weight → Joins arc list list
+pub joins_not : (arc : Arc) (list : List Arc) (place : ℕ) (other : Arc) → place < length list → other ≡ get_or list place other → other.edge.to ≡ arc.edge.to → other.edge.weight ≤ℤ arc.edge.weight → HasJoined arc list list
 joins_not arc list place other within is to light = record {
   among = λ k d below. inl (Contains-get_or list k d below);
   kept = λ e light. light;
@@ -96,7 +96,7 @@ pub joined_place : (arc : Arc) (old new : List (List Arc)) (list : List Arc) (pl
 joined_place arc old new list place d of there lighter is = record {
   list = set list place arc;
   is = is ∙ ap (λ (xs : List Arc). set old arc.edge.from.0 (set xs place arc)) (sym of);
-  joins = subst (λ (xs : List Arc). Joins arc xs (set list place arc)) of
+  joins = subst (λ (xs : List Arc). HasJoined arc xs (set list place arc)) of
       (joins_place arc list place (get_or list place d) there.0 (get_or_default list place d _ there.0) (there.1 d) (omega (arith, ints)));
 }
 
@@ -105,17 +105,17 @@ pub joined_not : (arc : Arc) (old : List (List Arc)) (list : List Arc) (place : 
 joined_not arc old list place d of there light = record {
   list = at_event old arc.edge.from.0;
   is = sym (set-get_or old arc.edge.from.0 []);
-  joins = subst (λ (xs : List Arc). Joins arc xs xs) of
+  joins = subst (λ (xs : List Arc). HasJoined arc xs xs) of
       (joins_not arc list place (get_or list place d) there.0 (get_or_default list place d _ there.0) (there.1 d) light);
 }
 
-joined_all : (P : Arc → Type 0) (arc : Arc) (old new : List Arc) → Joins arc old new → All P old → P arc → All P new
+joined_all : (P : Arc → Type 0) (arc : Arc) (old new : List Arc) → HasJoined arc old new → All P old → P arc → All P new
 joined_all P arc old new joins all here k d below =
     elim (joins.among k d below) [ inl was ↦ All-contains P old (get_or new k d) all was | inr same ↦ subst P (sym same) here ]
 
 -- one more always-edge has joined the list of the event where it starts
 grown : (net : Net) (out : List (List Arc)) (from : ℕ) (list : List Arc) (a : Arc) → AreArcsSoFar net out → from < length out → IsArc net a → IsAlways net a.name → a.edge.from.0 ≡ from
-    → Joins a (at_event out from) list → Grows net out (set out from list)
+    → HasJoined a (at_event out from) list → Grows net out (set out from list)
 grown net out from list a are within arc is_always starts joins = record {
   arcs = record {
     count = length-set out from list ∙ are.count;

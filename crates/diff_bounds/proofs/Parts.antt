@@ -18,7 +18,7 @@ use Rattle.diff_bounds.specs.declared.falling.Run.{Run}
 use Rattle.event_graph.specs.EventLists.{at_event}
 use Rattle.diff_bounds.specs.Arcs.{AreAlwaysArcs, AreChosenArcs, HasLight, IsArc}
 use Rattle.diff_bounds.specs.Current.{IsCurrent}
-use Rattle.diff_bounds.specs.Labels.{Follows, HaveSettled, IsAmong, Labels, Scope, labels_from}
+use Rattle.diff_bounds.specs.Labels.{Follows, HaveSettled, IsAmong, GraphLabels, Scope, labels_from}
 use Rattle.diff_bounds.specs.Step.Falling.{AllDone, Closes, Falls, IsAmongFrom, IsDone, IsDoneFrom, IsPlaced, IsRunning, RunsOn, scope_of}
 use Rattle.diff_bounds.specs.Step.Waiting.{Waiting, is_waiting}
 use Rattle.diff_bounds.proofs.Falls.{falls_on, placed_on, running_on, scope_same, stack_on}
@@ -148,7 +148,7 @@ found_among net st run out arcs name e always chosen among = of_current among.cu
         inr (subst Q (ap (λ (n : EdgeName). record { name = n; edge = found.0.edge }) found.2 ∙ ap (λ (x : Edge). record { name = name; edge = x }) same) found.1)
 
 -- an edge is followed where a lighter one is
-follows_light : (label : Labels) (a e : Edge) → a.from.0 ≡ e.from.0 → a.to ≡ e.to → a.weight ≤ℤ e.weight → Follows label a → Follows label e
+follows_light : (label : GraphLabels) (a e : Edge) → a.from.0 ≡ e.from.0 → a.to ≡ e.to → a.weight ≤ℤ e.weight → Follows label a → Follows label e
 follows_light label a e from to light follows = λ near at.
     let was = follows near (ap label from ∙ at) in
     let within : was.far ≤ℤ (near +ℤ a.weight) = was.within in

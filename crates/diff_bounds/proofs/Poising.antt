@@ -10,11 +10,11 @@ use Rattle.trail.specs.declared.stamp.Stamp.{Stamp}
 use Rattle.trail.specs.Stack.{Stack}
 use Rattle.diff_bounds.specs.declared.arc.Arc.{Arc}
 use Rattle.diff_bounds.specs.declared.falling.Run.{Run}
-use Rattle.diff_bounds.specs.Labels.{Follows, HasFallen, HaveSettled, IsClimb, IsForest, IsRooted, Labels, Parents, Scope, is_lower, labels_from, number, parents_from, stamp_at}
+use Rattle.diff_bounds.specs.Labels.{Follows, HasFallen, HaveSettled, IsClimb, IsForest, IsRooted, GraphLabels, Parents, Scope, is_lower, labels_from, number, parents_from, stamp_at}
 use Rattle.event_graph.specs.Limits.{weight_limit}
-use Rattle.diff_bounds.specs.Settled.{AreNear, HaveLabels, IsFeasible, IsSettled, at_source, zeros}
-use Rattle.diff_bounds.specs.Step.Falling.{AllDone, AreAbove, Closes, Falls, HasRun, IsDone, IsPlaced, IsPotential, IsRunning, RunsOn, fresh, scope_of, with_stamps}
-use Rattle.diff_bounds.specs.Step.Poised.{AreLow, AreOthersFollowed, AreRestFollowed, IsPoised, IsReady, feasible_run, scope_from, upper_run}
+use Rattle.diff_bounds.specs.Settled.{AreLabelsNear, HaveLabels, IsFeasible, IsSettled, at_source, zeros}
+use Rattle.diff_bounds.specs.Step.Falling.{AllDone, AreAbove, Closes, Falls, RunHasFallen, IsDone, IsPlaced, IsPotential, IsRunning, RunsOn, fresh, scope_of, with_stamps}
+use Rattle.diff_bounds.specs.Step.Poised.{AreLow, AreOthersFollowed, AreRestFollowed, IsPoised, IsRunReady, feasible_run, scope_from, upper_run}
 use Rattle.diff_bounds.specs.Step.Waiting.{Waiting, is_waiting}
 use Rattle.diff_bounds.specs.Step.Walking.{HasLoop}
 use Rattle.diff_bounds.proofs.NamedWalks.{event}
@@ -41,25 +41,25 @@ all_done_over net run a st st' u u' rest falls done name e among =
     ]
 
 -- an event below which a climb leads to a label has one
-labelled_below : (s : Scope) (start label : Labels) (parent : Parents) → IsForest s start label parent → (v r : ℕ) (es : List EdgeName) (z : ℤ) → v < s.net.events → IsClimb s.net parent v es r → label r ≡ Some z → (y : ℤ) × (label v ≡ Some y)
+labelled_below : (s : Scope) (start label : GraphLabels) (parent : Parents) → IsForest s start label parent → (v r : ℕ) (es : List EdgeName) (z : ℤ) → v < s.net.events → IsClimb s.net parent v es r → label r ≡ Some z → (y : ℤ) × (label v ≡ Some y)
 labelled_below s start label parent forest v r [] z below climb at = (z, ap label climb ∙ at)
 labelled_below s start label parent forest v r (name ∷ es) z below climb at = let h = forest.held v name below climb.0 in (h.far, h.here)
 
-climb_end : (s : Scope) (start label : Labels) (parent : Parents) → IsForest s start label parent → (v r : ℕ) (es : List EdgeName) → v < s.net.events → IsClimb s.net parent v es r → r < s.net.events
+climb_end : (s : Scope) (start label : GraphLabels) (parent : Parents) → IsForest s start label parent → (v r : ℕ) (es : List EdgeName) → v < s.net.events → IsClimb s.net parent v es r → r < s.net.events
 climb_end s start label parent forest v r [] below climb = let P : ℕ → Type 0 = λ x. x < s.net.events in subst P climb below
 climb_end s start label parent forest v r (name ∷ es) below climb =
     let h = forest.held v name below climb.0 in
     climb_end s start label parent forest h.e.from.0 r es h.within.from (rest_of s.net parent v r name h.e es climb h.among.is)
 
 -- each event has a feasible time
-pub zeros_some : (s : Scope) (label : Labels) (parent : Parents) → IsForest s zeros label parent → (v : ℕ) → v < s.net.events → (z : ℤ) × (label v ≡ Some z)
+pub zeros_some : (s : Scope) (label : GraphLabels) (parent : Parents) → IsForest s zeros label parent → (v : ℕ) → v < s.net.events → (z : ℤ) × (label v ≡ Some z)
 zeros_some s label parent forest v below =
     let up = forest.rooted v below in
     let within = climb_end s zeros label parent forest v up.root up.way below up.climb in
     labelled_below s zeros label parent forest v up.root up.way (pos 0) below up.climb (forest.roots up.root within up.top)
 
 -- followed edges from events with labels make a potential
-pub follows_number : (label : Labels) (e : Edge) (z : ℤ) → label e.from.0 ≡ Some z → Follows label e → number (label e.to.0) ≤ℤ (number (label e.from.0) +ℤ e.weight)
+pub follows_number : (label : GraphLabels) (e : Edge) (z : ℤ) → label e.from.0 ≡ Some z → Follows label e → number (label e.to.0) ≤ℤ (number (label e.from.0) +ℤ e.weight)
 follows_number label e z at follows =
     let there = follows z at in
     let within : there.far ≤ℤ (z +ℤ e.weight) = there.within in
@@ -78,13 +78,13 @@ old_potential s from stamps base is_net poised name e among off =
     ]
 
 -- settled feasible times are one for all edges
-pub new_potential : (s : Scope) (label : Labels) (parent : Parents) → IsNet s.net → IsForest s zeros label parent → HaveSettled s label → IsPotential s None (λ v. number (label v))
+pub new_potential : (s : Scope) (label : GraphLabels) (parent : Parents) → IsNet s.net → IsForest s zeros label parent → HaveSettled s label → IsPotential s None (λ v. number (label v))
 new_potential s label parent is_net forest settled name e among off =
     let within = edge_within s.net name e is_net among.is in
     let there = zeros_some s label parent forest e.from.0 within.from in
     follows_number label e there.0 there.1 (settled name e among)
 
-above_start : (s : Scope) (start label : Labels) (parent : Parents) → IsForest s start label parent → ((v : ℕ) → v < s.net.events → pos 0 ≤ℤ (number (start v) +ℤ pos 0)) → AreAbove s.net.events label
+above_start : (s : Scope) (start label : GraphLabels) (parent : Parents) → IsForest s start label parent → ((v : ℕ) → v < s.net.events → pos 0 ≤ℤ (number (start v) +ℤ pos 0)) → AreAbove s.net.events label
 above_start s start label parent forest starts v z below at =
     let low : pos 0 ≤ℤ (number (label v) +ℤ pos (0 + weight_limit * s.net.events)) = label_low s start label parent 0 forest starts v below in
     let is : number (label v) ≡ z = number-at (label v) z at in
@@ -97,19 +97,19 @@ source_low_if : (b : Bool) → pos 0 ≤ℤ (number (cond {A = Option ℤ} b (So
 source_low_if true = omega (arith, ints)
 source_low_if false = omega (arith, ints)
 
-pub zeros_above : (s : Scope) (label : Labels) (parent : Parents) → IsForest s zeros label parent → AreAbove s.net.events label
+pub zeros_above : (s : Scope) (label : GraphLabels) (parent : Parents) → IsForest s zeros label parent → AreAbove s.net.events label
 zeros_above s label parent forest = above_start s zeros label parent forest (λ v below. zero_low v)
 
-pub source_above : (s : Scope) (source : EventId) (label : Labels) (parent : Parents) → IsForest s (at_source source) label parent → AreAbove s.net.events label
+pub source_above : (s : Scope) (source : EventId) (label : GraphLabels) (parent : Parents) → IsForest s (at_source source) label parent → AreAbove s.net.events label
 source_above s source label parent forest = above_start s (at_source source) label parent forest (λ v below. source_low_if (nat_eq v source.0))
 
-pub placed_of : (net : Net) (out : List (List Arc)) (arcs : List Arc) (run : Run) (from : EventId) (start : Labels) (st : Stack) (w : Waiting) → IsReady net out arcs run from start st w → run.base ≤ net.events → IsPlaced net run st w
+pub placed_of : (net : Net) (out : List (List Arc)) (arcs : List Arc) (run : Run) (from : EventId) (start : GraphLabels) (st : Stack) (w : Waiting) → IsRunReady net out arcs run from start st w → run.base ≤ net.events → IsPlaced net run st w
 placed_of net out arcs run from start st w ready base =
     let slots = ready.slots in
     let few = ready.is_net.events in
     record { is_net = ready.is_net; slots = omega arith; halves = omega arith; most = omega arith; marks = ready.marks }
 
-pub feasible_running : (net : Net) (out : List (List Arc)) (arcs : List Arc) (from : EventId) (first : ℕ) (st : Stack) (w : Waiting) → IsReady net out arcs (feasible_run net from first) from zeros st w
+pub feasible_running : (net : Net) (out : List (List Arc)) (arcs : List Arc) (from : EventId) (first : ℕ) (st : Stack) (w : Waiting) → IsRunReady net out arcs (feasible_run net from first) from zeros st w
     → IsRunning (scope_from net st first) (feasible_run net from first) st.current.stamps
 feasible_running net out arcs from first st w ready = record {
   old = st.current.stamps;
@@ -119,7 +119,7 @@ feasible_running net out arcs from first st w ready = record {
   ran = run_not (scope_from net st first) (feasible_run net from first) st.current.stamps ready.near;
 }
 
-pub upper_running : (net : Net) (out : List (List Arc)) (arcs : List Arc) (from source : EventId) (st : Stack) (w : Waiting) → IsReady net out arcs upper_run from (at_source source) st w → IsFeasible (scope_from net st 0) st.current.stamps
+pub upper_running : (net : Net) (out : List (List Arc)) (arcs : List Arc) (from source : EventId) (st : Stack) (w : Waiting) → IsRunReady net out arcs upper_run from (at_source source) st w → IsFeasible (scope_from net st 0) st.current.stamps
     → IsRunning (scope_from net st 0) upper_run st.current.stamps
 upper_running net out arcs from source st w ready feasible = record {
   old = st.current.stamps;
@@ -132,7 +132,7 @@ upper_running net out arcs from source st w ready feasible = record {
 -- ---- after a fall
 
 -- what a fall has run from
-pub ran_of : (s : Scope) (run : Run) (a b : Stack) (u v : Waiting) (running : IsRunning s run a.current.stamps) → AreNear a.current.stamps → AreAbove s.net.events (labels_from a.current.stamps run.base) → RunsOn s run a b u v → HasRun s run a.current.stamps b.current.stamps
+pub ran_of : (s : Scope) (run : Run) (a b : Stack) (u v : Waiting) (running : IsRunning s run a.current.stamps) → AreLabelsNear a.current.stamps → AreAbove s.net.events (labels_from a.current.stamps run.base) → RunsOn s run a b u v → RunHasFallen s run a.current.stamps b.current.stamps
 ran_of s run a b u v running near above runs = runs.keeps a.current.stamps running.potential above running.meets (run_not s run a.current.stamps near)
 
 either_at : (old new : Stamp) → HasFallen old new → ((new.label ≡ old.label) × (new.parent ≡ old.parent)) ⊎ (is_lower new.label old.label ≡ true)
@@ -140,7 +140,7 @@ either_at old new (inl same) = inl (ap (λ (x : Stamp). x.label) same, ap (λ (x
 either_at old new (inr lower) = inr lower
 
 -- labels that have run on and settled
-pub labels_on : (s : Scope) (run : Run) (start : Labels) (old new : List Stamp) → IsForest s start (labels_from old run.base) (parents_from old run.base) → HasRun s run old new → HaveSettled s (labels_from new run.base) → HaveLabels s start new run.base
+pub labels_on : (s : Scope) (run : Run) (start : GraphLabels) (old new : List Stamp) → IsForest s start (labels_from old run.base) (parents_from old run.base) → RunHasFallen s run old new → HaveSettled s (labels_from new run.base) → HaveLabels s start new run.base
 labels_on s run start old new was ran settled = record {
   forest = forest_on s start (labels_from old run.base) (labels_from new run.base) (parents_from old run.base) (parents_from new run.base) (record {
     was = was;
@@ -166,15 +166,15 @@ label_either : (old new : Stamp) → HasFallen old new → (new.label ≡ old.la
 label_either old new (inl same) = inl (ap (λ (x : Stamp). x.label) same)
 label_either old new (inr lower) = inr lower
 
-pub low_kept : (s : Scope) (run : Run) (old new : List Stamp) (parent : Parents) → run.base ≡ s.net.events → IsForest s zeros (labels_from old s.net.events) parent → AreLow s.net.events old → HasRun s run old new → AreLow s.net.events new
+pub low_kept : (s : Scope) (run : Run) (old new : List Stamp) (parent : Parents) → run.base ≡ s.net.events → IsForest s zeros (labels_from old s.net.events) parent → AreLow s.net.events old → RunHasFallen s run old new → AreLow s.net.events new
 low_kept s run old new parent base forest low ran v label below is =
     let was = zeros_some s (labels_from old s.net.events) parent forest v below in
     low_after (labels_from old s.net.events v) (labels_from new s.net.events v) was.0 label
     (label_either (stamp_at old (s.net.events + v)) (stamp_at new (s.net.events + v)) (ran.fallen (s.net.events + v))) was.1 (low v was.0 below was.1) is
 
 -- the feasible times after a fall that settled
-pub feasible_after : (net : Net) (out : List (List Arc)) (arcs : List Arc) (from : EventId) (first : ℕ) (st : Stack) (w : Waiting) (new : List Stamp) → IsReady net out arcs (feasible_run net from first) from zeros st w → AreLow net.events st.current.stamps
-    → HasRun (scope_from net st first) (feasible_run net from first) st.current.stamps new → HaveSettled (scope_from net st first) (labels_from new net.events) → IsFeasible (scope_from net st first) new
+pub feasible_after : (net : Net) (out : List (List Arc)) (arcs : List Arc) (from : EventId) (first : ℕ) (st : Stack) (w : Waiting) (new : List Stamp) → IsRunReady net out arcs (feasible_run net from first) from zeros st w → AreLow net.events st.current.stamps
+    → RunHasFallen (scope_from net st first) (feasible_run net from first) st.current.stamps new → HaveSettled (scope_from net st first) (labels_from new net.events) → IsFeasible (scope_from net st first) new
 feasible_after net out arcs from first st w new ready low ran settled = record {
   slots = ran.count ∙ ready.slots;
   labels = labels_on (scope_from net st first) (feasible_run net from first) zeros st.current.stamps new ready.poised.forest ran settled;
@@ -184,7 +184,7 @@ feasible_after net out arcs from first st w new ready low ran settled = record {
 -- ---- the other half
 
 -- labels whose stamps stay
-forest_stays : (s : Scope) (start : Labels) (base : ℕ) (old new : List Stamp) → ((v : ℕ) → v < s.net.events → stamp_at new (base + v) ≡ stamp_at old (base + v))
+forest_stays : (s : Scope) (start : GraphLabels) (base : ℕ) (old new : List Stamp) → ((v : ℕ) → v < s.net.events → stamp_at new (base + v) ≡ stamp_at old (base + v))
     → IsForest s start (labels_from old base) (parents_from old base) → IsForest s start (labels_from new base) (parents_from new base)
 forest_stays s start base old new same forest = record {
   rooted = λ v below. rooted_stays v below (forest.rooted v below);
@@ -218,7 +218,7 @@ forest_stays s start base old new same forest = record {
       top = ap (λ (x : Stamp). x.parent) (same up.root (climb_end s start (labels_from old base) (parents_from old base) forest v up.root up.way below up.climb)) ∙ up.top;
     }
 
-pub labels_stay : (s : Scope) (start : Labels) (base : ℕ) (old new : List Stamp) → IsNet s.net → ((v : ℕ) → v < s.net.events → stamp_at new (base + v) ≡ stamp_at old (base + v)) → HaveLabels s start old base → HaveLabels s start new base
+pub labels_stay : (s : Scope) (start : GraphLabels) (base : ℕ) (old new : List Stamp) → IsNet s.net → ((v : ℕ) → v < s.net.events → stamp_at new (base + v) ≡ stamp_at old (base + v)) → HaveLabels s start old base → HaveLabels s start new base
 labels_stay s start base old new is_net same labels = record {
   forest = forest_stays s start base old new same labels.forest;
   settled = λ name e among near at.
@@ -235,8 +235,8 @@ feasible_stay s old new is_net count same feasible = record {
 }
 
 -- the labels from a source after a fall that settled
-pub settled_after : (net : Net) (out : List (List Arc)) (arcs : List Arc) (from source : EventId) (st : Stack) (w : Waiting) (new : List Stamp) → IsReady net out arcs upper_run from (at_source source) st w → source.0 < net.events → IsFeasible (scope_from net st 0) st.current.stamps
-    → HasRun (scope_from net st 0) upper_run st.current.stamps new → HaveSettled (scope_from net st 0) (labels_from new 0) → IsSettled (scope_from net st 0) (Some source) new
+pub settled_after : (net : Net) (out : List (List Arc)) (arcs : List Arc) (from source : EventId) (st : Stack) (w : Waiting) (new : List Stamp) → IsRunReady net out arcs upper_run from (at_source source) st w → source.0 < net.events → IsFeasible (scope_from net st 0) st.current.stamps
+    → RunHasFallen (scope_from net st 0) upper_run st.current.stamps new → HaveSettled (scope_from net st 0) (labels_from new 0) → IsSettled (scope_from net st 0) (Some source) new
 settled_after net out arcs from source st w new ready within feasible ran settled = record {
   feasible = feasible_stay (scope_from net st 0) st.current.stamps new ready.is_net ran.count (λ v below. ran.after (net.events + v) (omega arith)) feasible;
   near = ran.near;
@@ -245,8 +245,8 @@ settled_after net out arcs from source st w new ready within feasible ran settle
 
 -- ---- the loop
 
-pub loop_of : (net : Net) (out : List (List Arc)) (arcs : List Arc) (from : EventId) (first : ℕ) (st : Stack) (w : Waiting) (new : List Stamp) (a : Arc) → IsReady net out arcs (feasible_run net from first) from zeros st w
-    → HasRun (scope_from net st first) (feasible_run net from first) st.current.stamps new → Closes (scope_from net st first) (feasible_run net from first) new a → HasLoop net (with_stamps st new) a
+pub loop_of : (net : Net) (out : List (List Arc)) (arcs : List Arc) (from : EventId) (first : ℕ) (st : Stack) (w : Waiting) (new : List Stamp) (a : Arc) → IsRunReady net out arcs (feasible_run net from first) from zeros st w
+    → RunHasFallen (scope_from net st first) (feasible_run net from first) st.current.stamps new → Closes (scope_from net st first) (feasible_run net from first) new a → HasLoop net (with_stamps st new) a
 loop_of net out arcs from first st w new a ready ran closes =
     let s : Scope = scope_from net st first in
     let run : Run = feasible_run net from first in
@@ -281,14 +281,14 @@ loop_of net out arcs from first st w new a ready ran closes =
       short = walk.short;
     }
 
-pub feasible_ran : (net : Net) (out : List (List Arc)) (arcs : List Arc) (from : EventId) (first : ℕ) (st st' : Stack) (w u u' : Waiting) → IsReady net out arcs (feasible_run net from first) from zeros st w
-    → RunsOn (scope_from net st first) (feasible_run net from first) st st' u u' → HasRun (scope_from net st first) (feasible_run net from first) st.current.stamps st'.current.stamps
+pub feasible_ran : (net : Net) (out : List (List Arc)) (arcs : List Arc) (from : EventId) (first : ℕ) (st st' : Stack) (w u u' : Waiting) → IsRunReady net out arcs (feasible_run net from first) from zeros st w
+    → RunsOn (scope_from net st first) (feasible_run net from first) st st' u u' → RunHasFallen (scope_from net st first) (feasible_run net from first) st.current.stamps st'.current.stamps
 feasible_ran net out arcs from first st st' w u u' ready runs =
     ran_of (scope_from net st first) (feasible_run net from first) st st' u u' (feasible_running net out arcs from first st w ready) ready.near
     (zeros_above (scope_from net st first) (labels_from st.current.stamps net.events) (parents_from st.current.stamps net.events) ready.poised.forest) runs
 
-pub upper_ran : (net : Net) (out : List (List Arc)) (arcs : List Arc) (from source : EventId) (st st' : Stack) (w u u' : Waiting) → IsReady net out arcs upper_run from (at_source source) st w → IsFeasible (scope_from net st 0) st.current.stamps
-    → RunsOn (scope_from net st 0) upper_run st st' u u' → HasRun (scope_from net st 0) upper_run st.current.stamps st'.current.stamps
+pub upper_ran : (net : Net) (out : List (List Arc)) (arcs : List Arc) (from source : EventId) (st st' : Stack) (w u u' : Waiting) → IsRunReady net out arcs upper_run from (at_source source) st w → IsFeasible (scope_from net st 0) st.current.stamps
+    → RunsOn (scope_from net st 0) upper_run st st' u u' → RunHasFallen (scope_from net st 0) upper_run st.current.stamps st'.current.stamps
 upper_ran net out arcs from source st st' w u u' ready feasible runs =
     ran_of (scope_from net st 0) upper_run st st' u u' (upper_running net out arcs from source st w ready feasible) ready.near
     (source_above (scope_from net st 0) source (labels_from st.current.stamps 0) (parents_from st.current.stamps 0) ready.poised.forest) runs

@@ -13,11 +13,11 @@ use Rattle.event_graph.specs.declared.edge.Edge.{Edge}
 use Rattle.trail.specs.declared.stamp.Stamp.{Stamp}
 use Rattle.trail.specs.Stack.{empty_stamp}
 use Rattle.diff_bounds.specs.declared.falling.Run.{Run}
-use Rattle.diff_bounds.specs.Labels.{HasFallen, IsAmong, IsWithin, Scope, is_lower, labels_from, number, parents_from, stamp_at}
+use Rattle.diff_bounds.specs.Labels.{HasFallen, IsAmong, IsEdgeWithin, Scope, is_lower, labels_from, number, parents_from, stamp_at}
 use Rattle.event_graph.specs.Limits.{weight_limit}
 use Rattle.diff_bounds.specs.Step.Limits.{IsNear, fall_limit}
-use Rattle.diff_bounds.specs.Settled.{AreNear}
-use Rattle.diff_bounds.specs.Step.Falling.{HasRun, IsRunning, KeepsRuns, Undercuts, fallen_stamp, fresh, height, natural_part, total_height}
+use Rattle.diff_bounds.specs.Settled.{AreLabelsNear}
+use Rattle.diff_bounds.specs.Step.Falling.{RunHasFallen, IsRunning, KeepsRuns, Undercuts, fallen_stamp, fresh, height, natural_part, total_height}
 use Rattle.diff_bounds.proofs.Climbs.{ChangesAt}
 use Rattle.diff_bounds.proofs.Forests.{AllFallen, FallsBy, StopIsTop, forest_kept, fresh_changes, fresh_none, fresh_same, label_low, lower_number, lower_trans, no_climb, number-at}
 
@@ -36,7 +36,7 @@ low_of s run stamps v label running below at =
     let is : number (labels_from stamps run.base v) ≡ label = number-at _ label at in
     omega (arith, ints)
 
-pub near_high : (stamps : List Stamp) (slot : ℕ) (label : ℤ) → AreNear stamps → length stamps ≤ 2 * MAX_EVENTS → (stamp_at stamps slot).label ≡ Some label → label ≤ℤ pos (weight_limit * (2 * MAX_EVENTS))
+pub near_high : (stamps : List Stamp) (slot : ℕ) (label : ℤ) → AreLabelsNear stamps → length stamps ≤ 2 * MAX_EVENTS → (stamp_at stamps slot).label ≡ Some label → label ≤ℤ pos (weight_limit * (2 * MAX_EVENTS))
 near_high stamps slot label near most at =
     let few : count_by (λ (x : Stamp). is_some x.label) stamps ≤ length stamps = count_by-le-length (λ (x : Stamp). is_some x.label) stamps in
     let high : label ≤ℤ pos (weight_limit * count_by (λ (x : Stamp). is_some x.label) stamps) = near slot label at in
@@ -78,7 +78,7 @@ fallen_high (Some label) near weight count after lower high near_high weight_hig
 -- one fall, in a slot
 pub record OneFall (s : Scope) (run : Run) (stamps : List Stamp) (name : EdgeName) (e : Edge) : Type 0 where
   pub among : IsAmong s name e
-  pub within : IsWithin s.net.events e
+  pub within : IsEdgeWithin s.net.events e
   pub under : Undercuts (labels_from stamps run.base) e
   pub off : run.stop ≡ Some e.to → ⊥
   pub slots : run.base + s.net.events ≤ length stamps
@@ -89,7 +89,7 @@ after_fall s run stamps name e f = set stamps (run.base + e.to.0) (fallen_stamp 
 to_slot : (s : Scope) (run : Run) (stamps : List Stamp) (name : EdgeName) (e : Edge) → OneFall s run stamps name e → run.base + e.to.0 < length stamps
 to_slot s run stamps name e f = let slots = f.slots in let to = f.within.to in omega arith
 
-near_kept : (s : Scope) (run : Run) (stamps : List Stamp) (name : EdgeName) (e : Edge) (f : OneFall s run stamps name e) → AreNear stamps → AreNear (after_fall s run stamps name e f)
+near_kept : (s : Scope) (run : Run) (stamps : List Stamp) (name : EdgeName) (e : Edge) (f : OneFall s run stamps name e) → AreLabelsNear stamps → AreLabelsNear (after_fall s run stamps name e f)
 near_kept s run stamps name e f near slot label at =
     let within = to_slot s run stamps name e f in
     let counts = count_after stamps (run.base + e.to.0) name (f.under.near +ℤ e.weight) within in
@@ -148,13 +148,13 @@ label_fallen : (old new : Stamp) → HasFallen old new → (new.label ≡ old.la
 label_fallen old new (inl same) = inl (ap (λ (x : Stamp). x.label) same)
 label_fallen old new (inr lower) = inr lower
 
-pub run_fallen : (s : Scope) (run : Run) (old stamps : List Stamp) → HasRun s run old stamps → AllFallen (labels_from old run.base) (labels_from stamps run.base)
+pub run_fallen : (s : Scope) (run : Run) (old stamps : List Stamp) → RunHasFallen s run old stamps → AllFallen (labels_from old run.base) (labels_from stamps run.base)
 run_fallen s run old stamps ran v = label_fallen (stamp_at old (run.base + v)) (stamp_at stamps (run.base + v)) (ran.fallen (run.base + v))
 
 stamp_fallen : (old mid : Stamp) (name : EdgeName) (sum : ℤ) → is_lower (Some sum) mid.label ≡ true → HasFallen old mid → HasFallen old (fallen_stamp name sum)
 stamp_fallen old mid name sum lower fallen = inr (lower_trans sum mid.label old.label lower (label_fallen old mid fallen))
 
-pub stop_is_top : (s : Scope) (run : Run) (old stamps : List Stamp) → HasRun s run old stamps → StopIsTop run.stop (fresh (labels_from old run.base) (labels_from stamps run.base) (parents_from stamps run.base))
+pub stop_is_top : (s : Scope) (run : Run) (old stamps : List Stamp) → RunHasFallen s run old stamps → StopIsTop run.stop (fresh (labels_from old run.base) (labels_from stamps run.base) (parents_from stamps run.base))
 stop_is_top s run old stamps ran x is = fresh_same (labels_from old run.base) (labels_from stamps run.base) (parents_from stamps run.base) x.0 (ran.stopped x is)
 
 -- the labels and the parents after a fall
@@ -212,7 +212,7 @@ fall_apart s run stamps name e f running same =
     running.ran.forest.held (stop_is_top s run running.old stamps running.ran) f.among f.within.from f.under f.off [] same
 
 -- a run that has not begun
-pub run_not : (s : Scope) (run : Run) (stamps : List Stamp) → AreNear stamps → HasRun s run stamps stamps
+pub run_not : (s : Scope) (run : Run) (stamps : List Stamp) → AreLabelsNear stamps → RunHasFallen s run stamps stamps
 run_not s run stamps near = record {
   count = refl;
   forest = fresh_none s (labels_from stamps run.base) (parents_from stamps run.base);

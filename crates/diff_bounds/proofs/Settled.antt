@@ -11,7 +11,7 @@ use Rattle.event_graph.specs.declared.edge.Edge.{Edge}
 use Rattle.event_graph.specs.Edges.{edge}
 use Rattle.event_graph.specs.Proof.{IsWalk, path_sum, weight_of}
 use Rattle.diff_bounds.specs.Current.{IsCurrent}
-use Rattle.diff_bounds.specs.Labels.{HaveSettled, IsAmong, IsClimb, IsForest, IsHeld, IsRooted, Labels, Parents, Scope, is_lower, number}
+use Rattle.diff_bounds.specs.Labels.{HaveSettled, IsAmong, IsClimb, IsForest, IsHeld, IsRooted, GraphLabels, Parents, Scope, is_lower, number}
 use Rattle.diff_bounds.specs.Step.Falling.{IsPotential, Undercuts, fresh}
 use Rattle.diff_bounds.proofs.NamedWalks.{and_some, event, sum-append, sum-reverse, walk-append}
 use Rattle.diff_bounds.proofs.Climbs.{climb-append, climb_along, climb_short, climb_within, rest_of}
@@ -20,7 +20,7 @@ use Rattle.diff_bounds.proofs.Forests.{StopIsTop, climb_potential, climb_walk, c
 -- ---- old parents and fresh ones together
 
 -- labels that fell on from those of a forest, and have settled
-pub record FellOn (s : Scope) (start old label : Labels) (before parent : Parents) : Type 0 where
+pub record FellOn (s : Scope) (start old label : GraphLabels) (before parent : Parents) : Type 0 where
   pub was : IsForest s start old before
   pub fell : IsForest s old label (fresh old label parent)
   pub each : (v : ℕ) → v < s.net.events → ((label v ≡ old v) × (parent v ≡ before v)) ⊎ (is_lower (label v) (old v) ≡ true)
@@ -30,7 +30,7 @@ not_itself : (o p : Option ℤ) → is_lower p o ≡ true → p ≡ o → ⊥
 not_itself o p lower same = let P : Option ℤ → Type 0 = λ x. is_lower x o ≡ true in not_lower_itself o (subst P same lower)
 
 -- an event whose label stays keeps its parent
-stays_parent : (s : Scope) (start old label : Labels) (before parent : Parents) → FellOn s start old label before parent → (v : ℕ) → v < s.net.events → label v ≡ old v → parent v ≡ before v
+stays_parent : (s : Scope) (start old label : GraphLabels) (before parent : Parents) → FellOn s start old label before parent → (v : ℕ) → v < s.net.events → label v ≡ old v → parent v ≡ before v
 stays_parent s start old label before parent f v below same =
     elim (f.each v below) [ inl both ↦ both.1 | inr lower ↦ absurd (not_itself (old v) (label v) lower same) ]
 
@@ -39,7 +39,7 @@ lower_some None near lower = absurd (cc lower)
 lower_some (Some z) near lower = (z, refl, lower_number z near lower)
 
 -- an event whose label stays has a parent whose label stays
-stays_up : (s : Scope) (start old label : Labels) (before parent : Parents) → FellOn s start old label before parent → (v : ℕ) (name : EdgeName) → label v ≡ old v → (h : IsHeld s old v name) → label h.e.from.0 ≡ old h.e.from.0
+stays_up : (s : Scope) (start old label : GraphLabels) (before parent : Parents) → FellOn s start old label before parent → (v : ℕ) (name : EdgeName) → label v ≡ old v → (h : IsHeld s old v name) → label h.e.from.0 ≡ old h.e.from.0
 stays_up s start old label before parent f v name same h =
     elim (f.each h.e.from.0 h.within.from) [
       | inl both ↦ both.0
@@ -55,7 +55,7 @@ stays_up s start old label before parent f v name same h =
     ]
 
 -- so its climb is the old one
-stays_climb : (s : Scope) (start old label : Labels) (before parent : Parents) → FellOn s start old label before parent → (v r : ℕ) (es : List EdgeName) → v < s.net.events → IsClimb s.net before v es r → label v ≡ old v
+stays_climb : (s : Scope) (start old label : GraphLabels) (before parent : Parents) → FellOn s start old label before parent → (v r : ℕ) (es : List EdgeName) → v < s.net.events → IsClimb s.net before v es r → label v ≡ old v
     → IsClimb s.net parent v es r × (label r ≡ old r)
 stays_climb s start old label before parent f v r [] below climb same =
     (climb, let P : ℕ → Type 0 = λ x. label x ≡ old x in subst P climb same)
@@ -64,7 +64,7 @@ stays_climb s start old label before parent f v r (name ∷ es) below climb same
     let rest = stays_climb s start old label before parent f h.e.from.0 r es h.within.from (rest_of s.net before v r name h.e es climb h.among.is) (stays_up s start old label before parent f v name same h) in
     ((stays_parent s start old label before parent f v below same ∙ climb.0, (h.e, h.among.is, rest.0)), rest.1)
 
-stays_rooted : (s : Scope) (start old label : Labels) (before parent : Parents) → FellOn s start old label before parent → (v : ℕ) → v < s.net.events → label v ≡ old v → IsRooted s.net parent v
+stays_rooted : (s : Scope) (start old label : GraphLabels) (before parent : Parents) → FellOn s start old label before parent → (v : ℕ) → v < s.net.events → label v ≡ old v → IsRooted s.net parent v
 stays_rooted s start old label before parent f v below same =
     let up = f.was.rooted v below in
     let kept = stays_climb s start old label before parent f v up.root up.way below up.climb same in
@@ -84,7 +84,7 @@ join_rooted s parent v r es climb rooted = record {
   top = rooted.top;
 }
 
-all_rooted : (s : Scope) (start old label : Labels) (before parent : Parents) → FellOn s start old label before parent → (v : ℕ) → v < s.net.events → IsRooted s.net parent v
+all_rooted : (s : Scope) (start old label : GraphLabels) (before parent : Parents) → FellOn s start old label before parent → (v : ℕ) → v < s.net.events → IsRooted s.net parent v
 all_rooted s start old label before parent f v below =
     let up = f.fell.rooted v below in
     let within : up.root < s.net.events = climb_within s.net (fresh old label parent) s.net.events v up.root up.way (starts_below s label (fresh old label parent) f.fell.held) below up.climb in
@@ -96,7 +96,7 @@ all_rooted s start old label before parent f v below =
     ])
 
 -- an old parent holds still
-held_on : (s : Scope) (start old label : Labels) (before parent : Parents) → FellOn s start old label before parent → (v : ℕ) (name : EdgeName) → label v ≡ old v → IsHeld s old v name → IsHeld s label v name
+held_on : (s : Scope) (start old label : GraphLabels) (before parent : Parents) → FellOn s start old label before parent → (v : ℕ) (name : EdgeName) → label v ≡ old v → IsHeld s old v name → IsHeld s label v name
 held_on s start old label before parent f v name same h = record {
   e = h.e;
   among = h.among;
@@ -110,7 +110,7 @@ held_on s start old label before parent f v name same h = record {
 }
 
 -- the labels and all their parents are a forest from the same start
-pub forest_on : (s : Scope) (start old label : Labels) (before parent : Parents) → FellOn s start old label before parent → IsForest s start label parent
+pub forest_on : (s : Scope) (start old label : GraphLabels) (before parent : Parents) → FellOn s start old label before parent → IsForest s start label parent
 forest_on s start old label before parent f = record {
   rooted = all_rooted s start old label before parent f;
   held = λ v name below at. elim (f.each v below) [
@@ -126,7 +126,7 @@ forest_on s start old label before parent f = record {
 -- ---- the loop
 
 -- the edge that would lower the label at the stop hangs from the stop
-pub closing_climb : (s : Scope) (x : EventId) (old label : Labels) (parent : Parents) (name : EdgeName) (e : Edge) → IsForest s old label parent → StopIsTop (Some x) parent → IsPotential s (Some x) (λ v. number (old v))
+pub closing_climb : (s : Scope) (x : EventId) (old label : GraphLabels) (parent : Parents) (name : EdgeName) (e : Edge) → IsForest s old label parent → StopIsTop (Some x) parent → IsPotential s (Some x) (λ v. number (old v))
     → ((z : ℤ) × (old x.0 ≡ Some z)) → label x.0 ≡ old x.0 → IsAmong s name e → e.from.0 < s.net.events → Undercuts label e → e.to ≡ x → (es : List EdgeName) × IsClimb s.net parent e.from.0 es x.0 × (parent x.0 ≡ None)
 closing_climb s x old label parent name e forest top meets labelled stopped among within under ends =
     let up = forest.rooted e.from.0 within in
@@ -158,7 +158,7 @@ pub record IsClosing (s : Scope) (name : EdgeName) (e : Edge) (es : List EdgeNam
   pub negative : path_sum s.net (reverse es ++ name ∷ []) <ℤ pos 0
   pub short : length (reverse es ++ name ∷ []) ≤ s.net.events
 
-pub closing_walk : (s : Scope) (old label : Labels) (parent : Parents) (name : EdgeName) (e : Edge) (es : List EdgeName) → IsForest s old label parent → IsAmong s name e → e.from.0 < s.net.events → Undercuts label e → ((z : ℤ) × (label e.to.0 ≡ Some z))
+pub closing_walk : (s : Scope) (old label : GraphLabels) (parent : Parents) (name : EdgeName) (e : Edge) (es : List EdgeName) → IsForest s old label parent → IsAmong s name e → e.from.0 < s.net.events → Undercuts label e → ((z : ℤ) × (label e.to.0 ≡ Some z))
     → IsClimb s.net parent e.from.0 es e.to.0 → IsClosing s name e es
 closing_walk s old label parent name e es forest among within under labelled climb =
     let walked = climb_walk s label parent forest.held e.from.0 e.to.0 es within climb in

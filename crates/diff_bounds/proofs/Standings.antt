@@ -23,7 +23,7 @@ use Rattle.diff_bounds.specs.Arcs.{AreAlwaysArcs, AreChosenArcs, IsArc}
 use Rattle.diff_bounds.specs.Current.{HasNoTimes, IsCurrent, IsLoop, IsPath, IsUpper, MeetsCurrent}
 use Rattle.diff_bounds.specs.Labels.{labels_from, number, parents_from}
 use Rattle.event_graph.specs.Limits.{IsReach, weight_limit}
-use Rattle.diff_bounds.specs.Settled.{AddsOne, AreSettled, IsFeasible, IsRoot, IsSettled, bottom, whole}
+use Rattle.diff_bounds.specs.Settled.{AddsOne, AreSettled, IsFeasible, IsRootGraph, IsSettled, bottom, whole}
 use Rattle.diff_bounds.specs.Standing.{AreTimesOf, IsMadeFor, IsRayOf, Standing, Stands, chosen_of, feasible_of, lifted, upper_of}
 use Rattle.diff_bounds.specs.Step.Timing.{AreInReach, IsInReach}
 use Rattle.diff_bounds.specs.Step.Walking.{HasLoop, IsOneClimb}
@@ -52,7 +52,7 @@ edges_few net source g (h ∷ graphs) settled =
     omega arith
 
 -- the first graph has settled
-pub root_settled : (net : Net) (source : Option EventId) (g : Graph) (graphs : List Graph) → AreSettled net source g graphs → IsRoot net (bottom g graphs)
+pub root_settled : (net : Net) (source : Option EventId) (g : Graph) (graphs : List Graph) → AreSettled net source g graphs → IsRootGraph net (bottom g graphs)
 root_settled net source g [] settled = record {
   edges = settled.1;
   feasible = let P : List EdgeName → Type 0 = λ names. IsFeasible (whole net names) g.stamps in subst P settled.1 settled.0.feasible;

@@ -15,10 +15,10 @@ use Rattle.trail.specs.Stack.{Stack, empty_stamp}
 use Rattle.diff_bounds.specs.declared.arc.Arc.{Arc}
 use Rattle.diff_bounds.specs.Arcs.{AreAlwaysArcs, AreChosenArcs, IsArc}
 use Rattle.diff_bounds.specs.Current.{IsCurrent}
-use Rattle.diff_bounds.specs.Labels.{Follows, IsAmong, IsForest, Labels, Parents, Scope, labels_from, parents_from, stamp_at}
-use Rattle.diff_bounds.specs.Settled.{AreNear, HaveLabels, IsFeasible, IsSettled, at_source, whole, zeros}
+use Rattle.diff_bounds.specs.Labels.{Follows, IsAmong, IsForest, GraphLabels, Parents, Scope, labels_from, parents_from, stamp_at}
+use Rattle.diff_bounds.specs.Settled.{AreLabelsNear, HaveLabels, IsFeasible, IsSettled, at_source, whole, zeros}
 use Rattle.diff_bounds.specs.Step.Falling.{with_stamps}
-use Rattle.diff_bounds.specs.Step.Poised.{AreLow, AreRestFollowed, HasBegun, HasCleared, IsPoised, IsReady, feasible_run, scope_by, scope_from, upper_run, zero_stamp}
+use Rattle.diff_bounds.specs.Step.Poised.{AreLow, AreRestFollowed, HasBegun, HasCleared, IsPoised, IsRunReady, feasible_run, scope_by, scope_from, upper_run, zero_stamp}
 use Rattle.diff_bounds.specs.Step.Waiting.{Waiting}
 use Rattle.diff_bounds.proofs.Networks.{edge_within}
 use Rattle.diff_bounds.proofs.Poising.{feasible_stay}
@@ -36,7 +36,7 @@ among_wider net a b first first' more less name e among =
     wider (inr chosen) = inr (more name chosen)
 
 -- a forest stays one where more edges count
-forest_wider : (net : Net) (a b : List EdgeName) (first first' : ℕ) (start label : Labels) (parent : Parents) → ((name : EdgeName) → Contains a name → Contains b name) → first' ≤ first
+forest_wider : (net : Net) (a b : List EdgeName) (first first' : ℕ) (start label : GraphLabels) (parent : Parents) → ((name : EdgeName) → Contains a name → Contains b name) → first' ≤ first
     → IsForest (scope_by net a first) start label parent → IsForest (scope_by net b first') start label parent
 forest_wider net a b first first' start label parent more less forest = record {
   rooted = forest.rooted;
@@ -57,7 +57,7 @@ forest_wider net a b first first' start label parent more less forest = record {
 }
 
 -- labels that have settled are poised for edges that start at one event
-pub poised_wider : (net : Net) (a b : List EdgeName) (first first' : ℕ) (from : EventId) (start : Labels) (stamps : List Stamp) (base : ℕ) → ((name : EdgeName) → Contains a name → Contains b name) → first' ≤ first
+pub poised_wider : (net : Net) (a b : List EdgeName) (first first' : ℕ) (from : EventId) (start : GraphLabels) (stamps : List Stamp) (base : ℕ) → ((name : EdgeName) → Contains a name → Contains b name) → first' ≤ first
     → ((name : EdgeName) (e : Edge) → IsAmong (scope_by net b first') name e → (e.from.0 ≡ from.0) ⊎ IsAmong (scope_by net a first) name e)
     → HaveLabels (scope_by net a first) start stamps base → IsPoised (scope_by net b first') from start stamps base
 poised_wider net a b first first' from start stamps base more less others labels = record {
@@ -81,8 +81,8 @@ next_others net chosen first first' is name e among =
 pub no_arcs : (net : Net) (arcs : List Arc) → arcs ≡ [] → AreChosenArcs net [] arcs
 no_arcs net arcs none = subst (AreChosenArcs net []) (sym none) (record { each = All-nil (IsArc net); names = refl })
 
-pub ready_next : (net : Net) (out : List (List Arc)) (arcs : List Arc) (first first' : ℕ) (st : Stack) (w : Waiting) → IsNet net → AreAlwaysArcs net out → arcs ≡ [] → st.current.edges ≡ [] → first ≡ first' + 1 → first ≤ net.events → AreNear st.current.stamps
-    → IsFeasible (scope_from net st first) st.current.stamps → length w.marks ≡ net.events → IsReady net out arcs (feasible_run net (record { 0 = first' }) first') (record { 0 = first' }) zeros st w
+pub ready_next : (net : Net) (out : List (List Arc)) (arcs : List Arc) (first first' : ℕ) (st : Stack) (w : Waiting) → IsNet net → AreAlwaysArcs net out → arcs ≡ [] → st.current.edges ≡ [] → first ≡ first' + 1 → first ≤ net.events → AreLabelsNear st.current.stamps
+    → IsFeasible (scope_from net st first) st.current.stamps → length w.marks ≡ net.events → IsRunReady net out arcs (feasible_run net (record { 0 = first' }) first') (record { 0 = first' }) zeros st w
 ready_next net out arcs first first' st w is_net always none edges is most near feasible marks = record {
   is_net = is_net;
   out_edges = always;
@@ -97,7 +97,7 @@ ready_next net out arcs first first' st w is_net always none edges is most near 
 
 -- ---- labels that are not above 0
 
-near_low : (stamps : List Stamp) → ((slot : ℕ) (label : ℤ) → (stamp_at stamps slot).label ≡ Some label → label ≤ℤ pos 0) → AreNear stamps
+near_low : (stamps : List Stamp) → ((slot : ℕ) (label : ℤ) → (stamp_at stamps slot).label ≡ Some label → label ≤ℤ pos 0) → AreLabelsNear stamps
 near_low stamps low slot label at = let here : label ≤ℤ pos 0 = low slot label at in omega (arith, ints)
 
 no_label : (stamps : List Stamp) (slot : ℕ) (label : ℤ) → stamp_at stamps slot ≡ empty_stamp → (stamp_at stamps slot).label ≡ Some label → ⊥
@@ -121,7 +121,7 @@ pub begun_low : (n : ℕ) (stamps : List Stamp) → HasBegun n stamps → AreLow
 begun_low n stamps begun v label below at =
     let zero : pos 0 ≡ label = same_Some (pos 0) label (sym (ap (λ (x : Stamp). x.label) (begun.feasible v below)) ∙ at) in omega (arith, ints)
 
-pub begun_near : (n : ℕ) (stamps : List Stamp) → HasBegun n stamps → AreNear stamps
+pub begun_near : (n : ℕ) (stamps : List Stamp) → HasBegun n stamps → AreLabelsNear stamps
 begun_near n stamps begun = near_low stamps (halves_low n stamps begun.slots begun.uppers (begun_low n stamps begun))
 
 -- no edge counts yet
@@ -133,7 +133,7 @@ none_among net chosen name e is_net among =
     omega arith
 
 -- labels without parents that are those at the start are a forest
-pub bare_forest : (s : Scope) (start label : Labels) (parent : Parents) → ((v : ℕ) → v < s.net.events → parent v ≡ None) → ((v : ℕ) → v < s.net.events → label v ≡ start v) → IsForest s start label parent
+pub bare_forest : (s : Scope) (start label : GraphLabels) (parent : Parents) → ((v : ℕ) → v < s.net.events → parent v ≡ None) → ((v : ℕ) → v < s.net.events → label v ≡ start v) → IsForest s start label parent
 bare_forest s start label parent bare same = record {
   rooted = λ v below. record { root = v; way = []; climb = refl; top = bare v below };
   held = λ v name below at. absurd (none-some name (sym (bare v below) ∙ at));
@@ -180,7 +180,7 @@ seeded_feasible net chosen old source is_net within feasible =
     feasible_stay (whole net chosen) old (set old source.0 zero_stamp) is_net (length-set old source.0 zero_stamp)
     (λ v below. stamp_other old source.0 (net.events + v) zero_stamp (λ same. absurd (omega arith))) feasible
 
-seeded_near : (net : Net) (chosen : List EdgeName) (old mid : List Stamp) (source : EventId) → source.0 < net.events → HasCleared net.events old mid → IsFeasible (whole net chosen) mid → AreNear (set mid source.0 zero_stamp)
+seeded_near : (net : Net) (chosen : List EdgeName) (old mid : List Stamp) (source : EventId) → source.0 < net.events → HasCleared net.events old mid → IsFeasible (whole net chosen) mid → AreLabelsNear (set mid source.0 zero_stamp)
 seeded_near net chosen old mid source within cleared feasible =
     near_low (set mid source.0 zero_stamp)
     (λ slot label at. elim (cases_eq slot source.0) [
@@ -204,9 +204,9 @@ seeded_at net old mid source within cleared v below =
     ]
 
 pub seeded_ready : (net : Net) (out : List (List Arc)) (arcs : List Arc) (old : List Stamp) (mid st : Stack) (source : EventId) (w : Waiting) → IsNet net → AreAlwaysArcs net out → arcs ≡ [] → mid.current.edges ≡ [] → source.0 < net.events → HasCleared net.events old mid.current.stamps
-    → IsFeasible (whole net mid.current.edges) mid.current.stamps → st ≡ with_stamps mid (set mid.current.stamps source.0 zero_stamp) → length w.marks ≡ net.events → IsReady net out arcs upper_run source (at_source source) st w
+    → IsFeasible (whole net mid.current.edges) mid.current.stamps → st ≡ with_stamps mid (set mid.current.stamps source.0 zero_stamp) → length w.marks ≡ net.events → IsRunReady net out arcs upper_run source (at_source source) st w
 seeded_ready net out arcs old mid st source w is_net always none edges within cleared feasible is marks =
-    let P : Stack → Type 0 = λ x. IsReady net out arcs upper_run source (at_source source) x w in
+    let P : Stack → Type 0 = λ x. IsRunReady net out arcs upper_run source (at_source source) x w in
     let new : List Stamp = set mid.current.stamps source.0 zero_stamp in
     let s : Scope = whole net mid.current.edges in
     let slots = feasible.slots in
@@ -251,12 +251,12 @@ choice_others net chosen choice e is name f among =
     elim (choice_or_older net chosen choice e is name f among) [ inl same ↦ inl (ap (λ (x : Edge). x.from.0) same) | inr older ↦ inr older ]
 
 -- all edges but the choice are followed
-pub choice_rest : (net : Net) (chosen : List EdgeName) (choice : EdgeName) (e : Edge) (start : Labels) (stamps : List Stamp) (base : ℕ) → edge net choice ≡ Some e → HaveLabels (whole net chosen) start stamps base
+pub choice_rest : (net : Net) (chosen : List EdgeName) (choice : EdgeName) (e : Edge) (start : GraphLabels) (stamps : List Stamp) (base : ℕ) → edge net choice ≡ Some e → HaveLabels (whole net chosen) start stamps base
     → AreRestFollowed (whole net (chosen ++ choice ∷ [])) e (labels_from stamps base)
 choice_rest net chosen choice e start stamps base is labels name f among =
     elim (choice_or_older net chosen choice e is name f among) [ inl same ↦ inl same | inr older ↦ inr (labels.settled name f older) ]
 
-pub choice_poised : (net : Net) (chosen : List EdgeName) (choice : EdgeName) (e : Edge) (start : Labels) (stamps : List Stamp) (base : ℕ) → edge net choice ≡ Some e → HaveLabels (whole net chosen) start stamps base
+pub choice_poised : (net : Net) (chosen : List EdgeName) (choice : EdgeName) (e : Edge) (start : GraphLabels) (stamps : List Stamp) (base : ℕ) → edge net choice ≡ Some e → HaveLabels (whole net chosen) start stamps base
     → IsPoised (whole net (chosen ++ choice ∷ [])) e.from start stamps base
 choice_poised net chosen choice e start stamps base is labels =
     poised_wider net chosen (chosen ++ choice ∷ []) 0 0 e.from start stamps base (λ name among. Contains-append_left chosen (choice ∷ []) name among) (omega arith) (choice_others net chosen choice e is) labels

@@ -15,7 +15,7 @@ use Rattle.event_graph.specs.Network.{IsNet, Net}
 use Rattle.event_graph.specs.Proof.{IsWalk, path_sum}
 use Rattle.event_graph.specs.Times.{separation, time_of}
 use Rattle.diff_bounds.specs.Current.{IsCurrent, IsPath, IsUpper, MeetsCurrent}
-use Rattle.diff_bounds.specs.Labels.{HaveSettled, IsAmong, IsClimb, IsForest, Labels, Parents, Scope, number}
+use Rattle.diff_bounds.specs.Labels.{HaveSettled, IsAmong, IsClimb, IsForest, GraphLabels, Parents, Scope, number}
 use Rattle.event_graph.specs.Limits.{IsReach, weight_limit}
 use Rattle.diff_bounds.specs.Settled.{at_source, whole}
 use Rattle.diff_bounds.specs.Standing.{lifted}
@@ -72,11 +72,11 @@ times_meet net chosen g times is_net meets are = record {
 -- ---- lifted times
 
 -- the time of each event: its label from the source, or its feasible time, later by a number
-abbrev pub lifted_by : Labels → Labels → ℤ → ℕ → ℤ
+abbrev pub lifted_by : GraphLabels → GraphLabels → ℤ → ℕ → ℤ
 lifted_by upper feasible by v = lifted (upper v) (number (feasible v) +ℤ by)
 
 -- no label is above the feasible time of its event, later by a number
-abbrev pub IsAboveAll : ℕ → Labels → Labels → ℤ → Type 0
+abbrev pub IsAboveAll : ℕ → GraphLabels → GraphLabels → ℤ → Type 0
 IsAboveAll events upper feasible by = (v : ℕ) (label : ℤ) → v < events → upper v ≡ Some label → label ≤ℤ (number (feasible v) +ℤ by)
 
 pub lifted-some : (o : Option ℤ) (time z : ℤ) → o ≡ Some z → lifted o time ≡ z
@@ -93,21 +93,21 @@ one_lifted (Some near) to f g w by follows meets above =
     omega (arith, ints)
 
 -- a settled graph with its labels from a source
-pub record IsBounding (net : Net) (chosen : List EdgeName) (source : EventId) (upper feasible : Labels) (parent : Parents) : Type 0 where
+pub record IsBounding (net : Net) (chosen : List EdgeName) (source : EventId) (upper feasible : GraphLabels) (parent : Parents) : Type 0 where
   pub is_net : IsNet net
   pub meets : IsPotential (whole net chosen) None (λ v. number (feasible v))
   pub forest : IsForest (whole net chosen) (at_source source) upper parent
   pub settled : HaveSettled (whole net chosen) upper
   pub origin : source.0 < net.events
 
-pub lifted_potential : (net : Net) (chosen : List EdgeName) (source : EventId) (upper feasible : Labels) (parent : Parents) (by : ℤ) → IsBounding net chosen source upper feasible parent → IsAboveAll net.events upper feasible by
+pub lifted_potential : (net : Net) (chosen : List EdgeName) (source : EventId) (upper feasible : GraphLabels) (parent : Parents) (by : ℤ) → IsBounding net chosen source upper feasible parent → IsAboveAll net.events upper feasible by
     → IsPotential (whole net chosen) None (lifted_by upper feasible by)
 lifted_potential net chosen source upper feasible parent by b above name e among off =
     let within = edge_within net name e b.is_net among.is in
     one_lifted (upper e.from.0) (upper e.to.0) (number (feasible e.from.0)) (number (feasible e.to.0)) e.weight by
     (λ near at. let there = b.settled name e among near at in (there.far, there.here, there.within)) (b.meets name e among off) (λ z at. above e.to.0 z within.to at)
 
-pub lifted_meet : (net : Net) (chosen : List EdgeName) (source : EventId) (upper feasible : Labels) (parent : Parents) (by : ℤ) (times : List ℤ) → IsBounding net chosen source upper feasible parent → IsAboveAll net.events upper feasible by
+pub lifted_meet : (net : Net) (chosen : List EdgeName) (source : EventId) (upper feasible : GraphLabels) (parent : Parents) (by : ℤ) (times : List ℤ) → IsBounding net chosen source upper feasible parent → IsAboveAll net.events upper feasible by
     → AreTimes net.events (lifted_by upper feasible by) times → MeetsCurrent net chosen times
 lifted_meet net chosen source upper feasible parent by times b above are =
     times_meet net chosen (lifted_by upper feasible by) times b.is_net (lifted_potential net chosen source upper feasible parent by b above) are
@@ -125,7 +125,7 @@ source_zero_at : (source : EventId) → at_source source source.0 ≡ Some (pos 
 source_zero_at source = cond-true (nat_eq source.0 source.0) (Some (pos 0)) None (eq-eqb source.0 source.0 refl)
 
 -- climbing from an event with a label leads to the source
-pub climb_to_source : (s : Scope) (source : EventId) (label : Labels) (parent : Parents) (v : ℕ) (z : ℤ) → IsForest s (at_source source) label parent → v < s.net.events → label v ≡ Some z
+pub climb_to_source : (s : Scope) (source : EventId) (label : GraphLabels) (parent : Parents) (v : ℕ) (z : ℤ) → IsForest s (at_source source) label parent → v < s.net.events → label v ≡ Some z
     → (es : List EdgeName) × IsClimb s.net parent v es source.0 × (parent source.0 ≡ None)
 climb_to_source s source label parent v z forest below at =
     let up = forest.rooted v below in
@@ -136,7 +136,7 @@ climb_to_source s source label parent v z forest below at =
     (up.way, subst P same up.climb, ap parent (sym same) ∙ up.top)
 
 -- the path to an event with a label
-pub record HasPath (s : Scope) (source : EventId) (label : Labels) (parent : Parents) (v : ℕ) (z : ℤ) : Type 0 where
+pub record HasPath (s : Scope) (source : EventId) (label : GraphLabels) (parent : Parents) (v : ℕ) (z : ℤ) : Type 0 where
   pub way : List EdgeName
   pub climb : IsClimb s.net parent v way source.0
   pub top : parent source.0 ≡ None
@@ -145,7 +145,7 @@ pub record HasPath (s : Scope) (source : EventId) (label : Labels) (parent : Par
   pub most : (number (label source.0) +ℤ path_sum s.net (reverse way)) ≤ℤ z
   pub short : length (reverse way) < s.net.events
 
-pub has_path : (s : Scope) (source : EventId) (label : Labels) (parent : Parents) (v : ℕ) (z : ℤ) → IsForest s (at_source source) label parent → v < s.net.events → label v ≡ Some z → HasPath s source label parent v z
+pub has_path : (s : Scope) (source : EventId) (label : GraphLabels) (parent : Parents) (v : ℕ) (z : ℤ) → IsForest s (at_source source) label parent → v < s.net.events → label v ≡ Some z → HasPath s source label parent v z
 has_path s source label parent v z forest below at =
     let climb = climb_to_source s source label parent v z forest below at in
     let walk = climb_walk s label parent forest.held v source.0 climb.0 below climb.1 in
@@ -164,7 +164,7 @@ has_path s source label parent v z forest below at =
     }
 
 -- the source is at 0, where it has a parent at all
-pub source_zero : (s : Scope) (source : EventId) (label : Labels) (parent : Parents) → IsForest s (at_source source) label parent → source.0 < s.net.events → label source.0 ≡ Some (pos 0)
+pub source_zero : (s : Scope) (source : EventId) (label : GraphLabels) (parent : Parents) → IsForest s (at_source source) label parent → source.0 < s.net.events → label source.0 ≡ Some (pos 0)
 source_zero s source label parent forest origin =
     let up = forest.rooted source.0 origin in
     let root : up.root < s.net.events = climb_within s.net parent s.net.events source.0 up.root up.way (starts_below s label parent forest.held) origin up.climb in
@@ -183,7 +183,7 @@ meets_named : (net : Net) (chosen : List EdgeName) (times : List ℤ) → MeetsC
 meets_named net chosen times met names current = All-weaker (IsCurrent net chosen) (MeetsNamed net times) (λ name is_current e is. met.each name e is_current is) names current
 
 -- no times that meet the current edges separate an event from the source by more than its label
-pub separation_most : (net : Net) (chosen : List EdgeName) (source : EventId) (upper feasible : Labels) (parent : Parents) (v : ℕ) (z : ℤ) (times : List ℤ) → IsBounding net chosen source upper feasible parent → v < net.events → upper v ≡ Some z
+pub separation_most : (net : Net) (chosen : List EdgeName) (source : EventId) (upper feasible : GraphLabels) (parent : Parents) (v : ℕ) (z : ℤ) (times : List ℤ) → IsBounding net chosen source upper feasible parent → v < net.events → upper v ≡ Some z
     → MeetsCurrent net chosen times → separation times source (event v) ≤ℤ z
 separation_most net chosen source upper feasible parent v z times b below at met =
     let path = has_path (whole net chosen) source upper parent v z b.forest below at in
@@ -194,7 +194,7 @@ separation_most net chosen source upper feasible parent v z times b below at met
     omega (arith, ints)
 
 -- the lifted times attain each label
-pub lifted_attain : (net : Net) (chosen : List EdgeName) (source : EventId) (upper feasible : Labels) (parent : Parents) (by : ℤ) (times : List ℤ) → IsBounding net chosen source upper feasible parent
+pub lifted_attain : (net : Net) (chosen : List EdgeName) (source : EventId) (upper feasible : GraphLabels) (parent : Parents) (by : ℤ) (times : List ℤ) → IsBounding net chosen source upper feasible parent
     → AreTimes net.events (lifted_by upper feasible by) times → (v : ℕ) (z : ℤ) → v < net.events → upper v ≡ Some z → separation times source (event v) ≡ z
 lifted_attain net chosen source upper feasible parent by times b are v z below at =
     let from : time_of times source ≡ pos 0 =
@@ -202,7 +202,7 @@ lifted_attain net chosen source upper feasible parent by times b are v z below a
     let to : time_of times (event v) ≡ z = are.each v below ∙ lifted-some (upper v) (number (feasible v) +ℤ by) z at in
     omega (arith, ints)
 
-pub lifted_origin : (net : Net) (chosen : List EdgeName) (source : EventId) (upper feasible : Labels) (parent : Parents) (by : ℤ) (times : List ℤ) → IsBounding net chosen source upper feasible parent
+pub lifted_origin : (net : Net) (chosen : List EdgeName) (source : EventId) (upper feasible : GraphLabels) (parent : Parents) (by : ℤ) (times : List ℤ) → IsBounding net chosen source upper feasible parent
     → AreTimes net.events (lifted_by upper feasible by) times → time_of times source ≡ pos 0
 lifted_origin net chosen source upper feasible parent by times b are =
     are.each source.0 b.origin ∙ lifted-some (upper source.0) (number (feasible source.0) +ℤ by) (pos 0) (source_zero (whole net chosen) source upper parent b.forest b.origin)
@@ -214,11 +214,11 @@ at_most_abs (pos n) = omega (arith, ints)
 at_most_abs (negsuc n) = omega (arith, ints)
 
 -- how far the labels of the events below a number are above their feasible times
-pub lift_below : Labels → Labels → ℕ → ℕ
+pub lift_below : GraphLabels → GraphLabels → ℕ → ℕ
 lift_below upper feasible zero = 0
 lift_below upper feasible (suc v) = unsigned_abs (number (upper v) -ℤ number (feasible v)) + lift_below upper feasible v
 
-lift_enough : (upper feasible : Labels) (count v : ℕ) (label : ℤ) → v < count → upper v ≡ Some label → label ≤ℤ (number (feasible v) +ℤ pos (lift_below upper feasible count))
+lift_enough : (upper feasible : GraphLabels) (count v : ℕ) (label : ℤ) → v < count → upper v ≡ Some label → label ≤ℤ (number (feasible v) +ℤ pos (lift_below upper feasible count))
 unfolding lift_below
 lift_enough upper feasible zero v label below at = absurd (omega arith)
 lift_enough upper feasible (suc count) v label below at =
@@ -234,7 +234,7 @@ lift_enough upper feasible (suc count) v label below at =
     ]
 
 -- so is any greater number
-pub above_all : (n : ℕ) (upper feasible : Labels) (by : ℤ) → pos (lift_below upper feasible n) ≤ℤ by → IsAboveAll n upper feasible by
+pub above_all : (n : ℕ) (upper feasible : GraphLabels) (by : ℤ) → pos (lift_below upper feasible n) ≤ℤ by → IsAboveAll n upper feasible by
 above_all n upper feasible by most v label below at =
     let enough : label ≤ℤ (number (feasible v) +ℤ pos (lift_below upper feasible n)) = lift_enough upper feasible n v label below at in
     omega (arith, ints)
@@ -243,7 +243,7 @@ lifted-none : (o : Option ℤ) (time : ℤ) → o ≡ None → lifted o time ≡
 lifted-none o time is = ap (λ (x : Option ℤ). lifted x time) is
 
 -- where there is no label the separation is unbounded
-unbounded : (net : Net) (chosen : List EdgeName) (source : EventId) (upper feasible : Labels) (parent : Parents) → IsBounding net chosen source upper feasible parent → (v : ℕ) → v < net.events → upper v ≡ None
+unbounded : (net : Net) (chosen : List EdgeName) (source : EventId) (upper feasible : GraphLabels) (parent : Parents) → IsBounding net chosen source upper feasible parent → (v : ℕ) → v < net.events → upper v ≡ None
     → IsUnboundedAmong (MeetsCurrent net chosen) source (event v)
 unbounded net chosen source upper feasible parent b v below none value =
     let by : ℕ = lift_below upper feasible net.events + unsigned_abs (value -ℤ number (feasible v)) + 1 in
@@ -254,7 +254,7 @@ unbounded net chosen source upper feasible parent b v below none value =
     let abs : (value -ℤ number (feasible v)) ≤ℤ pos (unsigned_abs (value -ℤ number (feasible v))) = at_most_abs _ in
     (times, lifted_meet net chosen source upper feasible parent (pos by) times b (above_all net.events upper feasible (pos by) (omega (arith, ints))) are, omega (arith, ints))
 
-greatest : (net : Net) (chosen : List EdgeName) (source : EventId) (upper feasible : Labels) (parent : Parents) → IsBounding net chosen source upper feasible parent → (v : ℕ) (z : ℤ) → v < net.events → upper v ≡ Some z
+greatest : (net : Net) (chosen : List EdgeName) (source : EventId) (upper feasible : GraphLabels) (parent : Parents) → IsBounding net chosen source upper feasible parent → (v : ℕ) (z : ℤ) → v < net.events → upper v ≡ Some z
     → IsGreatestAmong (MeetsCurrent net chosen) source (event v) z
 greatest net chosen source upper feasible parent b v z below at =
     let by : ℤ = pos (lift_below upper feasible net.events) in
@@ -270,13 +270,13 @@ greatest net chosen source upper feasible parent b v z below at =
     }
 
 -- a label is the greatest separation, and where there is none it is unbounded
-pub is_upper : (net : Net) (chosen : List EdgeName) (source : EventId) (upper feasible : Labels) (parent : Parents) → IsBounding net chosen source upper feasible parent → (v : ℕ) (label : Option ℤ) → v < net.events → upper v ≡ label
+pub is_upper : (net : Net) (chosen : List EdgeName) (source : EventId) (upper feasible : GraphLabels) (parent : Parents) → IsBounding net chosen source upper feasible parent → (v : ℕ) (label : Option ℤ) → v < net.events → upper v ≡ label
     → IsUpper net chosen source (event v) label
 is_upper net chosen source upper feasible parent b v None below at = unbounded net chosen source upper feasible parent b v below at
 is_upper net chosen source upper feasible parent b v (Some z) below at = greatest net chosen source upper feasible parent b v z below at
 
 -- the sum of the path is the label
-pub path_is : (net : Net) (chosen : List EdgeName) (source : EventId) (upper feasible : Labels) (parent : Parents) → IsBounding net chosen source upper feasible parent → (v : ℕ) (z : ℤ) → v < net.events → upper v ≡ Some z
+pub path_is : (net : Net) (chosen : List EdgeName) (source : EventId) (upper feasible : GraphLabels) (parent : Parents) → IsBounding net chosen source upper feasible parent → (v : ℕ) (z : ℤ) → v < net.events → upper v ≡ Some z
     → (path : HasPath (whole net chosen) source upper parent v z) → IsPath net chosen source (event v) z (reverse path.way)
 path_is net chosen source upper feasible parent b v z below at path =
     let by : ℤ = pos (lift_below upper feasible net.events) in
@@ -292,7 +292,7 @@ path_is net chosen source upper feasible parent b v z below at path =
     record { walk = path.walk; current = path.current; total = omega (arith, ints); count = omega arith }
 
 -- no label is beyond the reach of a path
-pub in_reach : (net : Net) (chosen : List EdgeName) (source : EventId) (upper feasible : Labels) (parent : Parents) → IsBounding net chosen source upper feasible parent → (v : ℕ) (z : ℤ) → v < net.events → upper v ≡ Some z → IsReach z
+pub in_reach : (net : Net) (chosen : List EdgeName) (source : EventId) (upper feasible : GraphLabels) (parent : Parents) → IsBounding net chosen source upper feasible parent → (v : ℕ) (z : ℤ) → v < net.events → upper v ≡ Some z → IsReach z
 in_reach net chosen source upper feasible parent b v z below at =
     let path = has_path (whole net chosen) source upper parent v z b.forest below at in
     let is = path_is net chosen source upper feasible parent b v z below at path in

@@ -6,12 +6,12 @@ use Rattle.event_graph.specs.Edges.{IsAlways, edge}
 use Rattle.event_graph.specs.EventLists.{at_event}
 use Rattle.event_graph.specs.Network.{Net}
 use Rattle.diff_bounds.specs.declared.arc.Arc.{Arc}
-use Rattle.diff_bounds.specs.Labels.{IsWithin}
+use Rattle.diff_bounds.specs.Labels.{IsEdgeWithin}
 
 -- the edge is that of its name, between events of the network
 pub record IsArc (net : Net) (a : Arc) : Type 0 where
   pub is : edge net a.name ≡ Some a.edge
-  pub within : IsWithin net.events a.edge
+  pub within : IsEdgeWithin net.events a.edge
 
 -- among some edges, there is one to the same event whose weight is no greater
 abbrev pub HasLight : List Arc → Edge → Type 0

@@ -10,8 +10,8 @@ use Rattle.diff_bounds.specs.Current.{IsCurrent}
 use Rattle.event_graph.specs.Limits.{weight_limit}
 
 -- the label of each event, or none where it was not reached
-abbrev pub Labels : Type 0
-Labels = ℕ → Option ℤ
+abbrev pub GraphLabels : Type 0
+GraphLabels = ℕ → Option ℤ
 
 -- the edge over which the label of each event came, or none where it came over none
 abbrev pub Parents : Type 0
@@ -21,7 +21,7 @@ abbrev pub stamp_at : List Stamp → ℕ → Stamp
 stamp_at stamps slot = slice_index_or stamps slot empty_stamp
 
 -- the labels in the slots from a base on
-abbrev pub labels_from : List Stamp → ℕ → Labels
+abbrev pub labels_from : List Stamp → ℕ → GraphLabels
 labels_from stamps base event = (stamp_at stamps (base + event)).label
 
 -- the parents in the slots from a base on
@@ -40,7 +40,7 @@ is_lower (Some label) None = true
 is_lower (Some label) (Some standing) = int_lt label standing
 
 -- both events of an edge are there, and its weight is within the limit
-pub record IsWithin (events : ℕ) (e : Edge) : Type 0 where
+pub record IsEdgeWithin (events : ℕ) (e : Edge) : Type 0 where
   pub from : e.from.0 < events
   pub to : e.to.0 < events
   pub low : neg_ℤ (pos weight_limit) ≤ℤ e.weight
@@ -71,10 +71,10 @@ pub record IsRooted (net : Net) (parent : Parents) (event : ℕ) : Type 0 where
   pub top : parent root ≡ None
 
 -- the label of an event came over an edge: it has not fallen since, but that at the start of the edge may have
-pub record IsHeld (s : Scope) (label : Labels) (event : ℕ) (name : EdgeName) : Type 0 where
+pub record IsHeld (s : Scope) (label : GraphLabels) (event : ℕ) (name : EdgeName) : Type 0 where
   pub e : Edge
   pub among : IsAmong s name e
-  pub within : IsWithin s.net.events e
+  pub within : IsEdgeWithin s.net.events e
   pub ends : e.to.0 ≡ event
   pub near : ℤ
   pub start : label e.from.0 ≡ Some near
@@ -84,23 +84,23 @@ pub record IsHeld (s : Scope) (label : Labels) (event : ℕ) (name : EdgeName) :
 
 -- how labels stand that fell from those at the start over the edges of a scope: each came over its parent, and without a parent it is
 -- the one at the start; no climb by parents is endless
-pub record IsForest (s : Scope) (start label : Labels) (parent : Parents) : Type 0 where
+pub record IsForest (s : Scope) (start label : GraphLabels) (parent : Parents) : Type 0 where
   pub rooted : (event : ℕ) → event < s.net.events → IsRooted s.net parent event
   pub held : (event : ℕ) (name : EdgeName) → event < s.net.events → parent event ≡ Some name → IsHeld s label event name
   pub roots : (event : ℕ) → event < s.net.events → parent event ≡ None → label event ≡ start event
 
 -- an edge leads to an event whose label is no more than the weight above a number
-pub record IsFollowed (label : Labels) (e : Edge) (near : ℤ) : Type 0 where
+pub record IsFollowed (label : GraphLabels) (e : Edge) (near : ℤ) : Type 0 where
   pub far : ℤ
   pub here : label e.to.0 ≡ Some far
   pub within : far ≤ℤ (near +ℤ e.weight)
 
 -- an edge from an event with a label is followed
-abbrev pub Follows : Labels → Edge → Type 0
+abbrev pub Follows : GraphLabels → Edge → Type 0
 Follows label e = (near : ℤ) → label e.from.0 ≡ Some near → IsFollowed label e near
 
 -- all edges of a scope are followed
-abbrev pub HaveSettled : Scope → Labels → Type 0
+abbrev pub HaveSettled : Scope → GraphLabels → Type 0
 HaveSettled s label = (name : EdgeName) (e : Edge) → IsAmong s name e → Follows label e
 
 -- a stamp is as it was, or has a first or a lower label

@@ -5,19 +5,19 @@ use Rattle.itv_base.specs.declared.names.EventId.{EventId}
 use Rattle.event_graph.specs.Network.{Net}
 use Rattle.trail.specs.declared.stamp.Stamp.{Stamp}
 use Rattle.trail.specs.Stack.{Graph}
-use Rattle.diff_bounds.specs.Labels.{HaveSettled, IsForest, Labels, Scope, labels_from, parents_from, stamp_at}
+use Rattle.diff_bounds.specs.Labels.{HaveSettled, IsForest, GraphLabels, Scope, labels_from, parents_from, stamp_at}
 use Rattle.event_graph.specs.Limits.{weight_limit}
 
 -- the start of the feasible times: 0 at every event
-abbrev pub zeros : Labels
+abbrev pub zeros : GraphLabels
 zeros event = Some (pos 0)
 
 -- the start of the labels from a source: 0 there, and none elsewhere
-abbrev pub at_source : EventId → Labels
+abbrev pub at_source : EventId → GraphLabels
 at_source source event = cond (event == source.0) (Some (pos 0)) None
 
 -- labels that fell from a start over the edges of a scope, and have settled
-pub record HaveLabels (s : Scope) (start : Labels) (stamps : List Stamp) (base : ℕ) : Type 0 where
+pub record HaveLabels (s : Scope) (start : GraphLabels) (stamps : List Stamp) (base : ℕ) : Type 0 where
   pub forest : IsForest s start (labels_from stamps base) (parents_from stamps base)
   pub settled : HaveSettled s (labels_from stamps base)
 
@@ -33,13 +33,13 @@ HaveUppers s None stamps = (event : ℕ) → event < s.net.events → labels_fro
 HaveUppers s (Some source) stamps = (source.0 < s.net.events) × HaveLabels s (at_source source) stamps 0
 
 -- no label is above the greatest weight for each label that there is
-abbrev pub AreNear : List Stamp → Type 0
-AreNear stamps = (slot : ℕ) (label : ℤ) → (stamp_at stamps slot).label ≡ Some label → label ≤ℤ pos (weight_limit * count_by (λ s. is_some s.label) stamps)
+abbrev pub AreLabelsNear : List Stamp → Type 0
+AreLabelsNear stamps = (slot : ℕ) (label : ℤ) → (stamp_at stamps slot).label ≡ Some label → label ≤ℤ pos (weight_limit * count_by (λ s. is_some s.label) stamps)
 
 -- all labels of a graph have settled
 pub record IsSettled (s : Scope) (source : Option EventId) (stamps : List Stamp) : Type 0 where
   pub feasible : IsFeasible s stamps
-  pub near : AreNear stamps
+  pub near : AreLabelsNear stamps
   pub uppers : HaveUppers s source stamps
 
 -- all edges of a graph count
@@ -61,6 +61,6 @@ bottom g [] = g
 bottom g (h ∷ graphs) = bottom h graphs
 
 -- a first graph has no chosen edges, and its feasible times have settled
-pub record IsRoot (net : Net) (g : Graph) : Type 0 where
+pub record IsRootGraph (net : Net) (g : Graph) : Type 0 where
   pub edges : g.edges ≡ []
   pub feasible : IsFeasible (whole net []) g.stamps

@@ -11,7 +11,7 @@ use Rattle.diff_bounds.specs.declared.bounds.Bounds.TheInside.{Inside}
 use Rattle.diff_bounds.specs.Arcs.{AreAlwaysArcs, AreChosenArcs}
 use Rattle.diff_bounds.specs.Current.{with_choice}
 use Rattle.diff_bounds.specs.Labels.{HasFallen, labels_from, number, stamp_at}
-use Rattle.diff_bounds.specs.Settled.{AreSettled, IsRoot, bottom}
+use Rattle.diff_bounds.specs.Settled.{AreSettled, IsRootGraph, bottom}
 
 -- the number of events, the always-edges by the event where they start, the chosen edges, the stack of graphs, how many events may
 -- wait, whether the feasible times of the first graph have settled, the source, and the walk that was found last
@@ -54,7 +54,7 @@ pub record IsMadeFor (net : Net) (b : Standing) : Type 0 where
   pub levels : b.trail.levels ≡ splittable_count net
   pub slots : length b.trail.current.stamps ≡ net.events + net.events
   pub waiting : b.waiting ≡ net.events
-  pub root : IsTrue b.settled → IsRoot net (bottom b.trail.current b.trail.below)
+  pub root : IsTrue b.settled → IsRootGraph net (bottom b.trail.current b.trail.below)
 
 -- a graph stands: the labels of all graphs of the stack have settled
 pub record Stands (net : Net) (b : Standing) : Type 0 where

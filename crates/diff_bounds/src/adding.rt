@@ -5,7 +5,7 @@ ghost use Rattle.itv_base.specs.declared.names.EventId.{EventId};
 ghost use Rattle.diff_bounds.specs.Arcs.{AreAlwaysArcs, AreChosenArcs, IsArc};
 ghost use Rattle.diff_bounds.specs.Labels.{HasFallen, HaveSettled, IsAmong, labels_from, stamp_at};
 ghost use Rattle.diff_bounds.specs.Settled.{IsFeasible, IsSettled, at_source, zeros};
-ghost use Rattle.diff_bounds.specs.Step.Falling.{Closes, HasRun, IsPlaced, IsRunning, RunsOn, scope_of, with_stamps};
+ghost use Rattle.diff_bounds.specs.Step.Falling.{Closes, RunHasFallen, IsPlaced, IsRunning, RunsOn, scope_of, with_stamps};
 ghost use Rattle.diff_bounds.specs.Step.Poised.{AreLow, AreRestFollowed, IsAdded, feasible_run, scope_from, upper_run};
 ghost use Rattle.diff_bounds.specs.Step.Walking.{HasLoop};
 
@@ -29,7 +29,7 @@ pub fn add_to_feasible(
     requires added { IsAdded net.now out.now chosen.now.arcs (feasible_run net.now arc.edge.from 0) arc zeros trail.old pending.old }
     requires events { chosen.now.events ≡ net.now.events }
     requires low { AreLow net.now.events trail.old.current.stamps }
-    ensures ran { HasRun (scope_from net.now trail.old 0) (feasible_run net.now arc.edge.from 0) trail.old.current.stamps trail.new.current.stamps }
+    ensures ran { RunHasFallen (scope_from net.now trail.old 0) (feasible_run net.now arc.edge.from 0) trail.old.current.stamps trail.new.current.stamps }
     ensures stack { trail.new ≡ with_stamps trail.old trail.new.current.stamps }
     ensures feasible { IfNone result (IsFeasible (scope_from net.now trail.old 0) trail.new.current.stamps) }
     ensures loops { IfSome result (HasLoop net.now trail.new) }

@@ -2,7 +2,7 @@
 
 ghost use Rattle.std.specs.Prelude.{◌≡◌, ◌+◌, ◌*◌, ◌<◌, ◌≤◌, ℤ, pos, neg_ℤ, ◌+ℤ◌, ◌≤ℤ◌, All, IfNone, IfSome, MatchBool, Some, length};
 ghost use Rattle.diff_bounds.specs.Arcs.{AreAlwaysArcs, AreChosenArcs, IsArc};
-ghost use Rattle.diff_bounds.specs.Labels.{HaveSettled, IsAmong, IsWithin, is_lower, labels_from, stamp_at};
+ghost use Rattle.diff_bounds.specs.Labels.{HaveSettled, IsAmong, IsEdgeWithin, is_lower, labels_from, stamp_at};
 ghost use Rattle.event_graph.specs.Limits.{weight_limit};
 ghost use Rattle.diff_bounds.specs.Step.Limits.{IsNear};
 ghost use Rattle.diff_bounds.specs.Step.Chosen.{StartsAt};
@@ -32,7 +32,7 @@ pub struct Run {
 
 /// What relaxing an edge has done.
 #[derive(Clone, Copy, Debug, PartialEq, Eq)]
-pub enum Step {
+pub enum Relaxation {
     /// The label at the end is low enough.
     Kept,
     /// The label at the end has fallen, by this number: it is less than 0.
@@ -159,12 +159,12 @@ pub fn follow(
         (IsDone run trail.new.current.stamps pending.new.marks arc.now.edge) }
 {
     match relax(net, run, near, arc, trail) {
-        Step::Kept => false,
-        Step::Fell(by) => {
+        Relaxation::Kept => false,
+        Relaxation::Fell(by) => {
             wait(run.first, arc.edge.to, by, pending);
             false
         }
-        Step::Stops => true,
+        Relaxation::Stops => true,
     }
 }
 
@@ -179,8 +179,8 @@ fn wait(first: u32, event: EventId, by: i64, pending: &mut Pending)
 }
 
 // Lowers the label at the end of an edge to the label at its start, which is given, and the weight, unless it is at the stop.
-fn relax(net: &Network, run: Run, near: i64, arc: &Arc, trail: &mut Trail) -> Step
-    requires within { IsWithin net.now.events arc.now.edge }
+fn relax(net: &Network, run: Run, near: i64, arc: &Arc, trail: &mut Trail) -> Relaxation
+    requires within { IsEdgeWithin net.now.events arc.now.edge }
     requires slots { run.base + net.now.events ≤ length trail.old.current.stamps }
     requires halves { net.now.events + net.now.events ≤ length trail.old.current.stamps }
     requires most { length trail.old.current.stamps ≤ 2 * MAX_EVENTS }
@@ -192,10 +192,10 @@ fn relax(net: &Network, run: Run, near: i64, arc: &Arc, trail: &mut Trail) -> St
     let sum = delayed(near, arc.edge.weight);
     let standing = label_in(trail, run.base + to.0);
     if !lowers(sum, standing) {
-        return Step::Kept;
+        return Relaxation::Kept;
     }
     if is_stop(run.stop, to) {
-        return Step::Stops;
+        return Relaxation::Stops;
     }
     let by = fall_between(net, trail, to, standing, sum);
     let stamp = Stamp {
@@ -203,7 +203,7 @@ fn relax(net: &Network, run: Run, near: i64, arc: &Arc, trail: &mut Trail) -> St
         parent: Some(arc.name),
     };
     trail.set_label(run.base + to.0, stamp);
-    Step::Fell(by)
+    Relaxation::Fell(by)
 }
 
 // By how much a label of an event falls to another one. A first label falls from far above the feasible time. Only the order in which

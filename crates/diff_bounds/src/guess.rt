@@ -26,13 +26,13 @@ pub struct Guess {
 
 impl Model for Guess {
     ghost use Rattle.std.specs.Prelude.{List, ℤ};
-    ghost use Rattle.diff_bounds.specs.Step.Guessing.{IsKept};
+    ghost use Rattle.diff_bounds.specs.Step.Guessing.{HasCounts};
 
     ghost Value = { List ℤ };
 
     ghost view = { λ g. g.times.items };
 
-    ghost invariant = { IsKept };
+    ghost invariant = { HasCounts };
 }
 
 // How often the edges of all events are followed, there and back, before the times are given up.

@@ -8,9 +8,9 @@ ghost use Rattle.event_graph.specs.RootBound.{MeetsAlways};
 ghost use Rattle.trail.specs.Stack.{new_stack};
 ghost use Rattle.diff_bounds.specs.Arcs.{AreAlwaysArcs, AreChosenArcs};
 ghost use Rattle.diff_bounds.specs.Labels.{HasFallen, HaveSettled, labels_from, stamp_at};
-ghost use Rattle.diff_bounds.specs.Settled.{AreNear, IsFeasible, IsRoot, IsSettled, at_source, bottom, zeros};
-ghost use Rattle.diff_bounds.specs.Step.Falling.{Closes, HasRun, IsPlaced, IsRunning, RunsOn, scope_of, with_stamps};
-ghost use Rattle.diff_bounds.specs.Step.Poised.{AreLow, AreOthersFollowed, HasBegun, HasCleared, IsFirst, IsReady, feasible_run, scope_from, upper_run};
+ghost use Rattle.diff_bounds.specs.Settled.{AreLabelsNear, IsFeasible, IsRootGraph, IsSettled, at_source, bottom, zeros};
+ghost use Rattle.diff_bounds.specs.Step.Falling.{Closes, RunHasFallen, IsPlaced, IsRunning, RunsOn, scope_of, with_stamps};
+ghost use Rattle.diff_bounds.specs.Step.Poised.{AreLow, AreOthersFollowed, HasBegun, HasCleared, IsFirstGraph, IsRunReady, feasible_run, scope_from, upper_run};
 ghost use Rattle.diff_bounds.specs.Step.Waiting.{is_waiting};
 ghost use Rattle.diff_bounds.specs.Step.Walking.{HasLoop};
 
@@ -54,8 +54,8 @@ pub fn settle_root(
     requires guess { length guess.old ≡ net.now.events }
     requires slots { length trail.old.current.stamps ≡ net.now.events + net.now.events }
     requires marks { length pending.old.marks ≡ net.now.events }
-    requires root { IsTrue settled → IsRoot net.now (bottom trail.old.current trail.old.below) }
-    ensures first { IfNone result (IsFirst net.now trail.new) }
+    requires root { IsTrue settled → IsRootGraph net.now (bottom trail.old.current trail.old.below) }
+    ensures first { IfNone result (IsFirstGraph net.now trail.new) }
     ensures loops { IfSome result (HasLoop net.now trail.new) }
     ensures edges { trail.new.current.edges ≡ [] }
     ensures levels { trail.new.levels ≡ trail.old.levels }
@@ -166,7 +166,7 @@ fn settle_all(
     requires chosen { chosen.now.arcs ≡ [] }
     requires events { chosen.now.events ≡ net.now.events }
     requires edges { trail.old.current.edges ≡ [] }
-    requires near { AreNear trail.old.current.stamps }
+    requires near { AreLabelsNear trail.old.current.stamps }
     requires feasible { IsFeasible (scope_from net.now trail.old net.now.events) trail.old.current.stamps }
     requires marks { length pending.old.marks ≡ net.now.events }
     ensures stack { trail.new ≡ with_stamps trail.old trail.new.current.stamps }
@@ -197,10 +197,10 @@ fn settle_feasible(
     trail: &mut Trail,
     pending: &mut Pending,
 ) -> Option<Arc>
-    requires ready { IsReady net.now out.now chosen.now.arcs (feasible_run net.now from first) from zeros trail.old pending.old }
+    requires ready { IsRunReady net.now out.now chosen.now.arcs (feasible_run net.now from first) from zeros trail.old pending.old }
     requires events { chosen.now.events ≡ net.now.events }
     requires low { AreLow net.now.events trail.old.current.stamps }
-    ensures ran { HasRun (scope_from net.now trail.old first) (feasible_run net.now from first) trail.old.current.stamps trail.new.current.stamps }
+    ensures ran { RunHasFallen (scope_from net.now trail.old first) (feasible_run net.now from first) trail.old.current.stamps trail.new.current.stamps }
     ensures stack { trail.new ≡ with_stamps trail.old trail.new.current.stamps }
     ensures feasible { IfNone result (IsFeasible (scope_from net.now trail.old first) trail.new.current.stamps) }
     ensures loops { IfSome result (HasLoop net.now trail.new) }
@@ -227,7 +227,7 @@ pub fn reach(
     requires out { AreAlwaysArcs net.now out.now }
     requires chosen { chosen.now.arcs ≡ [] }
     requires events { chosen.now.events ≡ net.now.events }
-    requires first { IsFirst net.now trail.old }
+    requires first { IsFirstGraph net.now trail.old }
     requires source { IfSome source (λ s. s.0 < net.now.events) }
     requires marks { length pending.old.marks ≡ net.now.events }
     ensures stack { trail.new ≡ with_stamps trail.old trail.new.current.stamps }
@@ -263,13 +263,13 @@ fn settle_uppers(
     pending: &mut Pending,
 )
     requires ready { (source : EventId) × (source.0 < net.now.events)
-        × IsReady net.now out.now chosen.now.arcs upper_run from (at_source source) trail.old pending.old }
+        × IsRunReady net.now out.now chosen.now.arcs upper_run from (at_source source) trail.old pending.old }
     requires events { chosen.now.events ≡ net.now.events }
     requires feasible { IsFeasible (scope_from net.now trail.old 0) trail.old.current.stamps }
     ensures stack { trail.new ≡ with_stamps trail.old trail.new.current.stamps }
     ensures fallen { (slot : ℕ) → HasFallen (stamp_at trail.old.current.stamps slot) (stamp_at trail.new.current.stamps slot) }
     ensures settled { (source : EventId) → source.0 < net.now.events
-        → IsReady net.now out.now chosen.now.arcs upper_run from (at_source source) trail.old pending.old
+        → IsRunReady net.now out.now chosen.now.arcs upper_run from (at_source source) trail.old pending.old
         → IsSettled (scope_from net.now trail.old 0) (Some source) trail.new.current.stamps }
     ensures marks { length pending.new.marks ≡ length pending.old.marks }
 {

@@ -17,7 +17,7 @@ abbrev pub drawn_by : Net → List (List Origin) → List (List ℕ) → List Ev
 drawn_by net origins parts labels rows = record { net = net; origins = origins; names = map (name_by parts) labels; rows = rows }
 
 -- each cause has an origin, each event has a name, of a part that is there, and the rows are between events, within their limit
-pub record IsKept (net : Net) (drew : List (List Origin)) (texts : List (List ℕ)) (labels : List EventLabel) (asked : List Row) : Type 0 where
+pub record IsDrawn (net : Net) (drew : List (List Origin)) (texts : List (List ℕ)) (labels : List EventLabel) (asked : List Row) : Type 0 where
   pub origins : OriginsFit net drew
   pub names : length labels ≡ net.events
   pub parts : All (λ (label : EventLabel). label.part < length texts) labels

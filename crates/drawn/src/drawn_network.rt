@@ -4,7 +4,7 @@ ghost use Rattle.std.specs.Prelude.{◌≡◌, ◌<◌, ◌≤◌, All, length};
 ghost use Rattle.itv_base.specs.Names.{name_view};
 ghost use Rattle.itv_base.specs.declared.limits.TheConstants.{MAX_ROWS};
 ghost use Rattle.drawn.specs.Drawn.{IsRowOf, OriginsFit, name_of};
-ghost use Rattle.drawn.specs.Kept.{IsKept, drawn_by};
+ghost use Rattle.drawn.specs.Kept.{IsDrawn, drawn_by};
 
 use crate::event_label::EventLabel;
 use crate::origins::Origins;
@@ -26,13 +26,13 @@ pub struct DrawnNetwork {
 
 impl Model for DrawnNetwork {
     ghost use Rattle.drawn.specs.Drawn.{Drawn};
-    ghost use Rattle.drawn.specs.Kept.{IsKept, drawn_by};
+    ghost use Rattle.drawn.specs.Kept.{IsDrawn, drawn_by};
 
     ghost Value = { Drawn };
 
     ghost view = { λ d. drawn_by d.network d.origins d.parts d.labels.items d.rows };
 
-    ghost invariant = { λ d. IsKept d.network d.origins d.parts d.labels.items d.rows };
+    ghost invariant = { λ d. IsDrawn d.network d.origins d.parts d.labels.items d.rows };
 }
 
 impl DrawnNetwork {
@@ -44,7 +44,7 @@ impl DrawnNetwork {
         labels: Vec<EventLabel>,
         rows: Rows,
     ) -> DrawnNetwork
-        requires { IsKept network origins parts labels.items rows }
+        requires { IsDrawn network origins parts labels.items rows }
         ensures drawn { result ≡ drawn_by network origins parts labels.items rows }
     {
         DrawnNetwork {

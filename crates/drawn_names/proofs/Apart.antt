@@ -2,7 +2,7 @@
 use Rattle.std.proofs.Common.{◌≡◌, ◌<◌, ◌||◌, ℕ, zero, suc, Bool, true, false, List, [], ◌∷◌, ◌++◌, length, map, get_or, Option, Some, None, cond, refl, sym, ap, ◌∙◌, arith}
 use Rattle.std.specs.List.{list_any}
 use Rattle.itv_base.specs.Names.{Name}
-use Rattle.sheet.specs.Contents.{Contents}
+use Rattle.sheet.specs.Contents.{SheetContents}
 use Rattle.sheet.specs.Lanes.{first_repeated}
 use Rattle.sheet.specs.declared.mark.Mark.{Mark}
 use Rattle.unroll.specs.Cycles.{in_cycles}
@@ -102,10 +102,10 @@ module _ {X K : Type 0} (same : K → K → Bool) (key : X → K) (self : (a b :
 
 -- ---- names
 
-abbrev pub mark_names : Contents → List ℕ
+abbrev pub mark_names : SheetContents → List ℕ
 mark_names sheet = map (λ (mark : Mark). mark.name) sheet.marks
 
-abbrev pub MarksApart : Contents → Type 0
+abbrev pub MarksApart : SheetContents → Type 0
 MarksApart sheet = AreApart (mark_names sheet)
 
 abbrev named : List ℕ → ℕ → Mark → Name
@@ -123,17 +123,17 @@ other_part : (part p : List ℕ) (cycle : ℕ) (name : Name) (marks : List Mark)
 other_part part p cycle name [] is other = tt
 other_part part p cycle name (m ∷ marks) is other = (λ e. other (sym is ∙ ap (λ (n : Name). n.part) e), other_part part p cycle name marks is other)
 
-other_parts : (part : List ℕ) (parts : List (List ℕ)) (sheets : List Contents) (cycle : ℕ) (name : Name) → name.part ≡ part → IsOther part parts → IsOther name (names_in parts sheets cycle)
+other_parts : (part : List ℕ) (parts : List (List ℕ)) (sheets : List SheetContents) (cycle : ℕ) (name : Name) → name.part ≡ part → IsOther part parts → IsOther name (names_in parts sheets cycle)
 other_parts part [] sheets cycle name is h = tt
 other_parts part (p ∷ parts) [] cycle name is h = tt
 other_parts part (p ∷ parts) (sheet ∷ sheets) cycle name is h =
     other_append name (map (named p cycle) sheet.marks) (names_in parts sheets cycle) (other_part part p cycle name sheet.marks is h.0) (other_parts part parts sheets cycle name is h.1)
 
-all_other_parts : (part : List ℕ) (parts : List (List ℕ)) (sheets : List Contents) (cycle : ℕ) (marks : List Mark) → IsOther part parts → AllOther (map (named part cycle) marks) (names_in parts sheets cycle)
+all_other_parts : (part : List ℕ) (parts : List (List ℕ)) (sheets : List SheetContents) (cycle : ℕ) (marks : List Mark) → IsOther part parts → AllOther (map (named part cycle) marks) (names_in parts sheets cycle)
 all_other_parts part parts sheets cycle [] h = tt
 all_other_parts part parts sheets cycle (m ∷ marks) h = (other_parts part parts sheets cycle (named part cycle m) refl h, all_other_parts part parts sheets cycle marks h)
 
-names_apart : (parts : List (List ℕ)) (sheets : List Contents) (cycle : ℕ) → AreApart parts → Every MarksApart sheets → AreApart (names_in parts sheets cycle)
+names_apart : (parts : List (List ℕ)) (sheets : List SheetContents) (cycle : ℕ) → AreApart parts → Every MarksApart sheets → AreApart (names_in parts sheets cycle)
 names_apart [] sheets cycle h g = tt
 names_apart (part ∷ parts) [] cycle h g = tt
 names_apart (part ∷ parts) (sheet ∷ sheets) cycle h g =
@@ -146,13 +146,13 @@ marks_in : (part : List ℕ) (cycle : ℕ) (marks : List Mark) → Every (λ (n 
 marks_in part cycle [] = tt
 marks_in part cycle (m ∷ marks) = (refl, marks_in part cycle marks)
 
-in_cycle : (parts : List (List ℕ)) (sheets : List Contents) (cycle : ℕ) → Every (λ (n : Name). n.cycle ≡ cycle) (names_in parts sheets cycle)
+in_cycle : (parts : List (List ℕ)) (sheets : List SheetContents) (cycle : ℕ) → Every (λ (n : Name). n.cycle ≡ cycle) (names_in parts sheets cycle)
 in_cycle [] sheets cycle = tt
 in_cycle (part ∷ parts) [] cycle = tt
 in_cycle (part ∷ parts) (sheet ∷ sheets) cycle =
     every_append (λ (n : Name). n.cycle ≡ cycle) (map (named part cycle) sheet.marks) (names_in parts sheets cycle) (marks_in part cycle sheet.marks) (in_cycle parts sheets cycle)
 
-before_cycle : (parts : List (List ℕ)) (sheets : List Contents) (n : ℕ) → Every (λ (name : Name). name.cycle < n) (in_cycles (names_in parts sheets) n)
+before_cycle : (parts : List (List ℕ)) (sheets : List SheetContents) (n : ℕ) → Every (λ (name : Name). name.cycle < n) (in_cycles (names_in parts sheets) n)
 before_cycle parts sheets zero = tt
 before_cycle parts sheets (suc n) =
     every_append (λ (name : Name). name.cycle < suc n) (in_cycles (names_in parts sheets) n) (names_in parts sheets n)
@@ -170,7 +170,7 @@ all_other_cycle n [] others h g = tt
 all_other_cycle n (name ∷ names) others h g = (other_cycle n name others h.0 g, all_other_cycle n names others h.1 g)
 
 -- the names of all cycles
-pub cycles_apart : (parts : List (List ℕ)) (sheets : List Contents) (n : ℕ) → AreApart parts → Every MarksApart sheets → AreApart (in_cycles (names_in parts sheets) n)
+pub cycles_apart : (parts : List (List ℕ)) (sheets : List SheetContents) (n : ℕ) → AreApart parts → Every MarksApart sheets → AreApart (in_cycles (names_in parts sheets) n)
 cycles_apart parts sheets zero h g = tt
 cycles_apart parts sheets (suc n) h g =
     apart_append (in_cycles (names_in parts sheets) n) (names_in parts sheets n) (cycles_apart parts sheets n h g) (names_apart parts sheets n h g)

@@ -11,11 +11,11 @@ use Rattle.grades.specs.Grades.{AreRanges, grades_of}
 use Rattle.grades.proofs.WholeGrades.{grades_whole}
 use Rattle.itv_base.specs.Characters.{is_name}
 use Rattle.itv_base.specs.Names.{Name}
-use Rattle.itv_base.specs.Outside.{ShelfTold}
+use Rattle.itv_base.specs.Outside.{ShelfView}
 use Rattle.itv_base.specs.declared.limits.TheConstants.{MAX_CYCLES}
 use Rattle.sheet.specs.Contents as sheet
 use Rattle.sheet.specs.declared.mark.Mark.{Mark}
-use Rattle.netlist.specs.Contents.{Contents}
+use Rattle.netlist.specs.Contents.{NetlistContents}
 use Rattle.netlist.specs.Netlist.{netlist_of, sheet_names}
 use Rattle.compose.specs.declared.fault.JoinFault.{JoinFault}
 use Rattle.netlist.specs.declared.part.Part.{Part}
@@ -34,10 +34,10 @@ use Rattle.unroll.specs.Drawn.{drawn_of, names_in}
 use Rattle.unroll.specs.Limits.{counts_of, first_passed, unrolled, within}
 use Rattle.unroll.specs.declared.counted.Counted.{Counted}
 use Rattle.slack_report.specs.Entry.{IsName}
-use Rattle.reading.specs.declared.place.Place.{Place}
-use Rattle.reading.specs.declared.place.Place.TheVariants.{Design, File}
+use Rattle.reading.specs.declared.place.RefusalPlace.{RefusalPlace}
+use Rattle.reading.specs.declared.place.RefusalPlace.TheVariants.{Design, File}
 use Rattle.reading.specs.declared.refusal.Refusal.TheVariants.{Diagram, Grades, Joins, Limits, Netlist, Sheet}
-use Rattle.reading.specs.Opening.{Comes, at, each, gives, ready}
+use Rattle.reading.specs.Opening.{RunsTo, at, each, gives, ready}
 use Rattle.reading.specs.Opening as openings
 use Rattle.plan.specs.Plan.{NamedSheets, Planned, sheets_on}
 use Rattle.reading.specs.Design.{design_at, drawn_at, grades_in, is_unread, lone_at, netlist_at, plan_at, sheets_at, sheets_in, sheets_of_files, tree_in, with_part, with_sheet}
@@ -57,7 +57,7 @@ use Rattle.drawn_names.proofs.Netlists.{IsNamedNetlist, lone_holds, netlist_hold
 abbrev pub IsPartName : List ℕ → Type 0
 IsPartName part = IsTrue (is_name part)
 
-names_hold : (parts : List (List ℕ)) (sheets : List sheet.Contents) (cycle : ℕ) → All IsPartName parts → All HasMarks sheets → cycle < MAX_CYCLES → All IsName (names_in parts sheets cycle)
+names_hold : (parts : List (List ℕ)) (sheets : List sheet.SheetContents) (cycle : ℕ) → All IsPartName parts → All HasMarks sheets → cycle < MAX_CYCLES → All IsName (names_in parts sheets cycle)
 names_hold [] sheets cycle named marked few = All-nil IsName
 names_hold (part ∷ parts) [] cycle named marked few = All-nil IsName
 names_hold (part ∷ parts) (drawn ∷ sheets) cycle named marked few =
@@ -93,7 +93,7 @@ IsComposed c result = Ok c ≡ result
 ok_field : {X : Type 0} (f : Composed → X) (c d : Composed) → IsComposed c (Ok d) → f c ≡ f d
 ok_field f c d is = let same : c ≡ d = cc is in ap f same
 
-composed_holds : (netlist : Contents) (sheets : List sheet.Contents) (d : Composed) → IsNamedNetlist netlist → All HasMarks sheets → All IsWhole sheets → composed_on netlist sheets ≡ Ok d
+composed_holds : (netlist : NetlistContents) (sheets : List sheet.SheetContents) (d : Composed) → IsNamedNetlist netlist → All HasMarks sheets → All IsWhole sheets → composed_on netlist sheets ≡ Ok d
     → IsNamedDesign d
 unfolding composed_on
 composed_holds netlist sheets d named marked whole is =
@@ -118,8 +118,8 @@ record IsDrawnFrom (drawn : Drawn) : Type 0 where
   named : IsNamedDesign design
   draws : drawn_of design ≡ drawn
 
-drawn_at_holds : (shelf : ShelfTold) (netlist : Contents) (sheets : NamedSheets) (drawn : Drawn) → IsNamedNetlist netlist → AreMarked sheets
-    → Comes shelf (drawn_at netlist sheets) (ready drawn) → IsDrawnFrom drawn
+drawn_at_holds : (shelf : ShelfView) (netlist : NetlistContents) (sheets : NamedSheets) (drawn : Drawn) → IsNamedNetlist netlist → AreMarked sheets
+    → RunsTo shelf (drawn_at netlist sheets) (ready drawn) → IsDrawnFrom drawn
 unfolding drawn_at unrolled
 drawn_at_holds shelf netlist sheets drawn named marked comes =
     let (d, first, rest) = opening_then shelf (at Design (λ why. Joins why) (composed_on netlist (sheets_on sheets netlist.parts))) _ drawn comes in
@@ -129,31 +129,31 @@ drawn_at_holds shelf netlist sheets drawn named marked comes =
     let both = sheets_hold sheets netlist.parts marked in
     record { design = d; named = composed_holds netlist (sheets_on sheets netlist.parts) d named both.0 both.1 joined; draws = inside.0 }
 
-sheet_by_formed : (grades : Option (List Grade)) (name : Option (List ℕ)) (drawing : Drawing) (found : sheet.Contents) → IfSome grades AreRanges → sheet_by grades name drawing ≡ Ok found → IsFormed found
+sheet_by_formed : (grades : Option (List Grade)) (name : Option (List ℕ)) (drawing : Drawing) (found : sheet.SheetContents) → IfSome grades AreRanges → sheet_by grades name drawing ≡ Ok found → IsFormed found
 sheet_by_formed grades name drawing found ranges read =
     (sheet_by_holds grades name drawing found read, IfOk-at_ok IsWhole read (sheet_by_whole grades name drawing ranges))
 
-plain_sheet_holds : (shelf : ShelfTold) (place : Place) (tree : Data) (found : sheet.Contents) → Comes shelf (plain_sheet_at place tree) (ready found) → IsFormed found
+plain_sheet_holds : (shelf : ShelfView) (place : RefusalPlace) (tree : Data) (found : sheet.SheetContents) → RunsTo shelf (plain_sheet_at place tree) (ready found) → IsFormed found
 plain_sheet_holds shelf place tree found comes =
     let (drawing, first, rest) = opening_then shelf (at place (λ why. Diagram why) (diagram_of tree)) _ found comes in
     sheet_by_formed None None drawing found tt (at_gave shelf place (λ why. Sheet why) _ found rest)
 
 -- the grades that are read of a file give ranges
-grades_in_hold : (shelf : ShelfTold) (version : ℕ) (place : Place) (tree : Data) (grades : Option (List Grade)) → Comes shelf (grades_in version place tree) (ready grades) → IfSome grades AreRanges
+grades_in_hold : (shelf : ShelfView) (version : ℕ) (place : RefusalPlace) (tree : Data) (grades : Option (List Grade)) → RunsTo shelf (grades_in version place tree) (ready grades) → IfSome grades AreRanges
 grades_in_hold shelf version place tree grades comes = by (version == 2) comes
   where
-    by : (b : Bool) → Comes shelf (if b then openings.◌>>=◌ (at place (λ why. Grades why) (grades_of tree)) (λ grades. gives (Some grades)) else gives None) (ready grades) → IfSome grades AreRanges
+    by : (b : Bool) → RunsTo shelf (if b then openings.◌>>=◌ (at place (λ why. Grades why) (grades_of tree)) (λ grades. gives (Some grades)) else gives None) (ready grades) → IfSome grades AreRanges
     by false came = subst (λ o. IfSome o AreRanges) (gave shelf None grades came) tt
     by true came =
         let (read, first, rest) = opening_then shelf (at place (λ why. Grades why) (grades_of tree)) (λ grades. gives (Some grades)) grades came in
         subst (λ o. IfSome o AreRanges) (gave shelf (Some read) grades rest) (grades_whole tree read (at_gave shelf place (λ why. Grades why) _ read first))
 
 -- the sheets with that of one part more
-with_part_holds : (shelf : ShelfTold) (place : Place) (name : List ℕ) (grades : Option (List Grade)) (drawing : Drawing) → IfSome grades AreRanges → (n : ℕ) (sheets more : NamedSheets) (part : Part)
-    → AreMarked sheets → Comes shelf (with_part place name grades drawing n sheets part) (ready more) → AreMarked more
+with_part_holds : (shelf : ShelfView) (place : RefusalPlace) (name : List ℕ) (grades : Option (List Grade)) (drawing : Drawing) → IfSome grades AreRanges → (n : ℕ) (sheets more : NamedSheets) (part : Part)
+    → AreMarked sheets → RunsTo shelf (with_part place name grades drawing n sheets part) (ready more) → AreMarked more
 with_part_holds shelf place name grades drawing ranges n sheets more part marked comes = by (is_unread sheets name part) comes
   where
-    by : (b : Bool) → Comes shelf (if b then openings.◌>>=◌ (at place (λ why. Sheet why) (sheet_by grades part.grade drawing)) (λ sheet. gives (with_sheet sheets (key_of part) sheet)) else gives sheets) (ready more) → AreMarked more
+    by : (b : Bool) → RunsTo shelf (if b then openings.◌>>=◌ (at place (λ why. Sheet why) (sheet_by grades part.grade drawing)) (λ sheet. gives (with_sheet sheets (key_of part) sheet)) else gives sheets) (ready more) → AreMarked more
     by false came = subst AreMarked (gave shelf sheets more came) marked
     by true came =
         let (found, first, rest) = opening_then shelf (at place (λ why. Sheet why) (sheet_by grades part.grade drawing)) (λ sheet. gives (with_sheet sheets (key_of part) sheet)) more came in
@@ -161,7 +161,7 @@ with_part_holds shelf place name grades drawing ranges n sheets more part marked
         (with_sheet_holds sheets (key_of part) found marked (sheet_by_formed grades part.grade drawing found ranges (at_gave shelf place (λ why. Sheet why) _ found first)))
 
 -- the sheets with those of one file more
-sheets_in_hold : (shelf : ShelfTold) (netlist : Contents) (number : ℕ) (sheets more : NamedSheets) (name : List ℕ) → AreMarked sheets → Comes shelf (sheets_in netlist number sheets name) (ready more) → AreMarked more
+sheets_in_hold : (shelf : ShelfView) (netlist : NetlistContents) (number : ℕ) (sheets more : NamedSheets) (name : List ℕ) → AreMarked sheets → RunsTo shelf (sheets_in netlist number sheets name) (ready more) → AreMarked more
 sheets_in_hold shelf netlist number sheets more name marked comes =
     let (tree, fetched, read) = opening_then shelf (tree_in (File number) name) (λ tree. sheets_at netlist number sheets name tree) more comes in
     let (drawing, drawn, rest) = opening_then shelf (at (File number) (λ why. Diagram why) (diagram_of tree)) _ more read in
@@ -173,13 +173,13 @@ record IsNamedPlan (plan : Planned) : Type 0 where
   netlist : IsNamedNetlist plan.netlist
   sheets : AreMarked plan.sheets
 
-lone_at_holds : (shelf : ShelfTold) (name : List ℕ) (tree : Data) (plan : Planned) → Comes shelf (lone_at name tree) (ready plan) → IsNamedPlan plan
+lone_at_holds : (shelf : ShelfView) (name : List ℕ) (tree : Data) (plan : Planned) → RunsTo shelf (lone_at name tree) (ready plan) → IsNamedPlan plan
 lone_at_holds shelf name tree plan comes =
-    let (found, first, rest) = opening_then shelf (plain_sheet_at (File 0) tree) _ plan (subst (λ reading. Comes shelf reading (ready plan)) (lone_is name tree) comes) in
+    let (found, first, rest) = opening_then shelf (plain_sheet_at (File 0) tree) _ plan (subst (λ reading. RunsTo shelf reading (ready plan)) (lone_is name tree) comes) in
     subst IsNamedPlan (gave shelf (lone_plan name found) plan rest)
     (record { netlist = lone_holds name; sheets = with_sheet_holds [] (plain_key name) found (All-nil HoldsMarks) (plain_sheet_holds shelf (File 0) tree found first) })
 
-netlist_at_holds : (shelf : ShelfTold) (tree : Data) (plan : Planned) → Comes shelf (netlist_at tree) (ready plan) → IsNamedPlan plan
+netlist_at_holds : (shelf : ShelfView) (tree : Data) (plan : Planned) → RunsTo shelf (netlist_at tree) (ready plan) → IsNamedPlan plan
 netlist_at_holds shelf tree plan comes =
     let (netlist, first, rest) = opening_then shelf (at (File 0) (λ why. Netlist why) (netlist_of tree)) _ plan comes in
     let (sheets, fetched, last) = opening_then shelf (sheets_of_files netlist (sheet_names netlist.parts)) _ plan rest in
@@ -187,22 +187,22 @@ netlist_at_holds shelf tree plan comes =
     subst IsNamedPlan (gave shelf (record { netlist = netlist; sheets = sheets }) plan last)
     (record { netlist = netlist_holds tree netlist read; sheets = each_keeps AreMarked shelf (sheets_in netlist) (sheets_in_hold shelf netlist) 1 [] sheets (sheet_names netlist.parts) (All-nil HoldsMarks) fetched })
 
-either_holds : (shelf : ShelfTold) (b : Bool) (name : List ℕ) (tree : Data) (plan : Planned) → Comes shelf (if b then lone_at name tree else netlist_at tree) (ready plan) → IsNamedPlan plan
+either_holds : (shelf : ShelfView) (b : Bool) (name : List ℕ) (tree : Data) (plan : Planned) → RunsTo shelf (if b then lone_at name tree else netlist_at tree) (ready plan) → IsNamedPlan plan
 either_holds shelf true name tree plan comes = lone_at_holds shelf name tree plan comes
 either_holds shelf false name tree plan comes = netlist_at_holds shelf tree plan comes
 
-plan_from : (shelf : ShelfTold) (name : List ℕ) (plan : Planned) → Comes shelf (plan_at name) (ready plan) → IsNamedPlan plan
+plan_from : (shelf : ShelfView) (name : List ℕ) (plan : Planned) → RunsTo shelf (plan_at name) (ready plan) → IsNamedPlan plan
 plan_from shelf name plan comes =
     let (tree, first, rest) = opening_then shelf (tree_in (File 0) name) _ plan comes in
     either_holds shelf (is_some (as_object tree) && is_none (get (codes "itv") tree)) name tree plan rest
 
-drawn_from : (shelf : ShelfTold) (name : List ℕ) (drawn : Drawn) → Comes shelf (design_at name) (ready drawn) → IsDrawnFrom drawn
+drawn_from : (shelf : ShelfView) (name : List ℕ) (drawn : Drawn) → RunsTo shelf (design_at name) (ready drawn) → IsDrawnFrom drawn
 drawn_from shelf name drawn comes =
     let (plan, first, rest) = opening_then shelf (plan_at name) (λ plan. drawn_at plan.netlist plan.sheets) drawn comes in
     let named = plan_from shelf name plan first in
     drawn_at_holds shelf plan.netlist plan.sheets drawn named.netlist named.sheets rest
 
-each_apart : (sheets : List sheet.Contents) → All HasMarks sheets → Every MarksApart sheets
+each_apart : (sheets : List sheet.SheetContents) → All HasMarks sheets → Every MarksApart sheets
 each_apart [] all = tt
 each_apart (first ∷ sheets) all = ((All-head HasMarks first sheets all).1, each_apart sheets (All-tail HasMarks first sheets all))
 

@@ -11,7 +11,7 @@ use Rattle.itv_base.specs.Reading.{walk}
 use Rattle.itv_base.specs.declared.limits.TheConstants.{MAX_CYCLES, MAX_PARTS, MAX_SHEET_NAMES}
 use Rattle.netlist.specs.declared.part.Part.{Part}
 use Rattle.netlist.specs.declared.fault.NetlistFault.{NetlistFault}
-use Rattle.netlist.specs.Contents.{Contents}
+use Rattle.netlist.specs.Contents.{NetlistContents}
 use Rattle.netlist.specs.declared.fault.NetlistFault.TheVariants.{PartsNotList, TooManyParts, DoublePart, TooManySheets}
 use Rattle.netlist.specs.declared.fault.NetlistFault.TheVariants.{Part as PartFault}
 use Rattle.json_tree.specs.Words.{list_at, text_at}
@@ -35,7 +35,7 @@ pub record AreNamed (parts : List Part) : Type 0 where
   pub apart : AreApart (part_names parts)
 
 -- few cycles, parts with such names, and whole wires
-pub record IsNamedNetlist (netlist : Contents) : Type 0 where
+pub record IsNamedNetlist (netlist : NetlistContents) : Type 0 where
   pub cycles : netlist.cycles ≤ MAX_CYCLES
   pub parts : AreNamed netlist.parts
   pub wires : All IsWholeIf netlist.wires
@@ -99,7 +99,7 @@ parts_hold version tree parts is =
 -- ---- netlists
 
 -- a netlist that was read
-pub netlist_holds : (tree : Data) (netlist : Contents) → netlist_of tree ≡ Ok netlist → IsNamedNetlist netlist
+pub netlist_holds : (tree : Data) (netlist : NetlistContents) → netlist_of tree ≡ Ok netlist → IsNamedNetlist netlist
 unfolding netlist_of
 netlist_holds tree netlist is =
     let (version, is_version, first) = result_then (version_of tree) _ netlist is in
@@ -110,7 +110,7 @@ netlist_holds tree netlist is =
     let (edges, are_edges, last) = result_then (edges_of tree) _ netlist texts in
     let same : record { version = version; cycles = cycles; parts = parts; nets = nets; wires = wires; edges = edges; near = near_in_netlist tree } ≡ netlist = cc last in
     let whole = netlist_whole tree netlist is in
-    record { cycles = whole.few; parts = subst (λ (n : Contents). AreNamed n.parts) same (parts_hold version tree parts are_parts); wires = whole.whole_wires }
+    record { cycles = whole.few; parts = subst (λ (n : NetlistContents). AreNamed n.parts) same (parts_hold version tree parts are_parts); wires = whole.whole_wires }
 
 -- and that of a lone sheet
 pub lone_holds : (name : List ℕ) → IsNamedNetlist (lone_netlist name)

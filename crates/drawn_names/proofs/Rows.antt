@@ -78,21 +78,21 @@ pushed false fault done last link all range is = let same : done ++ link ∷ [] 
 abbrev pub IsWholeIf : Option Wire → Type 0
 IsWholeIf wire = IfSome wire IsWholeWire
 
-with_wire_holds : (parts : List Part) (sheets : List sheet.Contents) (n : ℕ) (done last : List Link) (wire : Option Wire) → IsWholeIf wire → All HasRange done
+with_wire_holds : (parts : List Part) (sheets : List sheet.SheetContents) (n : ℕ) (done last : List Link) (wire : Option Wire) → IsWholeIf wire → All HasRange done
     → with_wire parts sheets n done wire ≡ Ok last → All HasRange last
 with_wire_holds parts sheets n done last None whole all is = let same : done ≡ last = cc is in subst (All HasRange) same all
 with_wire_holds parts sheets n done last (Some wire) whole all is =
     let (ends, are_ends, rest) = result_then (ends_of parts sheets n wire) _ last is in
     pushed (is_full done (wire_link sheets n wire ends)) (TooManyCauses n) done last (wire_link sheets n wire ends) all (range_of wire.range whole.ends) rest
 
-wires_walk : (parts : List Part) (sheets : List sheet.Contents) (n : ℕ) (done last : List Link) (wires : List (Option Wire)) → All IsWholeIf wires → All HasRange done
+wires_walk : (parts : List Part) (sheets : List sheet.SheetContents) (n : ℕ) (done last : List Link) (wires : List (Option Wire)) → All IsWholeIf wires → All HasRange done
     → walk (with_wire parts sheets) n done wires ≡ Ok last → All HasRange last
 wires_walk parts sheets n done last [] whole all is = let same : done ≡ last = cc is in subst (All HasRange) same all
 wires_walk parts sheets n done last (wire ∷ wires) whole all is =
     let (more, first, rest) = result_then (with_wire parts sheets n done wire) _ last is in
     wires_walk parts sheets (n + 1) more last wires (All-tail IsWholeIf wire wires whole) (with_wire_holds parts sheets n done more wire (All-head IsWholeIf wire wires whole) all first) rest
 
-pub wires_hold : (parts : List Part) (sheets : List sheet.Contents) (links : List Link) (wires : List (Option Wire)) → All IsWholeIf wires → wire_links parts sheets wires ≡ Ok links
+pub wires_hold : (parts : List Part) (sheets : List sheet.SheetContents) (links : List Link) (wires : List (Option Wire)) → All IsWholeIf wires → wire_links parts sheets wires ≡ Ok links
     → All HasRange links
 wires_hold parts sheets links wires whole is = wires_walk parts sheets 0 [] links wires whole (All-nil HasRange) is
 
@@ -105,7 +105,7 @@ kind_holds (asked.Req range) is = is
 whole_demands : (n : ℕ) (rows : List SheetRow) → All (IsWholeRow n) rows → All Demands rows
 whole_demands n rows all = All-weaker (IsWholeRow n) Demands (λ row whole. kind_holds row.kind whole.kind) rows all
 
-part_rows_hold : (first : ℕ) (sheets : List sheet.Contents) → All IsWhole sheets → All Demands (part_rows first sheets)
+part_rows_hold : (first : ℕ) (sheets : List sheet.SheetContents) → All IsWhole sheets → All Demands (part_rows first sheets)
 part_rows_hold first [] all = All-nil Demands
 part_rows_hold first (drawn ∷ sheets) all =
     let here : All Demands drawn.rows = whole_demands (length drawn.marks) drawn.rows ((All-head IsWhole drawn sheets all).rows) in

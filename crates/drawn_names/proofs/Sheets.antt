@@ -8,7 +8,7 @@ use Rattle.wavejson.specs.Drawing.{Drawing}
 use Rattle.wavejson.specs.declared.lane_text.LaneText.{LaneText}
 use Rattle.netlist.specs.declared.part.Part.{Part}
 use Rattle.sheet.specs.declared.mark.Mark.{Mark}
-use Rattle.sheet.specs.Contents.{Contents}
+use Rattle.sheet.specs.Contents.{SheetContents}
 use Rattle.sheet.specs.declared.fault.SheetFault.{SheetFault}
 use Rattle.sheet.specs.declared.fault.SheetFault.TheVariants.{BadNode, DoubleMark}
 use Rattle.itv_base.specs.Reading.{unless}
@@ -33,7 +33,7 @@ IsMarked mark = IsTrue (is_mark mark.name)
 abbrev pub AreMarks : List Mark → Type 0
 AreMarks marks = All IsMarked marks × AreApart (map (λ (mark : Mark). mark.name) marks)
 
-abbrev pub HasMarks : Contents → Type 0
+abbrev pub HasMarks : SheetContents → Type 0
 HasMarks sheet = AreMarks sheet.marks
 
 -- ---- lists that are read element by element
@@ -74,14 +74,14 @@ read_marks_hold lanes marks is =
     unless_none (first_repeated nat_eq (λ (mark : Mark). mark.name) [] (marks_of some)) (λ (mark : Mark). DoubleMark mark.name) (marks_of some) marks rest in
     subst AreMarks same (marks_hold some, keys_apart nat_eq (λ (mark : Mark). mark.name) eq-eqb (marks_of some) once)
 
-abbrev pub IsGiven : Contents → Result Contents SheetFault → Type 0
+abbrev pub IsGiven : SheetContents → Result SheetContents SheetFault → Type 0
 IsGiven found result = Ok found ≡ result
 
-given : (found sheet : Contents) → IsGiven found (Ok sheet) → found.marks ≡ sheet.marks
-given found sheet is = let same : found ≡ sheet = cc is in ap (λ (c : Contents). c.marks) same
+given : (found sheet : SheetContents) → IsGiven found (Ok sheet) → found.marks ≡ sheet.marks
+given found sheet is = let same : found ≡ sheet = cc is in ap (λ (c : SheetContents). c.marks) same
 
 -- the marks of a sheet that was read are named so
-pub sheet_holds : (labels : Labels) (drawing : Drawing) (sheet : Contents) → sheet_of labels drawing ≡ Ok sheet → HasMarks sheet
+pub sheet_holds : (labels : Labels) (drawing : Drawing) (sheet : SheetContents) → sheet_of labels drawing ≡ Ok sheet → HasMarks sheet
 unfolding sheet_of
 sheet_holds labels drawing sheet is =
     let (marks, is_marks, rest) = result_then (read_marks drawing.lanes) _ sheet is in
@@ -91,7 +91,7 @@ sheet_holds labels drawing sheet is =
     subst AreMarks same (read_marks_hold drawing.lanes marks is_marks)
 
 -- so are those of one that was read at a grade, or at none
-pub sheet_by_holds : (grades : Option (List Grade)) (name : Option (List ℕ)) (drawing : Drawing) (sheet : Contents) → sheet_by grades name drawing ≡ Ok sheet → HasMarks sheet
+pub sheet_by_holds : (grades : Option (List Grade)) (name : Option (List ℕ)) (drawing : Drawing) (sheet : SheetContents) → sheet_by grades name drawing ≡ Ok sheet → HasMarks sheet
 unfolding sheet_at
 sheet_by_holds None name drawing sheet is = sheet_holds plain drawing sheet is
 sheet_by_holds (Some grades) name drawing sheet is =
@@ -100,10 +100,10 @@ sheet_by_holds (Some grades) name drawing sheet is =
 -- ---- sheets by their keys
 
 abbrev pub Entry : Type 0
-Entry = SheetKey × Contents
+Entry = SheetKey × SheetContents
 
 -- a sheet has such marks, and is whole
-abbrev pub IsFormed : Contents → Type 0
+abbrev pub IsFormed : SheetContents → Type 0
 IsFormed sheet = HasMarks sheet × IsWhole sheet
 
 abbrev pub HoldsMarks : Entry → Type 0
@@ -112,18 +112,18 @@ HoldsMarks entry = IsFormed entry.1
 abbrev pub AreMarked : NamedSheets → Type 0
 AreMarked sheets = All HoldsMarks sheets
 
-entered : (b : Bool) (e : Entry) (es more : NamedSheets) (sheet : Contents) → IsFormed sheet → AreMarked (e ∷ es) → AreMarked more
+entered : (b : Bool) (e : Entry) (es more : NamedSheets) (sheet : SheetContents) → IsFormed sheet → AreMarked (e ∷ es) → AreMarked more
     → AreMarked (if b then (e.0, sheet) ∷ es else e ∷ more)
 entered true e es more sheet holds all others = All-cons HoldsMarks (e.0, sheet) es holds (All-tail HoldsMarks e es all)
 entered false e es more sheet holds all others = All-cons HoldsMarks e more (All-head HoldsMarks e es all) others
 
 -- one more sheet
-pub with_sheet_holds : (sheets : NamedSheets) (key : SheetKey) (sheet : Contents) → AreMarked sheets → IsFormed sheet → AreMarked (with_sheet sheets key sheet)
+pub with_sheet_holds : (sheets : NamedSheets) (key : SheetKey) (sheet : SheetContents) → AreMarked sheets → IsFormed sheet → AreMarked (with_sheet sheets key sheet)
 with_sheet_holds [] key sheet all holds = All-cons HoldsMarks (key, sheet) [] holds (All-nil HoldsMarks)
 with_sheet_holds (e ∷ es) key sheet all holds =
     entered (same_key key e.0) e es (with_sheet es key sheet) sheet holds all (with_sheet_holds es key sheet (All-tail HoldsMarks e es all) holds)
 
-found : (b : Bool) (e : Entry) (o : Option Contents) → IsFormed e.1 → IfSome o IsFormed → IfSome (cond b (Some e.1) o) IsFormed
+found : (b : Bool) (e : Entry) (o : Option SheetContents) → IsFormed e.1 → IfSome o IsFormed → IfSome (cond b (Some e.1) o) IsFormed
 found true e o here others = here
 found false e o here others = others
 

@@ -1,22 +1,22 @@
 -- What holds of every network that a design draws.
 use Rattle.std.specs.Prelude.{◌≡◌, ◌<◌, ℕ, List, length, All, slice_index_or}
-use Rattle.itv_base.specs.Outside.{ShelfTold}
+use Rattle.itv_base.specs.Outside.{ShelfView}
 use Rattle.drawn.specs.Drawn.{Drawn, nameless}
 use Rattle.drawn.specs.declared.row.Row.{Row}
 use Rattle.slack_report.specs.Entry.{IsKind, IsName}
-use Rattle.reading.specs.Opening.{Comes, ready}
+use Rattle.reading.specs.Opening.{RunsTo, ready}
 use Rattle.reading.specs.Design.{design_at}
 
 -- where the reading of a design comes to a drawn network, each of its names is a part's name, a mark and a cycle within the limit
 abbrev pub DrawnNamesHaveForm : Type 0
-DrawnNamesHaveForm = (shelf : ShelfTold) (name : List ℕ) (drawn : Drawn) → Comes shelf (design_at name) (ready drawn) → All IsName drawn.names
+DrawnNamesHaveForm = (shelf : ShelfView) (name : List ℕ) (drawn : Drawn) → RunsTo shelf (design_at name) (ready drawn) → All IsName drawn.names
 
 -- and none of them stands twice
 abbrev pub DrawnNamesDiffer : Type 0
-DrawnNamesDiffer = (shelf : ShelfTold) (name : List ℕ) (drawn : Drawn) → Comes shelf (design_at name) (ready drawn)
+DrawnNamesDiffer = (shelf : ShelfView) (name : List ℕ) (drawn : Drawn) → RunsTo shelf (design_at name) (ready drawn)
     → (i j : ℕ) → i < j → j < length drawn.names → slice_index_or drawn.names i nameless ≡ slice_index_or drawn.names j nameless → ⊥
 
 -- what each of its rows demands is a range
 abbrev pub DrawnRangesHaveForm : Type 0
 DrawnRangesHaveForm =
-    (shelf : ShelfTold) (name : List ℕ) (drawn : Drawn) → Comes shelf (design_at name) (ready drawn) → All (λ (row : Row). IsKind row.kind) drawn.rows
+    (shelf : ShelfView) (name : List ℕ) (drawn : Drawn) → RunsTo shelf (design_at name) (ready drawn) → All (λ (row : Row). IsKind row.kind) drawn.rows

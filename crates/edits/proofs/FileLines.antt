@@ -6,7 +6,7 @@ use Rattle.std.proofs.lemmas.List.Splits.{slice_split_first, slice_split_none}
 use Rattle.std.proofs.lemmas.List.Sums.{fails_before_first}
 use Rattle.std.proofs.lemmas.List.Elements.{All-cons}
 use Rattle.std.proofs.lemmas.Str.{IsUtf8-from_is_utf8, is_utf8-from_IsUtf8}
-use Rattle.itv_base.specs.Reading.{◌>>=◌, Gives, HasFault, Unless}
+use Rattle.itv_base.specs.Reading.{◌>>=◌, AgreesWith, IsReadingFault, UnlessTrue}
 use Rattle.line_words.specs.Lines.{is_feed}
 use Rattle.event_graph.specs.Network.{Net}
 use Rattle.edits.specs.declared.edit.RangeEdit.{RangeEdit}
@@ -105,16 +105,16 @@ module _ (net : Net) (edits : List RangeEdit) (text line behind : List ℕ) (n :
   stops fault read =
       sym (ap (λ (o : Result RangeEdit EditsFault). behind_edits edits (o >>= λ first. edits_from net (n + 1) (slice_split is_feed behind) >>= λ others. Ok (first ∷ others))) read ∙ one_line)
 
-unless_is : (b : Bool) (P : Type 0) → P → Unless b P
+unless_is : (b : Bool) (P : Type 0) → P → UnlessTrue b P
 unless_is true P p = tt
 unless_is false P p = p
 
-pub told : (total : Result (List RangeEdit) EditsFault) (fault : EditsFault) → total ≡ Err fault → HasFault is_memory total fault
+pub told : (total : Result (List RangeEdit) EditsFault) (fault : EditsFault) → total ≡ Err fault → IsReadingFault is_memory total fault
 told total fault is = unless_is (is_memory fault) (total ≡ Err fault) is
 
 -- what the exit of a `?` returns
 pub stops_by : (total result : Result (List RangeEdit) EditsFault) (fault : EditsFault) → IsErrAnd result (λ other. other ≡ fault) → total ≡ Err fault
-    → Gives is_memory (λ (edits : List RangeEdit). edits) result total
+    → AgreesWith is_memory (λ (edits : List RangeEdit). edits) result total
 stops_by total (Ok edits) fault out is = absurd out
 stops_by total (Err other) fault out is = rw out (told total fault is)
 
@@ -155,11 +155,11 @@ edits_there net n (rest ∷ []) edits h = none_there net n (length rest == 0) ed
 edits_there net n (line ∷ next ∷ lines) edits h =
     there_more net n line (edit_at net n line) (edits_from net (n + 1) (next ∷ lines)) edits refl h (edits_there net (n + 1) (next ∷ lines))
 
-pub there_read : (net : Net) (lines : List (List ℕ)) (result : Result (List RangeEdit) EditsFault) → Gives is_memory (λ (edits : List RangeEdit). edits) result (edits_from net 1 lines)
+pub there_read : (net : Net) (lines : List (List ℕ)) (result : Result (List RangeEdit) EditsFault) → AgreesWith is_memory (λ (edits : List RangeEdit). edits) result (edits_from net 1 lines)
     → IfOk result (All (IsThere net))
 there_read net lines (Ok edits) read = edits_there net 1 lines edits read
 there_read net lines (Err fault) read = tt
 
-pub there_of : (net : Net) (bytes : List ℕ) (result : Result (List RangeEdit) EditsFault) → Gives is_memory (λ (edits : List RangeEdit). edits) result (edits_from net 1 (slice_split is_feed bytes))
+pub there_of : (net : Net) (bytes : List ℕ) (result : Result (List RangeEdit) EditsFault) → AgreesWith is_memory (λ (edits : List RangeEdit). edits) result (edits_from net 1 (slice_split is_feed bytes))
     → IfOk result (All (IsThere net))
 there_of net bytes result read = there_read net (slice_split is_feed bytes) result read

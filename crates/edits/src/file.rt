@@ -2,7 +2,7 @@
 
 ghost use Rattle.std.specs.Prelude.{◌≡◌, ◌≤◌, List, All, IfOk, count_by, length};
 ghost use Rattle.std.specs.List.{position_or_len, slice_split};
-ghost use Rattle.itv_base.specs.Reading.{Gives};
+ghost use Rattle.itv_base.specs.Reading.{AgreesWith};
 ghost use Rattle.line_words.specs.Lines.{is_feed};
 ghost use Rattle.edits.specs.EditLine.{IsThere};
 ghost use Rattle.edits.specs.EditsFile.{edits_from, edits_of, is_ended, is_memory, line_count};
@@ -26,7 +26,7 @@ pub const MAX_EDITS: u64 = 1_000;
 /// that is too long is told first, then one of too many lines, then the first line with a fault. Of a line the form comes first,
 /// then its range, and then whether the network has the cause. Bytes behind the last line end are a line that is not of the form.
 pub fn read_edits(alloc: Global, net: &Network, bytes: &[u8]) -> Result<Edits, EditsFault>
-    ensures read { Gives is_memory (λ (edits : List RangeEdit). edits) result (edits_of net.now bytes.now) }
+    ensures read { AgreesWith is_memory (λ (edits : List RangeEdit). edits) result (edits_of net.now bytes.now) }
     ensures there { IfOk result (All (IsThere net.now)) }
 {
     if MAX_EDITS_BYTES < bytes.len() {
@@ -66,7 +66,7 @@ fn is_ended(bytes: &[u8]) -> bool
 
 // The edits of bytes without limits.
 fn read_lines(alloc: Global, net: &Network, bytes: &[u8]) -> Result<Edits, EditsFault>
-    ensures { Gives is_memory (λ (edits : List RangeEdit). edits) result (edits_from net.now 1 (slice_split is_feed bytes.now)) }
+    ensures { AgreesWith is_memory (λ (edits : List RangeEdit). edits) result (edits_from net.now 1 (slice_split is_feed bytes.now)) }
 {
     let mut edits: Vec<RangeEdit> = Vec::new(alloc);
     let mut rest = bytes;

@@ -7,7 +7,7 @@ use Rattle.itv_base.specs.declared.names.RuleKind.{RuleKind}
 use Rattle.itv_base.specs.declared.names.RuleKind.TheVariants.{Lin, Late, Early}
 use Rattle.event_graph.specs.Network.{Constraint, IsConstraint, IsNet, Net}
 use Rattle.event_graph.specs.Edges.{cause_choices, choices_of}
-use Rattle.event_graph.specs.Proof.{Case, HasChoice, Loop, Path, ProofGoal, ProofLine, Reads, Split, cases_from, cases_of, closing_lines, count_causes}
+use Rattle.event_graph.specs.Proof.{Case, HasChoice, Loop, Path, ProofGoal, ProofLine, ProofLeaves, Split, cases_from, cases_of, closing_lines, count_causes}
 use Rattle.event_graph.specs.Laws.{ProofIsWithinChoices, StoppedProofIsBelowChoices}
 use Rattle.event_graph.specs.Cases.{is_split}
 use Rattle.event_graph.proofs.Choices.{others_unsplit, split-other, split-same}
@@ -111,7 +111,7 @@ left_from-some events number (k ∷ ks) chosen all =
     omega (arith, mul-le-mul_left (cond (is_split chosen number) 1 (choices_of k.kind (length k.causes))) rest)
 
 -- each closing line takes at least one of the choices left
-reads_count : (net : Net) (goal : ProofGoal) (lines : List ProofLine) (cases left : List Case) → IsNet net → Reads net goal cases lines left
+reads_count : (net : Net) (goal : ProofGoal) (lines : List ProofLine) (cases left : List Case) → IsNet net → ProofLeaves net goal cases lines left
     → closing_lines lines + left_of_all net left ≤ left_of_all net cases
 reads_count net goal [] cases left is_net reads = omega (arith, ap (left_of_all net) reads)
 reads_count net goal (line ∷ lines) [] left is_net reads = absurd reads

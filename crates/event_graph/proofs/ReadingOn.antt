@@ -1,7 +1,7 @@
 -- The lines of proofs, read one after another.
 use Rattle.std.proofs.Common.{◌≡◌, ◌+◌, List, [], ◌∷◌, ◌++◌, arith}
 use Rattle.event_graph.specs.Network.{Net}
-use Rattle.event_graph.specs.Proof.{Case, Loop, Path, ProofGoal, ProofLine, Reads, Split, cases_of, closing_lines}
+use Rattle.event_graph.specs.Proof.{Case, Loop, Path, ProofGoal, ProofLine, ProofLeaves, Split, cases_of, closing_lines}
 use Rattle.event_graph.specs.Laws.{ReadingLeavesCases}
 
 pub reading_leaves_cases : ReadingLeavesCases
@@ -12,8 +12,8 @@ reading_leaves_cases net goal (chosen ∷ cases) left (Path names ∷ lines) rea
 reading_leaves_cases net goal (chosen ∷ cases) left (Loop names ∷ lines) reads = reading_leaves_cases net goal cases left lines reads.1
 
 -- lines, and then more of them
-pub reads-append : (net : Net) (goal : ProofGoal) (xs ys : List ProofLine) (cases mid left : List Case) → Reads net goal cases xs mid → Reads net goal mid ys left
-    → Reads net goal cases (xs ++ ys) left
+pub reads-append : (net : Net) (goal : ProofGoal) (xs ys : List ProofLine) (cases mid left : List Case) → ProofLeaves net goal cases xs mid → ProofLeaves net goal mid ys left
+    → ProofLeaves net goal cases (xs ++ ys) left
 reads-append net goal [] ys cases mid left first then' = rw first then'
 reads-append net goal (line ∷ xs) ys [] mid left first then' = absurd first
 reads-append net goal (Split number ∷ xs) ys (chosen ∷ cases) mid left first then' =

@@ -12,7 +12,7 @@ use Rattle.event_graph.specs.Network.{Constraint, Net}
 use Rattle.event_graph.specs.Satisfying.{Holds, Satisfies}
 use Rattle.event_graph.specs.Times.{separation, time_of}
 use Rattle.event_graph.specs.Edges.{Meets, choice_side, edge}
-use Rattle.event_graph.specs.Proof.{Bound, Case, Choice, ClosesByLoop, ClosesByPath, HasChoice, IsProof, IsUsable, IsWalk, Loop, MaySplit, Nothing, Path, ProofGoal, ProofLine, Reads, Split, cases_from, cases_of, count_causes, path_sum, weight_of}
+use Rattle.event_graph.specs.Proof.{Bound, Case, Choice, ClosesByLoop, ClosesByPath, HasChoice, IsProof, IsUsable, IsWalk, Loop, MaySplit, Nothing, Path, ProofGoal, ProofLine, ProofLeaves, Split, cases_from, cases_of, count_causes, path_sum, weight_of}
 use Rattle.event_graph.specs.Laws.{ProofBounds, ProofOfNothing}
 use Rattle.event_graph.proofs.EdgesMet.{All-found, at_some}
 use Rattle.event_graph.proofs.ByEdges.{choice_from_holding, satisfying_meets_always}
@@ -131,7 +131,7 @@ loop_uncovered times net chosen names satisfies covers closes =
 
 -- lines that leave no case open leave none that refuting times cover
 reads_uncovered : (times : List ℤ) (net : Net) (goal : ProofGoal) (lines : List ProofLine) (cases : List Case) → Satisfies times net → Refutes times goal
-    → Reads net goal cases lines [] → SomeCovers times net cases → ⊥
+    → ProofLeaves net goal cases lines [] → SomeCovers times net cases → ⊥
 reads_uncovered times net goal [] cases satisfies refutes reads covered = subst (SomeCovers times net) reads covered
 reads_uncovered times net goal (line ∷ lines) [] satisfies refutes reads covered = covered
 reads_uncovered times net goal (Split number ∷ lines) (chosen ∷ cases) satisfies refutes reads covered =

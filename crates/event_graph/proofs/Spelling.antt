@@ -1,25 +1,25 @@
 -- The lines of trees are read, and lines that are read are those of trees.
 use Rattle.std.proofs.Common.{◌≡◌, ◌≤◌, ℕ, zero, suc, List, [], ◌∷◌, ◌++◌, length, sym, ap, ◌∙◌, refl, subst, arith, append-nil, append_assoc}
 use Rattle.event_graph.specs.Network.{Net}
-use Rattle.event_graph.specs.Proof.{Case, Loop, MaySplit, Path, ProofGoal, ProofLine, Reads, Split, cases_of}
+use Rattle.event_graph.specs.Proof.{Case, Loop, MaySplit, Path, ProofGoal, ProofLine, ProofLeaves, Split, cases_of}
 use Rattle.event_graph.specs.Trees.{ProofIsTree, ProveEach, Proves, Tree, Trees, by_loop, by_path, by_split, no_more, one_more, tree_lines, trees_lines}
 
 -- ---- the lines of trees are read
 
 mutual
   tree_read : (net : Net) (goal : ProofGoal) (chosen : Case) (tree : Tree) (cases left : List Case) (more : List ProofLine) → Proves net goal chosen tree
-      → Reads net goal cases more left → Reads net goal (chosen ∷ cases) (tree_lines tree ++ more) left
+      → ProofLeaves net goal cases more left → ProofLeaves net goal (chosen ∷ cases) (tree_lines tree ++ more) left
   tree_read net goal chosen (by_path names) cases left more proves rest = (proves, rest)
   tree_read net goal chosen (by_loop names) cases left more proves rest = (proves, rest)
   tree_read net goal chosen (by_split number trees) cases left more proves rest = (proves.0, trees_read net goal (cases_of net chosen number) trees cases left more proves.1 rest)
 
   trees_read : (net : Net) (goal : ProofGoal) (each : List Case) (trees : Trees) (cases left : List Case) (more : List ProofLine) → ProveEach net goal each trees
-      → Reads net goal cases more left → Reads net goal (each ++ cases) (trees_lines trees ++ more) left
+      → ProofLeaves net goal cases more left → ProofLeaves net goal (each ++ cases) (trees_lines trees ++ more) left
   trees_read net goal [] no_more cases left more prove rest = rest
   trees_read net goal [] (one_more tree trees) cases left more prove rest = absurd prove
   trees_read net goal (chosen ∷ each) no_more cases left more prove rest = absurd prove
   trees_read net goal (chosen ∷ each) (one_more tree trees) cases left more prove rest =
-      subst (λ lines. Reads net goal (chosen ∷ (each ++ cases)) lines left) (sym (append_assoc (tree_lines tree) (trees_lines trees) more))
+      subst (λ lines. ProofLeaves net goal (chosen ∷ (each ++ cases)) lines left) (sym (append_assoc (tree_lines tree) (trees_lines trees) more))
       (tree_read net goal chosen tree (each ++ cases) left (trees_lines trees ++ more) prove.0 (trees_read net goal each trees cases left more prove.1 rest))
 
 -- ---- lines that are read are those of trees
@@ -30,7 +30,7 @@ record Spelled (net : Net) (goal : ProofGoal) (each cases : List Case) (lines : 
   more : List ProofLine
   prove : ProveEach net goal each trees
   parts : lines ≡ trees_lines trees ++ more
-  rest : Reads net goal cases more []
+  rest : ProofLeaves net goal cases more []
   shorter : length more ≤ length lines
 
 -- a line closes the first case
@@ -57,10 +57,10 @@ split_up net goal chosen number each cases lines may s t = record {
   shorter = omega (arith, s.shorter, t.shorter);
 }
 
-no_lines : (net : Net) (goal : ProofGoal) (chosen : Case) (cases : List Case) → Reads net goal (chosen ∷ cases) [] [] → ⊥
+no_lines : (net : Net) (goal : ProofGoal) (chosen : Case) (cases : List Case) → ProofLeaves net goal (chosen ∷ cases) [] [] → ⊥
 no_lines net goal chosen cases reads = cc
 
-spell : (fuel : ℕ) (net : Net) (goal : ProofGoal) (each cases : List Case) (lines : List ProofLine) → length lines ≤ fuel → Reads net goal (each ++ cases) lines []
+spell : (fuel : ℕ) (net : Net) (goal : ProofGoal) (each cases : List Case) (lines : List ProofLine) → length lines ≤ fuel → ProofLeaves net goal (each ++ cases) lines []
     → Spelled net goal each cases lines
 spell fuel net goal [] cases lines enough reads = record {
   trees = no_more;
@@ -81,7 +81,7 @@ spell (suc fuel) net goal (chosen ∷ each) cases (Split number ∷ lines) enoug
     spell fuel net goal (cases_of net chosen number) (each ++ cases) lines (omega arith) reads.1 in
     split_up net goal chosen number each cases lines reads.0 s (spell fuel net goal each cases s.more (omega (arith, s.shorter)) s.rest)
 
-nothing_more : (net : Net) (goal : ProofGoal) (more : List ProofLine) → Reads net goal [] more [] → more ≡ []
+nothing_more : (net : Net) (goal : ProofGoal) (more : List ProofLine) → ProofLeaves net goal [] more [] → more ≡ []
 nothing_more net goal [] reads = refl
 nothing_more net goal (line ∷ more) reads = absurd reads
 
@@ -98,6 +98,6 @@ proof_is_tree net goal lines = (
       let s : Spelled net goal ([] ∷ []) [] lines = spell (length lines) net goal ([] ∷ []) [] lines (omega arith) proof in
       one_tree net goal lines s.more s.trees s.prove s.parts (nothing_more net goal s.more s.rest)),
   (λ (tree, proves, is).
-      let read : Reads net goal ([] ∷ []) (tree_lines tree ++ []) [] = tree_read net goal [] tree [] [] [] proves refl in
-      subst (λ ls. Reads net goal ([] ∷ []) ls []) (append-nil (tree_lines tree) ∙ sym is) read),
+      let read : ProofLeaves net goal ([] ∷ []) (tree_lines tree ++ []) [] = tree_read net goal [] tree [] [] [] proves refl in
+      subst (λ ls. ProofLeaves net goal ([] ∷ []) ls []) (append-nil (tree_lines tree) ∙ sym is) read),
 )

@@ -9,7 +9,7 @@ use Rattle.event_graph.specs.declared.edge.Edge.{Edge}
 use Rattle.event_graph.specs.Bounds.{IsGreatest, IsInconsistent, IsLeast, IsRay, IsUnbounded}
 use Rattle.event_graph.specs.Edges.{IsAlways, Meets, cause_choices, choice_side, edge}
 use Rattle.event_graph.specs.Network.{Constraint, HasNoChoices, IsNet, Net, cause_at, with_range}
-use Rattle.event_graph.specs.Proof.{Bound, Case, HasChoice, IsProof, IsStoppedProof, Nothing, ProofGoal, ProofLine, Reads, closing_lines}
+use Rattle.event_graph.specs.Proof.{Bound, Case, HasChoice, IsProof, IsStoppedProof, Nothing, ProofGoal, ProofLine, ProofLeaves, closing_lines}
 use Rattle.event_graph.specs.Reading.{cases_left}
 use Rattle.event_graph.specs.RootBound.{HasNoRoot, IsRootBound, MeetsAlways}
 use Rattle.event_graph.specs.Satisfying.{Holds, Satisfies}
@@ -78,7 +78,7 @@ ProofOfNothing = (net : Net) (lines : List ProofLine) → IsProof net Nothing li
 
 -- the cases that accepted lines leave open do not depend on what the lines show
 abbrev pub ReadingLeavesCases : Type 0
-ReadingLeavesCases = (net : Net) (goal : ProofGoal) (cases left : List Case) (lines : List ProofLine) → Reads net goal cases lines left
+ReadingLeavesCases = (net : Net) (goal : ProofGoal) (cases left : List Case) (lines : List ProofLine) → ProofLeaves net goal cases lines left
     → cases_left net cases lines ≡ left
 
 -- a proof closes at most as many cases as there are cause choices

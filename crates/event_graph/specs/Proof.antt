@@ -89,12 +89,12 @@ abbrev pub cases_of : Net → Case → ℕ → List Case
 cases_of net chosen number = cases_from chosen number 0 (count_causes (slice_get net.constraints number))
 
 -- Reading lines turns a list of open cases into another: each line closes the first open case, or puts its split in its place.
-abbrev pub Reads : Net → ProofGoal → List Case → List ProofLine → List Case → Type 0
-Reads net goal cases [] left = cases ≡ left
-Reads net goal [] (line ∷ lines) left = ⊥
-Reads net goal (chosen ∷ cases) (Split number ∷ lines) left = MaySplit net chosen number × Reads net goal (cases_of net chosen number ++ cases) lines left
-Reads net goal (chosen ∷ cases) (Path names ∷ lines) left = ClosesByPath net goal chosen names × Reads net goal cases lines left
-Reads net goal (chosen ∷ cases) (Loop names ∷ lines) left = ClosesByLoop net chosen names × Reads net goal cases lines left
+abbrev pub ProofLeaves : Net → ProofGoal → List Case → List ProofLine → List Case → Type 0
+ProofLeaves net goal cases [] left = cases ≡ left
+ProofLeaves net goal [] (line ∷ lines) left = ⊥
+ProofLeaves net goal (chosen ∷ cases) (Split number ∷ lines) left = MaySplit net chosen number × ProofLeaves net goal (cases_of net chosen number ++ cases) lines left
+ProofLeaves net goal (chosen ∷ cases) (Path names ∷ lines) left = ClosesByPath net goal chosen names × ProofLeaves net goal cases lines left
+ProofLeaves net goal (chosen ∷ cases) (Loop names ∷ lines) left = ClosesByLoop net chosen names × ProofLeaves net goal cases lines left
 
 -- how many of the lines close a case
 abbrev pub closing_lines : List ProofLine → ℕ
@@ -105,9 +105,9 @@ closing_lines (Loop names ∷ lines) = closing_lines lines + 1
 
 -- the lines are a proof: from the one case where nothing is chosen, reading them leaves no open case
 abbrev pub IsProof : Net → ProofGoal → List ProofLine → Type 0
-IsProof net goal lines = Reads net goal ([] ∷ []) lines []
+IsProof net goal lines = ProofLeaves net goal ([] ∷ []) lines []
 
 -- the lines are a proof that was stopped: reading them leaves a case open, and a number of them close cases
 pub record IsStoppedProof (net : Net) (goal : ProofGoal) (lines : List ProofLine) (count : ℕ) : Type 0 where
-  pub open_case : (chosen : Case) × (cases : List Case) × Reads net goal ([] ∷ []) lines (chosen ∷ cases)
+  pub open_case : (chosen : Case) × (cases : List Case) × ProofLeaves net goal ([] ∷ []) lines (chosen ∷ cases)
   pub closed : closing_lines lines ≡ count

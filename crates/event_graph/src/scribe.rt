@@ -1,7 +1,7 @@
 //! Who writes down the lines of a proof while it is found.
 
 ghost use Rattle.std.specs.Prelude.{◌≡◌, ℕ, List, [], ◌∷◌, ◌++◌, OnOk, OnErr};
-ghost use Rattle.itv_base.specs.Outside.{Rose};
+ghost use Rattle.itv_base.specs.Outside.{FaultCounted};
 ghost use Rattle.event_graph.specs.Proof.{Loop, Path, ProofLine, Split};
 
 use itv_base::EdgeName;
@@ -36,19 +36,19 @@ pub trait Scribe {
     fn split(&mut self, constraint: u32) -> Result<(), ScribeFailed>
         ensures grew { OnOk result (Grew self.old (Split constraint ∷ []) self.new) }
         ensures cut { OnErr result (WasCut self.old (Split constraint ∷ []) self.new) }
-        ensures rose { OnErr result (Rose (faults self.old) (faults self.new)) };
+        ensures rose { OnErr result (FaultCounted (faults self.old) (faults self.new)) };
 
     /// Writes that a case is closed by a path.
     fn cut_path(&mut self, edges: &[EdgeName]) -> Result<(), ScribeFailed>
         ensures grew { OnOk result (Grew self.old (Path edges.now ∷ []) self.new) }
         ensures cut { OnErr result (WasCut self.old (Path edges.now ∷ []) self.new) }
-        ensures rose { OnErr result (Rose (faults self.old) (faults self.new)) };
+        ensures rose { OnErr result (FaultCounted (faults self.old) (faults self.new)) };
 
     /// Writes that a case is closed by a loop.
     fn cut_loop(&mut self, edges: &[EdgeName]) -> Result<(), ScribeFailed>
         ensures grew { OnOk result (Grew self.old (Loop edges.now ∷ []) self.new) }
         ensures cut { OnErr result (WasCut self.old (Loop edges.now ∷ []) self.new) }
-        ensures rose { OnErr result (Rose (faults self.old) (faults self.new)) };
+        ensures rose { OnErr result (FaultCounted (faults self.old) (faults self.new)) };
 
     /// It grows by no lines where nothing is written.
     ghost grew_none: { (s : Self) → Grew s [] s };

@@ -11,10 +11,10 @@ use Rattle.event_graph.specs.Satisfying.{Satisfies}
 use Rattle.event_graph.specs.Times.{IsTime, separation, time_of}
 use Rattle.event_graph.proofs.Rays.{ray_is_unbounded}
 use Rattle.event_graph.proofs.Reversing.{least_is_reversed_greatest}
-use Rattle.branch.specs.Answers.{Answers, Evidence, PairSearch}
+use Rattle.branch.specs.Answers.{IsGreatestAnswer, Evidence, PairSearch}
 use Rattle.branch.specs.Work.{IsClose}
-use Rattle.branch.specs.declared.answer.Answer.{Answer}
-use Rattle.branch.specs.declared.answer.Answer.TheVariants as answers
+use Rattle.branch.specs.declared.answer.GreatestAnswer.{GreatestAnswer}
+use Rattle.branch.specs.declared.answer.GreatestAnswer.TheVariants as answers
 use Rattle.chains.specs.Chain.{AreBest}
 use Rattle.requirements.specs.Bounds.{HasTimes, IsGreatestBound, IsLeastBound, reversed}
 use Rattle.requirements.proofs.Judging.{reversed_greatest_is_least}
@@ -25,12 +25,12 @@ use Rattle.slack_report.specs.declared.words.FindingWord.TheVariants as findings
 use Rattle.right_report.specs.Right.At.{greatest, least_by}
 use Rattle.right_report.specs.Right.Facts.{HasAttained, IsBoundOf}
 use Rattle.drawn.specs.declared.row.Row.{Row}
-use Rattle.explained.specs.Answers.{AreBounds, Explains, IsBoundFound, bound_of}
+use Rattle.explained.specs.Answers.{AreRowBounds, Explains, IsBoundFound, bound_of}
 use Rattle.explained.specs.declared.bound.BoundFound.{BoundFound}
 use Rattle.explained.specs.declared.bound.BoundFound.TheVariants.{Closed, Unbounded, Within}
 use Rattle.explained.specs.declared.pair.Pair.{Pair}
 use Rattle.explained.specs.Step.Bounding.{IsClosedBy, IsExplained, IsGreatestBy, bound_by, reversed_found}
-use Rattle.explained.specs.Step.Standing.{Allows}
+use Rattle.explained.specs.Step.Standing.{FindingAllows}
 use Rattle.explained.proofs.Standing.{is_finding}
 
 -- ---- numbers
@@ -68,7 +68,7 @@ limit_time (Some sum) h = reach_time sum h
 
 -- ---- what a search answers
 
-pub answered : (search : PairSearch) (left : Evidence) (answer : Answer) → Answers search left answer → Satisfies left.times search.net → All IsClose left.times
+pub answered : (search : PairSearch) (left : Evidence) (answer : GreatestAnswer) → IsGreatestAnswer search left answer → Satisfies left.times search.net → All IsClose left.times
     → IsGreatestBy search.net findings.Consistent (record { from = search.from; to = search.to }) (bound_by answer) left.times left.ray
 answered search left (answers.Closed value) a sat close = record {
   found = refl;
@@ -80,7 +80,7 @@ answered search left (answers.Closed value) a sat close = record {
 answered search left answers.Unbounded a sat close = record { found = refl; satisfied = sat; ray = a.raised }
 answered search left (answers.Enclosed upper found) a sat close = record { root = a.root; told = refl; attained = (left.times, sat, a.attains) }
 
-pub answer_times : (search : PairSearch) (left : Evidence) (answer : Answer) → Answers search left answer → All IsClose left.times → HasTimes (bound_by answer)
+pub answer_times : (search : PairSearch) (left : Evidence) (answer : GreatestAnswer) → IsGreatestAnswer search left answer → All IsClose left.times → HasTimes (bound_by answer)
 answer_times search left (answers.Closed value) a close = subst IsTime a.attained (separation_time left.times search.from search.to close)
 answer_times search left answers.Unbounded a close = tt
 answer_times search left (answers.Enclosed upper found) a close =
@@ -164,9 +164,9 @@ pair_of : (row : Row) (pair : Pair) → row.from ≡ pair.from → row.to ≡ pa
 pair_of row pair f t = rw (f, t) refl
 
 -- both bounds of a row, each by the search of a pair
-pub both_of : (net : Net) (word later : FindingWord) (pair turned : Pair) (row : Row) (most fewest least : Bound) (times others : List ℤ) (set flags : List Bool) → Allows net word
+pub both_of : (net : Net) (word later : FindingWord) (pair turned : Pair) (row : Row) (most fewest least : Bound) (times others : List ℤ) (set flags : List Bool) → FindingAllows net word
     → later ≡ word → turned ≡ record { from = pair.to; to = pair.from } → least ≡ reversed fewest → row.from ≡ pair.from → row.to ≡ pair.to
-    → IsGreatestBy net word pair most times set → IsGreatestBy net later turned fewest others flags → AreBounds net row (record { least = least; greatest = most })
+    → IsGreatestBy net word pair most times set → IsGreatestBy net later turned fewest others flags → AreRowBounds net row (record { least = least; greatest = most })
 both_of net word later pair turned row most fewest least times others set flags allows same_word same_turned same_least f t first second =
     let same : pair ≡ record { from = row.from; to = row.to } = pair_of row pair f t in
     let other : turned ≡ record { from = row.to; to = row.from } = same_turned ∙ ap (λ (p : Pair). record { from = p.to; to = p.from }) same in

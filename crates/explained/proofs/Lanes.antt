@@ -10,27 +10,27 @@ use Rattle.slack_report.specs.declared.words.FindingWord.{FindingWord}
 use Rattle.right_report.specs.Right.At.{greatest, least_by}
 use Rattle.drawn.specs.Drawn.{Drawn}
 use Rattle.drawn.specs.declared.row.Row.{Row}
-use Rattle.explained.specs.Answers.{AreBounds, AreRowsFound, HasRowTimes, IsApartOf, IsBoundFound, IsRowFound, bound_of}
+use Rattle.explained.specs.Answers.{AreRowBounds, AreRowsFound, HasRowTimes, IsApartOf, IsBoundFound, IsRowFound, bound_of}
 use Rattle.explained.specs.Apart.{net_apart}
 use Rattle.explained.specs.declared.bound.BoundFound.{BoundFound}
 use Rattle.explained.specs.declared.desk.Desk.{Desk}
 use Rattle.explained.specs.declared.pair.Pair.{Pair}
 use Rattle.explained.specs.declared.row.RowFound.{RowFound}
 use Rattle.explained.specs.Step.Bounding.{IsExplained, reversed_found}
-use Rattle.explained.specs.Step.Standing.{Allows, IsReady}
-use Rattle.explained.specs.Step.Telling.{IsTold}
+use Rattle.explained.specs.Step.Standing.{FindingAllows, IsReady}
+use Rattle.explained.specs.Step.Telling.{IsRowTold}
 use Rattle.explained.proofs.Behind.{greatest_found, least_found}
 use Rattle.explained.proofs.Standing.{is_finding}
 
 -- what is told by both bounds of a row is told of what is found of it
-pub told_of : (apart : Net) (row : Row) (kind : RowKind) (found : RowFound) → IsTold apart row kind (record { least = bound_of found.least; greatest = bound_of found.greatest }) found.apart
+pub told_of : (apart : Net) (row : Row) (kind : RowKind) (found : RowFound) → IsRowTold apart row kind (record { least = bound_of found.least; greatest = bound_of found.greatest }) found.apart
     → IsApartOf apart row kind found
 told_of apart row kinds.Ask found told = told
 told_of apart row (kinds.Req range) found told = told
 
 -- both bounds of a row, as they are found
-both_found : (net : Net) (word : FindingWord) (row : Row) (most fewest : BoundFound) → Allows net word → IsBoundFound net word row greatest most
-    → IsBoundFound net word row (least_by (bound_of most)) fewest → AreBounds net row (record { least = bound_of fewest; greatest = bound_of most })
+both_found : (net : Net) (word : FindingWord) (row : Row) (most fewest : BoundFound) → FindingAllows net word → IsBoundFound net word row greatest most
+    → IsBoundFound net word row (least_by (bound_of most)) fewest → AreRowBounds net row (record { least = bound_of fewest; greatest = bound_of most })
 both_found net word row most fewest allows first second = record {
   holds = (first.holds, second.holds);
   word = word;
@@ -42,9 +42,9 @@ both_found net word row most fewest allows first second = record {
 -- what is found of a row, by the searches of its pair and of the reversed one, and by what is told of it in the network apart
 pub row_found : (drawn : Drawn) (net apart : Net) (word later : FindingWord) (row : Row) (turned : Pair) (most searched fewest : BoundFound) (both : BothBounds) (told : Option BothBounds)
     → net ≡ drawn.net → apart ≡ net_apart drawn → later ≡ word → turned ≡ record { from = row.to; to = row.from } → fewest ≡ reversed_found searched
-    → both ≡ record { least = bound_of fewest; greatest = bound_of most } → Allows drawn.net word
+    → both ≡ record { least = bound_of fewest; greatest = bound_of most } → FindingAllows drawn.net word
     → IsExplained net word (record { from = row.from; to = row.to }) most → IsExplained net later turned searched
-    → (AreBounds drawn.net row both → IsTold apart row row.kind both told) → IsRowFound drawn word row (record { greatest = most; least = fewest; apart = told })
+    → (AreRowBounds drawn.net row both → IsRowTold apart row row.kind both told) → IsRowFound drawn word row (record { greatest = most; least = fewest; apart = told })
 row_found drawn net apart word later row turned most searched fewest both told same_net same_apart same_word same_turned same_fewest same_both allows first second tells =
     let one : IsBoundFound drawn.net word row greatest most =
     greatest_found drawn.net word row most (subst (λ (n : Net). IsExplained n word (record { from = row.from; to = row.to }) most) same_net first) in
@@ -54,10 +54,10 @@ row_found drawn net apart word later row turned most searched fewest both told s
     (subst (λ (p : Pair). IsExplained net later p searched) same_turned second)) in
     let two : IsBoundFound drawn.net word row (least_by (bound_of most)) fewest =
     subst (λ (f : BoundFound). IsBoundFound drawn.net word row (least_by (bound_of most)) f) (sym same_fewest) (least_found drawn.net word row (bound_of most) searched there) in
-    let bounds : AreBounds drawn.net row both = subst (λ (b : BothBounds). AreBounds drawn.net row b) (sym same_both) (both_found drawn.net word row most fewest allows one two) in
-    let is_told : IsTold (net_apart drawn) row row.kind (record { least = bound_of fewest; greatest = bound_of most }) told =
-    subst (λ (n : Net). IsTold n row row.kind (record { least = bound_of fewest; greatest = bound_of most }) told) same_apart
-    (subst (λ (b : BothBounds). IsTold apart row row.kind b told) same_both (tells bounds)) in
+    let bounds : AreRowBounds drawn.net row both = subst (λ (b : BothBounds). AreRowBounds drawn.net row b) (sym same_both) (both_found drawn.net word row most fewest allows one two) in
+    let is_told : IsRowTold (net_apart drawn) row row.kind (record { least = bound_of fewest; greatest = bound_of most }) told =
+    subst (λ (n : Net). IsRowTold n row row.kind (record { least = bound_of fewest; greatest = bound_of most }) told) same_apart
+    (subst (λ (b : BothBounds). IsRowTold apart row row.kind b told) same_both (tells bounds)) in
     record { greatest = one; least = two; apart = told_of (net_apart drawn) row row.kind (record { greatest = most; least = fewest; apart = told }) is_told }
 
 -- one row more

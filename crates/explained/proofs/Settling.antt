@@ -7,11 +7,11 @@ use Rattle.event_graph.specs.Edges.{cause_choices, choices_of}
 use Rattle.event_graph.specs.Network.{Constraint, IsConstraint, IsNet, Net}
 use Rattle.event_graph.specs.Proof.{ProofLine}
 use Rattle.event_graph.proofs.Products.{choices_of-some}
-use Rattle.branch.specs.Answers.{Answers, Evidence, Finds, PairSearch}
-use Rattle.branch.specs.declared.answer.Answer.{Answer}
-use Rattle.branch.specs.declared.answer.Answer.TheVariants as answers
-use Rattle.branch.specs.declared.answer.Found.{Found}
-use Rattle.branch.specs.declared.answer.Found.TheVariants as founds
+use Rattle.branch.specs.Answers.{IsGreatestAnswer, Evidence, Finds, PairSearch}
+use Rattle.branch.specs.declared.answer.GreatestAnswer.{GreatestAnswer}
+use Rattle.branch.specs.declared.answer.GreatestAnswer.TheVariants as answers
+use Rattle.branch.specs.declared.answer.SearchFinding.{SearchFinding}
+use Rattle.branch.specs.declared.answer.SearchFinding.TheVariants as founds
 use Rattle.requirements.specs.Bounds.{reversed}
 use Rattle.requirements.specs.declared.bound.Bound.{Bound}
 use Rattle.requirements.specs.declared.bound.Bound.TheVariants as bounds
@@ -31,14 +31,14 @@ use Rattle.explained.specs.Step.Standing.{net_in, word_of_found}
 -- ---- searches
 
 -- a search for times settles the finding
-pub found_settles : (net : Net) (budget leaves : ℕ) (lines : List ProofLine) (known : Option (List ℤ)) (found : Found) (word : FindingWord) → word ≡ word_of_found found
+pub found_settles : (net : Net) (budget leaves : ℕ) (lines : List ProofLine) (known : Option (List ℤ)) (found : SearchFinding) (word : FindingWord) → word ≡ word_of_found found
     → Finds net budget lines leaves known found → cause_choices net.constraints ≤ budget → word ≡ findings.Unsettled → ⊥
 found_settles net budget leaves lines known founds.Consistent word is finds enough none = absurd (cc (is, none))
 found_settles net budget leaves lines known founds.Inconsistent word is finds enough none = absurd (cc (is, none))
 found_settles net budget leaves lines known founds.Unsettled word is finds enough none = omega (arith, finds.below_choices, enough)
 
 -- a search for a greatest separation settles the bound
-pub answer_settles : (search : PairSearch) (left : Evidence) (answer : Answer) → Answers search left answer → cause_choices search.net.constraints ≤ search.budget
+pub answer_settles : (search : PairSearch) (left : Evidence) (answer : GreatestAnswer) → IsGreatestAnswer search left answer → cause_choices search.net.constraints ≤ search.budget
     → IsBoundSettled (bound_by answer)
 answer_settles search left (answers.Closed value) is enough = tt
 answer_settles search left answers.Unbounded is enough = tt

@@ -7,42 +7,42 @@ use Rattle.slack_report.specs.declared.words.FindingWord.{FindingWord}
 use Rattle.slack_report.specs.declared.words.FindingWord.TheVariants as findings
 use Rattle.right_report.specs.Right.Facts.{IsFinding}
 use Rattle.branch.specs.Answers.{Finds}
-use Rattle.branch.specs.declared.answer.Found.{Found}
-use Rattle.branch.specs.declared.answer.Found.TheVariants as founds
+use Rattle.branch.specs.declared.answer.SearchFinding.{SearchFinding}
+use Rattle.branch.specs.declared.answer.SearchFinding.TheVariants as founds
 use Rattle.event_graph.specs.Proof.{ProofLine}
 use Rattle.chains.specs.Named.{HasMarked, IsContradiction}
 use Rattle.chains.proofs.Naming.{named_contradict}
 use Rattle.drawn.specs.Drawn.{Drawn}
 use Rattle.explained.specs.Apart.{net_apart}
 use Rattle.explained.specs.declared.desk.Apart.{Apart}
-use Rattle.explained.specs.Step.Standing.{Allows, HasFound, net_in, word_of_found}
+use Rattle.explained.specs.Step.Standing.{FindingAllows, HasFound, net_in, word_of_found}
 use Rattle.explained.proofs.Wider.{always_is_wider, apart_is_wider}
 
 -- what the search for times finds
-pub has_found : (net : Net) (budget leaves : ℕ) (lines : List ProofLine) (known : Option (List ℤ)) (found : Found) → Finds net budget lines leaves known found
+pub has_found : (net : Net) (budget leaves : ℕ) (lines : List ProofLine) (known : Option (List ℤ)) (found : SearchFinding) → Finds net budget lines leaves known found
     → HasFound net (word_of_found found) known
 has_found net budget leaves lines known founds.Consistent f = f.satisfies
 has_found net budget leaves lines known founds.Inconsistent f = f.none
 has_found net budget leaves lines known founds.Unsettled f = f.always
 
-known_allows : (net : Net) (known : Option (List ℤ)) → IsSomeAnd known (λ times. Satisfies times net) → Allows net findings.Consistent
+known_allows : (net : Net) (known : Option (List ℤ)) → IsSomeAnd known (λ times. Satisfies times net) → FindingAllows net findings.Consistent
 known_allows net None sat = absurd sat
 known_allows net (Some times) sat = (times, sat)
 
 -- a finding that is not inconsistent allows times
-pub found_allows : (net : Net) (word : FindingWord) (known : Option (List ℤ)) → HasFound net word known → (word ≡ findings.Inconsistent → ⊥) → Allows net word
+pub found_allows : (net : Net) (word : FindingWord) (known : Option (List ℤ)) → HasFound net word known → (word ≡ findings.Inconsistent → ⊥) → FindingAllows net word
 found_allows net findings.Consistent known found settled = known_allows net known found
 found_allows net findings.Inconsistent known found settled = settled refl
 found_allows net findings.Unsettled known found settled = found
 
 -- where times satisfy, a finding is not inconsistent
-pub not_inconsistent : (net : Net) (word : FindingWord) (known : Option (List ℤ)) → Allows net findings.Consistent → HasFound net word known → Allows net word
+pub not_inconsistent : (net : Net) (word : FindingWord) (known : Option (List ℤ)) → FindingAllows net findings.Consistent → HasFound net word known → FindingAllows net word
 not_inconsistent net findings.Consistent known allows found = allows
 not_inconsistent net findings.Inconsistent known allows found = found allows.0 allows.1
 not_inconsistent net findings.Unsettled known allows found = found
 
 -- what a finding of a report says
-pub is_finding : (net : Net) (word : FindingWord) → Allows net word → IsFinding net word
+pub is_finding : (net : Net) (word : FindingWord) → FindingAllows net word → IsFinding net word
 is_finding net findings.Consistent allows = tt
 is_finding net findings.Inconsistent allows = absurd allows
 is_finding net findings.Unsettled allows = allows
@@ -50,7 +50,7 @@ is_finding net findings.Unsettled allows = allows
 -- ---- apart
 
 -- what the drawn network allows its network apart allows
-pub allows_apart : (drawn : Drawn) (word : FindingWord) → Allows drawn.net word → Allows (net_apart drawn) word
+pub allows_apart : (drawn : Drawn) (word : FindingWord) → FindingAllows drawn.net word → FindingAllows (net_apart drawn) word
 allows_apart drawn findings.Consistent allows = (allows.0, apart_is_wider drawn allows.0 allows.1)
 allows_apart drawn findings.Inconsistent allows = allows
 allows_apart drawn findings.Unsettled allows = (allows.0, always_is_wider drawn allows.0 allows.1)
@@ -62,16 +62,16 @@ in_memory P drawn (Some a) is p = subst P (sym is) p
 
 -- ---- marks
 
-not_word : (found : Found) → word_of_found found ≡ findings.Inconsistent → found ≡ founds.Inconsistent
+not_word : (found : SearchFinding) → word_of_found found ≡ findings.Inconsistent → found ≡ founds.Inconsistent
 not_word founds.Consistent is = absurd (cc is)
 not_word founds.Inconsistent is = refl
 not_word founds.Unsettled is = absurd (cc is)
 
 -- the constraints that the lines of a search name contradict each other, where it found no times
-pub marks_contradict : (net : Net) (budget leaves : ℕ) (lines : List ProofLine) (known : Option (List ℤ)) (found : Found) (word : FindingWord) (old new : List Bool)
+pub marks_contradict : (net : Net) (budget leaves : ℕ) (lines : List ProofLine) (known : Option (List ℤ)) (found : SearchFinding) (word : FindingWord) (old new : List Bool)
     → word ≡ word_of_found found → Finds net budget lines leaves known found → length old ≡ length net.constraints → HasMarked old lines new → word ≡ findings.Inconsistent
     → IsContradiction net new
 marks_contradict net budget leaves lines known found word old new is finds count marked none =
     let found_none : found ≡ founds.Inconsistent = not_word found (sym is ∙ none) in
-    let f : Finds net budget lines leaves known founds.Inconsistent = subst (λ (x : Found). Finds net budget lines leaves known x) found_none finds in
+    let f : Finds net budget lines leaves known founds.Inconsistent = subst (λ (x : SearchFinding). Finds net budget lines leaves known x) found_none finds in
     named_contradict net new lines (marked.count ∙ count) f.proof marked.named

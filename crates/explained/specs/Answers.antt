@@ -22,7 +22,7 @@ use Rattle.requirements.specs.declared.verdict.Verdict.{Verdict}
 use Rattle.requirements.specs.declared.verdict.Verdict.TheVariants as verdicts
 use Rattle.slack_report.specs.declared.words.FindingWord.{FindingWord}
 use Rattle.slack_report.specs.declared.words.FindingWord.TheVariants as findings
-use Rattle.right_report.specs.Right.At.{Side, greatest, least_by}
+use Rattle.right_report.specs.Right.At.{NextBound, greatest, least_by}
 use Rattle.right_report.specs.Right.Facts.{IsBoundOf, IsFinding}
 use Rattle.drawn.specs.Drawn.{Drawn}
 use Rattle.drawn.specs.declared.row.Row.{Row}
@@ -61,7 +61,7 @@ abbrev pub CanRise : Net → EventId → EventId → List Bool → Type 0
 CanRise net from to set = (times : List ℤ) × Satisfies times net × IsRay net from to times set
 
 -- What stands behind a bound. For a least separation it is that of the reversed pair, whose greatest one is minus it.
-abbrev pub IsBehind : Net → Row → Side → BoundFound → Type 0
+abbrev pub IsBehind : Net → Row → NextBound → BoundFound → Type 0
 IsBehind net row greatest (Closed value chain) = Explains net row.from row.to value chain.items
 IsBehind net row (least_by most) (Closed value chain) = Explains net row.to row.from (neg_ℤ value) chain.items
 IsBehind net row greatest (Unbounded set) = CanRise net row.from row.to set.items
@@ -75,13 +75,13 @@ bound_of (Unbounded set) = bounds.Unbounded
 bound_of (Within limit attained) = bounds.Within limit attained
 
 -- a bound of a row on one side is right: the separation is the greatest or the least one, or there is none, or what was attained is so
-abbrev pub Holds : Net → Row → Side → Bound → Type 0
-Holds net row greatest value = IsGreatestBound net row.from row.to value
-Holds net row (least_by most) value = IsLeastBound net row.from row.to value
+abbrev pub BoundHolds : Net → Row → NextBound → Bound → Type 0
+BoundHolds net row greatest value = IsGreatestBound net row.from row.to value
+BoundHolds net row (least_by most) value = IsLeastBound net row.from row.to value
 
 -- a bound that is right, also behind a finding, and what stands behind it
-pub record IsBoundFound (net : Net) (word : FindingWord) (row : Row) (side : Side) (found : BoundFound) : Type 0 where
-  pub holds : Holds net row side (bound_of found)
+pub record IsBoundFound (net : Net) (word : FindingWord) (row : Row) (side : NextBound) (found : BoundFound) : Type 0 where
+  pub holds : BoundHolds net row side (bound_of found)
   pub right : IsBoundOf net word row side (bound_of found)
   pub behind : IsBehind net row side found
 
@@ -94,7 +94,7 @@ abbrev pub verdict_by : Ends → BothBounds → Verdict
 verdict_by range both = verdict_of range both.least both.greatest
 
 -- both bounds of a row in a network, right, also behind a right finding
-pub record AreBounds (net : Net) (row : Row) (both : BothBounds) : Type 0 where
+pub record AreRowBounds (net : Net) (row : Row) (both : BothBounds) : Type 0 where
   pub holds : IsGreatestBound net row.from row.to both.greatest × IsLeastBound net row.from row.to both.least
   pub word : FindingWord
   pub finding : IsFinding net word
@@ -104,8 +104,8 @@ pub record AreBounds (net : Net) (row : Row) (both : BothBounds) : Type 0 where
 -- A requirement that passes also passes by bounds that are right in the network apart from the order of lanes; or such bounds are told, by
 -- which it doesn't.
 abbrev pub RestsOnOrder : Net → Row → Ends → Option BothBounds → Type 0
-RestsOnOrder apart row range None = (both : BothBounds) × AreBounds apart row both × (verdict_by range both ≡ verdicts.Pass)
-RestsOnOrder apart row range (Some both) = AreBounds apart row both × (verdict_by range both ≡ verdicts.Pass → ⊥)
+RestsOnOrder apart row range None = (both : BothBounds) × AreRowBounds apart row both × (verdict_by range both ≡ verdicts.Pass)
+RestsOnOrder apart row range (Some both) = AreRowBounds apart row both × (verdict_by range both ≡ verdicts.Pass → ⊥)
 
 abbrev pub IsApart : Net → Row → Ends → Verdict → Option BothBounds → Type 0
 IsApart apart row range verdicts.Pass told = RestsOnOrder apart row range told

@@ -7,14 +7,14 @@ ghost use Rattle.event_graph.specs.Satisfying.{Satisfies};
 ghost use Rattle.branch.specs.Work.{IsMadeFor};
 ghost use Rattle.requirements.specs.Bounds.{HasTimes};
 ghost use Rattle.drawn.specs.declared.row.Row.{Row};
-ghost use Rattle.explained.specs.Answers.{AreBounds, IsBoundSettled};
+ghost use Rattle.explained.specs.Answers.{AreRowBounds, IsBoundSettled};
 ghost use Rattle.explained.specs.Step.Bounding.{IsGreatestBy, bound_by};
 ghost use Rattle.explained.specs.Step.Settling.{IsEnough};
-ghost use Rattle.explained.specs.Step.Standing.{IsSettled};
+ghost use Rattle.explained.specs.Step.Standing.{IsNotInconsistent};
 
 use crate::pair::Pair;
 use crate::searches::{Searches, greatest_of};
-use branch::{Answer, Root, Work, root_bound};
+use branch::{GreatestAnswer, Root, Work, root_bound};
 use event_graph::Network;
 use requirements::{BothBounds, Bound};
 use slack_report::FindingWord;
@@ -23,10 +23,10 @@ use slack_report::FindingWord;
 /// behind an unsettled one the root bound. It leaves the times that attain a closed bound, and the events to raise where the pair is
 /// unbounded.
 pub fn greatest_bound(net: &Network, pair: Pair, searches: &mut Searches) -> Bound
-    requires settled { IsSettled net.now searches.old }
+    requires settled { IsNotInconsistent net.now searches.old }
     requires from { pair.from.0 < net.now.events }
     requires to { pair.to.0 < net.now.events }
-    ensures settled { IsSettled net.now searches.new }
+    ensures settled { IsNotInconsistent net.now searches.new }
     ensures word { searches.new.word ≡ searches.old.word }
     ensures bound { IsGreatestBy net.now searches.old.word pair result searches.new.work.times searches.new.work.ray }
     ensures enough { IsEnough net.now searches.old → IsEnough net.now searches.new }
@@ -60,13 +60,13 @@ fn searched_bound(net: &Network, pair: Pair, budget: u64, work: &mut Work) -> Bo
 }
 
 // The bound that an answer tells.
-fn bound_by(answer: Answer) -> Bound
+fn bound_by(answer: GreatestAnswer) -> Bound
     ensures { result ≡ bound_by answer }
 {
     match answer {
-        Answer::Closed(value) => Bound::Closed(value),
-        Answer::Unbounded => Bound::Unbounded,
-        Answer::Enclosed { upper, attained } => Bound::Within {
+        GreatestAnswer::Closed(value) => Bound::Closed(value),
+        GreatestAnswer::Unbounded => Bound::Unbounded,
+        GreatestAnswer::Enclosed { upper, attained } => Bound::Within {
             limit: upper,
             attained: Some(attained),
         },
@@ -95,11 +95,11 @@ fn limit_of(net: &Network, pair: Pair, work: &mut Work) -> Bound
 
 /// Both bounds of a pair of events of a network that is not inconsistent.
 pub fn both_bounds(net: &Network, pair: Pair, searches: &mut Searches) -> BothBounds
-    requires settled { IsSettled net.now searches.old }
+    requires settled { IsNotInconsistent net.now searches.old }
     requires from { pair.from.0 < net.now.events }
     requires to { pair.to.0 < net.now.events }
-    ensures settled { IsSettled net.now searches.new }
-    ensures bounds { (row : Row) → row.from ≡ pair.from → row.to ≡ pair.to → AreBounds net.now row result }
+    ensures settled { IsNotInconsistent net.now searches.new }
+    ensures bounds { (row : Row) → row.from ≡ pair.from → row.to ≡ pair.to → AreRowBounds net.now row result }
     ensures enough { IsEnough net.now searches.old → IsEnough net.now searches.new }
     ensures settles { IsEnough net.now searches.old → IsBoundSettled result.greatest × IsBoundSettled result.least }
     ensures least { HasTimes result.least }

@@ -4,7 +4,7 @@ ghost use Rattle.std.specs.Prelude.{◌≡◌, ◌≤◌, IfOk, IfSome};
 ghost use Rattle.event_graph.specs.Network.{Net};
 ghost use Rattle.explained.specs.Apart.{net_apart};
 ghost use Rattle.explained.specs.Step.Settling.{IsEnoughApart, SufficesApart};
-ghost use Rattle.explained.specs.Step.Standing.{Allows, IsDeskFor, IsFor, IsFresh, IsSettled, net_in};
+ghost use Rattle.explained.specs.Step.Standing.{FindingAllows, IsDeskFor, IsFor, IsFresh, IsNotInconsistent, net_in};
 
 use crate::apart::network_apart;
 use crate::searches::{Searches, find_quietly};
@@ -69,8 +69,8 @@ fn new_apart(alloc: Global, drawn: &DrawnNetwork, budget: u64) -> Result<Option<
 /// find times there too. Behind an unsettled one it is left unsettled.
 pub fn settle_apart(word: FindingWord, apart: &mut Option<Apart>)
     requires fresh { IfSome apart.old (λ a. IsFresh a.net a.searches) }
-    requires allows { IfSome apart.old (λ a. Allows a.net word) }
-    ensures settled { IfSome apart.new (λ a. IsSettled a.net a.searches) }
+    requires allows { IfSome apart.old (λ a. FindingAllows a.net word) }
+    ensures settled { IfSome apart.new (λ a. IsNotInconsistent a.net a.searches) }
     ensures enough { (word ≡ FindingWord.Unsettled → ⊥) → SufficesApart apart.old → IsEnoughApart apart.new }
     ensures same { (net : Net) → net_in net apart.new ≡ net_in net apart.old }
 {

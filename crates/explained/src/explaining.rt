@@ -5,7 +5,7 @@ ghost use Rattle.requirements.specs.Bounds.{HasTimes};
 ghost use Rattle.explained.specs.Answers.{IsBoundSettled, bound_of};
 ghost use Rattle.explained.specs.Step.Bounding.{IsExplained};
 ghost use Rattle.explained.specs.Step.Settling.{IsEnough};
-ghost use Rattle.explained.specs.Step.Standing.{IsSettled};
+ghost use Rattle.explained.specs.Step.Standing.{IsNotInconsistent};
 
 use crate::bound::BoundFound;
 use crate::bounding::greatest_bound;
@@ -25,11 +25,11 @@ pub fn explain_greatest(
     searches: &mut Searches,
     chains: &mut Chains,
 ) -> Result<BoundFound, NoMemory>
-    requires settled { IsSettled net.now searches.old }
+    requires settled { IsNotInconsistent net.now searches.old }
     requires chains { chains.old.events ≡ net.now.events }
     requires from { pair.from.0 < net.now.events }
     requires to { pair.to.0 < net.now.events }
-    ensures settled { IsSettled net.now searches.new }
+    ensures settled { IsNotInconsistent net.now searches.new }
     ensures word { searches.new.word ≡ searches.old.word }
     ensures chains { chains.new.events ≡ net.now.events }
     ensures found { IfOk result (IsExplained net.now searches.old.word pair) }

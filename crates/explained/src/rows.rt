@@ -4,7 +4,7 @@ ghost use Rattle.std.specs.Prelude.{◌≡◌, ◌<◌, ◌≤◌, All, IfOk, le
 ghost use Rattle.drawn.specs.Drawn.{IsRowOf};
 ghost use Rattle.explained.specs.Answers.{AreRowsFound, HasRowTimes, IsRowFound, IsRowSettled};
 ghost use Rattle.explained.specs.Step.Settling.{IsEnough, IsEnoughFor, SufficesApart};
-ghost use Rattle.explained.specs.Step.Standing.{IsDeskFor, IsReady, IsSettled};
+ghost use Rattle.explained.specs.Step.Standing.{IsDeskFor, IsReady, IsNotInconsistent};
 
 use crate::desk::{Desk, settle_apart};
 use crate::explaining::explain_greatest;
@@ -22,7 +22,7 @@ pub fn explain_rows(
     drawn: &DrawnNetwork,
     desk: &mut Desk,
 ) -> Result<Vec<RowFound>, NoMemory>
-    requires settled { IsSettled drawn.now.net desk.old.searches }
+    requires settled { IsNotInconsistent drawn.now.net desk.old.searches }
     requires desk { IsDeskFor drawn.now desk.old }
     ensures rows { IfOk result (λ found. AreRowsFound drawn.now desk.old.searches.word drawn.now.rows found.items) }
     ensures settles { IfOk result (λ found. IsEnough drawn.now.net desk.old.searches → SufficesApart desk.old.apart

@@ -3,14 +3,14 @@
 ghost use Rattle.std.specs.Prelude.{◌≡◌, ◌<◌, ◌≤◌, ℕ, All, IfOk, IfSome, IsSomeAnd, List, length};
 ghost use Rattle.event_graph.specs.Proof.{ProofLine};
 ghost use Rattle.event_graph.specs.Satisfying.{Satisfies};
-ghost use Rattle.branch.specs.Answers.{Answers, evidence};
+ghost use Rattle.branch.specs.Answers.{IsGreatestAnswer, evidence};
 ghost use Rattle.branch.specs.Work.{IsClose, IsMadeFor};
 ghost use Rattle.chains.specs.Named.{IsContradiction};
 ghost use Rattle.explained.specs.Step.Settling.{IsEnough, Suffices};
 ghost use Rattle.explained.specs.Step.Standing.{HasFound, IsFor, IsFresh, word_of_found};
 
 use crate::pair::Pair;
-use branch::{Answer, Found, Quiet, ScribeFailed, Work, find, greatest};
+use branch::{GreatestAnswer, Quiet, ScribeFailed, SearchFinding, Work, find, greatest};
 use chains::Marking;
 use event_graph::Network;
 use itv_base::NoMemory;
@@ -70,19 +70,19 @@ pub fn find_quietly(net: &Network, searches: &mut Searches)
 }
 
 // The word for a finding.
-fn word_of(found: Found) -> FindingWord
+fn word_of(found: SearchFinding) -> FindingWord
     ensures { result ≡ word_of_found found }
 {
     match found {
-        Found::Consistent => FindingWord::Consistent,
-        Found::Inconsistent => FindingWord::Inconsistent,
-        Found::Unsettled => FindingWord::Unsettled,
+        SearchFinding::Consistent => FindingWord::Consistent,
+        SearchFinding::Inconsistent => FindingWord::Inconsistent,
+        SearchFinding::Unsettled => FindingWord::Unsettled,
     }
 }
 
 /// Finds the greatest separation of a pair of events, from known times on. It leaves times that attain what it tells, and the events
 /// to raise where the pair is unbounded.
-pub fn greatest_of(net: &Network, pair: Pair, budget: u64, work: &mut Work) -> Answer
+pub fn greatest_of(net: &Network, pair: Pair, budget: u64, work: &mut Work) -> GreatestAnswer
     requires made { IsMadeFor net.now work.old }
     requires known { IsSomeAnd work.old.known (λ times. Satisfies times net.now) }
     requires from { pair.from.0 < net.now.events }
@@ -91,7 +91,7 @@ pub fn greatest_of(net: &Network, pair: Pair, budget: u64, work: &mut Work) -> A
     ensures made { IsMadeFor net.now work.new }
     ensures known { work.new.known ≡ work.old.known }
     ensures answers { (lines : List ProofLine)
-        × Answers (record { net = net.now; from = pair.from; to = pair.to; budget = budget }) (evidence lines work.new) result }
+        × IsGreatestAnswer (record { net = net.now; from = pair.from; to = pair.to; budget = budget }) (evidence lines work.new) result }
     ensures times { Satisfies work.new.times net.now }
     ensures close { All IsClose work.new.times }
 {

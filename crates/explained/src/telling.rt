@@ -3,10 +3,10 @@
 ghost use Rattle.std.specs.Prelude.{◌≡◌, IfSome};
 ghost use Rattle.event_graph.specs.Network.{Net};
 ghost use Rattle.drawn.specs.Drawn.{IsRowOf};
-ghost use Rattle.explained.specs.Answers.{AreBounds, AreSettledApart, HasTimesApart, RestsOnOrder};
+ghost use Rattle.explained.specs.Answers.{AreRowBounds, AreSettledApart, HasTimesApart, RestsOnOrder};
 ghost use Rattle.explained.specs.Step.Settling.{IsEnough, IsEnoughApart};
-ghost use Rattle.explained.specs.Step.Standing.{IsSettled, net_in};
-ghost use Rattle.explained.specs.Step.Telling.{IsTold};
+ghost use Rattle.explained.specs.Step.Standing.{IsNotInconsistent, net_in};
+ghost use Rattle.explained.specs.Step.Telling.{IsRowTold};
 
 use crate::bounding::both_bounds;
 use crate::desk::Apart;
@@ -18,12 +18,12 @@ use requirements::{BothBounds, Verdict, judge};
 /// What is told of a row apart from the order of lanes, by both of its bounds: of a requirement that passes with that order alone both
 /// bounds without it, and of any other row nothing.
 pub fn told_apart(row: &Row, both: &BothBounds, apart: &mut Option<Apart>) -> Option<BothBounds>
-    requires settled { IfSome apart.old (λ a. IsSettled a.net a.searches) }
+    requires settled { IfSome apart.old (λ a. IsNotInconsistent a.net a.searches) }
     requires row { IfSome apart.old (λ a. IsRowOf a.net row.now) }
-    ensures settled { IfSome apart.new (λ a. IsSettled a.net a.searches) }
+    ensures settled { IfSome apart.new (λ a. IsNotInconsistent a.net a.searches) }
     ensures same { (net : Net) → net_in net apart.new ≡ net_in net apart.old }
-    ensures told { (net : Net) → AreBounds net row.now both.now
-        → IsTold (net_in net apart.old) row.now row.now.kind both.now result }
+    ensures told { (net : Net) → AreRowBounds net row.now both.now
+        → IsRowTold (net_in net apart.old) row.now row.now.kind both.now result }
     ensures enough { IsEnoughApart apart.old → IsEnoughApart apart.new }
     ensures settles { IsEnoughApart apart.old → AreSettledApart result }
     ensures times { HasTimesApart result }
@@ -45,9 +45,9 @@ pub fn told_apart(row: &Row, both: &BothBounds, apart: &mut Option<Apart>) -> Op
 
 // Both bounds of a row in the network apart, where it doesn't pass by them.
 fn broken_apart(row: &Row, range: Range, apart: &mut Apart) -> Option<BothBounds>
-    requires settled { IsSettled apart.old.net apart.old.searches }
+    requires settled { IsNotInconsistent apart.old.net apart.old.searches }
     requires row { IsRowOf apart.old.net row.now }
-    ensures settled { IsSettled apart.new.net apart.new.searches }
+    ensures settled { IsNotInconsistent apart.new.net apart.new.searches }
     ensures same { apart.new.net ≡ apart.old.net }
     ensures told { RestsOnOrder apart.old.net row.now range result }
     ensures enough { IsEnough apart.old.net apart.old.searches → IsEnough apart.new.net apart.new.searches }

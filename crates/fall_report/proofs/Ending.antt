@@ -10,9 +10,9 @@ use Rattle.slack_report.specs.declared.words.Which.{Which}
 use Rattle.slack_report.specs.declared.words.Which.TheVariants.{Max, Min}
 use Rattle.drawn.specs.declared.row.Row.{Row}
 use Rattle.jobs.specs.Ending.{answer_of}
-use Rattle.fall_report.specs.Fall.{Job, MayFollow, Place, Reads, Telling, at_bound, at_end, at_finding, at_last, at_row, at_rows, before_rows, behind_bound, behind_finding, is_spent}
-use Rattle.fall_report.specs.Shows.{IsBound, IsFinding}
-use Rattle.fall_report.specs.Text.{Bound, Finding, bound_spent, closed, consistent, finding_spent, inconsistent, unbounded}
+use Rattle.fall_report.specs.Fall.{Job, PieceMayFollow, TextState, PiecesLead, FallRow, at_bound, at_end, at_finding, at_last, at_row, at_rows, before_rows, behind_bound, behind_finding, is_spent}
+use Rattle.fall_report.specs.Shows.{IsFallBound, IsFinding}
+use Rattle.fall_report.specs.Text.{FallBound, Finding, bound_spent, closed, consistent, finding_spent, inconsistent, unbounded}
 use Rattle.fall_report.specs.Laws.{InconsistentHasNoTimes, UndecidedHasFewTurns}
 
 abbrev Few : Job → Type 0
@@ -24,7 +24,7 @@ record IsEarned (job : Job) (word : EndWord) : Type 0 where
   none : word ≡ Inconsistent → IsInconsistent job.drawn.net
 
 -- what is known at a place: a bound that was spent had few turns, and a word at the end says so
-abbrev IsKnown : Job → Place → Type 0
+abbrev IsKnown : Job → TextState → Type 0
 IsKnown job at_finding = Unit {0}
 IsKnown job at_rows = Unit {0}
 IsKnown job (at_row told) = told.spent ≡ true → Few job
@@ -42,19 +42,19 @@ known_rows job true number [] few = record { few = λ e. few refl; none = λ e. 
 known_rows job false number [] few = record { few = λ e. absurd (cc e); none = λ e. absurd (cc e) }
 known_rows job spent number (r ∷ later) few = few
 
-spent_bound : (job : Job) (which : Which) (r : Row) (lines : List FallLine) (value : Bound) (spent : Bool) → IsBound job.view job.drawn.net job.turns which r lines value → (spent ≡ true → Few job)
+spent_bound : (job : Job) (which : Which) (r : Row) (lines : List FallLine) (value : FallBound) (spent : Bool) → IsFallBound job.view job.drawn.net job.turns which r lines value → (spent ≡ true → Few job)
     → (spent || is_spent value) ≡ true → Few job
 spent_bound job which r lines value true shows few e = few refl
 spent_bound job which r lines (closed number list) false shows few e = absurd (cc e)
 spent_bound job which r lines (unbounded list set) false shows few e = absurd (cc e)
 spent_bound job which r lines bound_spent false shows few e = shows.few
 
-known_bound : (job : Job) (told : Telling) (which : Which) (lines : List FallLine) (value : Bound) → IsBound job.view job.drawn.net job.turns which told.row lines value → (told.spent ≡ true → Few job)
+known_bound : (job : Job) (told : FallRow) (which : Which) (lines : List FallLine) (value : FallBound) → IsFallBound job.view job.drawn.net job.turns which told.row lines value → (told.spent ≡ true → Few job)
     → IsKnown job (behind_bound told which (is_spent value))
 known_bound job told Max lines value shows few = spent_bound job Max told.row lines value told.spent shows few
 known_bound job told Min lines value shows few = known_rows job (told.spent || is_spent value) (told.number + 1) told.later (spent_bound job Min told.row lines value told.spent shows few)
 
-known_next : (job : Job) (here next : Place) (piece : List ℕ) → IsKnown job here → MayFollow job here piece next → IsKnown job next
+known_next : (job : Job) (here next : TextState) (piece : List ℕ) → IsKnown job here → PieceMayFollow job here piece next → IsKnown job next
 known_next job at_finding next piece known (lines, few, found, shows, text, e) = subst (IsKnown job) (sym e) (known_finding job lines found shows)
 known_next job at_rows next piece known (text, e) = subst (IsKnown job) (sym e) (known_rows job false 0 job.drawn.rows (λ e. absurd (cc e)))
 known_next job (at_row told) next piece known (text, e) = subst (IsKnown job) (sym e) known
@@ -62,7 +62,7 @@ known_next job (at_bound told which) next piece known (lines, few, value, shows,
 known_next job (at_end word) next piece known (text, e) = subst (IsKnown job) (sym e) known
 known_next job (at_last word) next piece known may = absurd may
 
-known_last : (job : Job) (here last : Place) (pieces : List (List ℕ)) → IsKnown job here → Reads job here pieces last → IsKnown job last
+known_last : (job : Job) (here last : TextState) (pieces : List (List ℕ)) → IsKnown job here → PiecesLead job here pieces last → IsKnown job last
 known_last job here last [] known e = subst (IsKnown job) e known
 known_last job here last (piece ∷ pieces) known (next, may, rest) = known_last job next last pieces (known_next job here next piece known may) rest
 

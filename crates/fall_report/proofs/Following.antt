@@ -1,6 +1,6 @@
 -- Which pieces may follow in the text of a job, and which lines begin what comes next.
 use Rattle.std.proofs.Common.{◌≡◌, ◌+◌, ◌||◌, ◌≤◌, ℕ, zero, suc, ℤ, Bool, true, false, List, [], ◌∷◌, ◌++◌, drop, length, map, Option, Some, slice_get, refl, sym, subst, ap, add-one, arith}
-use Rattle.itv_base.specs.Outside.{SinkTold}
+use Rattle.itv_base.specs.Outside.{SinkView}
 use Rattle.event_graph.specs.Network.{Net}
 use Rattle.falling.specs.declared.answer.Fallen.{Fallen}
 use Rattle.falling.specs.declared.answer.Fallen.TheVariants.{Closed, Inconsistent, Spent, Unbounded}
@@ -12,14 +12,14 @@ use Rattle.slack_report.specs.declared.words.Which.{Which}
 use Rattle.drawn.specs.declared.row.Row.{Row}
 use Rattle.drawn.specs.Drawn.{Drawn}
 use Rattle.fall_report.specs.declared.desk.Desk.{Desk}
-use Rattle.fall_report.specs.declared.finding.Found.{Found}
-use Rattle.fall_report.specs.declared.finding.Found.TheVariants as founds
+use Rattle.fall_report.specs.declared.finding.FallFinding.{FallFinding}
+use Rattle.fall_report.specs.declared.finding.FallFinding.TheVariants as founds
 use Rattle.falling.specs.declared.view.View.{View}
 use Rattle.fall_report.specs.declared.wanted.Wanted.{Wanted}
-use Rattle.fall_report.specs.Fall.{AreBegun, Job, MayFollow, Telling, at_bound, at_finding, at_rows, before_rows, behind_bound, behind_finding, is_spent}
-use Rattle.fall_report.specs.Shows.{IsBound, IsFinding, first_event}
-use Rattle.fall_report.specs.Step.{BeginsFrom, IsJobOf, IsSet, ShowsFinding, Told, asked, behind_found, told_bound, told_finding, was_spent}
-use Rattle.fall_report.specs.Text.{Bound, Finding, bound_text, finding_text, printed}
+use Rattle.fall_report.specs.Fall.{AreBegun, Job, PieceMayFollow, FallRow, at_bound, at_finding, at_rows, before_rows, behind_bound, behind_finding, is_spent}
+use Rattle.fall_report.specs.Shows.{IsFallBound, IsFinding, first_event}
+use Rattle.fall_report.specs.Step.{BeginsFrom, IsJobOf, IsSet, ShowsFinding, WrotePieces, asked, behind_found, told_bound, told_finding, was_spent}
+use Rattle.fall_report.specs.Text.{FallBound, Finding, bound_text, finding_text, printed}
 use Rattle.falling.specs.View.{IsViewOf}
 use Rattle.fall_report.specs.View.{seen, source}
 
@@ -38,7 +38,7 @@ module _ {net : Net} {wanted : Wanted} {job : Job} (of : IsJobOf net wanted job)
       (lines, in_turns lines begin.0, in_job lines, values, subst (λ (n : Net). IsDerivation (seen job.view n) first_event lines values) (sym of.net_is) d)
 
   pub finding_may : (lines : List FallLine) (found : Finding) → ShowsFinding net wanted.turns lines found
-      → MayFollow job at_finding (fall_text (printed wanted.cert lines) ++ finding_text found) (behind_finding found)
+      → PieceMayFollow job at_finding (fall_text (printed wanted.cert lines) ++ finding_text found) (behind_finding found)
   finding_may lines found shows = (
     lines,
     in_turns lines shows.0,
@@ -50,7 +50,7 @@ module _ {net : Net} {wanted : Wanted} {job : Job} (of : IsJobOf net wanted job)
 
   -- ---- a bound of a row
 
-  pub begun_bound : (told : Telling) (which : Which) (r : Row) (lines : List FallLine) → told.row ≡ r → BeginsFrom net wanted.turns (λ view. source view which r) lines
+  pub begun_bound : (told : FallRow) (which : Which) (r : Row) (lines : List FallLine) → told.row ≡ r → BeginsFrom net wanted.turns (λ view. source view which r) lines
       → AreBegun job (at_bound told which) (printed wanted.cert lines)
   begun_bound told which r lines same begin =
       let (values, d) = begin.1 job.view of.view in (
@@ -62,19 +62,19 @@ module _ {net : Net} {wanted : Wanted} {job : Job} (of : IsJobOf net wanted job)
             (subst (λ (row : Row). IsDerivation (seen job.view net) (source job.view which row) lines values) (sym same) d),
       )
 
-  pub bound_may : (told : Telling) (which : Which) (r : Row) (lines : List FallLine) (value : Bound) → told.row ≡ r → length lines ≤ wanted.turns → IsBound job.view net wanted.turns which r lines value
-      → MayFollow job (at_bound told which) (fall_text (printed wanted.cert lines) ++ bound_text which value) (behind_bound told which (is_spent value))
+  pub bound_may : (told : FallRow) (which : Which) (r : Row) (lines : List FallLine) (value : FallBound) → told.row ≡ r → length lines ≤ wanted.turns → IsFallBound job.view net wanted.turns which r lines value
+      → PieceMayFollow job (at_bound told which) (fall_text (printed wanted.cert lines) ++ bound_text which value) (behind_bound told which (is_spent value))
   bound_may told which r lines value same few shows = (
     lines,
     in_turns lines few,
     value,
-    subst (λ (n : Net). IsBound job.view n job.turns which told.row lines value) (sym of.net_is)
-        (subst (λ turns. IsBound job.view net turns which told.row lines value) (sym of.turns) (subst (λ (row : Row). IsBound job.view net wanted.turns which row lines value) (sym same) shows)),
+    subst (λ (n : Net). IsFallBound job.view n job.turns which told.row lines value) (sym of.net_is)
+        (subst (λ turns. IsFallBound job.view net turns which told.row lines value) (sym of.turns) (subst (λ (row : Row). IsFallBound job.view net wanted.turns which row lines value) (sym same) shows)),
     ap (λ (ls : List FallLine). fall_text ls ++ bound_text which value) (in_job lines),
     refl,
   )
 
-pub behind_told : (found : Found) (times : List ℤ) → behind_finding (told_finding found times) ≡ behind_found found
+pub behind_told : (found : FallFinding) (times : List ℤ) → behind_finding (told_finding found times) ≡ behind_found found
 behind_told founds.Consistent times = refl
 behind_told founds.Inconsistent times = refl
 behind_told founds.Spent times = refl
@@ -96,9 +96,9 @@ pub job_of : (drawn : Drawn) (wanted : Wanted) (view : View) (net : Net) → net
 job_of drawn wanted view net same v = record { net_is = sym same; view = subst (λ (n : Net). IsViewOf n view) (sym same) v; turns = refl; cert = refl }
 
 -- rows up to a number were told
-pub record RowsTold (drawn : Drawn) (wanted : Wanted) (number : ℕ) (spent : Bool) (desk : Desk) (old now : SinkTold) : Type 0 where
+pub record RowsTold (drawn : Drawn) (wanted : Wanted) (number : ℕ) (spent : Bool) (desk : Desk) (old now : SinkView) : Type 0 where
   pub set : IsSet drawn.net desk
-  pub pieces : (view : View) → IsViewOf drawn.net view → Told (asked drawn view wanted) at_rows (before_rows spent number (drop number drawn.rows)) old now
+  pub pieces : (view : View) → IsViewOf drawn.net view → WrotePieces (asked drawn view wanted) at_rows (before_rows spent number (drop number drawn.rows)) old now
 
 -- the next row
 pub rows_more : (rows : List Row) (number : ℕ) (row : Row) → slice_get rows number ≡ Some row → drop number rows ≡ row ∷ drop (number + 1) rows

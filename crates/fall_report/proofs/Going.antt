@@ -2,19 +2,19 @@
 use Rattle.std.proofs.Common.{◌≡◌, ◌≤◌, ℕ, Bool, true, false, List, [], ◌∷◌, ◌++◌, Result, Ok, Err, IsErr, refl, sym, subst, ap, ◌∙◌, append-nil, append_assoc, arith}
 use Rattle.std.specs.List.{concat}
 use Rattle.std.proofs.lemmas.List.Folds.{concat-append}
-use Rattle.itv_base.specs.Outside.{CutShort, SinkTold, grown}
+use Rattle.itv_base.specs.Outside.{CutShort, SinkView, grown}
 use Rattle.itv_base.proofs.Written.{cut_then, grown-append, grown-nil}
 use Rattle.falling.specs.Derivation.{starting_values}
 use Rattle.falling.specs.declared.line.FallLine.{FallLine}
 use Rattle.fall_report.specs.FallText.{fall_text}
-use Rattle.fall_report.specs.Fall.{AreBegun, Job, MayFollow, Place, Reads, at_bound, at_end, at_finding, at_last, at_row, at_rows}
+use Rattle.fall_report.specs.Fall.{AreBegun, Job, PieceMayFollow, TextState, PiecesLead, at_bound, at_end, at_finding, at_last, at_row, at_rows}
 use Rattle.fall_report.specs.Shows.{first_event}
-use Rattle.fall_report.specs.Step.{Goes, SinkGrew, SinkWasCut, Stopped, Told}
+use Rattle.fall_report.specs.Step.{WritesPieces, SinkGrew, SinkWasCut, WrotePieceFront, WrotePieces}
 use Rattle.fall_report.specs.Text.{printed}
 use Rattle.fall_report.specs.View.{seen, source}
 
-reads-append : (job : Job) (xs ys : List (List ℕ)) (here mid last : Place) → Reads job here xs mid → Reads job mid ys last → Reads job here (xs ++ ys) last
-reads-append job [] ys here mid last e reads = subst (λ (at : Place). Reads job at ys last) (sym e) reads
+reads-append : (job : Job) (xs ys : List (List ℕ)) (here mid last : TextState) → PiecesLead job here xs mid → PiecesLead job mid ys last → PiecesLead job here (xs ++ ys) last
+reads-append job [] ys here mid last e reads = subst (λ (at : TextState). PiecesLead job at ys last) (sym e) reads
 reads-append job (x ∷ xs) ys here mid last (next, may, rest) reads = (next, may, reads-append job xs ys next mid last rest reads)
 
 zero-≤ : (n : ℕ) → 0 ≤ n
@@ -25,7 +25,7 @@ printed_none : (cert : Bool) → [] ≡ printed cert []
 printed_none true = refl
 printed_none false = refl
 
-pub none_begun : (job : Job) (place : Place) → AreBegun job place []
+pub none_begun : (job : Job) (place : TextState) → AreBegun job place []
 none_begun job at_finding = ([], zero-≤ job.turns, printed_none job.cert, starting_values (seen job.view job.drawn.net) first_event, refl)
 none_begun job at_rows = refl
 none_begun job (at_row told) = refl
@@ -36,14 +36,14 @@ none_begun job (at_last word) = refl
 module _ {job : Job} where
   -- ---- pieces that were put
 
-  pub told_none : (here : Place) (told : SinkTold) → Told job here here told told
+  pub told_none : (here : TextState) (told : SinkView) → WrotePieces job here here told told
   told_none here told = record { pieces = []; reads = refl; grew = grown-nil told }
 
   -- one piece is put that may follow
-  pub told_piece : {here : Place} {old new : SinkTold} (next : Place) (piece : List ℕ) → MayFollow job here piece next → new ≡ grown old piece → Told job here next old new
+  pub told_piece : {here : TextState} {old new : SinkView} (next : TextState) (piece : List ℕ) → PieceMayFollow job here piece next → new ≡ grown old piece → WrotePieces job here next old new
   told_piece {old = old} next piece may put = record { pieces = piece ∷ []; reads = (next, may, refl); grew = put ∙ ap (grown old) (sym (append-nil piece)) }
 
-  pub told_then : {here mid last : Place} {old now new : SinkTold} → Told job here mid old now → Told job mid last now new → Told job here last old new
+  pub told_then : {here mid last : TextState} {old now new : SinkView} → WrotePieces job here mid old now → WrotePieces job mid last now new → WrotePieces job here last old new
   told_then {here = here} {mid = mid} {last = last} {old = old} a b = record {
     pieces = a.pieces ++ b.pieces;
     reads = reads-append job a.pieces b.pieces here mid last a.reads b.reads;
@@ -52,13 +52,13 @@ module _ {job : Job} where
   }
 
   -- pieces lead to what is the same place
-  pub told_at : {here mid last : Place} {old new : SinkTold} → mid ≡ last → Told job here mid old new → Told job here last old new
-  told_at {here = here} {old = old} {new = new} e t = subst (λ (at : Place). Told job here at old new) e t
+  pub told_at : {here mid last : TextState} {old new : SinkView} → mid ≡ last → WrotePieces job here mid old new → WrotePieces job here last old new
+  told_at {here = here} {old = old} {new = new} e t = subst (λ (at : TextState). WrotePieces job here at old new) e t
 
   -- ---- a put that failed
 
   -- of one piece that may follow a front is put
-  pub stopped_piece : {here : Place} {old new : SinkTold} (next : Place) (piece : List ℕ) → MayFollow job here piece next → CutShort old new piece → Stopped job here old new
+  pub stopped_piece : {here : TextState} {old new : SinkView} (next : TextState) (piece : List ℕ) → PieceMayFollow job here piece next → CutShort old new piece → WrotePieceFront job here old new
   stopped_piece {old = old} {new = new} next piece may cut = record {
     pieces = piece ∷ [];
     last = next;
@@ -69,11 +69,11 @@ module _ {job : Job} where
   }
 
   -- a search fails in the lines of its derivation
-  pub stopped_search : {here : Place} {old new : SinkTold} (begun : List FallLine) → AreBegun job here begun → SinkWasCut old begun new → Stopped job here old new
+  pub stopped_search : {here : TextState} {old new : SinkView} (begun : List FallLine) → AreBegun job here begun → SinkWasCut old begun new → WrotePieceFront job here old new
   stopped_search {here = here} begun are cut = record { pieces = []; last = here; reads = refl; begun = begun; are_begun = are; cut = cut }
 
   -- pieces are put, and then a front of others
-  pub stops_then : {here mid : Place} {old now new : SinkTold} → Told job here mid old now → Stopped job mid now new → Stopped job here old new
+  pub stops_then : {here mid : TextState} {old now new : SinkView} → WrotePieces job here mid old now → WrotePieceFront job mid now new → WrotePieceFront job here old new
   stops_then {here = here} {mid = mid} {old = old} {now = now} {new = new} a b = record {
     pieces = a.pieces ++ b.pieces;
     last = b.last;
@@ -90,32 +90,32 @@ module _ {job : Job} where
   -- ---- steps
 
   -- a step failed, and so does what called it
-  pub goes_up : {B E : Type 0} {here : Place} {old new : SinkTold} (to : B → Place) (result : Result B E) → IsErr result → Stopped job here old new → Goes job here to old new result
+  pub goes_up : {B E : Type 0} {here : TextState} {old new : SinkView} (to : B → TextState) (result : Result B E) → IsErr result → WrotePieceFront job here old new → WritesPieces job here to old new result
   goes_up to (Ok x) is stopped = absurd (cc is)
   goes_up to (Err e) is stopped = stopped
 
   -- pieces are put, and then a step is done
-  pub goes_then : {B E : Type 0} {here mid : Place} {old now : SinkTold} (to : B → Place) (new : SinkTold) (result : Result B E) → Told job here mid old now
-      → Goes job mid to now new result → Goes job here to old new result
+  pub goes_then : {B E : Type 0} {here mid : TextState} {old now : SinkView} (to : B → TextState) (new : SinkView) (result : Result B E) → WrotePieces job here mid old now
+      → WritesPieces job mid to now new result → WritesPieces job here to old new result
   goes_then to new (Ok x) a b = told_then a b
   goes_then to new (Err e) a b = stops_then a b
 
   -- the lines of a search are put, and then what they show
-  pub told_shown : {here : Place} {old now new : SinkTold} (next : Place) (lines : List FallLine) (text : List ℕ) → MayFollow job here (fall_text lines ++ text) next → SinkGrew old lines now
-      → new ≡ grown now text → Told job here next old new
+  pub told_shown : {here : TextState} {old now new : SinkView} (next : TextState) (lines : List FallLine) (text : List ℕ) → PieceMayFollow job here (fall_text lines ++ text) next → SinkGrew old lines now
+      → new ≡ grown now text → WrotePieces job here next old new
   told_shown {old = old} next lines text may grew put =
       told_piece next (fall_text lines ++ text) may (put ∙ ap (λ told. grown told text) grew ∙ grown-append old (fall_text lines) text)
 
-  pub stopped_shown : {here : Place} {old now new : SinkTold} (next : Place) (lines : List FallLine) (text : List ℕ) → MayFollow job here (fall_text lines ++ text) next → SinkGrew old lines now
-      → CutShort now new text → Stopped job here old new
+  pub stopped_shown : {here : TextState} {old now new : SinkView} (next : TextState) (lines : List FallLine) (text : List ℕ) → PieceMayFollow job here (fall_text lines ++ text) next → SinkGrew old lines now
+      → CutShort now new text → WrotePieceFront job here old new
   stopped_shown {old = old} {now = now} {new = new} next lines text may grew cut =
       stopped_piece next (fall_text lines ++ text) may (cut_then old now new (fall_text lines) text grew cut)
 
 -- without the lines nothing is put
-pub quiet : (cert : Bool) (told : SinkTold) (lines : List FallLine) → cert ≡ false → SinkGrew told (printed cert lines) told
+pub quiet : (cert : Bool) (told : SinkView) (lines : List FallLine) → cert ≡ false → SinkGrew told (printed cert lines) told
 quiet true told lines e = absurd (cc e)
 quiet false told lines e = grown-nil told
 
-pub quiet_none : (cert : Bool) (told : SinkTold) → SinkGrew told (printed cert []) told
+pub quiet_none : (cert : Bool) (told : SinkView) → SinkGrew told (printed cert []) told
 quiet_none true told = grown-nil told
 quiet_none false told = grown-nil told

@@ -27,10 +27,10 @@ use Rattle.slack_report.specs.declared.words.Which.{Which}
 use Rattle.slack_report.specs.declared.words.Which.TheVariants.{Max, Min}
 use Rattle.drawn.specs.declared.row.Row.{Row}
 use Rattle.drawn.specs.Drawn.{AreTimes}
-use Rattle.fall_report.specs.declared.finding.Found.TheVariants as founds
+use Rattle.fall_report.specs.declared.finding.FallFinding.TheVariants as founds
 use Rattle.falling.specs.declared.view.View.{View}
 use Rattle.falling.specs.declared.view.View.TheVariants.{Plain, Negated}
-use Rattle.fall_report.specs.Shows.{CanRise, IsBound, IsExtreme, IsFinding, first_event, shown_by}
+use Rattle.fall_report.specs.Shows.{CanRise, IsFallBound, IsExtreme, IsFinding, first_event, shown_by}
 use Rattle.fall_report.specs.Step.{BeginsFrom, HasFound, ShowsFinding, found_by, told_bound, told_finding}
 use Rattle.fall_report.specs.Text.{consistent}
 use Rattle.falling.specs.View.{IsViewOf}
@@ -276,7 +276,7 @@ module _ (net : Net) (which : Which) (r : Row) (is_net : IsNet net) (in_from : r
   -- what an answer on the searched pair of a row says of its bound, where some times satisfy
   pub shows_row : (negation : Option Net) (turns : ℕ) (lines : List FallLine) (times : List ℤ) (ray : List Bool) (fallen : Fallen) (view : View) → IsViewOf net view
       → IsNegationOf net negation → (some : List ℤ) → Satisfies some net → AnswersAs negation net (asked_of (source Plain which r) (target Plain which r) turns) lines times ray fallen
-      → (HasTimes fallen → All IsNearValue times) → IsBound view net turns which r lines (told_bound which r.from times ray fallen)
+      → (HasTimes fallen → All IsNearValue times) → IsFallBound view net turns which r lines (told_bound which r.from times ray fallen)
   shows_row None turns lines times ray fallen Negated v is some satisfied a near = absurd (one_view net is v)
   shows_row (Some n) turns lines times ray fallen Plain v is some satisfied a near = absurd (one_view net v is.1)
   shows_row None turns lines times ray (Closed value) Plain v is some satisfied a near = record {

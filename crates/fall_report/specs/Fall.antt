@@ -17,8 +17,8 @@ use Rattle.drawn.specs.Drawn.{Drawn, name_of}
 use Rattle.drawn.specs.declared.row.Row.{Row}
 use Rattle.slack_report.specs.Text.{entry_text}
 use Rattle.falling.specs.declared.view.View.{View}
-use Rattle.fall_report.specs.Shows.{IsBound, IsFinding, first_event}
-use Rattle.fall_report.specs.Text.{Bound, Finding, bound_spent, bound_text, consistent, finding_spent, finding_text, front_text, inconsistent, closed, printed, unbounded}
+use Rattle.fall_report.specs.Shows.{IsFallBound, IsFinding, first_event}
+use Rattle.fall_report.specs.Text.{FallBound, Finding, bound_spent, bound_text, consistent, finding_spent, finding_text, front_text, inconsistent, closed, printed, unbounded}
 use Rattle.falling.specs.View.{IsViewOf}
 use Rattle.fall_report.specs.View.{seen, source}
 
@@ -30,59 +30,59 @@ pub record Job : Type 0 where
   pub cert : Bool
 
 -- a row that comes next or is being told, its number, whether a bound before it was spent, and the rows behind it
-pub record Telling : Type 0 where
+pub record FallRow : Type 0 where
   pub spent : Bool
   pub number : ℕ
   pub row : Row
   pub later : List Row
 
 -- where a text stands between two pieces, behind its front
-pub data Place : Type 0 where
-  at_finding : Place
-  at_rows : Place
-  at_row : Telling → Place
-  at_bound : Telling → Which → Place
-  at_end : EndWord → Place
-  at_last : EndWord → Place
+pub data TextState : Type 0 where
+  at_finding : TextState
+  at_rows : TextState
+  at_row : FallRow → TextState
+  at_bound : FallRow → Which → TextState
+  at_end : EndWord → TextState
+  at_last : EndWord → TextState
 
 -- before the rows from a number on: at the end where there are none, which is undecided where a bound was spent
-abbrev pub before_rows : Bool → ℕ → List Row → Place
+abbrev pub before_rows : Bool → ℕ → List Row → TextState
 before_rows spent number [] = at_end (if spent then Undecided else Pass)
 before_rows spent number (r ∷ later) = at_row (record { spent = spent; number = number; row = r; later = later })
 
-abbrev pub behind_finding : Finding → Place
+abbrev pub behind_finding : Finding → TextState
 behind_finding (consistent list) = at_rows
 behind_finding inconsistent = at_end Inconsistent
 behind_finding finding_spent = at_end Undecided
 
-abbrev pub is_spent : Bound → Bool
+abbrev pub is_spent : FallBound → Bool
 is_spent (closed value list) = false
 is_spent (unbounded list set) = false
 is_spent bound_spent = true
 
 -- the least bound of a row comes behind the greatest, and behind that the rows that are left
-abbrev pub behind_bound : Telling → Which → Bool → Place
+abbrev pub behind_bound : FallRow → Which → Bool → TextState
 behind_bound told Max spent = at_bound (record told { spent = told.spent || spent }) Min
 behind_bound told Min spent = before_rows (told.spent || spent) (told.number + 1) told.later
 
 -- a piece of text leads from a place to another; a derivation has at most as many lines as there are turns
-abbrev pub MayFollow : Job → Place → List ℕ → Place → Type 0
-MayFollow job at_finding piece next =
+abbrev pub PieceMayFollow : Job → TextState → List ℕ → TextState → Type 0
+PieceMayFollow job at_finding piece next =
     (lines : List FallLine) × (length lines ≤ job.turns) × (found : Finding) × IsFinding job.view job.drawn.net job.turns lines found
     × (piece ≡ fall_text (printed job.cert lines) ++ finding_text found) × (next ≡ behind_finding found)
-MayFollow job at_rows piece next = (piece ≡ entry_text (line.rows (length job.drawn.rows))) × (next ≡ before_rows false 0 job.drawn.rows)
-MayFollow job (at_row told) piece next =
+PieceMayFollow job at_rows piece next = (piece ≡ entry_text (line.rows (length job.drawn.rows))) × (next ≡ before_rows false 0 job.drawn.rows)
+PieceMayFollow job (at_row told) piece next =
     (piece ≡ entry_text (line.row told.number told.row.kind (name_of job.drawn told.row.from) (name_of job.drawn told.row.to))) × (next ≡ at_bound told Max)
-MayFollow job (at_bound told which) piece next =
-    (lines : List FallLine) × (length lines ≤ job.turns) × (value : Bound) × IsBound job.view job.drawn.net job.turns which told.row lines value
+PieceMayFollow job (at_bound told which) piece next =
+    (lines : List FallLine) × (length lines ≤ job.turns) × (value : FallBound) × IsFallBound job.view job.drawn.net job.turns which told.row lines value
     × (piece ≡ fall_text (printed job.cert lines) ++ bound_text which value) × (next ≡ behind_bound told which (is_spent value))
-MayFollow job (at_end word) piece next = (piece ≡ entry_text (line.ending word)) × (next ≡ at_last word)
-MayFollow job (at_last word) piece next = ⊥
+PieceMayFollow job (at_end word) piece next = (piece ≡ entry_text (line.ending word)) × (next ≡ at_last word)
+PieceMayFollow job (at_last word) piece next = ⊥
 
 -- pieces lead one after another from a place to another
-abbrev pub Reads : Job → Place → List (List ℕ) → Place → Type 0
-Reads job at [] last = at ≡ last
-Reads job at (piece ∷ pieces) last = (next : Place) × MayFollow job at piece next × Reads job next pieces last
+abbrev pub PiecesLead : Job → TextState → List (List ℕ) → TextState → Type 0
+PiecesLead job at [] last = at ≡ last
+PiecesLead job at (piece ∷ pieces) last = (next : TextState) × PieceMayFollow job at piece next × PiecesLead job next pieces last
 
 -- these lines are printed of some that begin a derivation
 abbrev pub BeginAt : Job → EventId → List FallLine → Type 0
@@ -90,7 +90,7 @@ BeginAt job from begun =
     (lines : List FallLine) × (length lines ≤ job.turns) × (begun ≡ printed job.cert lines) × (values : List ℤ) × IsDerivation (seen job.view job.drawn.net) from lines values
 
 -- these lines are printed of the derivation that comes at a place, if one does
-abbrev pub AreBegun : Job → Place → List FallLine → Type 0
+abbrev pub AreBegun : Job → TextState → List FallLine → Type 0
 AreBegun job at_finding begun = BeginAt job first_event begun
 AreBegun job (at_bound told which) begun = BeginAt job (source job.view which told.row) begun
 AreBegun job _ begun = begun ≡ []
@@ -101,7 +101,7 @@ pub record AnswersFall (drawn : Drawn) (turns : ℕ) (cert : Bool) (answer : Ans
   pub is_view : IsViewOf drawn.net view
   pub pieces : List (List ℕ)
   pub word : EndWord
-  pub reads : Reads (record { drawn = drawn; view = view; turns = turns; cert = cert }) at_finding pieces (at_last word)
+  pub reads : PiecesLead (record { drawn = drawn; view = view; turns = turns; cert = cert }) at_finding pieces (at_last word)
   pub is_text : text ≡ front_text drawn view ++ concat pieces
   pub is_answer : answer ≡ answer_of word
 
@@ -110,8 +110,8 @@ pub record BeginsFall (drawn : Drawn) (turns : ℕ) (cert : Bool) (text : List �
   pub view : View
   pub is_view : IsViewOf drawn.net view
   pub pieces : List (List ℕ)
-  pub last : Place
-  pub reads : Reads (record { drawn = drawn; view = view; turns = turns; cert = cert }) at_finding pieces last
+  pub last : TextState
+  pub reads : PiecesLead (record { drawn = drawn; view = view; turns = turns; cert = cert }) at_finding pieces last
   pub begun : List FallLine
   pub are_begun : AreBegun (record { drawn = drawn; view = view; turns = turns; cert = cert }) last begun
   pub is_text : text ≡ front_text drawn view ++ (concat pieces ++ fall_text begun)

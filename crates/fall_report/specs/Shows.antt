@@ -16,7 +16,7 @@ use Rattle.drawn.specs.declared.row.Row.{Row}
 use Rattle.drawn.specs.Drawn.{AreTimes}
 use Rattle.falling.specs.declared.view.View.{View}
 use Rattle.fall_report.specs.View.{seen, source, target, times_seen}
-use Rattle.fall_report.specs.Text.{Bound, Finding, bound_spent, consistent, finding_spent, inconsistent, closed, unbounded}
+use Rattle.fall_report.specs.Text.{FallBound, Finding, bound_spent, consistent, finding_spent, inconsistent, closed, unbounded}
 
 -- the derivation of the finding starts at event 0
 abbrev pub first_event : EventId
@@ -81,7 +81,7 @@ pub record IsUnboundedBy (view : View) (net : Net) (which : Which) (r : Row) (li
   pub raised : CanRise which net r list set
   pub derived : Derives view net (source view which r) lines (λ values. list ≡ moved r.from (times_seen view values))
 
-abbrev pub IsBound : View → Net → ℕ → Which → Row → List FallLine → Bound → Type 0
-IsBound view net turns which r lines (closed value list) = IsNumberBy view net which r lines value list
-IsBound view net turns which r lines (unbounded list set) = IsUnboundedBy view net which r lines list set
-IsBound view net turns which r lines bound_spent = AreSpent view net (source view which r) turns lines
+abbrev pub IsFallBound : View → Net → ℕ → Which → Row → List FallLine → FallBound → Type 0
+IsFallBound view net turns which r lines (closed value list) = IsNumberBy view net which r lines value list
+IsFallBound view net turns which r lines (unbounded list set) = IsUnboundedBy view net which r lines list set
+IsFallBound view net turns which r lines bound_spent = AreSpent view net (source view which r) turns lines

@@ -2,7 +2,7 @@
 use Rattle.std.specs.Prelude.{◌≡◌, ◌≤◌, ◌||◌, ◌+◌, ℕ, ℤ, Bool, false, true, if◌then◌else◌, List, ◌++◌, length, Result, Ok, Err}
 use Rattle.std.specs.List.{concat}
 use Rattle.itv_base.specs.declared.names.EventId.{EventId}
-use Rattle.itv_base.specs.Outside.{CutShort, SinkTold, grown}
+use Rattle.itv_base.specs.Outside.{CutShort, SinkView, grown}
 use Rattle.event_graph.specs.Network.{IsNet, Net}
 use Rattle.event_graph.specs.Satisfying.{Satisfies}
 use Rattle.event_graph.specs.Times.{moved}
@@ -19,23 +19,23 @@ use Rattle.slack_report.specs.declared.words.Which.{Which}
 use Rattle.drawn.specs.declared.row.Row.{Row}
 use Rattle.drawn.specs.Drawn.{Drawn}
 use Rattle.fall_report.specs.declared.desk.Desk.{Desk}
-use Rattle.fall_report.specs.declared.finding.Found.{Found}
-use Rattle.fall_report.specs.declared.finding.Found.TheVariants as founds
+use Rattle.fall_report.specs.declared.finding.FallFinding.{FallFinding}
+use Rattle.fall_report.specs.declared.finding.FallFinding.TheVariants as founds
 use Rattle.falling.specs.declared.view.View.{View}
 use Rattle.falling.specs.declared.view.View.TheVariants.{Plain}
 use Rattle.fall_report.specs.declared.wanted.Wanted.{Wanted}
-use Rattle.fall_report.specs.Fall.{AreBegun, Job, Place, Reads, Telling, at_end, at_rows, before_rows}
+use Rattle.fall_report.specs.Fall.{AreBegun, Job, TextState, PiecesLead, FallRow, at_end, at_rows, before_rows}
 use Rattle.fall_report.specs.Shows.{IsFinding, shown_by}
-use Rattle.fall_report.specs.Text.{Bound, Finding, bound_spent, consistent, finding_spent, inconsistent, closed, printed, unbounded}
+use Rattle.fall_report.specs.Text.{FallBound, Finding, bound_spent, consistent, finding_spent, inconsistent, closed, printed, unbounded}
 use Rattle.falling.specs.View.{IsViewOf}
 use Rattle.fall_report.specs.View.{seen, source, target}
 
 -- what a sink tells grew by just the texts of the lines
-abbrev pub SinkGrew : SinkTold → List FallLine → SinkTold → Type 0
+abbrev pub SinkGrew : SinkView → List FallLine → SinkView → Type 0
 SinkGrew old lines new = new ≡ grown old (fall_text lines)
 
 -- it grew by a front of their texts, and its count of faults rose
-abbrev pub SinkWasCut : SinkTold → List FallLine → SinkTold → Type 0
+abbrev pub SinkWasCut : SinkView → List FallLine → SinkView → Type 0
 SinkWasCut old lines new = CutShort old new (fall_text lines)
 
 -- the memory is made for a network
@@ -47,11 +47,11 @@ pub record IsSet (net : Net) (desk : Desk) : Type 0 where
 -- ---- searches
 
 -- a search told the lines of a derivation to a sink, where they are printed, and what they show
-abbrev pub Tells : Bool → SinkTold → SinkTold → (List FallLine → Type 0) → Type 0
-Tells cert old new Shows = (lines : List FallLine) × SinkGrew old (printed cert lines) new × Shows lines
+abbrev pub WroteDerivation : Bool → SinkView → SinkView → (List FallLine → Type 0) → Type 0
+WroteDerivation cert old new Shows = (lines : List FallLine) × SinkGrew old (printed cert lines) new × Shows lines
 
 -- a search was cut short in lines that begin a derivation
-abbrev pub WasCut : Bool → SinkTold → SinkTold → (List FallLine → Type 0) → Type 0
+abbrev pub WasCut : Bool → SinkView → SinkView → (List FallLine → Type 0) → Type 0
 WasCut cert old new Begin = (lines : List FallLine) × SinkWasCut old (printed cert lines) new × Begin lines
 
 -- the lines, at most as many as turns, begin a derivation from the event that a view names
@@ -70,25 +70,25 @@ AnswersRow net which r turns lines solver answer =
 -- ---- what is told
 
 -- what an answer on event 0 and itself says; that pair is not unbounded
-abbrev pub found_by : Fallen → Found
+abbrev pub found_by : Fallen → FallFinding
 found_by (fallen.Closed value) = founds.Consistent
 found_by fallen.Unbounded = founds.Consistent
 found_by fallen.Inconsistent = founds.Inconsistent
 found_by fallen.Spent = founds.Spent
 
-abbrev pub told_finding : Found → List ℤ → Finding
+abbrev pub told_finding : FallFinding → List ℤ → Finding
 told_finding founds.Consistent list = consistent list
 told_finding founds.Inconsistent list = inconsistent
 told_finding founds.Spent list = finding_spent
 
 -- some times satisfy where this is found
-abbrev pub HasFound : Net → Found → Type 0
+abbrev pub HasFound : Net → FallFinding → Type 0
 HasFound net founds.Consistent = (times : List ℤ) × Satisfies times net
 HasFound net founds.Inconsistent = Unit {0}
 HasFound net founds.Spent = Unit {0}
 
 -- what an answer says of a bound of a row with this from-event; of a consistent network none says that it is inconsistent
-abbrev pub told_bound : Which → EventId → List ℤ → List Bool → Fallen → Bound
+abbrev pub told_bound : Which → EventId → List ℤ → List Bool → Fallen → FallBound
 told_bound which from times ray (fallen.Closed value) = closed (shown_by which value) (moved from times)
 told_bound which from times ray fallen.Unbounded = unbounded (moved from times) ray
 told_bound which from times ray fallen.Inconsistent = bound_spent
@@ -114,42 +114,42 @@ pub record IsJobOf (net : Net) (wanted : Wanted) (job : Job) : Type 0 where
   pub cert : job.cert ≡ wanted.cert
 
 -- a row that is told
-abbrev pub telling : Bool → ℕ → Row → List Row → Telling
+abbrev pub telling : Bool → ℕ → Row → List Row → FallRow
 telling spent number r later = record { spent = spent; number = number; row = r; later = later }
 
 -- pieces were put whole that lead from a place to another
-pub record Told (job : Job) (here last : Place) (old new : SinkTold) : Type 0 where
+pub record WrotePieces (job : Job) (here last : TextState) (old new : SinkView) : Type 0 where
   pub pieces : List (List ℕ)
-  pub reads : Reads job here pieces last
+  pub reads : PiecesLead job here pieces last
   pub grew : new ≡ grown old (concat pieces)
 
 -- a put failed: of pieces that lead from a place to some other, and of the lines of a derivation that begin there, a front was put
-pub record Stopped (job : Job) (here : Place) (old new : SinkTold) : Type 0 where
+pub record WrotePieceFront (job : Job) (here : TextState) (old new : SinkView) : Type 0 where
   pub pieces : List (List ℕ)
-  pub last : Place
-  pub reads : Reads job here pieces last
+  pub last : TextState
+  pub reads : PiecesLead job here pieces last
   pub begun : List FallLine
   pub are_begun : AreBegun job last begun
   pub cut : CutShort old new (concat pieces ++ fall_text begun)
 
 -- a step puts pieces that lead to a place that its answer names, or a front of such
-abbrev pub Goes : {B E : Type 0} → Job → Place → (B → Place) → SinkTold → SinkTold → Result B E → Type 0
-Goes job here to old new (Ok x) = Told job here (to x) old new
-Goes job here to old new (Err e) = Stopped job here old new
+abbrev pub WritesPieces : {B E : Type 0} → Job → TextState → (B → TextState) → SinkView → SinkView → Result B E → Type 0
+WritesPieces job here to old new (Ok x) = WrotePieces job here (to x) old new
+WritesPieces job here to old new (Err e) = WrotePieceFront job here old new
 
 -- behind a finding
-abbrev pub behind_found : Found → Place
+abbrev pub behind_found : FallFinding → TextState
 behind_found founds.Consistent = at_rows
 behind_found founds.Inconsistent = at_end endings.Inconsistent
 behind_found founds.Spent = at_end endings.Undecided
 
 -- behind both bounds of a row, by whether one of them was spent
-abbrev pub behind_row : Telling → Bool → Place
+abbrev pub behind_row : FallRow → Bool → TextState
 behind_row told spent = before_rows (told.spent || spent) (told.number + 1) told.later
 
 -- behind all rows
 abbrev pub end_word : Bool → EndWord
 end_word spent = if spent then endings.Undecided else endings.Pass
 
-abbrev pub before_end : Bool → Place
+abbrev pub before_end : Bool → TextState
 before_end spent = at_end (end_word spent)

@@ -20,10 +20,10 @@ pub data Finding : Type 0 where
 
 -- what is found of a bound: a number, with times that attain it; that there is none, with times and the events that can be raised
 -- from them; or the turns were spent
-pub data Bound : Type 0 where
-  closed : ℤ → List ℤ → Bound
-  unbounded : List ℤ → List Bool → Bound
-  bound_spent : Bound
+pub data FallBound : Type 0 where
+  closed : ℤ → List ℤ → FallBound
+  unbounded : List ℤ → List Bool → FallBound
+  bound_spent : FallBound
 
 abbrev pub view_text : View → List ℕ
 view_text Plain = ended (line_of (codes "view" ∷ codes "plain" ∷ []))
@@ -39,7 +39,7 @@ finding_text (consistent list) = entry_text (line.finding Consistent) ++ entry_t
 finding_text inconsistent = entry_text (line.finding Inconsistent)
 finding_text finding_spent = ended (line_of (codes "finding" ∷ codes "spent" ∷ []))
 
-abbrev pub bound_text : Which → Bound → List ℕ
+abbrev pub bound_text : Which → FallBound → List ℕ
 bound_text which (closed value list) = entry_text (line.bound which (Closed value)) ++ entry_text (line.times list)
 bound_text which (unbounded list set) = entry_text (line.bound which Unbounded) ++ (entry_text (line.times list) ++ entry_text (line.raise set))
 bound_text which bound_spent = ended (line_of (which_word which ∷ codes "spent" ∷ []))

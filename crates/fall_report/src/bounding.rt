@@ -7,9 +7,9 @@ ghost use Rattle.falling.specs.Solving.{IsMadeFor};
 ghost use Rattle.falling.specs.Cap.{IsNearValue};
 ghost use Rattle.itv_base.specs.Outside.{Puts};
 ghost use Rattle.drawn.specs.Drawn.{IsRowOf};
-ghost use Rattle.fall_report.specs.Fall.{Job, Telling, at_bound, behind_bound};
+ghost use Rattle.fall_report.specs.Fall.{Job, FallRow, at_bound, behind_bound};
 ghost use Rattle.fall_report.specs.Shows.{shown_by};
-ghost use Rattle.fall_report.specs.Step.{AnswersRow, BeginsFrom, Goes, IsJobOf, IsSet, Tells, WasCut, told_bound, was_spent};
+ghost use Rattle.fall_report.specs.Step.{AnswersRow, BeginsFrom, WritesPieces, IsJobOf, IsSet, WroteDerivation, WasCut, told_bound, was_spent};
 ghost use Rattle.fall_report.specs.Text.{bound_spent, bound_text, closed, unbounded};
 ghost use Rattle.fall_report.specs.View.{source};
 
@@ -38,8 +38,8 @@ pub fn tell_bound<K: Sink>(
     requires consistent { (times : List ℤ) × Satisfies times net.now }
     requires row { IsRowOf net.now row.now }
     ensures set { IsSet net.now desk.new }
-    ensures goes { (job : Job) (told : Telling) → IsJobOf net.now wanted job → told.row ≡ row.now
-        → Goes job (at_bound told which) (behind_bound told which) (K.told sink.old) (K.told sink.new) result }
+    ensures goes { (job : Job) (told : FallRow) → IsJobOf net.now wanted job → told.row ≡ row.now
+        → WritesPieces job (at_bound told which) (behind_bound told which) (K.told sink.old) (K.told sink.new) result }
 {
     let fallen = search_bound(which, row, net, wanted, &mut desk.solver, sink)?;
     put_bound(which, row, fallen, net, desk, sink)?;
@@ -67,7 +67,7 @@ fn search_bound<K: Sink>(
     requires made { IsMadeFor net.now solver.old }
     requires row { IsRowOf net.now row.now }
     ensures made { IsMadeFor net.now solver.new }
-    ensures answers { IfOk result (λ fallen. Tells wanted.cert (K.told sink.old) (K.told sink.new)
+    ensures answers { IfOk result (λ fallen. WroteDerivation wanted.cert (K.told sink.old) (K.told sink.new)
         (λ lines. AnswersRow net.now which row.now wanted.turns lines solver.new fallen)) }
     ensures cut { OnErr result (WasCut wanted.cert (K.told sink.old) (K.told sink.new)
         (BeginsFrom net.now wanted.turns (λ view. source view which row.now))) }

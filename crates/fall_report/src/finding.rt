@@ -7,7 +7,7 @@ ghost use Rattle.falling.specs.Solving.{AnswersAs, IsMadeFor};
 ghost use Rattle.itv_base.specs.Outside.{Puts};
 ghost use Rattle.fall_report.specs.Fall.{Job, at_finding};
 ghost use Rattle.fall_report.specs.Shows.{first_event};
-ghost use Rattle.fall_report.specs.Step.{BeginsFrom, Goes, HasFound, IsJobOf, IsSet, ShowsFinding, Tells, WasCut, behind_found, found_by, told_finding};
+ghost use Rattle.fall_report.specs.Step.{BeginsFrom, WritesPieces, HasFound, IsJobOf, IsSet, ShowsFinding, WroteDerivation, WasCut, behind_found, found_by, told_finding};
 ghost use Rattle.fall_report.specs.Text.{finding_text};
 
 use crate::desk::Desk;
@@ -21,7 +21,7 @@ use slack_report::{FindingWord, Item, write_item};
 
 /// What is found of a network.
 #[derive(Clone, Copy, Debug, PartialEq, Eq)]
-pub enum Found {
+pub enum FallFinding {
     /// Some times satisfy it.
     Consistent,
     /// No times satisfy it.
@@ -36,12 +36,12 @@ pub fn tell_finding<K: Sink>(
     wanted: Wanted,
     desk: &mut Desk,
     sink: &mut K,
-) -> Result<Found, PutFailed>
+) -> Result<FallFinding, PutFailed>
     requires set { IsSet net.now desk.old }
     ensures set { IsSet net.now desk.new }
     ensures found { IfOk result (HasFound net.now) }
     ensures goes { (job : Job) → IsJobOf net.now wanted job
-        → Goes job at_finding behind_found (K.told sink.old) (K.told sink.new) result }
+        → WritesPieces job at_finding behind_found (K.told sink.old) (K.told sink.new) result }
 {
     let found = find(net, wanted, &mut desk.solver, sink)?;
     put_finding(found, &desk.solver, &mut desk.buffer, sink)?;
@@ -54,23 +54,23 @@ fn find<K: Sink>(
     wanted: Wanted,
     solver: &mut Falling,
     sink: &mut K,
-) -> Result<Found, PutFailed>
+) -> Result<FallFinding, PutFailed>
     requires made { IsMadeFor net.now solver.old }
     ensures made { IsMadeFor net.now solver.new }
     ensures found { IfOk result (HasFound net.now) }
-    ensures shows { IfOk result (λ found. Tells wanted.cert (K.told sink.old) (K.told sink.new)
+    ensures shows { IfOk result (λ found. WroteDerivation wanted.cert (K.told sink.old) (K.told sink.new)
         (λ lines. ShowsFinding net.now wanted.turns lines (told_finding found solver.new.times))) }
     ensures cut { OnErr result (WasCut wanted.cert (K.told sink.old) (K.told sink.new) (BeginsFrom net.now wanted.turns (λ _. first_event))) }
 {
     if net.events() == 0 {
-        return Ok(Found::Consistent);
+        return Ok(FallFinding::Consistent);
     }
     let fallen = greatest_of(solver, net, EventId(0), EventId(0), wanted, sink)?;
     Ok(found_by(fallen, net, solver))
 }
 
 // What an answer on the pair of event 0 and itself says of the network.
-fn found_by(fallen: Fallen, net: &Network, solver: &Falling) -> Found
+fn found_by(fallen: Fallen, net: &Network, solver: &Falling) -> FallFinding
     requires events { 0 < net.now.events }
     requires made { IsMadeFor net.now solver.now }
     requires answers { (turns : ℕ) × (lines : List FallLine)
@@ -79,16 +79,16 @@ fn found_by(fallen: Fallen, net: &Network, solver: &Falling) -> Found
     ensures has { HasFound net.now result }
 {
     match fallen {
-        Fallen::Closed(_) => Found::Consistent,
-        Fallen::Inconsistent => Found::Inconsistent,
-        Fallen::Spent => Found::Spent,
+        Fallen::Closed(_) => FallFinding::Consistent,
+        Fallen::Inconsistent => FallFinding::Inconsistent,
+        Fallen::Spent => FallFinding::Spent,
         Fallen::Unbounded => unreachable!(),
     }
 }
 
 // The finding, and behind a consistent one the times that the solver has.
 fn put_finding<K: Sink>(
-    found: Found,
+    found: FallFinding,
     solver: &Falling,
     buffer: &mut LineBuffer,
     sink: &mut K,
@@ -96,13 +96,13 @@ fn put_finding<K: Sink>(
     ensures { Puts (K.told sink.old) (K.told sink.new) (finding_text (told_finding found solver.now.times)) result }
 {
     match found {
-        Found::Consistent => {
+        FallFinding::Consistent => {
             write_item(&Item::Finding(FindingWord::Consistent), buffer, sink)?;
             write_item(&Item::Times(solver.times()), buffer, sink)
         }
-        Found::Inconsistent => {
+        FallFinding::Inconsistent => {
             write_item(&Item::Finding(FindingWord::Inconsistent), buffer, sink)
         }
-        Found::Spent => sink.put(b"finding spent\n"),
+        FallFinding::Spent => sink.put(b"finding spent\n"),
     }
 }

@@ -7,7 +7,7 @@ ghost use Rattle.falling.specs.declared.view.View.{View};
 ghost use Rattle.drawn.specs.declared.row.Row.{Row};
 ghost use Rattle.drawn.specs.Drawn.{IsRowOf};
 ghost use Rattle.fall_report.specs.Fall.{at_row, at_rows};
-ghost use Rattle.fall_report.specs.Step.{Goes, IsSet, asked, before_end, behind_row, telling};
+ghost use Rattle.fall_report.specs.Step.{WritesPieces, IsSet, asked, before_end, behind_row, telling};
 
 use crate::bounding::tell_bound;
 use crate::desk::Desk;
@@ -27,7 +27,7 @@ pub fn tell_rows<K: Sink>(
     requires set { IsSet drawn.now.net desk.old }
     requires consistent { (times : List ℤ) × Satisfies times drawn.now.net }
     ensures goes { (view : View) → IsViewOf drawn.now.net view
-        → Goes (asked drawn.now view wanted) at_rows before_end (K.told sink.old) (K.told sink.new) result }
+        → WritesPieces (asked drawn.now view wanted) at_rows before_end (K.told sink.old) (K.told sink.new) result }
 {
     let count = drawn.rows().len() as u32;
     write_item(&Item::Rows { count }, &mut desk.buffer, sink)?;
@@ -54,7 +54,7 @@ fn tell_row<K: Sink>(
     requires row { IsRowOf drawn.now.net row.now }
     ensures set { IsSet drawn.now.net desk.new }
     ensures goes { (view : View) (spent : Bool) (later : List Row) → IsViewOf drawn.now.net view
-        → Goes (asked drawn.now view wanted) (at_row (telling spent number row.now later)) (behind_row (telling spent number row.now later))
+        → WritesPieces (asked drawn.now view wanted) (at_row (telling spent number row.now later)) (behind_row (telling spent number row.now later))
         (K.told sink.old) (K.told sink.new) result }
 {
     put_row(number, row, drawn, &mut desk.buffer, sink)?;

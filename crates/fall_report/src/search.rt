@@ -4,12 +4,12 @@ ghost use Rattle.std.specs.Prelude.{◌≡◌, ◌<◌, ◌≤◌, List, IfOk, O
 ghost use Rattle.falling.specs.declared.line.FallLine.{FallLine};
 ghost use Rattle.falling.specs.Fallen.{asked_of};
 ghost use Rattle.falling.specs.Solving.{AnswersAs, IsDerivationAs, IsMadeFor};
-ghost use Rattle.fall_report.specs.Step.{Tells, WasCut};
+ghost use Rattle.fall_report.specs.Step.{WroteDerivation, WasCut};
 
-use crate::sink_notes::SinkNotes;
+use crate::sink_notes::SinkFallScribe;
 use crate::wanted::Wanted;
 use event_graph::Network;
-use falling::{Fallen, Falling, NoNotes, NotesFailed};
+use falling::{FallScribeFailed, Fallen, Falling, QuietFall};
 use itv_base::{EventId, PutFailed, Sink};
 
 /// Finds the greatest separation of a pair of events, and prints the lines of its derivation where they are wanted.
@@ -26,7 +26,7 @@ pub fn greatest_of<K: Sink>(
     requires to { to.0 < net.now.events }
     ensures made { IsMadeFor net.now solver.new }
     ensures negation { solver.new.negation ≡ solver.old.negation }
-    ensures answers { IfOk result (λ fallen. Tells wanted.cert (K.told sink.old) (K.told sink.new)
+    ensures answers { IfOk result (λ fallen. WroteDerivation wanted.cert (K.told sink.old) (K.told sink.new)
         (λ lines. (length lines ≤ wanted.turns)
         × AnswersAs solver.old.negation net.now (asked_of from to wanted.turns) lines solver.new.times solver.new.ray fallen)) }
     ensures cut { OnErr result (WasCut wanted.cert (K.told sink.old) (K.told sink.new)
@@ -53,16 +53,16 @@ fn greatest_printing<K: Sink>(
     requires to { to.0 < net.now.events }
     ensures made { IsMadeFor net.now solver.new }
     ensures negation { solver.new.negation ≡ solver.old.negation }
-    ensures answers { IfOk result (λ fallen. Tells true (K.told sink.old) (K.told sink.new)
+    ensures answers { IfOk result (λ fallen. WroteDerivation true (K.told sink.old) (K.told sink.new)
         (λ lines. (length lines ≤ turns)
         × AnswersAs solver.old.negation net.now (asked_of from to turns) lines solver.new.times solver.new.ray fallen)) }
     ensures cut { OnErr result (WasCut true (K.told sink.old) (K.told sink.new)
         (λ lines. (length lines ≤ turns) × (after : List ℤ) × IsDerivationAs solver.old.negation net.now from to lines after)) }
 {
-    let mut notes = SinkNotes { sink };
+    let mut notes = SinkFallScribe { sink };
     match solver.greatest(net, from, to, turns, &mut notes) {
         Ok(fallen) => Ok(fallen),
-        Err(NotesFailed) => Err(PutFailed),
+        Err(FallScribeFailed) => Err(PutFailed),
     }
 }
 
@@ -82,8 +82,8 @@ fn greatest_quietly(
     ensures answers { (lines : List FallLine) × (length lines ≤ turns)
         × AnswersAs solver.old.negation net.now (asked_of from to turns) lines solver.new.times solver.new.ray result }
 {
-    match solver.greatest(net, from, to, turns, &mut NoNotes) {
+    match solver.greatest(net, from, to, turns, &mut QuietFall) {
         Ok(fallen) => fallen,
-        Err(NotesFailed) => unreachable!(),
+        Err(FallScribeFailed) => unreachable!(),
     }
 }

@@ -2,42 +2,42 @@
 
 ghost use Rattle.std.specs.Prelude.{◌≡◌};
 ghost use Rattle.std.proofs.Common.{ap, refl, ◌∙◌};
-ghost use Rattle.itv_base.specs.Outside.{Puts, SinkTold};
+ghost use Rattle.itv_base.specs.Outside.{Puts, SinkView};
 ghost use Rattle.fall_report.specs.FallText.{fall_line_text};
 ghost use Rattle.fall_report.specs.Step.{SinkGrew, SinkWasCut};
 ghost use Rattle.fall_report.specs.NotesLaws.{sink_cut, sink_more, sink_none};
 
 use crate::fall_line::write_line;
-use falling::{FallLine, Notes, NotesFailed, Reason};
+use falling::{FallLine, FallScribe, FallScribeFailed, Reason};
 use itv_base::{EdgeName, EventId, PutFailed, Sink};
 
 /// Writes each line to a lent sink.
 #[derive(Drop)]
-pub struct SinkNotes<'a, K: Sink> {
+pub struct SinkFallScribe<'a, K: Sink> {
     pub sink: &'a mut K,
 }
 
-impl<'a, K: Sink> SinkNotes<'a, K> {
+impl<'a, K: Sink> SinkFallScribe<'a, K> {
     // Writes a line.
-    fn put(&mut self, line: FallLine) -> Result<(), NotesFailed>
+    fn put(&mut self, line: FallLine) -> Result<(), FallScribeFailed>
         ensures sink { self.new.sink.ghost_name ≡ self.old.sink.ghost_name }
         ensures puts { Puts (K.told self.old.sink.now) (K.told self.new.sink.now) (fall_line_text line) result }
     {
         match write_line(line, self.sink) {
             Ok(()) => Ok(()),
-            Err(PutFailed) => Err(NotesFailed),
+            Err(PutFailed) => Err(FallScribeFailed),
         }
     }
 }
 
-impl<'a, K: Sink> Notes for SinkNotes<'a, K> {
+impl<'a, K: Sink> FallScribe for SinkFallScribe<'a, K> {
     ghost faults = { λ s. (K.told s.sink.now).faults };
 
     ghost Grew = { λ s lines t. (t.sink.ghost_name ≡ s.sink.ghost_name) × SinkGrew (K.told s.sink.now) lines (K.told t.sink.now) };
 
     ghost WasCut = { λ s lines t. (t.sink.ghost_name ≡ s.sink.ghost_name) × SinkWasCut (K.told s.sink.now) lines (K.told t.sink.now) };
 
-    fn fall(&mut self, event: EventId, value: i64, edge: EdgeName) -> Result<(), NotesFailed> {
+    fn fall(&mut self, event: EventId, value: i64, edge: EdgeName) -> Result<(), FallScribeFailed> {
         self.put(FallLine {
             event,
             value,
@@ -45,7 +45,12 @@ impl<'a, K: Sink> Notes for SinkNotes<'a, K> {
         })
     }
 
-    fn late(&mut self, event: EventId, value: i64, constraint: u32) -> Result<(), NotesFailed> {
+    fn late(
+        &mut self,
+        event: EventId,
+        value: i64,
+        constraint: u32,
+    ) -> Result<(), FallScribeFailed> {
         self.put(FallLine {
             event,
             value,
@@ -59,5 +64,5 @@ impl<'a, K: Sink> Notes for SinkNotes<'a, K> {
 
     ghost cut_after = { λ s t u xs ys p q. (q.0 ∙ p.0, sink_cut (K.told s.sink.now) (K.told t.sink.now) (K.told u.sink.now) xs ys p.1 q.1) };
 
-    ghost grew_faults = { λ s t xs p. ap (λ (told : SinkTold). told.faults) p.1 };
+    ghost grew_faults = { λ s t xs p. ap (λ (told : SinkView). told.faults) p.1 };
 }

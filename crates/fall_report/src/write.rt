@@ -3,13 +3,13 @@
 ghost use Rattle.std.specs.Prelude.{◌≡◌, ℕ, Bool, List, IfOk, OnErr};
 ghost use Rattle.falling.specs.View.{IsViewOf};
 ghost use Rattle.itv_base.specs.Outside.{CutShort, Puts, grown};
-ghost use Rattle.jobs.specs.Works.{Works};
+ghost use Rattle.jobs.specs.Works.{JobWrote};
 ghost use Rattle.fall_report.specs.Fall.{AnswersFall, BeginsFall, at_end, at_finding, at_last};
-ghost use Rattle.fall_report.specs.Step.{Goes, HasFound, IsSet, asked, behind_found, end_word};
+ghost use Rattle.fall_report.specs.Step.{WritesPieces, HasFound, IsSet, asked, behind_found, end_word};
 ghost use Rattle.fall_report.specs.Text.{front_text, view_text};
 
 use crate::desk::Desk;
-use crate::finding::{Found, tell_finding};
+use crate::finding::{FallFinding, tell_finding};
 use crate::rows::tell_rows;
 use crate::wanted::Wanted;
 use drawn::DrawnNetwork;
@@ -32,7 +32,7 @@ pub fn write_fall<K: Sink>(
     sink: &mut K,
 ) -> Result<Answer, Unanswered>
     requires view { IsViewOf drawn.now.net view }
-    ensures works { Works (AnswersFall drawn.now turns cert) (BeginsFall drawn.now turns cert)
+    ensures works { JobWrote (AnswersFall drawn.now turns cert) (BeginsFall drawn.now turns cert)
         (K.told sink.old) (K.told sink.new) result }
 {
     let mut desk = Desk::new(alloc, drawn.network(), view)?;
@@ -92,7 +92,7 @@ fn tell_bounds<K: Sink>(
 ) -> Result<EndWord, PutFailed>
     requires set { IsSet drawn.now.net desk.old }
     ensures goes { (view : View) → IsViewOf drawn.now.net view
-        → Goes (asked drawn.now view wanted) at_finding at_last (K.told sink.old) (K.told sink.new) result }
+        → WritesPieces (asked drawn.now view wanted) at_finding at_last (K.told sink.old) (K.told sink.new) result }
 {
     let found = tell_finding(drawn.network(), wanted, desk, sink)?;
     let word = tell_behind(found, drawn, wanted, desk, sink)?;
@@ -102,7 +102,7 @@ fn tell_bounds<K: Sink>(
 
 // The rows behind a consistent finding. The answer is the word at the end.
 fn tell_behind<K: Sink>(
-    found: Found,
+    found: FallFinding,
     drawn: &DrawnNetwork,
     wanted: Wanted,
     desk: &mut Desk,
@@ -111,15 +111,15 @@ fn tell_behind<K: Sink>(
     requires set { IsSet drawn.now.net desk.old }
     requires found { HasFound drawn.now.net found }
     ensures goes { (view : View) → IsViewOf drawn.now.net view
-        → Goes (asked drawn.now view wanted) (behind_found found) at_end (K.told sink.old) (K.told sink.new) result }
+        → WritesPieces (asked drawn.now view wanted) (behind_found found) at_end (K.told sink.old) (K.told sink.new) result }
 {
     match found {
-        Found::Consistent => {
+        FallFinding::Consistent => {
             let is_spent = tell_rows(drawn, wanted, desk, sink)?;
             Ok(end_word(is_spent))
         }
-        Found::Inconsistent => Ok(EndWord::Inconsistent),
-        Found::Spent => Ok(EndWord::Undecided),
+        FallFinding::Inconsistent => Ok(EndWord::Inconsistent),
+        FallFinding::Spent => Ok(EndWord::Undecided),
     }
 }
 

@@ -7,13 +7,13 @@ use Rattle.falling.specs.declared.fault.FallCheckFault.{FallCheckFault}
 use Rattle.falling.specs.declared.fault.FallCheckFault.TheVariants.{AfterEnd, NotLower, NoEdge, NoLate, WrongValue}
 use Rattle.falling.specs.declared.limits.Limits.{Limits}
 use Rattle.falling.specs.declared.line.FallLine.{FallLine}
-use Rattle.falling.specs.Checking.{Checking, IsBegun, IsCheckFault, IsLineFault}
-use Rattle.falling.specs.Step.Course.{Ends}
-use Rattle.falling.specs.Derivation.{IsAllowed, IsEnded, fallen, starting_values}
+use Rattle.falling.specs.Checking.{Checking, IsBegun, IsCheckFault, IsFallCheckFault}
+use Rattle.falling.specs.Step.Course.{EndsDerivation}
+use Rattle.falling.specs.Derivation.{IsLineAllowed, IsEnded, fallen, starting_values}
 use Rattle.falling.proofs.Counting.{due_within}
 use Rattle.falling.proofs.Deriving.{ended_after, fallen_most, leads_more, not_ended_after}
 
-pub line_fault_is : (net : Net) (from : EventId) (values : List ℤ) (line : FallLine) (fault : FallCheckFault) → (IsEnded net from values → ⊥) → IsLineFault net values line fault
+pub line_fault_is : (net : Net) (from : EventId) (values : List ℤ) (line : FallLine) (fault : FallCheckFault) → (IsEnded net from values → ⊥) → IsFallCheckFault net values line fault
     → IsCheckFault net from values line fault
 line_fault_is net from values line AfterEnd goes_on h = absurd h
 line_fault_is net from values line (NotLower current) goes_on h = (goes_on, h)
@@ -35,7 +35,7 @@ abbrev pub checking : Limits → EventId → List ℤ → Bool → Checking
 checking limits source values ended = record { limits = limits; source = source; values = values; ended = ended }
 
 pub begun_after : (net : Net) (check : Checking) (line : FallLine) (values : List ℤ) (ended : Bool) → IsNet net → IsBegun net check → check.ended ≡ false
-    → IsAllowed net check.values line → values ≡ fallen check.values line → (IsTrue ended ↔ Ends line check.source check.limits.lowest)
+    → IsLineAllowed net check.values line → values ≡ fallen check.values line → (IsTrue ended ↔ EndsDerivation line check.source check.limits.lowest)
     → IsBegun net (checking check.limits check.source values ended)
 begun_after net check line values ended is_net begun goes_on allowed is ends =
     let not_ended : IsEnded net check.source check.values → ⊥ = open_checker net check begun goes_on in
@@ -59,14 +59,14 @@ begun_after net check line values ended is_net begun goes_on allowed is ends =
 
 -- the same of a checker whose parts are told apart
 pub begun_at : (net : Net) (check before : Checking) (line : FallLine) (values given : List ℤ) (ended : Bool) → before ≡ check → IsNet net → IsBegun net check → before.ended ≡ false
-    → given ≡ before.values → IsAllowed net given line → values ≡ fallen given line → (IsTrue ended ↔ Ends line before.source before.limits.lowest)
+    → given ≡ before.values → IsLineAllowed net given line → values ≡ fallen given line → (IsTrue ended ↔ EndsDerivation line before.source before.limits.lowest)
     → IsBegun net (checking before.limits before.source values ended)
 begun_at net check before line values given ended same is_net begun goes_on is_given allowed is ends =
-    begun_after net before line values ended is_net (subst (IsBegun net) (sym same) begun) goes_on (subst (λ v. IsAllowed net v line) is_given allowed)
+    begun_after net before line values ended is_net (subst (IsBegun net) (sym same) begun) goes_on (subst (λ v. IsLineAllowed net v line) is_given allowed)
     (is ∙ ap (λ v. fallen v line) is_given) ends
 
 pub fault_at : (net : Net) (check before : Checking) (line : FallLine) (given : List ℤ) (fault : FallCheckFault) → before ≡ check → IsBegun net check → before.ended ≡ false
-    → given ≡ before.values → IsLineFault net given line fault → IsCheckFault net check.source check.values line fault
+    → given ≡ before.values → IsFallCheckFault net given line fault → IsCheckFault net check.source check.values line fault
 fault_at net check before line given fault same begun goes_on is_given h =
     line_fault_is net check.source check.values line fault (open_checker net check begun (ap (λ (x : Checking). x.ended) (sym same) ∙ goes_on))
-    (subst (λ v. IsLineFault net v line fault) (is_given ∙ ap (λ (x : Checking). x.values) same) h)
+    (subst (λ v. IsFallCheckFault net v line fault) (is_given ∙ ap (λ (x : Checking). x.values) same) h)

@@ -18,7 +18,7 @@ use Rattle.falling.specs.declared.line.FallLine.{FallLine}
 use Rattle.falling.specs.declared.line.Reason.{Reason}
 use Rattle.falling.specs.declared.line.Reason.TheVariants.{ByEdge, ByLatest}
 use Rattle.falling.specs.Cap.{cap, far_line}
-use Rattle.falling.specs.Derivation.{IsAllowed, IsDerivation, IsDue, IsEnded, IsLatestHigh, Leads, fallen, starting_values}
+use Rattle.falling.specs.Derivation.{IsLineAllowed, IsDerivation, IsDue, IsEnded, IsLatestHigh, DerivationLeads, fallen, starting_values}
 use Rattle.falling.specs.Gaps.{IsWithinCap}
 use Rattle.falling.specs.Laws.{DerivationBounds, EndedIsInconsistent}
 use Rattle.falling.proofs.Within.{separation_within_cap, times_near_source}
@@ -115,7 +115,7 @@ due_above net values times event value (ByLatest number) h above due =
     let holds : Holds times k = All-found (Holds times) net.constraints number k at_k h.each in
     rw (← of_event.target) (latest_bounds values times k.causes k.target value above (some_before k.kind times k.target k.causes of_event.kind holds) of_event.finite latest)
 
-line_above : (net : Net) (values times : List ℤ) (line : FallLine) → Satisfies times net → AreAbove values times → IsAllowed net values line
+line_above : (net : Net) (values times : List ℤ) (line : FallLine) → Satisfies times net → AreAbove values times → IsLineAllowed net values line
     → AreAbove (fallen values line) times
 line_above net values times line h above allowed =
     let same : length (fallen values line) ≡ length values = length-set values line.event.0 line.value in
@@ -126,7 +126,7 @@ line_above net values times line h above allowed =
     ])
 
 lead_above : (net : Net) (from : EventId) (values : List ℤ) (lines : List FallLine) (after times : List ℤ) → Satisfies times net → AreAbove values times
-    → Leads net from values lines after → AreAbove after times
+    → DerivationLeads net from values lines after → AreAbove after times
 lead_above net from values [] after times h above leads = subst (λ v. AreAbove v times) leads above
 lead_above net from values (line ∷ lines) after times h above leads =
     lead_above net from (fallen values line) lines after times h (line_above net values times line h above leads.1) leads.2

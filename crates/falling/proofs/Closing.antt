@@ -11,7 +11,7 @@ use Rattle.event_graph.proofs.EdgesMet.{found_below}
 use Rattle.event_graph.proofs.Rays.{get_or-raised_in, get_or-raised_out, length-raised}
 use Rattle.falling.specs.declared.line.FallLine.{FallLine}
 use Rattle.falling.specs.Cap.{cap, widest_end}
-use Rattle.falling.specs.Derivation.{IsDerivation, IsEnded, Leads, fallen, starting_values}
+use Rattle.falling.specs.Derivation.{IsDerivation, IsEnded, DerivationLeads, fallen, starting_values}
 use Rattle.falling.specs.Rays.{IsApartBy}
 use Rattle.falling.specs.Laws.{GapIsRay, SettledCloses}
 use Rattle.falling.proofs.Bounding.{derivation_bounds, set_at}
@@ -69,7 +69,7 @@ fallen_least values line i within lower = elim (set_at values line.event.0 i lin
   le_of : (a b : ℤ) → a <ℤ b → a ≤ℤ b
   le_of a b h = omega (arith, ints)
 
-lead_falls : (net : Net) (from : EventId) (values : List ℤ) (lines : List FallLine) (after : List ℤ) (i : ℕ) → i < length values → Leads net from values lines after
+lead_falls : (net : Net) (from : EventId) (values : List ℤ) (lines : List FallLine) (after : List ℤ) (i : ℕ) → i < length values → DerivationLeads net from values lines after
     → get_or after i (pos 0) ≤ℤ get_or values i (pos 0)
 lead_falls net from values [] after i within leads = rw (← leads) (omega (arith, ints))
 lead_falls net from values (line ∷ lines) after i within leads =

@@ -9,7 +9,7 @@ use Rattle.event_graph.specs.Network.{Constraint, IsCauseCount, IsConstraint, Is
 use Rattle.event_graph.proofs.EdgesMet.{All-found, found_below}
 use Rattle.falling.specs.Kinds.{negated, negated_cause, negated_constraint, negated_kind}
 use Rattle.falling.specs.Step.Kinds.{AreNegatedCauses}
-use Rattle.falling.specs.Step.Turns.{IsKind}
+use Rattle.falling.specs.Step.Turns.{IsOfKind}
 use Rattle.falling.proofs.Between.{mapped_some}
 use Rattle.falling.proofs.Negating.{all_map, length-mapped}
 use Rattle.falling.proofs.Tried.{cause_of_at, kind_of}
@@ -52,7 +52,7 @@ counts_of Lin count not h = absurd (not refl)
 counts_of Late count not h = h
 counts_of Early count not h = h
 
-pub pushable : (net : Net) (number : ℕ) (kind : RuleKind) (t : EventId) (cs : List Cause) → IsNet net → IsKind net number kind → (kind ≡ Lin → ⊥)
+pub pushable : (net : Net) (number : ℕ) (kind : RuleKind) (t : EventId) (cs : List Cause) → IsNet net → IsOfKind net number kind → (kind ≡ Lin → ⊥)
     → option_map (λ (c : Constraint). c.target) (slice_get net.constraints number) ≡ Some t → AreNegatedCauses net number cs → ArePushable net t cs
 pushable net number kind t cs is_net is_kind not is_target are =
     let (k, at_k, same_kind) = kind_of net number kind is_kind in
@@ -90,7 +90,7 @@ single_of Late count e h = absurd (cc)
 single_of Early count e h = absurd (cc)
 
 -- the negation of a linear constraint
-pub linear_negated : (net : Net) (number : ℕ) (k : Constraint) (t : EventId) (c made : Cause) → IsNet net → slice_get net.constraints number ≡ Some k → IsKind net number Lin
+pub linear_negated : (net : Net) (number : ℕ) (k : Constraint) (t : EventId) (c made : Cause) → IsNet net → slice_get net.constraints number ≡ Some k → IsOfKind net number Lin
     → option_map (λ (x : Constraint). x.target) (slice_get net.constraints number) ≡ Some t → cause_at net number 0 ≡ Some c → made ≡ negated_cause c
     → linear made.event t made.range ≡ negated_constraint k
 linear_negated net number k t c made is_net at_k is_kind is_target at_c is_made =
@@ -109,7 +109,7 @@ linear_negated net number k t c made is_net at_k is_kind is_target at_c is_made 
       target_at (Some j) k t e h = cc
 
 -- a linear constraint was added
-pub linear_added : {T E : Type 0} (r : Result T E) (net : Net) (number : ℕ) (t : EventId) (c made : Cause) (before after : Net) → IsNet net → IsKind net number Lin
+pub linear_added : {T E : Type 0} (r : Result T E) (net : Net) (number : ℕ) (t : EventId) (c made : Cause) (before after : Net) → IsNet net → IsOfKind net number Lin
     → option_map (λ (x : Constraint). x.target) (slice_get net.constraints number) ≡ Some t → cause_at net number 0 ≡ Some c → made ≡ negated_cause c
     → OnOk r (after ≡ with_constraint before (linear made.event t made.range))
     → OnOk r ((k : Constraint) → slice_get net.constraints number ≡ Some k → after.constraints ≡ before.constraints ++ negated_constraint k ∷ [])

@@ -12,7 +12,7 @@ use Rattle.falling.specs.declared.line.FallLine.{FallLine}
 use Rattle.falling.specs.declared.line.Reason.{Reason}
 use Rattle.falling.specs.declared.line.Reason.TheVariants.{ByEdge, ByLatest}
 use Rattle.falling.specs.Cap.{cap, enough_turns, far_line}
-use Rattle.falling.specs.Derivation.{IsAllowed, IsDerivation, IsDue, IsEnded, Leads, fallen, starting_values}
+use Rattle.falling.specs.Derivation.{IsLineAllowed, IsDerivation, IsDue, IsEnded, DerivationLeads, fallen, starting_values}
 use Rattle.falling.specs.Laws.{NotEndedIsShort}
 use Rattle.falling.proofs.Between.{edge_between}
 use Rattle.falling.proofs.Bounding.{length-starting, replicated, set_at, some_and}
@@ -92,7 +92,7 @@ set_lowers far [] i value within less = absurd (omega arith)
 set_lowers far (v ∷ values) zero value within less = omega (arith, less)
 set_lowers far (v ∷ values) (suc i) value within less = omega (arith, set_lowers far values i value (omega arith) less)
 
-line_lowers : (net : Net) (from : EventId) (values : List ℤ) (line : FallLine) → line.event.0 < length values → (IsEnded net from values → ⊥) → IsAllowed net values line
+line_lowers : (net : Net) (from : EventId) (values : List ℤ) (line : FallLine) → line.event.0 < length values → (IsEnded net from values → ⊥) → IsLineAllowed net values line
     → heights (far_line net) (fallen values line) < heights (far_line net) values
 line_lowers net from values line within goes_on allowed =
     set_lowers (far_line net) values line.event.0 line.value within
@@ -110,7 +110,7 @@ due_within net values event value (ByLatest number) is_net due =
 
 -- the lines and what is left of the sum
 pub lead_lowers : (net : Net) (from : EventId) (values : List ℤ) (lines : List FallLine) (after : List ℤ) → IsNet net → length values ≡ net.events
-    → Leads net from values lines after → (length lines + heights (far_line net) after ≤ heights (far_line net) values) × (length after ≡ net.events)
+    → DerivationLeads net from values lines after → (length lines + heights (far_line net) after ≤ heights (far_line net) values) × (length after ≡ net.events)
 lead_lowers net from values [] after is_net count leads = rw (← leads) ((omega arith), count)
 lead_lowers net from values (line ∷ lines) after is_net count leads =
     let within : line.event.0 < net.events = due_within net values line.event line.value line.reason is_net leads.1.due in

@@ -8,8 +8,8 @@ use Rattle.event_graph.specs.Times.{time_of}
 use Rattle.falling.specs.declared.line.FallLine.{FallLine}
 use Rattle.falling.specs.Cap.{IsNearValue, cap, cap_limit, far_line}
 use Rattle.falling.specs.Course.{IsSpent}
-use Rattle.falling.specs.Step.Course.{Ends, HasEnded, HasSettled}
-use Rattle.falling.specs.Derivation.{IsAllowed, IsDerivation, IsEnded, IsSettled, Leads, fallen, starting_values}
+use Rattle.falling.specs.Step.Course.{EndsDerivation, HasEnded, HasSettled}
+use Rattle.falling.specs.Derivation.{IsLineAllowed, IsDerivation, IsEnded, IsFixedPoint, DerivationLeads, fallen, starting_values}
 use Rattle.falling.proofs.Bounding.{length-starting, replicated, set_at}
 use Rattle.falling.proofs.Closing.{start_source}
 use Rattle.falling.proofs.Counting.{due_within, least_of, start_most}
@@ -22,10 +22,10 @@ pub record IsUnderWay (net : Net) (from : EventId) (lines : List FallLine) (valu
   pub most : All (λ (value : ℤ). value ≤ℤ pos (cap net)) values
   pub taken_lines : length lines ≡ taken
 
-pub leads_more : (net : Net) (from : EventId) (values : List ℤ) (lines : List FallLine) (after : List ℤ) (line : FallLine) → Leads net from values lines after
-    → (IsEnded net from after → ⊥) → IsAllowed net after line → Leads net from values (lines ++ line ∷ []) (fallen after line)
+pub leads_more : (net : Net) (from : EventId) (values : List ℤ) (lines : List FallLine) (after : List ℤ) (line : FallLine) → DerivationLeads net from values lines after
+    → (IsEnded net from after → ⊥) → IsLineAllowed net after line → DerivationLeads net from values (lines ++ line ∷ []) (fallen after line)
 leads_more net from values [] after line leads goes_on allowed =
-    let Led : List ℤ → Type 0 = λ v. Leads net from v (line ∷ []) (fallen after line) in
+    let Led : List ℤ → Type 0 = λ v. DerivationLeads net from v (line ∷ []) (fallen after line) in
     subst Led (sym leads) (goes_on, allowed, refl)
 leads_more net from values (first ∷ lines) after line leads goes_on allowed = (leads.0, leads.1, leads_more net from (fallen values first) lines after line leads.2 goes_on allowed)
 
@@ -43,7 +43,7 @@ same_event a b e = ap (λ (n : ℕ). record { 0 = n }) e
 
 -- a line that does not end a derivation keeps it from its end
 pub not_ended_after : (net : Net) (from : EventId) (values : List ℤ) (line : FallLine) (lowest : ℤ) → lowest ≡ neg_ℤ (pos (far_line net)) → from.0 < length values
-    → (IsEnded net from values → ⊥) → (Ends line from lowest → ⊥) → IsEnded net from (fallen values line) → ⊥
+    → (IsEnded net from values → ⊥) → (EndsDerivation line from lowest → ⊥) → IsEnded net from (fallen values line) → ⊥
 not_ended_after net from values line lowest is_lowest within goes_on not (inl low) =
     elim (set_at values line.event.0 from.0 line.value (pos 0) within) [
       | inl (e, here) ↦ not (inl (same_event line.event from (sym e), subst (λ z. z <ℤ pos 0) here low))
@@ -63,7 +63,7 @@ set_here (y ∷ xs) (suc i) x d within = set_here xs i x d (omega arith)
 
 -- one that ends it ends it
 pub ended_after : (net : Net) (from : EventId) (values : List ℤ) (line : FallLine) (lowest : ℤ) → lowest ≡ neg_ℤ (pos (far_line net)) → line.event.0 < length values
-    → Ends line from lowest → IsEnded net from (fallen values line)
+    → EndsDerivation line from lowest → IsEnded net from (fallen values line)
 ended_after net from values line lowest is_lowest within (inl (same, low)) =
     let here : time_of (fallen values line) from ≡ line.value =
     subst (λ (e : EventId). time_of (fallen values line) e ≡ line.value) same (set_here values line.event.0 line.value (pos 0) within) in
@@ -113,7 +113,7 @@ start_not_ended net from within (inr (i, value, there, here, low)) =
       below z n far e low = omega (arith, ints)
 
 lead_most : (net : Net) (from : EventId) (values : List ℤ) (lines : List FallLine) (after : List ℤ) → IsNet net → length values ≡ net.events
-    → All (λ (value : ℤ). value ≤ℤ pos (cap net)) values → Leads net from values lines after → All (λ (value : ℤ). value ≤ℤ pos (cap net)) after
+    → All (λ (value : ℤ). value ≤ℤ pos (cap net)) values → DerivationLeads net from values lines after → All (λ (value : ℤ). value ≤ℤ pos (cap net)) after
 lead_most net from values [] after is_net count most leads = subst (All (λ (value : ℤ). value ≤ℤ pos (cap net))) leads most
 lead_most net from values (line ∷ lines) after is_net count most leads =
     let within : line.event.0 < net.events = due_within net values line.event line.value line.reason is_net leads.1.due in
@@ -138,7 +138,7 @@ under_way_first net from values within is = record {
 
 -- a derivation of one more line
 pub under_way_next : (net : Net) (from : EventId) (lines : List FallLine) (values : List ℤ) (taken : ℕ) (line : FallLine) (lowest : ℤ) → from.0 < net.events
-    → line.event.0 < net.events → lowest ≡ neg_ℤ (pos (far_line net)) → IsUnderWay net from lines values taken → IsAllowed net values line → (Ends line from lowest → ⊥)
+    → line.event.0 < net.events → lowest ≡ neg_ℤ (pos (far_line net)) → IsUnderWay net from lines values taken → IsLineAllowed net values line → (EndsDerivation line from lowest → ⊥)
     → IsUnderWay net from (lines ++ line ∷ []) (fallen values line) (taken + 1)
 under_way_next net from lines values taken line lowest in_from in_line is_lowest way allowed not = record {
   derivation = leads_more net from (starting_values net from) lines values line way.derivation way.not_ended allowed;
@@ -150,7 +150,7 @@ under_way_next net from lines values taken line lowest in_from in_line is_lowest
 
 -- the last line, which ends a derivation
 pub has_ended : (net : Net) (from : EventId) (lines : List FallLine) (values : List ℤ) (taken turns : ℕ) (line : FallLine) (lowest : ℤ) → line.event.0 < net.events
-    → lowest ≡ neg_ℤ (pos (far_line net)) → IsUnderWay net from lines values taken → IsAllowed net values line → Ends line from lowest → taken < turns
+    → lowest ≡ neg_ℤ (pos (far_line net)) → IsUnderWay net from lines values taken → IsLineAllowed net values line → EndsDerivation line from lowest → taken < turns
     → HasEnded net from turns (lines ++ line ∷ []) (fallen values line)
 has_ended net from lines values taken turns line lowest in_line is_lowest way allowed ends less = record {
   derivation = leads_more net from (starting_values net from) lines values line way.derivation way.not_ended allowed;
@@ -158,7 +158,7 @@ has_ended net from lines values taken turns line lowest in_line is_lowest way al
   count = omega (arith, length-more lines line, way.taken_lines);
 }
 
-pub has_settled : (net : Net) (from : EventId) (lines : List FallLine) (values : List ℤ) (taken turns : ℕ) → IsUnderWay net from lines values taken → IsSettled net values → taken ≤ turns
+pub has_settled : (net : Net) (from : EventId) (lines : List FallLine) (values : List ℤ) (taken turns : ℕ) → IsUnderWay net from lines values taken → IsFixedPoint net values → taken ≤ turns
     → HasSettled net from turns lines values
 has_settled net from lines values taken turns way settled le = record {
   derivation = way.derivation;
@@ -168,7 +168,7 @@ has_settled net from lines values taken turns way settled le = record {
 }
 
 pub is_spent : (net : Net) (from : EventId) (lines : List FallLine) (values : List ℤ) (taken turns : ℕ) (line : FallLine) → IsUnderWay net from lines values taken
-    → IsAllowed net values line → taken ≡ turns → IsSpent net from turns lines values
+    → IsLineAllowed net values line → taken ≡ turns → IsSpent net from turns lines values
 is_spent net from lines values taken turns line way allowed same = record {
   derivation = way.derivation;
   not_ended = way.not_ended;

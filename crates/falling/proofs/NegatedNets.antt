@@ -17,7 +17,7 @@ use Rattle.falling.specs.declared.limits.Limits.{Limits}
 use Rattle.falling.specs.Cap.{IsNearValue, cap, cap_limit, end_size, widest_end, widest_of, widest_of_causes}
 use Rattle.falling.specs.Course.{AreLimits}
 use Rattle.falling.specs.Derivation.{IsDerivation}
-use Rattle.falling.specs.Fallen.{Answers, IsClosedAt, IsShownInconsistent, IsShownUnbounded, asked_of}
+use Rattle.falling.specs.Fallen.{IsFallenAnswer, IsClosedAt, IsShownInconsistent, IsShownUnbounded, asked_of}
 use Rattle.falling.specs.Kinds.{IsPlain, negated, negated_cause, negated_constraint, negated_times}
 use Rattle.falling.specs.Step.Kinds.{IsNegatable}
 use Rattle.falling.specs.Solving.{AnswersByNegation, IsClosedByNegation, IsInconsistentByNegation, IsUnboundedByNegation}
@@ -144,27 +144,27 @@ HasTimes Inconsistent = ⊥
 HasTimes Spent = ⊥
 
 pub near_answer : (net : Net) (from to : EventId) (turns : ℕ) (lines : List FallLine) (values : List ℤ) (ray : List Bool) (fallen : Fallen) → IsNet net → from.0 < net.events
-    → cap net ≤ cap_limit → HasTimes fallen → Answers net (asked_of from to turns) lines values ray fallen → All IsNearValue values
+    → cap net ≤ cap_limit → HasTimes fallen → IsFallenAnswer net (asked_of from to turns) lines values ray fallen → All IsNearValue values
 near_answer net from to turns lines values ray (Closed value) is_net in_from small has h = satisfying_near net from lines values is_net in_from small h.derivation h.satisfies
 near_answer net from to turns lines values ray Unbounded is_net in_from small has h = satisfying_near net from lines values is_net in_from small h.derivation h.satisfies
 near_answer net from to turns lines values ray Inconsistent is_net in_from small has h = absurd has
 near_answer net from to turns lines values ray Spent is_net in_from small has h = absurd has
 
 answer_of : (net : Net) (from to : EventId) (turns : ℕ) (lines : List FallLine) (values : List ℤ) (ray : List Bool) (fallen : Fallen) → IsNet net → HasTimes fallen
-    → Answers (negated net) (asked_of to from turns) lines values ray fallen → AnswersByNegation net (asked_of from to turns) lines (negated_times values) (map not ray) fallen
+    → IsFallenAnswer (negated net) (asked_of to from turns) lines values ray fallen → AnswersByNegation net (asked_of from to turns) lines (negated_times values) (map not ray) fallen
 answer_of net from to turns lines values ray (Closed value) is_net has h = closed_from net from to value lines values is_net h
 answer_of net from to turns lines values ray Unbounded is_net has h = unbounded_from net from to lines values ray is_net h
 answer_of net from to turns lines values ray Inconsistent is_net has h = absurd has
 answer_of net from to turns lines values ray Spent is_net has h = absurd has
 
 pub turned_answer : (negation : Net) (from to : EventId) (turns : ℕ) (lines : List FallLine) (values times : List ℤ) (ray flags : List Bool) (fallen : Fallen) → HasTimes fallen
-    → Answers negation (asked_of to from turns) lines values ray fallen → times ≡ negated_times values → flags ≡ map not ray
+    → IsFallenAnswer negation (asked_of to from turns) lines values ray fallen → times ≡ negated_times values → flags ≡ map not ray
     → (net : Net) → IsNet net → negation ≡ negated net → AnswersByNegation net (asked_of from to turns) lines times flags fallen
 turned_answer negation from to turns lines values times ray flags fallen has h is_times is_flags net is_net is =
-    rw (is_times, is_flags) (answer_of net from to turns lines values ray fallen is_net has (subst (λ (n : Net). Answers n (asked_of to from turns) lines values ray fallen) is h))
+    rw (is_times, is_flags) (answer_of net from to turns lines values ray fallen is_net has (subst (λ (n : Net). IsFallenAnswer n (asked_of to from turns) lines values ray fallen) is h))
 
 other_of : (net : Net) (from to : EventId) (turns : ℕ) (lines : List FallLine) (values : List ℤ) (ray : List Bool) (fallen : Fallen) → (HasTimes fallen → ⊥)
-    → Answers (negated net) (asked_of to from turns) lines values ray fallen → AnswersByNegation net (asked_of from to turns) lines values ray fallen
+    → IsFallenAnswer (negated net) (asked_of to from turns) lines values ray fallen → AnswersByNegation net (asked_of from to turns) lines values ray fallen
 other_of net from to turns lines values ray (Closed value) none h = absurd (none tt)
 other_of net from to turns lines values ray Unbounded none h = absurd (none tt)
 other_of net from to turns lines values ray Inconsistent none h = inconsistent_answer net to lines h
@@ -174,9 +174,9 @@ other_of net from to turns lines values ray Spent none h = record {
 }
 
 pub other_answer : (negation : Net) (from to : EventId) (turns : ℕ) (lines : List FallLine) (values : List ℤ) (ray : List Bool) (fallen : Fallen) → (HasTimes fallen → ⊥)
-    → Answers negation (asked_of to from turns) lines values ray fallen → (net : Net) → IsNet net → negation ≡ negated net → AnswersByNegation net (asked_of from to turns) lines values ray fallen
+    → IsFallenAnswer negation (asked_of to from turns) lines values ray fallen → (net : Net) → IsNet net → negation ≡ negated net → AnswersByNegation net (asked_of from to turns) lines values ray fallen
 other_answer negation from to turns lines values ray fallen none h net is_net is =
-    other_of net from to turns lines values ray fallen none (subst (λ (n : Net). Answers n (asked_of to from turns) lines values ray fallen) is h)
+    other_of net from to turns lines values ray fallen none (subst (λ (n : Net). IsFallenAnswer n (asked_of to from turns) lines values ray fallen) is h)
 
 pub has_times : (fallen : Fallen) → ((x : ℤ) × (fallen ≡ Closed x)) ⊎ (fallen ≡ Unbounded) → HasTimes fallen
 has_times fallen (inl (x, is)) = rw is tt

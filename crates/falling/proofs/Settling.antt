@@ -17,7 +17,7 @@ use Rattle.event_graph.specs.Times.{time_of}
 use Rattle.event_graph.proofs.ByEdges.{holds_by_edges}
 use Rattle.event_graph.proofs.EdgesMet.{edge-at, met_if_some}
 use Rattle.falling.specs.declared.line.Reason.TheVariants.{ByEdge, ByLatest}
-use Rattle.falling.specs.Derivation.{IsDueByEdge, IsDueByLatest, IsLatestHigh, IsSettled}
+use Rattle.falling.specs.Derivation.{IsDueByEdge, IsDueByLatest, IsLatestHigh, IsFixedPoint}
 use Rattle.falling.specs.Kinds.{is_choice}
 use Rattle.falling.specs.Laws.{SettledSatisfies}
 use Rattle.falling.proofs.Choosing.{not_choice}
@@ -27,7 +27,7 @@ pub at_is : {X : Type 0} (o : Option X) (P : X → Type 0) (x : X) → o ≡ Som
 at_is o P x is h = rw is h
 
 -- settled values meet the always-edges
-settled_meets : (net : Net) (values : List ℤ) (name : EdgeName) (e : Edge) → IsSettled net values → IsAlways net name → edge net name ≡ Some e → Meets values e
+settled_meets : (net : Net) (values : List ℤ) (name : EdgeName) (e : Edge) → IsFixedPoint net values → IsAlways net name → edge net name ≡ Some e → Meets values e
 settled_meets net values name e settled always is_edge = elim (below_or_not (time_of values e.from +ℤ e.weight) (time_of values e.to)) [
   | inl lower ↦
       let due : IsDueByEdge net values e.to (time_of values e.from +ℤ e.weight) name = (always, at_is (edge net name) _ e is_edge (refl, refl)) in
@@ -138,7 +138,7 @@ upper_met values target c value = by_high c.range.high where
     met_of a b h value is le = omega (arith, ints)
 
 -- a latest constraint has a met choice
-latest_choice : (net : Net) (number : ℕ) (k : Constraint) (values : List ℤ) → slice_get net.constraints number ≡ Some k → k.kind ≡ Late → 1 ≤ length k.causes → IsSettled net values
+latest_choice : (net : Net) (number : ℕ) (k : Constraint) (values : List ℤ) → slice_get net.constraints number ≡ Some k → k.kind ≡ Late → 1 ≤ length k.causes → IsFixedPoint net values
     → (cause : ℕ) × (cause < length k.causes) × IfSome (edge net (record { constraint = number; cause = cause; side = Upper })) (Meets values)
 latest_choice net number k values at_k is_late some settled = elim (open_or_finite k.causes) [
   | inl (i, c, within, at_c, is_open) ↦
@@ -166,7 +166,7 @@ some_cause Late count h = h.0
 some_cause Early count h = h.0
 
 -- an earliest constraint of a plain network has its one choice met
-early_choice : (net : Net) (number : ℕ) (k : Constraint) (values : List ℤ) → slice_get net.constraints number ≡ Some k → k.kind ≡ Early → length k.causes ≡ 1 → IsSettled net values
+early_choice : (net : Net) (number : ℕ) (k : Constraint) (values : List ℤ) → slice_get net.constraints number ≡ Some k → k.kind ≡ Early → length k.causes ≡ 1 → IsFixedPoint net values
     → (cause : ℕ) × (cause < length k.causes) × IfSome (edge net (record { constraint = number; cause = cause; side = Lower })) (Meets values)
 early_choice net number k values at_k is_early single settled =
     let name : EdgeName = record { constraint = number; cause = 0; side = Lower } in (
@@ -181,7 +181,7 @@ early_choice net number k values at_k is_early single settled =
       always_of Early count is single = grind arith
 
 some_choice : (net : Net) (number : ℕ) (k : Constraint) (values : List ℤ) (kind : RuleKind) → k.kind ≡ kind → slice_get net.constraints number ≡ Some k
-    → 1 ≤ length k.causes → is_choice Early k.kind (length k.causes) ≡ false → IsSettled net values → HasChoice kind → MeetsSomeChoice values net number k
+    → 1 ≤ length k.causes → is_choice Early k.kind (length k.causes) ≡ false → IsFixedPoint net values → HasChoice kind → MeetsSomeChoice values net number k
 some_choice net number k values Lin is at_k some plain settled has = absurd has
 some_choice net number k values Late is at_k some plain settled has = rw is (latest_choice net number k values at_k is some settled)
 some_choice net number k values Early is at_k some plain settled has =

@@ -14,7 +14,7 @@ use Rattle.event_graph.specs.Times.{time_of}
 use Rattle.event_graph.proofs.EdgesMet.{cause_of}
 use Rattle.falling.specs.declared.line.Reason.TheVariants.{ByEdge, ByLatest}
 use Rattle.falling.specs.Derivation.{IsLatestHigh}
-use Rattle.falling.specs.Step.Turns.{IsConstraintTried, IsKind, IsSideTried, IsTried}
+use Rattle.falling.specs.Step.Turns.{IsConstraintTried, IsOfKind, IsSideTried, IsTried}
 use Rattle.falling.proofs.Bounding.{some_and}
 use Rattle.falling.proofs.Settling.{IsMost, at_is, is_some, latest_one, none_all}
 use Rattle.falling.proofs.Tried.{kind_of}
@@ -55,7 +55,7 @@ latest_alone : (values : List ℤ) (c : Cause) (h : ℤ) → c.range.high ≡ So
 latest_alone values c h is = latest_one values c [] h is (none_all (IsMost values (time_of values c.event +ℤ h)))
 
 -- where the latest line was tried so were the upper edges
-pub upper_tried : (net : Net) (values : List ℤ) (number : ℕ) → IsKind net number Late → IsTried net values (ByLatest number) → IsSideTried net values number Upper
+pub upper_tried : (net : Net) (values : List ℤ) (number : ℕ) → IsOfKind net number Late → IsTried net values (ByLatest number) → IsSideTried net values number Upper
 upper_tried net values number is_late tried name is_number is_upper event value allowed =
     let (k, at_k, holds) = some_and (slice_get net.constraints name.constraint) _ allowed.due.0.1 in
     let (k', at_k', kind) = kind_of net number Late is_late in
@@ -79,7 +79,7 @@ upper_tried net values number is_late tried name is_number is_upper event value 
       lower = allowed.lower;
     })
 
-pub late_tried : (net : Net) (values : List ℤ) (number : ℕ) → IsKind net number Late → IsSideTried net values number Lower → IsTried net values (ByLatest number)
+pub late_tried : (net : Net) (values : List ℤ) (number : ℕ) → IsOfKind net number Late → IsSideTried net values number Lower → IsTried net values (ByLatest number)
     → IsConstraintTried net values number
 late_tried net values number is_late lower tried (ByEdge name) is = by_side name.side refl where
   by_side : (side : Side) → name.side ≡ side → IsTried net values (ByEdge name)

@@ -14,8 +14,8 @@ use Rattle.event_graph.specs.Times.{time_of}
 use Rattle.event_graph.proofs.EdgesMet.{All-found, cause_of}
 use Rattle.falling.specs.declared.line.Reason.{Reason}
 use Rattle.falling.specs.declared.line.Reason.TheVariants.{ByEdge, ByLatest}
-use Rattle.falling.specs.Derivation.{IsLatestHigh, IsSettled}
-use Rattle.falling.specs.Step.Turns.{HasOpenHigh, IsConstraintTried, IsHighOf, IsKind, IsLatestValue, IsSideTried, IsTried, constraint_of}
+use Rattle.falling.specs.Derivation.{IsLatestHigh, IsFixedPoint}
+use Rattle.falling.specs.Step.Turns.{HasOpenHigh, IsConstraintTried, IsHighOf, IsOfKind, IsLatestValue, IsSideTried, IsTried, constraint_of}
 use Rattle.falling.proofs.Between.{mapped_some, then_some}
 use Rattle.falling.proofs.Bounding.{some_and}
 
@@ -65,7 +65,7 @@ past_tried net values (ByLatest number) past event value allowed =
     omega (arith, slice_get_within net.constraints number k at_k)
 
 -- where each constraint was tried the values are settled
-pub all_tried : (net : Net) (values : List ℤ) → ((number : ℕ) → number < length net.constraints → IsConstraintTried net values number) → IsSettled net values
+pub all_tried : (net : Net) (values : List ℤ) → ((number : ℕ) → number < length net.constraints → IsConstraintTried net values number) → IsFixedPoint net values
 all_tried net values each line allowed = elim (below_or_past (constraint_of line.reason) (length net.constraints)) [
   | inl below ↦ each (constraint_of line.reason) below line.reason refl line.event line.value allowed
   | inr past ↦ past_tried net values line.reason past line.event line.value allowed
@@ -183,7 +183,7 @@ latest_all net values number count k value at_k all so_far =
       },
     )
 
-pub kind_of : (net : Net) (number : ℕ) (kind : RuleKind) → IsKind net number kind → (k : Constraint) × (slice_get net.constraints number ≡ Some k) × (k.kind ≡ kind)
+pub kind_of : (net : Net) (number : ℕ) (kind : RuleKind) → IsOfKind net number kind → (k : Constraint) × (slice_get net.constraints number ≡ Some k) × (k.kind ≡ kind)
 kind_of net number kind is = mapped_some (λ (c : Constraint). c.kind) (slice_get net.constraints number) kind is
 
 late_count : (kind : RuleKind) (count : ℕ) → kind ≡ Late → named_causes kind count ≡ count
@@ -191,7 +191,7 @@ late_count Lin count e = absurd (cc)
 late_count Late count e = refl
 late_count Early count e = refl
 
-pub latest_value_of : (net : Net) (values : List ℤ) (number named count : ℕ) (value : ℤ) → IsNet net → IsKind net number Late → option_map cause_count_of (slice_get net.constraints number) ≡ Some named
+pub latest_value_of : (net : Net) (values : List ℤ) (number named count : ℕ) (value : ℤ) → IsNet net → IsOfKind net number Late → option_map cause_count_of (slice_get net.constraints number) ≡ Some named
     → named ≤ count → IsLatestSoFar net values number count value → IsLatestValue net values number value
 latest_value_of net values number named count value is_net is_late counted all so_far =
     let (k, at_k, is_kind) = kind_of net number Late is_late in

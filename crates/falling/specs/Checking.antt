@@ -34,21 +34,21 @@ abbrev pub IsReasonFault : Net → FallLine → FallCheckFault → Type 0
 IsReasonFault net line fault = IsNoReason net line.event line.reason fault
 
 -- the first fault of a line where a derivation has not ended
-abbrev pub IsLineFault : Net → List ℤ → FallLine → FallCheckFault → Type 0
-IsLineFault net values line AfterEnd = ⊥
-IsLineFault net values line (NotLower current) = (current ≡ time_of values line.event) × (current ≤ℤ line.value)
-IsLineFault net values line NoEdge = (line.value <ℤ time_of values line.event) × IsReasonFault net line NoEdge
-IsLineFault net values line NoLate = (line.value <ℤ time_of values line.event) × IsReasonFault net line NoLate
-IsLineFault net values line (WrongValue due) =
+abbrev pub IsFallCheckFault : Net → List ℤ → FallLine → FallCheckFault → Type 0
+IsFallCheckFault net values line AfterEnd = ⊥
+IsFallCheckFault net values line (NotLower current) = (current ≡ time_of values line.event) × (current ≤ℤ line.value)
+IsFallCheckFault net values line NoEdge = (line.value <ℤ time_of values line.event) × IsReasonFault net line NoEdge
+IsFallCheckFault net values line NoLate = (line.value <ℤ time_of values line.event) × IsReasonFault net line NoLate
+IsFallCheckFault net values line (WrongValue due) =
     (line.value <ℤ time_of values line.event) × IsDue net values line.event due line.reason × (line.value ≡ due → ⊥)
 
 -- the first fault of a line
 abbrev pub IsCheckFault : Net → EventId → List ℤ → FallLine → FallCheckFault → Type 0
 IsCheckFault net from values line AfterEnd = IsEnded net from values
-IsCheckFault net from values line (NotLower current) = (IsEnded net from values → ⊥) × IsLineFault net values line (NotLower current)
-IsCheckFault net from values line NoEdge = (IsEnded net from values → ⊥) × IsLineFault net values line NoEdge
-IsCheckFault net from values line NoLate = (IsEnded net from values → ⊥) × IsLineFault net values line NoLate
-IsCheckFault net from values line (WrongValue due) = (IsEnded net from values → ⊥) × IsLineFault net values line (WrongValue due)
+IsCheckFault net from values line (NotLower current) = (IsEnded net from values → ⊥) × IsFallCheckFault net values line (NotLower current)
+IsCheckFault net from values line NoEdge = (IsEnded net from values → ⊥) × IsFallCheckFault net values line NoEdge
+IsCheckFault net from values line NoLate = (IsEnded net from values → ⊥) × IsFallCheckFault net values line NoLate
+IsCheckFault net from values line (WrongValue due) = (IsEnded net from values → ⊥) × IsFallCheckFault net values line (WrongValue due)
 
 -- what a checker is at: its limits, its source, the values, and whether the derivation has ended
 pub record Checking : Type 0 where

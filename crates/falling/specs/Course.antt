@@ -6,7 +6,7 @@ use Rattle.event_graph.specs.Network.{Net}
 use Rattle.falling.specs.declared.limits.Limits.{Limits}
 use Rattle.falling.specs.declared.line.FallLine.{FallLine}
 use Rattle.falling.specs.Cap.{cap, cap_limit, far_line, widest_end}
-use Rattle.falling.specs.Derivation.{IsAllowed, IsDerivation, IsEnded}
+use Rattle.falling.specs.Derivation.{IsLineAllowed, IsDerivation, IsEnded}
 
 -- the cap and the far line of a network, and the limits that they keep to
 pub record AreLimits (net : Net) (limits : Limits) : Type 0 where
@@ -22,4 +22,4 @@ pub record IsSpent (net : Net) (from : EventId) (turns : ℕ) (lines : List Fall
   pub derivation : IsDerivation net from lines values
   pub not_ended : IsEnded net from values → ⊥
   pub count : length lines ≡ turns
-  pub more : (line : FallLine) × IsAllowed net values line
+  pub more : (line : FallLine) × IsLineAllowed net values line

@@ -44,7 +44,7 @@ IsDue net values event value (ByEdge name) = IsDueByEdge net values event value 
 IsDue net values event value (ByLatest number) = IsDueByLatest net values event value number
 
 -- a line gives the event what is due, which is below its value
-pub record IsAllowed (net : Net) (values : List ℤ) (line : FallLine) : Type 0 where
+pub record IsLineAllowed (net : Net) (values : List ℤ) (line : FallLine) : Type 0 where
   pub due : IsDue net values line.event line.value line.reason
   pub lower : line.value <ℤ time_of values line.event
 
@@ -57,15 +57,15 @@ abbrev pub IsEnded : Net → EventId → List ℤ → Type 0
 IsEnded net from values = (time_of values from <ℤ pos 0) ⊎ Any (λ (value : ℤ). value <ℤ neg_ℤ (pos (far_line net))) values
 
 -- lines lead from values to values, each of them allowed and none after the end
-abbrev pub Leads : Net → EventId → List ℤ → List FallLine → List ℤ → Type 0
-Leads net from values [] after = values ≡ after
-Leads net from values (line ∷ lines) after =
-    (IsEnded net from values → ⊥) × IsAllowed net values line × Leads net from (fallen values line) lines after
+abbrev pub DerivationLeads : Net → EventId → List ℤ → List FallLine → List ℤ → Type 0
+DerivationLeads net from values [] after = values ≡ after
+DerivationLeads net from values (line ∷ lines) after =
+    (IsEnded net from values → ⊥) × IsLineAllowed net values line × DerivationLeads net from (fallen values line) lines after
 
 -- the lines are a derivation from the source, and give these values
 abbrev pub IsDerivation : Net → EventId → List FallLine → List ℤ → Type 0
-IsDerivation net from lines values = Leads net from (starting_values net from) lines values
+IsDerivation net from lines values = DerivationLeads net from (starting_values net from) lines values
 
 -- no line is allowed
-abbrev pub IsSettled : Net → List ℤ → Type 0
-IsSettled net values = (line : FallLine) → IsAllowed net values line → ⊥
+abbrev pub IsFixedPoint : Net → List ℤ → Type 0
+IsFixedPoint net values = (line : FallLine) → IsLineAllowed net values line → ⊥

@@ -42,8 +42,8 @@ abbrev pub asked_of : EventId → EventId → ℕ → Asked
 asked_of from to turns = record { from = from; to = to; turns = turns }
 
 -- what an answer says of a pair of a plain network
-abbrev pub Answers : Net → Asked → List FallLine → List ℤ → List Bool → Fallen → Type 0
-Answers net asked lines times ray (Closed value) = IsClosedAt net asked.from asked.to value lines times
-Answers net asked lines times ray Unbounded = IsShownUnbounded net asked.from asked.to lines times ray
-Answers net asked lines times ray Inconsistent = IsShownInconsistent net asked.from lines
-Answers net asked lines times ray Spent = HasSpentTurns net asked.from asked.turns lines times
+abbrev pub IsFallenAnswer : Net → Asked → List FallLine → List ℤ → List Bool → Fallen → Type 0
+IsFallenAnswer net asked lines times ray (Closed value) = IsClosedAt net asked.from asked.to value lines times
+IsFallenAnswer net asked lines times ray Unbounded = IsShownUnbounded net asked.from asked.to lines times ray
+IsFallenAnswer net asked lines times ray Inconsistent = IsShownInconsistent net asked.from lines
+IsFallenAnswer net asked lines times ray Spent = HasSpentTurns net asked.from asked.turns lines times

@@ -8,8 +8,8 @@ use Rattle.event_graph.specs.Times.{separation, time_of}
 use Rattle.falling.specs.declared.line.FallLine.{FallLine}
 use Rattle.falling.specs.declared.fault.FallCheckFault.{FallCheckFault}
 use Rattle.falling.specs.Cap.{enough_turns, far_line, widest_end}
-use Rattle.falling.specs.Checking.{IsLineFault}
-use Rattle.falling.specs.Derivation.{IsAllowed, IsDerivation, IsEnded, IsSettled}
+use Rattle.falling.specs.Checking.{IsFallCheckFault}
+use Rattle.falling.specs.Derivation.{IsLineAllowed, IsDerivation, IsEnded, IsFixedPoint}
 use Rattle.falling.specs.Gaps.{HasNearSource, HasWithinCap, IsGapBeyond, with_gap}
 use Rattle.falling.specs.Kinds.{IsPlain, negated, negated_times}
 use Rattle.falling.specs.Rays.{IsApartBy}
@@ -40,12 +40,12 @@ EndedIsInconsistent = (net : Net) (from : EventId) (lines : List FallLine) (valu
 
 -- values of a plain network that no line lowers satisfy it
 abbrev pub SettledSatisfies : Type 0
-SettledSatisfies = (net : Net) (values : List ℤ) → IsNet net → IsPlain net → length values ≡ net.events → IsSettled net values → Satisfies values net
+SettledSatisfies = (net : Net) (values : List ℤ) → IsNet net → IsPlain net → length values ≡ net.events → IsFixedPoint net values → Satisfies values net
 
 -- settled values of a derivation that has not ended satisfy with the source at 0, and a value below the far line is the greatest separation
 abbrev pub SettledCloses : Type 0
 SettledCloses = (net : Net) (from to : EventId) (lines : List FallLine) (values : List ℤ) → IsNet net → IsPlain net → from.0 < net.events → to.0 < net.events
-    → IsDerivation net from lines values → (IsEnded net from values → ⊥) → IsSettled net values
+    → IsDerivation net from lines values → (IsEnded net from values → ⊥) → IsFixedPoint net values
     → Satisfies values net × (time_of values from ≡ pos 0) × (time_of values to <ℤ pos (far_line net) → IsGreatest net from to (time_of values to))
 
 -- a set of events that comes later than the others by more than the widest end can be raised without end
@@ -72,4 +72,4 @@ NegationReversesUnbounded = (net : Net) (from to : EventId) → IsNet net → (I
 
 -- a line with a fault is not allowed
 abbrev pub FaultForbids : Type 0
-FaultForbids = (net : Net) (values : List ℤ) (line : FallLine) (fault : FallCheckFault) → IsLineFault net values line fault → IsAllowed net values line → ⊥
+FaultForbids = (net : Net) (values : List ℤ) (line : FallLine) (fault : FallCheckFault) → IsFallCheckFault net values line fault → IsLineAllowed net values line → ⊥

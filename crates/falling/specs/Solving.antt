@@ -15,7 +15,7 @@ use Rattle.falling.specs.Agenda.{Agenda, IsAgendaFor}
 use Rattle.falling.specs.Cap.{enough_limit, enough_turns}
 use Rattle.falling.specs.Course.{AreLimits, IsSpent}
 use Rattle.falling.specs.Derivation.{IsDerivation, IsEnded}
-use Rattle.falling.specs.Fallen.{Answers}
+use Rattle.falling.specs.Fallen.{IsFallenAnswer}
 use Rattle.falling.specs.Kinds.{negated, negated_times}
 use Rattle.falling.specs.View.{IsViewOf}
 
@@ -83,7 +83,7 @@ AnswersByNegation net asked lines times ray Spent = HasSpentTurnsByNegation net 
 
 -- what an answer says of a pair, by whether the negation was solved
 abbrev pub AnswersAs : Option Net → Net → Asked → List FallLine → List ℤ → List Bool → Fallen → Type 0
-AnswersAs None net asked lines times ray answer = Answers net asked lines times ray answer
+AnswersAs None net asked lines times ray answer = IsFallenAnswer net asked lines times ray answer
 AnswersAs (Some negation) net asked lines times ray answer = AnswersByNegation net asked lines times ray answer
 
 -- the lines are a derivation in the network from the from-event, or in the negation from the to-event

@@ -6,13 +6,13 @@ ghost use Rattle.event_graph.specs.Times.{time_of};
 ghost use Rattle.event_graph.specs.EventLists.{at_event};
 ghost use Rattle.falling.specs.Agenda.{IsAgendaFor};
 ghost use Rattle.falling.specs.Step.Agenda.{AreOthersTried};
-ghost use Rattle.falling.specs.Derivation.{IsAllowed, IsSettled};
+ghost use Rattle.falling.specs.Derivation.{IsLineAllowed, IsFixedPoint};
 ghost use Rattle.falling.specs.Step.Turns.{IsTurnLine};
 ghost use Rattle.falling.specs.Cap.{IsNearValue};
 
 use crate::followers::followers;
 use crate::line::FallLine;
-use crate::pending::{Pending, insert_all};
+use crate::pending::{PendingFlags, insert_all};
 use crate::turn::next_line;
 use event_graph::{ByEvent, Network};
 use itv_base::{EventId, MAX_EVENTS, NoMemory};
@@ -23,7 +23,7 @@ use std::marker::Model;
 #[derive(Debug, Drop)]
 pub struct Agenda {
     followers: ByEvent<u32>,
-    pending: Pending,
+    pending: PendingFlags,
 }
 
 impl Model for Agenda {
@@ -41,7 +41,7 @@ impl Agenda {
     {
         prove!(net.events() <= MAX_EVENTS);
         let followers = followers(alloc, net)?;
-        let pending = Pending::new(alloc, net.len())?;
+        let pending = PendingFlags::new(alloc, net.len())?;
         Ok(Agenda { followers, pending })
     }
 
@@ -60,9 +60,9 @@ impl Agenda {
         requires count { length values.now ≡ net.now.events }
         requires near { All IsNearValue values.now }
         requires tried { AreOthersTried net.now values.now self.old.pending }
-        ensures line { IfSome result (IsAllowed net.now values.now) }
+        ensures line { IfSome result (IsLineAllowed net.now values.now) }
         ensures turn { IfSome result (IsTurnLine net.now values.now) }
-        ensures none { IfNone result (IsSettled net.now values.now) }
+        ensures none { IfNone result (IsFixedPoint net.now values.now) }
         ensures made { IsAgendaFor net.now self.new }
         ensures tried { AreOthersTried net.now values.now self.new.pending }
     {

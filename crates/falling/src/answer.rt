@@ -15,7 +15,7 @@ pub enum Fallen {
 
 // An answer, and the number of turns that it took.
 #[derive(Clone, Copy, Debug, PartialEq, Eq)]
-pub struct Told {
+pub struct CountedAnswer {
     pub fallen: Fallen,
     pub turns: u64,
 }

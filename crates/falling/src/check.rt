@@ -2,8 +2,8 @@
 
 ghost use Rattle.std.specs.Prelude.{◌≡◌, ◌<◌, All, OnOk, IfOk, IfErr, IfSome, IfNone, length};
 ghost use Rattle.event_graph.specs.Network.{IsNet};
-ghost use Rattle.falling.specs.Checking.{IsEdgeTo, IsLatestTo, IsLineFault, IsReasonFault};
-ghost use Rattle.falling.specs.Derivation.{IsAllowed, IsDue, IsDueByEdge, IsDueByLatest};
+ghost use Rattle.falling.specs.Checking.{IsEdgeTo, IsLatestTo, IsFallCheckFault, IsReasonFault};
+ghost use Rattle.falling.specs.Derivation.{IsLineAllowed, IsDue, IsDueByEdge, IsDueByLatest};
 ghost use Rattle.falling.specs.Cap.{IsNearValue};
 
 use crate::fault::FallCheckFault;
@@ -18,8 +18,8 @@ pub fn judge(net: &Network, values: &[i64], line: FallLine) -> Result<(), FallCh
     requires event { line.event.0 < net.now.events }
     requires count { length values.now ≡ net.now.events }
     requires near { All IsNearValue values.now }
-    ensures allowed { OnOk result (IsAllowed net.now values.now line) }
-    ensures fault { IfErr result (IsLineFault net.now values.now line) }
+    ensures allowed { OnOk result (IsLineAllowed net.now values.now line) }
+    ensures fault { IfErr result (IsFallCheckFault net.now values.now line) }
 {
     let current = values[line.event.0 as usize];
     if current <= line.value {

@@ -5,7 +5,7 @@ ghost use Rattle.event_graph.specs.Network.{Net};
 ghost use Rattle.event_graph.specs.Times.{time_of};
 ghost use Rattle.falling.specs.declared.line.Reason.TheVariants.{ByEdge, ByLatest};
 ghost use Rattle.falling.specs.Checking.{IsBegun, IsCheckFault, IsCheckerFor};
-ghost use Rattle.falling.specs.Derivation.{IsAllowed, IsEnded, fallen, starting_values};
+ghost use Rattle.falling.specs.Derivation.{IsLineAllowed, IsEnded, fallen, starting_values};
 
 use crate::check::judge;
 use crate::course::{ends, lower, start};
@@ -75,7 +75,7 @@ impl FallChecker {
     ) -> Result<(), FallCheckFault>
         requires begun { IsBegun net.now self.old }
         requires event { event.0 < net.now.events }
-        ensures allowed { OnOk result (IsAllowed net.now self.old.values
+        ensures allowed { OnOk result (IsLineAllowed net.now self.old.values
             (record { event = event; value = value; reason = ByEdge edge })) }
         ensures before_end { OnOk result (IsEnded net.now self.old.source self.old.values → ⊥) }
         ensures values { OnOk result (self.new.values ≡ fallen self.old.values
@@ -107,7 +107,7 @@ impl FallChecker {
     ) -> Result<(), FallCheckFault>
         requires begun { IsBegun net.now self.old }
         requires event { event.0 < net.now.events }
-        ensures allowed { OnOk result (IsAllowed net.now self.old.values
+        ensures allowed { OnOk result (IsLineAllowed net.now self.old.values
             (record { event = event; value = value; reason = ByLatest constraint })) }
         ensures before_end { OnOk result (IsEnded net.now self.old.source self.old.values → ⊥) }
         ensures values { OnOk result (self.new.values ≡ fallen self.old.values
@@ -132,7 +132,7 @@ impl FallChecker {
     fn take(&mut self, net: &Network, line: FallLine) -> Result<(), FallCheckFault>
         requires begun { IsBegun net.now self.old }
         requires event { line.event.0 < net.now.events }
-        ensures allowed { OnOk result (IsAllowed net.now self.old.values line) }
+        ensures allowed { OnOk result (IsLineAllowed net.now self.old.values line) }
         ensures before_end { OnOk result (IsEnded net.now self.old.source self.old.values → ⊥) }
         ensures values { OnOk result (self.new.values ≡ fallen self.old.values line) }
         ensures source { self.new.source ≡ self.old.source }

@@ -1,23 +1,23 @@
 //! Derivations: from a source all values fall, line by line.
 
 ghost use Rattle.std.specs.Prelude.{◌≡◌, ◌<◌, ◌≤◌, ◌↔◌, ℤ, pos, List, [], ◌∷◌, set, replicate, IsTrue, OnOk, OnErr, IfOk, length};
-ghost use Rattle.itv_base.specs.Outside.{Rose};
+ghost use Rattle.itv_base.specs.Outside.{FaultCounted};
 ghost use Rattle.falling.specs.declared.line.FallLine.{FallLine};
 ghost use Rattle.falling.specs.Agenda.{IsAgendaFor};
 ghost use Rattle.falling.specs.Course.{AreLimits};
-ghost use Rattle.falling.specs.Step.Course.{Ends, IsCourse};
+ghost use Rattle.falling.specs.Step.Course.{EndsDerivation, IsCourse};
 ghost use Rattle.falling.specs.Derivation.{IsDerivation, fallen};
 
 use crate::agenda::Agenda;
 use crate::limits::Limits;
 use crate::line::{FallLine, Reason};
-use crate::notes::{Notes, NotesFailed};
+use crate::notes::{FallScribe, FallScribeFailed};
 use event_graph::Network;
 use itv_base::EventId;
 
 /// How a derivation went: no line is allowed any more, it has ended, or its turns were spent.
 #[derive(Clone, Copy, Debug, PartialEq, Eq)]
-pub enum Course {
+pub enum DerivationEnd {
     Settled,
     Ended,
     Spent,
@@ -26,12 +26,12 @@ pub enum Course {
 // How a derivation went, and the number of its lines.
 #[derive(Clone, Copy, Debug, PartialEq, Eq)]
 pub struct Descent {
-    pub course: Course,
+    pub course: DerivationEnd,
     pub turns: u64,
 }
 
 /// Lets the values fall from a source, by at most so many lines.
-pub fn derive<N: Notes>(
+pub fn derive<N: FallScribe>(
     net: &Network,
     from: EventId,
     limits: Limits,
@@ -39,7 +39,7 @@ pub fn derive<N: Notes>(
     agenda: &mut Agenda,
     values: &mut [i64],
     notes: &mut N,
-) -> Result<Descent, NotesFailed>
+) -> Result<Descent, FallScribeFailed>
     requires from { from.0 < net.now.events }
     requires count { length values.old ≡ net.now.events }
     requires limits { AreLimits net.now limits }
@@ -50,7 +50,7 @@ pub fn derive<N: Notes>(
     ensures most { IfOk result (λ descent. descent.turns ≤ turns) }
     ensures cut { OnErr result ((lines : List FallLine) × N.WasCut notes.old lines notes.new
         × (length lines ≤ turns) × (after : List ℤ) × IsDerivation net.now from lines after) }
-    ensures rose { OnErr result (Rose (N.faults notes.old) (N.faults notes.new)) }
+    ensures rose { OnErr result (FaultCounted (N.faults notes.old) (N.faults notes.new)) }
     ensures count { length values.new ≡ length values.old }
     ensures agenda { IsAgendaFor net.now agenda.new }
 {
@@ -61,7 +61,7 @@ pub fn derive<N: Notes>(
     'turns: while let Some(line) = agenda.next_line(net, values) {
         if taken == turns {
             return Ok(Descent {
-                course: Course::Spent,
+                course: DerivationEnd::Spent,
                 turns: taken,
             });
         }
@@ -72,14 +72,14 @@ pub fn derive<N: Notes>(
         taken += 1;
         if ends(line, from, limits) {
             return Ok(Descent {
-                course: Course::Ended,
+                course: DerivationEnd::Ended,
                 turns: taken,
             });
         }
         agenda.wake(line.event);
     }
     Ok(Descent {
-        course: Course::Settled,
+        course: DerivationEnd::Settled,
         turns: taken,
     })
 }
@@ -94,10 +94,10 @@ pub fn start(values: &mut [i64], from: EventId, limits: Limits)
 }
 
 // Notes a line.
-fn note<N: Notes>(line: FallLine, notes: &mut N) -> Result<(), NotesFailed>
+fn note<N: FallScribe>(line: FallLine, notes: &mut N) -> Result<(), FallScribeFailed>
     ensures grew { OnOk result (N.Grew notes.old (line ∷ []) notes.new) }
     ensures cut { OnErr result (N.WasCut notes.old (line ∷ []) notes.new) }
-    ensures rose { OnErr result (Rose (N.faults notes.old) (N.faults notes.new)) }
+    ensures rose { OnErr result (FaultCounted (N.faults notes.old) (N.faults notes.new)) }
 {
     match line.reason {
         Reason::ByEdge(edge) => notes.fall(line.event, line.value, edge),
@@ -107,7 +107,7 @@ fn note<N: Notes>(line: FallLine, notes: &mut N) -> Result<(), NotesFailed>
 
 // Whether a line ends a derivation that has not ended before.
 pub fn ends(line: FallLine, from: EventId, limits: Limits) -> bool
-    ensures { IsTrue result ↔ Ends line from limits.lowest }
+    ensures { IsTrue result ↔ EndsDerivation line from limits.lowest }
 {
     (line.event == from && line.value < 0) || line.value < limits.lowest
 }

@@ -1,7 +1,7 @@
 //! The solver.
 
 ghost use Rattle.std.specs.Prelude.{◌≡◌, ◌<◌, ◌≤◌, ℤ, List, All, IfOk, OnOk, OnErr, map, neg_ℤ, not, pos, set, slice_index_or, length};
-ghost use Rattle.itv_base.specs.Outside.{Rose};
+ghost use Rattle.itv_base.specs.Outside.{FaultCounted};
 ghost use Rattle.event_graph.specs.Network.{Net};
 ghost use Rattle.falling.specs.declared.line.FallLine.{FallLine};
 ghost use Rattle.falling.specs.Agenda.{IsAgendaFor};
@@ -15,13 +15,13 @@ ghost use Rattle.falling.specs.Solving.{AnswersAs, AnswersByNegation, IsDerivati
 ghost use Rattle.falling.specs.View.{IsViewOf};
 
 use crate::agenda::Agenda;
-use crate::answer::{Fallen, Told};
+use crate::answer::{CountedAnswer, Fallen};
 use crate::asked::Asked;
 use crate::greatest::greatest;
 use crate::guide::Guide;
 use crate::limits::{Limits, limits_of};
 use crate::negation::negation_of;
-use crate::notes::{Notes, NotesFailed};
+use crate::notes::{FallScribe, FallScribeFailed};
 use crate::view::View;
 use event_graph::Network;
 use itv_base::{EventId, NoMemory};
@@ -81,14 +81,14 @@ impl Falling {
     /// The greatest separation of a pair of events, in picoseconds, by a derivation of at most so many lines,
     /// which are noted. Over a plain network it is a derivation from the from-event. Else it is one in the
     /// negation from the to-event.
-    pub fn greatest<N: Notes>(
+    pub fn greatest<N: FallScribe>(
         &mut self,
         net: &Network,
         from: EventId,
         to: EventId,
         turns: u64,
         notes: &mut N,
-    ) -> Result<Fallen, NotesFailed>
+    ) -> Result<Fallen, FallScribeFailed>
         requires made { IsMadeFor net.now self.old }
         requires from { from.0 < net.now.events }
         requires to { to.0 < net.now.events }
@@ -98,7 +98,7 @@ impl Falling {
         ensures most { OnOk result (self.new.turns ≤ turns) }
         ensures cut { OnErr result ((lines : List FallLine) × N.WasCut notes.old lines notes.new
             × (length lines ≤ turns) × (after : List ℤ) × IsDerivationAs self.old.negation net.now from to lines after) }
-        ensures rose { OnErr result (Rose (N.faults notes.old) (N.faults notes.new)) }
+        ensures rose { OnErr result (FaultCounted (N.faults notes.old) (N.faults notes.new)) }
         ensures made { IsMadeFor net.now self.new }
         ensures negation { self.new.negation ≡ self.old.negation }
     {
@@ -177,7 +177,7 @@ fn enough_for(net: &Network, limits: Limits) -> u128
 }
 
 // The greatest separation of a pair, by the negation of the network where there is one.
-fn solve<N: Notes>(
+fn solve<N: FallScribe>(
     net: &Network,
     negation: &Option<Network>,
     guide: &mut Guide,
@@ -185,7 +185,7 @@ fn solve<N: Notes>(
     times: &mut [i64],
     ray: &mut [bool],
     notes: &mut N,
-) -> Result<Told, NotesFailed>
+) -> Result<CountedAnswer, FallScribeFailed>
     requires negation { IsNegationOf net.now negation.now }
     requires from { asked.from.0 < net.now.events }
     requires to { asked.to.0 < net.now.events }
@@ -199,7 +199,7 @@ fn solve<N: Notes>(
     ensures most { IfOk result (λ told. told.turns ≤ asked.turns) }
     ensures cut { OnErr result ((lines : List FallLine) × N.WasCut notes.old lines notes.new
         × (length lines ≤ asked.turns) × (after : List ℤ) × IsDerivationAs negation.now net.now asked.from asked.to lines after) }
-    ensures rose { OnErr result (Rose (N.faults notes.old) (N.faults notes.new)) }
+    ensures rose { OnErr result (FaultCounted (N.faults notes.old) (N.faults notes.new)) }
     ensures times { length times.new ≡ length times.old }
     ensures ray { length ray.new ≡ length ray.old }
     ensures limits { guide.new.limits ≡ guide.old.limits }
@@ -212,7 +212,7 @@ fn solve<N: Notes>(
 }
 
 // The greatest separation of a pair of a network by its negation, where the pair is turned round.
-fn greatest_by_negation<N: Notes>(
+fn greatest_by_negation<N: FallScribe>(
     net: &Network,
     negation: &Network,
     guide: &mut Guide,
@@ -220,7 +220,7 @@ fn greatest_by_negation<N: Notes>(
     times: &mut [i64],
     ray: &mut [bool],
     notes: &mut N,
-) -> Result<Told, NotesFailed>
+) -> Result<CountedAnswer, FallScribeFailed>
     requires negation { negation.now ≡ negated net.now }
     requires negatable { IsNegatable net.now }
     requires from { asked.from.0 < net.now.events }
@@ -235,7 +235,7 @@ fn greatest_by_negation<N: Notes>(
     ensures most { IfOk result (λ told. told.turns ≤ asked.turns) }
     ensures cut { OnErr result ((lines : List FallLine) × N.WasCut notes.old lines notes.new
         × (length lines ≤ asked.turns) × (after : List ℤ) × IsDerivation (negated net.now) asked.to lines after) }
-    ensures rose { OnErr result (Rose (N.faults notes.old) (N.faults notes.new)) }
+    ensures rose { OnErr result (FaultCounted (N.faults notes.old) (N.faults notes.new)) }
     ensures times { length times.new ≡ length times.old }
     ensures ray { length ray.new ≡ length ray.old }
     ensures limits { guide.new.limits ≡ guide.old.limits }

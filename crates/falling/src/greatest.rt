@@ -2,7 +2,7 @@
 
 ghost use Rattle.std.specs.Prelude.{◌≡◌, ◌<◌, ◌≤◌, ◌≤ℤ◌, ◌<ℤ◌, ℕ, ℤ, List, IsTrue, IsFalse, OnErr, IfOk, length};
 ghost use Rattle.itv_base.specs.declared.names.EventId.{EventId};
-ghost use Rattle.itv_base.specs.Outside.{Rose};
+ghost use Rattle.itv_base.specs.Outside.{FaultCounted};
 ghost use Rattle.event_graph.specs.Times.{time_of};
 ghost use Rattle.falling.specs.declared.answer.Fallen.TheVariants.{Closed};
 ghost use Rattle.falling.specs.declared.line.FallLine.{FallLine};
@@ -10,30 +10,30 @@ ghost use Rattle.falling.specs.Agenda.{IsAgendaFor};
 ghost use Rattle.falling.specs.Course.{AreLimits};
 ghost use Rattle.falling.specs.Step.Course.{HasSettled};
 ghost use Rattle.falling.specs.Derivation.{IsDerivation};
-ghost use Rattle.falling.specs.Fallen.{Answers, asked_of};
+ghost use Rattle.falling.specs.Fallen.{IsFallenAnswer, asked_of};
 ghost use Rattle.falling.specs.Kinds.{IsPlain};
 ghost use Rattle.falling.specs.Step.Rays.{HaveAbove};
 
-use crate::answer::{Fallen, Told};
+use crate::answer::{CountedAnswer, Fallen};
 use crate::asked::Asked;
-use crate::course::{Course, derive};
+use crate::course::{DerivationEnd, derive};
 use crate::gap::{Level, gap_level};
 use crate::guide::Guide;
 use crate::limits::Limits;
-use crate::notes::{Notes, NotesFailed};
+use crate::notes::{FallScribe, FallScribeFailed};
 use event_graph::Network;
 use itv_base::EventId;
 
 /// The greatest separation of a pair over a plain network, by a derivation of at most so many lines. The values
 /// are the times that attain it or show it unbounded with the ray.
-pub fn greatest<N: Notes>(
+pub fn greatest<N: FallScribe>(
     net: &Network,
     guide: &mut Guide,
     asked: Asked,
     values: &mut [i64],
     ray: &mut [bool],
     notes: &mut N,
-) -> Result<Told, NotesFailed>
+) -> Result<CountedAnswer, FallScribeFailed>
     requires plain { IsPlain net.now }
     requires from { asked.from.0 < net.now.events }
     requires to { asked.to.0 < net.now.events }
@@ -43,11 +43,11 @@ pub fn greatest<N: Notes>(
     requires agenda { IsAgendaFor net.now guide.old.agenda }
     ensures lines { IfOk result (λ told. (lines : List FallLine) × N.Grew notes.old lines notes.new
         × (length lines ≡ told.turns)
-        × Answers net.now asked lines values.new ray.new told.fallen) }
+        × IsFallenAnswer net.now asked lines values.new ray.new told.fallen) }
     ensures most { IfOk result (λ told. told.turns ≤ asked.turns) }
     ensures cut { OnErr result ((lines : List FallLine) × N.WasCut notes.old lines notes.new
         × (length lines ≤ asked.turns) × (after : List ℤ) × IsDerivation net.now asked.from lines after) }
-    ensures rose { OnErr result (Rose (N.faults notes.old) (N.faults notes.new)) }
+    ensures rose { OnErr result (FaultCounted (N.faults notes.old) (N.faults notes.new)) }
     ensures values { length values.new ≡ length values.old }
     ensures ray { length ray.new ≡ length ray.old }
     ensures limits { guide.new.limits ≡ guide.old.limits }
@@ -67,11 +67,11 @@ pub fn greatest<N: Notes>(
         Err(failed) => return Err(failed),
     };
     let fallen = match descent.course {
-        Course::Settled => settled(net, asked.to, guide.limits, values, ray),
-        Course::Ended => Fallen::Inconsistent,
-        Course::Spent => Fallen::Spent,
+        DerivationEnd::Settled => settled(net, asked.to, guide.limits, values, ray),
+        DerivationEnd::Ended => Fallen::Inconsistent,
+        DerivationEnd::Spent => Fallen::Spent,
     };
-    Ok(Told {
+    Ok(CountedAnswer {
         fallen,
         turns: descent.turns,
     })
@@ -87,7 +87,7 @@ fn settled(net: &Network, to: EventId, limits: Limits, values: &[i64], ray: &mut
     requires limits { AreLimits net.now limits }
     ensures answers { (from : EventId) (turns : ℕ) (lines : List FallLine) → from.0 < net.now.events
         → HasSettled net.now from turns lines values.now
-        → Answers net.now (asked_of from to turns) lines values.now ray.new result }
+        → IsFallenAnswer net.now (asked_of from to turns) lines values.now ray.new result }
     ensures ray { length ray.new ≡ length ray.old }
 {
     prove!(net.events() as usize == values.len());

@@ -37,5 +37,5 @@ pub use gap::{Level, gap_level};
 pub use limits::{Limits, limits_of};
 pub use line::{FallLine, Reason};
 pub use negation::negation_of;
-pub use notes::{NoNotes, Notes, NotesFailed};
+pub use notes::{FallScribe, FallScribeFailed, QuietFall};
 pub use view::View;

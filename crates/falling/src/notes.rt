@@ -1,7 +1,7 @@
 //! Who notes the lines of a derivation while it is found.
 
 ghost use Rattle.std.specs.Prelude.{◌≡◌, ℕ, List, [], ◌∷◌, ◌++◌, OnOk, OnErr};
-ghost use Rattle.itv_base.specs.Outside.{Rose};
+ghost use Rattle.itv_base.specs.Outside.{FaultCounted};
 ghost use Rattle.falling.specs.declared.line.FallLine.{FallLine};
 ghost use Rattle.falling.specs.declared.line.Reason.TheVariants.{ByEdge, ByLatest};
 
@@ -11,19 +11,19 @@ use std::fmt;
 
 /// A line of a derivation was not noted whole.
 #[derive(Clone, Copy, Debug, PartialEq, Eq)]
-pub struct NotesFailed;
+pub struct FallScribeFailed;
 
-impl fmt::Display for NotesFailed {
+impl fmt::Display for FallScribeFailed {
     fn fmt<W: fmt::Write>(&self, f: &mut fmt::Formatter<W>) -> fmt::Result {
         write!(f, "a line of a derivation could not be noted")
     }
 }
 
-impl Error for NotesFailed {}
+impl Error for FallScribeFailed {}
 
 /// Takes the lines of a derivation, one after another. Each call notes its line, or fails: then the notes have
 /// some front of the line at their end, and their count of faults rose.
-pub trait Notes {
+pub trait FallScribe {
     /// How often they have failed. The count never falls.
     ghost faults: { Self → ℕ };
 
@@ -34,20 +34,20 @@ pub trait Notes {
     ghost WasCut: { Self → List FallLine → Self → Type 0 };
 
     /// Notes that an event falls to a value, in picoseconds, by an always-edge.
-    fn fall(&mut self, event: EventId, value: i64, edge: EdgeName) -> Result<(), NotesFailed>
+    fn fall(&mut self, event: EventId, value: i64, edge: EdgeName) -> Result<(), FallScribeFailed>
         ensures grew { OnOk result (Grew self.old
             ((record { event = event; value = value; reason = ByEdge edge }) ∷ []) self.new) }
         ensures cut { OnErr result (WasCut self.old
             ((record { event = event; value = value; reason = ByEdge edge }) ∷ []) self.new) }
-        ensures rose { OnErr result (Rose (faults self.old) (faults self.new)) };
+        ensures rose { OnErr result (FaultCounted (faults self.old) (faults self.new)) };
 
     /// Notes that an event falls to a value, in picoseconds, by the latest constraint of a number.
-    fn late(&mut self, event: EventId, value: i64, constraint: u32) -> Result<(), NotesFailed>
+    fn late(&mut self, event: EventId, value: i64, constraint: u32) -> Result<(), FallScribeFailed>
         ensures grew { OnOk result (Grew self.old
             ((record { event = event; value = value; reason = ByLatest constraint }) ∷ []) self.new) }
         ensures cut { OnErr result (WasCut self.old
             ((record { event = event; value = value; reason = ByLatest constraint }) ∷ []) self.new) }
-        ensures rose { OnErr result (Rose (faults self.old) (faults self.new)) };
+        ensures rose { OnErr result (FaultCounted (faults self.old) (faults self.new)) };
 
     /// They grow by no lines where nothing is noted.
     ghost grew_none: { (s : Self) → Grew s [] s };
@@ -64,9 +64,9 @@ pub trait Notes {
 
 /// Notes nothing, and never fails.
 #[derive(Clone, Copy, Debug)]
-pub struct NoNotes;
+pub struct QuietFall;
 
-impl Notes for NoNotes {
+impl FallScribe for QuietFall {
     ghost use Rattle.std.proofs.Common.{refl};
 
     ghost faults = { λ _. 0 };
@@ -75,11 +75,21 @@ impl Notes for NoNotes {
 
     ghost WasCut = { λ _ _ _. Unit {0} };
 
-    fn fall(&mut self, _event: EventId, _value: i64, _edge: EdgeName) -> Result<(), NotesFailed> {
+    fn fall(
+        &mut self,
+        _event: EventId,
+        _value: i64,
+        _edge: EdgeName,
+    ) -> Result<(), FallScribeFailed> {
         Ok(())
     }
 
-    fn late(&mut self, _event: EventId, _value: i64, _constraint: u32) -> Result<(), NotesFailed> {
+    fn late(
+        &mut self,
+        _event: EventId,
+        _value: i64,
+        _constraint: u32,
+    ) -> Result<(), FallScribeFailed> {
         Ok(())
     }
 

@@ -12,12 +12,12 @@ use std::marker::Model;
 /// A flag for each number of a constraint: the bits of words of 64 bits, the least number first. Contracts see
 /// the words.
 #[derive(Debug, Drop)]
-pub struct Pending {
+pub struct PendingFlags {
     words: Vec<u64>,
     start: usize,
 }
 
-impl Model for Pending {
+impl Model for PendingFlags {
     ghost use Rattle.std.specs.Prelude.{List, ℕ};
     ghost use Rattle.falling.specs.Step.Words.{HasStart};
 
@@ -28,13 +28,13 @@ impl Model for Pending {
     ghost invariant = { HasStart };
 }
 
-impl Pending {
+impl PendingFlags {
     /// Room for the flags of so many constraints. Takes all the memory that is ever needed.
-    pub fn new(alloc: Global, count: u32) -> Result<Pending, NoMemory>
+    pub fn new(alloc: Global, count: u32) -> Result<PendingFlags, NoMemory>
         requires count { count ≤ MAX_CONSTRAINTS }
         ensures room { IfOk result (λ pending. count ≤ 64 * length pending) }
     {
-        Ok(Pending {
+        Ok(PendingFlags {
             words: vec![in alloc; 0; (count / 64 + 1) as usize]?,
             start: 0,
         })
@@ -87,7 +87,7 @@ impl Pending {
 }
 
 /// Gives some numbers their flags.
-pub fn insert_all(pending: &mut Pending, numbers: &[u32])
+pub fn insert_all(pending: &mut PendingFlags, numbers: &[u32])
     requires within { All (λ (number : ℕ). number < 64 * length pending.old) numbers.now }
     ensures count { length pending.new ≡ length pending.old }
     ensures there { All (IsPending pending.new) numbers.now }

@@ -7,24 +7,24 @@ ghost use Rattle.itv_base.specs.declared.names.Side.TheVariants as Side;
 ghost use Rattle.event_graph.specs.Network.{IsNet, cause_at};
 ghost use Rattle.falling.specs.declared.line.Reason.TheVariants.{ByEdge, ByLatest};
 ghost use Rattle.falling.specs.Step.Agenda.{AreOthersTried};
-ghost use Rattle.falling.specs.Derivation.{IsAllowed, IsSettled};
-ghost use Rattle.falling.specs.Step.Turns.{HasOpenHigh, HoldsSide, IsConstraintTried, IsHighOf, IsKind, IsFirstOf, IsFirstOnSide, IsLatestValue, IsSideTried, IsTried, IsTurnLine, MayLook};
+ghost use Rattle.falling.specs.Derivation.{IsLineAllowed, IsFixedPoint};
+ghost use Rattle.falling.specs.Step.Turns.{HasOpenHigh, HoldsSide, IsConstraintTried, IsHighOf, IsOfKind, IsFirstOf, IsFirstOnSide, IsLatestValue, IsSideTried, IsTried, IsTurnLine, MayLook};
 ghost use Rattle.falling.specs.Cap.{IsNearValue};
 
 use crate::line::{FallLine, Reason};
-use crate::pending::Pending;
+use crate::pending::PendingFlags;
 use event_graph::Network;
 use itv_base::{EdgeName, RuleKind, Side};
 
 /// The first line of the constraint of least number that allows one, where a constraint without a flag allows none.
 /// Each that is looked at in vain loses its flag.
-pub fn next_line(net: &Network, values: &[i64], pending: &mut Pending) -> Option<FallLine>
+pub fn next_line(net: &Network, values: &[i64], pending: &mut PendingFlags) -> Option<FallLine>
     requires count { length values.now ≡ net.now.events }
     requires near { All IsNearValue values.now }
     requires tried { AreOthersTried net.now values.now pending.old }
-    ensures line { IfSome result (IsAllowed net.now values.now) }
+    ensures line { IfSome result (IsLineAllowed net.now values.now) }
     ensures turn { IfSome result (IsTurnLine net.now values.now) }
-    ensures none { IfNone result (IsSettled net.now values.now) }
+    ensures none { IfNone result (IsFixedPoint net.now values.now) }
     ensures flags { length pending.new ≡ length pending.old }
     ensures tried { AreOthersTried net.now values.now pending.new }
 {
@@ -44,7 +44,7 @@ pub fn next_line(net: &Network, values: &[i64], pending: &mut Pending) -> Option
 // The first line of a constraint, in the order of the turn rule.
 fn constraint_line(net: &Network, number: u32, values: &[i64]) -> Option<FallLine>
     requires look { MayLook net.now values.now number }
-    ensures line { IfSome result (IsAllowed net.now values.now) }
+    ensures line { IfSome result (IsLineAllowed net.now values.now) }
     ensures first { IfSome result (IsFirstOf net.now values.now number) }
     ensures none { IfNone result (IsConstraintTried net.now values.now number) }
 {
@@ -58,8 +58,8 @@ fn constraint_line(net: &Network, number: u32, values: &[i64]) -> Option<FallLin
 // The line of a linear constraint: the upper side comes first.
 fn linear_line(net: &Network, number: u32, values: &[i64]) -> Option<FallLine>
     requires look { MayLook net.now values.now number }
-    requires kind { IsKind net.now number RuleKind.Lin }
-    ensures line { IfSome result (IsAllowed net.now values.now) }
+    requires kind { IsOfKind net.now number RuleKind.Lin }
+    ensures line { IfSome result (IsLineAllowed net.now values.now) }
     ensures first { IfSome result (IsFirstOf net.now values.now number) }
     ensures none { IfNone result (IsConstraintTried net.now values.now number) }
 {
@@ -72,8 +72,8 @@ fn linear_line(net: &Network, number: u32, values: &[i64]) -> Option<FallLine>
 // The line of an earliest constraint: the lower side of a single cause comes first.
 fn early_line(net: &Network, number: u32, values: &[i64]) -> Option<FallLine>
     requires look { MayLook net.now values.now number }
-    requires kind { IsKind net.now number RuleKind.Early }
-    ensures line { IfSome result (IsAllowed net.now values.now) }
+    requires kind { IsOfKind net.now number RuleKind.Early }
+    ensures line { IfSome result (IsLineAllowed net.now values.now) }
     ensures first { IfSome result (IsFirstOf net.now values.now number) }
     ensures none { IfNone result (IsConstraintTried net.now values.now number) }
 {
@@ -86,8 +86,8 @@ fn early_line(net: &Network, number: u32, values: &[i64]) -> Option<FallLine>
 // The line by the lower side of an earliest constraint, which is always met where there is a single cause.
 fn single_line(net: &Network, number: u32, values: &[i64]) -> Option<FallLine>
     requires look { MayLook net.now values.now number }
-    requires kind { IsKind net.now number RuleKind.Early }
-    ensures line { IfSome result (IsAllowed net.now values.now) }
+    requires kind { IsOfKind net.now number RuleKind.Early }
+    ensures line { IfSome result (IsLineAllowed net.now values.now) }
     ensures first { IfSome result (IsFirstOnSide net.now values.now number Side.Lower) }
     ensures none { IfNone result (IsSideTried net.now values.now number Side.Lower) }
 {
@@ -101,8 +101,8 @@ fn single_line(net: &Network, number: u32, values: &[i64]) -> Option<FallLine>
 // that the latest line does not.
 fn late_line(net: &Network, number: u32, values: &[i64]) -> Option<FallLine>
     requires look { MayLook net.now values.now number }
-    requires kind { IsKind net.now number RuleKind.Late }
-    ensures line { IfSome result (IsAllowed net.now values.now) }
+    requires kind { IsOfKind net.now number RuleKind.Late }
+    ensures line { IfSome result (IsLineAllowed net.now values.now) }
     ensures first { IfSome result (IsFirstOf net.now values.now number) }
     ensures none { IfNone result (IsConstraintTried net.now values.now number) }
 {
@@ -116,7 +116,7 @@ fn late_line(net: &Network, number: u32, values: &[i64]) -> Option<FallLine>
 fn side_line(net: &Network, number: u32, side: Side, values: &[i64]) -> Option<FallLine>
     requires look { MayLook net.now values.now number }
     requires always { HoldsSide net.now number side }
-    ensures line { IfSome result (IsAllowed net.now values.now) }
+    ensures line { IfSome result (IsLineAllowed net.now values.now) }
     ensures first { IfSome result (IsFirstOnSide net.now values.now number side) }
     ensures none { IfNone result (IsSideTried net.now values.now number side) }
 {
@@ -139,7 +139,7 @@ fn edge_line(net: &Network, name: EdgeName, values: &[i64]) -> Option<FallLine>
     requires count { length values.now ≡ net.now.events }
     requires near { All IsNearValue values.now }
     requires always { HoldsSide net.now name.constraint name.side }
-    ensures line { IfSome result (IsAllowed net.now values.now) }
+    ensures line { IfSome result (IsLineAllowed net.now values.now) }
     ensures reason { IfSome result (λ line. line.reason ≡ ByEdge name) }
     ensures none { IfNone result (IsTried net.now values.now (ByEdge name)) }
 {
@@ -159,8 +159,8 @@ fn edge_line(net: &Network, name: EdgeName, values: &[i64]) -> Option<FallLine>
 // The line by a latest constraint, if no high end is open and it lowers the target.
 fn latest_line(net: &Network, number: u32, values: &[i64]) -> Option<FallLine>
     requires look { MayLook net.now values.now number }
-    requires kind { IsKind net.now number RuleKind.Late }
-    ensures line { IfSome result (IsAllowed net.now values.now) }
+    requires kind { IsOfKind net.now number RuleKind.Late }
+    ensures line { IfSome result (IsLineAllowed net.now values.now) }
     ensures reason { IfSome result (λ line. line.reason ≡ ByLatest number) }
     ensures none { IfNone result (IsTried net.now values.now (ByLatest number)) }
 {
@@ -180,7 +180,7 @@ fn latest_line(net: &Network, number: u32, values: &[i64]) -> Option<FallLine>
 // The greatest value, in picoseconds, that the causes of a latest constraint give, if no high end is open.
 pub fn latest_value(net: &Network, number: u32, values: &[i64]) -> Option<Due>
     requires look { MayLook net.now values.now number }
-    requires kind { IsKind net.now number RuleKind.Late }
+    requires kind { IsOfKind net.now number RuleKind.Late }
     ensures value { IfSome result (λ d. IsLatestValue net.now values.now number d.value) }
     ensures none { IfNone result (HasOpenHigh net.now number) }
 {

@@ -3,7 +3,7 @@ use Rattle.std.proofs.Common.{◌≡◌, List, [], Option, Some, None, Ok, Err, 
 use Rattle.std.specs.Prelude.{codes}
 use Rattle.serde_json.specs.Data.{Data}
 use Rattle.serde_json.specs.Find.{get}
-use Rattle.itv_base.specs.Reading.{HasFault, walk}
+use Rattle.itv_base.specs.Reading.{IsReadingFault, walk}
 use Rattle.grades.specs.declared.fault.GradesFault.{GradesFault}
 use Rattle.grades.specs.declared.fault.GradesFault.TheVariants.{Grades}
 use Rattle.grades.specs.declared.grade.Grade.{Grade}
@@ -20,5 +20,5 @@ module _ (tree : Data) where
   told-some told is = rw is refl
 
   pub ranged-fault : (told : List Grade) → grades_told (get (codes "itv_grades") tree) ≡ Some told → (fault : GradesFault)
-      → HasFault is_memory (walk with_grade 0 [] told) fault → HasFault is_memory (grades_of tree) fault
+      → IsReadingFault is_memory (walk with_grade 0 [] told) fault → IsReadingFault is_memory (grades_of tree) fault
   ranged-fault told is fault h = rw (told-some told is) h

@@ -2,7 +2,7 @@
 
 ghost use Rattle.std.specs.Prelude.{◌≡◌, []};
 ghost use Rattle.serde_json.specs.View.{view};
-ghost use Rattle.itv_base.specs.Reading.{Gives, walk};
+ghost use Rattle.itv_base.specs.Reading.{AgreesWith, walk};
 ghost use Rattle.json_tree.specs.Pairs.{ends_view};
 ghost use Rattle.grades.specs.Fault.{is_memory};
 ghost use Rattle.grades.specs.Grades.{grades_of, range_for, with_grade, with_parameter};
@@ -24,7 +24,7 @@ use std::alloc::Global;
 ///
 /// `NoMemory` may come in place of the grades or a fault. After any fault nothing was made.
 pub fn read_grades(alloc: Global, tree: &Value) -> Result<Grades, GradesFault>
-    ensures answer { Gives is_memory (λ grades. grades) result (grades_of (view tree.now)) }
+    ensures answer { AgreesWith is_memory (λ grades. grades) result (grades_of (view tree.now)) }
 {
     let Some(told) = told_grades(alloc, tree)? else {
         return Err(GradesFault::Grades);
@@ -35,7 +35,7 @@ pub fn read_grades(alloc: Global, tree: &Value) -> Result<Grades, GradesFault>
 
 // The grades with their ranges, or the first one that is none.
 fn ranged_grades(alloc: Global, told: &[LooseGrade]) -> Result<Listing<Grade>, GradesFault>
-    ensures { Gives is_memory (λ grades. grades) result (walk with_grade 0 [] told.now) }
+    ensures { AgreesWith is_memory (λ grades. grades) result (walk with_grade 0 [] told.now) }
 {
     let mut grades = Listing::new(alloc);
     for (g, grade) in told.iter().enumerate() {
@@ -51,7 +51,7 @@ fn push_grade(
     g: u64,
     grade: &LooseGrade,
 ) -> Result<(), GradesFault>
-    ensures { Gives is_memory (λ _. grades.new) result (with_grade g grades.old grade.now) }
+    ensures { AgreesWith is_memory (λ _. grades.new) result (with_grade g grades.old grade.now) }
 {
     let parameters = ranged_parameters(alloc, g, grade.parameters.as_slice())?;
     grades.push(Grade {
@@ -67,7 +67,7 @@ fn ranged_parameters(
     g: u64,
     told: &[LooseParameter],
 ) -> Result<Parameters, GradesFault>
-    ensures { Gives is_memory (λ parameters. parameters) result (walk (with_parameter g) 0 [] told.now) }
+    ensures { AgreesWith is_memory (λ parameters. parameters) result (walk (with_parameter g) 0 [] told.now) }
 {
     let mut parameters = Parameters::new(alloc);
     for (p, parameter) in told.iter().enumerate() {
@@ -84,7 +84,7 @@ fn push_parameter(
     p: u64,
     parameter: &LooseParameter,
 ) -> Result<(), GradesFault>
-    ensures { Gives is_memory (λ _. parameters.new) result (with_parameter g p parameters.old parameter.now) }
+    ensures { AgreesWith is_memory (λ _. parameters.new) result (with_parameter g p parameters.old parameter.now) }
 {
     let range = range_for(g, p, parameter.ends)?;
     parameters.push(Parameter {
@@ -96,7 +96,7 @@ fn push_parameter(
 
 // The range of the two ends of parameter p of grade g.
 fn range_for(g: u64, p: u64, ends: EndPair) -> Result<Range, GradesFault>
-    ensures { Gives is_memory (λ range. range) result (range_for g p (ends_view ends)) }
+    ensures { AgreesWith is_memory (λ range. range) result (range_for g p (ends_view ends)) }
 {
     match Range::new(ends.low, ends.high) {
         Ok(range) => Ok(range),

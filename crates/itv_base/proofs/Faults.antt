@@ -1,24 +1,24 @@
 -- The fault of a reading, step by step.
 use Rattle.std.proofs.Common.{◌≡◌, ℕ, suc, ◌+◌, ◌-◌, ◌<◌, Bool, true, false, List, [], ◌∷◌, length, drop, map, get_or, Option, Some, None, Result, Ok, Err, IfOk, refl, sym, ap, ◌∙◌, arith, add-one, drop-cons}
 use Rattle.std.proofs.lemmas.List.{drop-map}
-use Rattle.itv_base.specs.Reading.{◌>>=◌, unless, walk, walk_to, Unless, HasFault}
+use Rattle.itv_base.specs.Reading.{◌>>=◌, unless, walk, walk_to, UnlessTrue, IsReadingFault}
 
 -- ---- faults handed on
 
 handed_on : {A B F : Type 0} (b : Bool) (reading : Result A F) (more : Result B F) (fault : F) → ((d : F) → reading ≡ Err d → more ≡ Err d)
-    → Unless b (reading ≡ Err fault) → Unless b (more ≡ Err fault)
+    → UnlessTrue b (reading ≡ Err fault) → UnlessTrue b (more ≡ Err fault)
 handed_on true reading more fault on h = tt
 handed_on false reading more fault on h = on fault h
 
 -- what has each fault of something else has this one
-pub HasFault-on : {A B F : Type 0} (is_memory : F → Bool) (reading : Result A F) (more : Result B F) (fault : F)
-    → ((d : F) → reading ≡ Err d → more ≡ Err d) → HasFault is_memory reading fault → HasFault is_memory more fault
-HasFault-on is_memory reading more fault on h = handed_on (is_memory fault) reading more fault on h
+pub IsReadingFault-on : {A B F : Type 0} (is_memory : F → Bool) (reading : Result A F) (more : Result B F) (fault : F)
+    → ((d : F) → reading ≡ Err d → more ≡ Err d) → IsReadingFault is_memory reading fault → IsReadingFault is_memory more fault
+IsReadingFault-on is_memory reading more fault on h = handed_on (is_memory fault) reading more fault on h
 
 -- the fault of the first step is that of all steps
-pub HasFault-first : {A B F : Type 0} (is_memory : F → Bool) (reading : Result A F) (f : A → Result B F) (fault : F)
-    → HasFault is_memory reading fault → HasFault is_memory (reading >>= f) fault
-HasFault-first is_memory reading f fault h = HasFault-on is_memory reading (reading >>= f) fault (λ d is. ap (λ r. r >>= f) is) h
+pub IsReadingFault-first : {A B F : Type 0} (is_memory : F → Bool) (reading : Result A F) (f : A → Result B F) (fault : F)
+    → IsReadingFault is_memory reading fault → IsReadingFault is_memory (reading >>= f) fault
+IsReadingFault-first is_memory reading f fault h = IsReadingFault-on is_memory reading (reading >>= f) fault (λ d is. ap (λ r. r >>= f) is) h
 
 -- ---- walks along a list
 
@@ -37,9 +37,9 @@ walk_on step n k done more xs x h is next = rw (drop-next xs k x h is, next) ref
 
 -- the fault of an element is that of the walk
 pub walk_fault : {X A F : Type 0} (is_memory : F → Bool) (step : ℕ → A → X → Result A F) (n k : ℕ) (done : A) (xs : List X) (x : X) (fault : F) → k < length xs → x ≡ get_or xs k x
-    → HasFault is_memory (step n done x) fault → HasFault is_memory (walk step n done (drop k xs)) fault
+    → IsReadingFault is_memory (step n done x) fault → IsReadingFault is_memory (walk step n done (drop k xs)) fault
 walk_fault is_memory step n k done xs x fault h is next =
-    HasFault-on is_memory (step n done x) (walk step n done (drop k xs)) fault (λ d failed. rw (drop-next xs k x h is, failed) refl) next
+    IsReadingFault-on is_memory (step n done x) (walk step n done (drop k xs)) fault (λ d failed. rw (drop-next xs k x h is, failed) refl) next
 
 -- likewise of elements that are seen by a view
 pub walk_on_map : {V X A F : Type 0} (step : ℕ → A → X → Result A F) (f : V → X) (n k : ℕ) (done more : A) (xs : List V) (v : V) → k < length xs → v ≡ get_or xs k v
@@ -47,9 +47,9 @@ pub walk_on_map : {V X A F : Type 0} (step : ℕ → A → X → Result A F) (f 
 walk_on_map step f n k done more xs v h is next = rw (next_at f xs k v h is, next) refl
 
 pub walk_fault_map : {V X A F : Type 0} (is_memory : F → Bool) (step : ℕ → A → X → Result A F) (f : V → X) (n k : ℕ) (done : A) (xs : List V) (v : V) (fault : F) → k < length xs → v ≡ get_or xs k v
-    → HasFault is_memory (step n done (f v)) fault → HasFault is_memory (walk step n done (drop k (map f xs))) fault
+    → IsReadingFault is_memory (step n done (f v)) fault → IsReadingFault is_memory (walk step n done (drop k (map f xs))) fault
 walk_fault_map is_memory step f n k done xs v fault h is next =
-    HasFault-on is_memory (step n done (f v)) (walk step n done (drop k (map f xs))) fault (λ d failed. rw (next_at f xs k v h is, failed) refl) next
+    IsReadingFault-on is_memory (step n done (f v)) (walk step n done (drop k (map f xs))) fault (λ d failed. rw (next_at f xs k v h is, failed) refl) next
 
 -- ---- what holds of a value that is read
 
@@ -85,7 +85,7 @@ pub walk_to_on : {A F : Type 0} (step : ℕ → A → Result A F) (n count : ℕ
 walk_to_on step n count done more h next = walk_to_step step n count done h ∙ rw next refl
 
 -- the fault of a number is that of the walk
-pub walk_to_fault : {A F : Type 0} (is_memory : F → Bool) (step : ℕ → A → Result A F) (n count : ℕ) (done : A) (fault : F) → n < count → HasFault is_memory (step n done) fault
-    → HasFault is_memory (walk_to step n done (count - n)) fault
+pub walk_to_fault : {A F : Type 0} (is_memory : F → Bool) (step : ℕ → A → Result A F) (n count : ℕ) (done : A) (fault : F) → n < count → IsReadingFault is_memory (step n done) fault
+    → IsReadingFault is_memory (walk_to step n done (count - n)) fault
 walk_to_fault is_memory step n count done fault h next =
-    HasFault-on is_memory (step n done) (walk_to step n done (count - n)) fault (λ d failed. walk_to_step step n count done h ∙ rw failed refl) next
+    IsReadingFault-on is_memory (step n done) (walk_to step n done (count - n)) fault (λ d failed. walk_to_step step n count done h ∙ rw failed refl) next

@@ -5,7 +5,7 @@ use Rattle.std.proofs.lemmas.List.{take_all, take-append-drop, length-drop}
 use Rattle.std.proofs.Math.Seq.{take-append_seam}
 use Rattle.std.specs.Bool.{⊤}
 use Rattle.std.proofs.lemmas.Bool.{cases_lt}
-use Rattle.itv_base.specs.Outside.{last_count, raised, Rose, Puts}
+use Rattle.itv_base.specs.Outside.{last_count, one_more_fault, FaultCounted, Puts}
 use Rattle.itv_base.specs.Step.{ReadsOn, WritesFront}
 
 -- ---- reads
@@ -113,11 +113,11 @@ writes_front a b rest piece w = record {
 -- ---- a sink that tells no bytes
 
 -- a count of faults rises to the next one
-pub raised_rose : (count : ℕ) → count ≤ last_count → Rose count (raised count)
+pub raised_rose : (count : ℕ) → count ≤ last_count → FaultCounted count (one_more_fault count)
 raised_rose count small = elim (cases_lt count last_count) [ inl less ↦ inl (omega arith) | inr ge ↦ inr (omega arith) ]
 
 -- a put by a writer of which nothing is told but the count
-pub untold_puts : {E : Type 0} (old new : ℕ) (bytes : List ℕ) (r : Result ⊤ E) → OnOk r (new ≡ old) → OnErr r (old ≤ new) → OnErr r (Rose old new)
+pub untold_puts : {E : Type 0} (old new : ℕ) (bytes : List ℕ) (r : Result ⊤ E) → OnOk r (new ≡ old) → OnErr r (old ≤ new) → OnErr r (FaultCounted old new)
     → Puts (record { written = None; faults = old }) (record { written = None; faults = new }) bytes r
 untold_puts old new bytes (Ok x) still count rose = ap (λ n. record { written = None; faults = n }) still
 untold_puts old new bytes (Err e) still count rose = record {

@@ -6,7 +6,7 @@ use Rattle.std.specs.Cmp.Lexicographic.{slice_cmp}
 use Rattle.std.specs.Ordering.{nat_cmp}
 use Rattle.std.specs.FinMap as map
 use Rattle.std.specs.Global.{Vec}
-use Rattle.itv_base.specs.Outside.{Files, ShelfTold, SinkTold, file_of, raised}
+use Rattle.itv_base.specs.Outside.{Files, ShelfView, SinkView, file_of, one_more_fault}
 use Rattle.itv_base.specs.declared.shelf.FetchFault.{FetchFault}
 use Rattle.itv_base.specs.declared.shelf.FetchFault.TheVariants.{Failed, NoMemory}
 
@@ -29,7 +29,7 @@ mem_shelf_code =
     (λ s. (s.files, (s.failing, (s.calls, (s.faults, s.last))))) (λ p. record { files = p.0; failing = p.1.0; calls = p.1.1.0; faults = p.1.1.1.0; last = p.1.1.1.1 }) (λ _. refl)
 
 -- What such a shelf tells. It is faithful where no call is to fail.
-abbrev pub shelf_told : MemShelf → ShelfTold
+abbrev pub shelf_told : MemShelf → ShelfView
 shelf_told s = record { files = Some s.files; faults = s.faults; last = s.last; is_faithful = length s.failing == 0 }
 
 -- the next fetch fails if it asks for this name: the call is listed, or there is no such file
@@ -41,7 +41,7 @@ abbrev pub MemFetches : MemShelf → MemShelf → List ℕ → ℕ → Result (V
 MemFetches old new name most (Ok bytes) =
     (is_refused old name ≡ false) × (option_map (take most) (file_of old.files name) ≡ Some bytes.items) × (new ≡ record old { calls = next_call old.calls })
 MemFetches old new name most (Err Failed) =
-    (is_refused old name ≡ true) × (new ≡ record old { calls = next_call old.calls; faults = raised old.faults; last = name })
+    (is_refused old name ≡ true) × (new ≡ record old { calls = next_call old.calls; faults = one_more_fault old.faults; last = name })
 MemFetches old new name most (Err NoMemory) = new ≡ old
 
 -- what was written, how much may be, the call that is to fail, and how many calls and faults there were
@@ -53,7 +53,7 @@ pub record MemSink : Type 0 where
   pub faults : ℕ
 
 -- what such a sink tells
-abbrev pub sink_told : MemSink → SinkTold
+abbrev pub sink_told : MemSink → SinkView
 sink_told s = record { written = Some s.bytes; faults = s.faults }
 
 -- the call with this number is the one that is to fail
@@ -74,5 +74,5 @@ abbrev pub after_put : MemSink → List ℕ → MemSink
 after_put s piece = record s {
   bytes = s.bytes ++ part_taken s piece;
   calls = next_call s.calls;
-  faults = (if takes s piece then s.faults else raised s.faults);
+  faults = (if takes s piece then s.faults else one_more_fault s.faults);
 }

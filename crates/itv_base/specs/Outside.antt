@@ -20,23 +20,23 @@ abbrev pub last_count : ℕ
 last_count = 2 ^ 64 - 1
 
 -- a count of faults after one more
-abbrev pub raised : ℕ → ℕ
-raised count = min (count + 1) last_count
+abbrev pub one_more_fault : ℕ → ℕ
+one_more_fault count = min (count + 1) last_count
 
 -- a count of faults rose in a call: it grew, or it stands at its last value after it
-abbrev pub Rose : ℕ → ℕ → Type 0
-Rose before now = (before < now) ⊎ (now ≡ last_count)
+abbrev pub FaultCounted : ℕ → ℕ → Type 0
+FaultCounted before now = (before < now) ⊎ (now ≡ last_count)
 
 -- What a shelf tells: its files, if it does; how often its fetches have failed; the name that was asked in the latest one that did; and
 -- whether its fetches fail only for names that it has no file of.
-pub record ShelfTold : Type 0 where
+pub record ShelfView : Type 0 where
   pub files : Option Files
   pub faults : ℕ
   pub last : List ℕ
   pub is_faithful : Bool
 
 -- what a sink tells: what was written, if it does, and how often its puts have failed
-pub record SinkTold : Type 0 where
+pub record SinkView : Type 0 where
   pub written : Option (List ℕ)
   pub faults : ℕ
 
@@ -51,17 +51,17 @@ abbrev pub IsMissing : Option Files → List ℕ → Type 0
 IsMissing told name = IfSome told (λ files. IsNone (file_of files name))
 
 -- a fetch of a name failed: the count rose, the name is the last that failed, and what else is told stands
-pub record FailedFor (name : List ℕ) (old new : ShelfTold) : Type 0 where
+pub record FailedFor (name : List ℕ) (old new : ShelfView) : Type 0 where
   pub files : new.files ≡ old.files
   pub faithful : new.is_faithful ≡ old.is_faithful
   pub count : old.faults ≤ new.faults
-  pub rose : Rose old.faults new.faults
+  pub rose : FaultCounted old.faults new.faults
   pub last : new.last ≡ name
   pub missing : old.is_faithful ≡ true → IsMissing old.files name
 
 -- What a fetch answers, and what it leaves: at most so many bytes, which are the first of the file where files are told. A failure
 -- alone changes what the shelf tells.
-abbrev pub Fetches : ShelfTold → ShelfTold → List ℕ → ℕ → Result (Vec ℕ) FetchFault → Type 0
+abbrev pub Fetches : ShelfView → ShelfView → List ℕ → ℕ → Result (Vec ℕ) FetchFault → Type 0
 Fetches old new name most (Ok bytes) = (new ≡ old) × (length bytes.items ≤ most) × HasFront old.files name most bytes.items
 Fetches old new name most (Err Failed) = FailedFor name old new
 Fetches old new name most (Err NoMemory) = new ≡ old
@@ -74,16 +74,16 @@ pub record Failures : Type 0 where
 -- ---- puts
 
 -- what a sink tells with some bytes more
-abbrev pub grown : SinkTold → List ℕ → SinkTold
+abbrev pub grown : SinkView → List ℕ → SinkView
 grown told bytes = record told { written = option_map (λ known. known ++ bytes) told.written }
 
 -- a put failed: a front of the bytes was written, and the count rose
-pub record CutShort (old new : SinkTold) (bytes : List ℕ) : Type 0 where
+pub record CutShort (old new : SinkView) (bytes : List ℕ) : Type 0 where
   pub front : (n : ℕ) × (n ≤ length bytes) × (new.written ≡ (grown old (take n bytes)).written)
   pub count : old.faults ≤ new.faults
-  pub rose : Rose old.faults new.faults
+  pub rose : FaultCounted old.faults new.faults
 
 -- What one put or several did to a sink: they appended all of the bytes, or failed and appended a front of them.
-abbrev pub Puts : {E : Type 0} → SinkTold → SinkTold → List ℕ → Result ⊤ E → Type 0
+abbrev pub Puts : {E : Type 0} → SinkView → SinkView → List ℕ → Result ⊤ E → Type 0
 Puts old new bytes (Ok x) = new ≡ grown old bytes
 Puts old new bytes (Err e) = CutShort old new bytes

@@ -27,15 +27,15 @@ walk_to step n done (suc left) = step n done >>= λ more. walk_to step (n + 1) m
 -- ---- answers
 
 -- what holds unless a test is met
-abbrev pub Unless : Bool → Type 0 → Type 0
-Unless true P = Unit {0}
-Unless false P = P
+abbrev pub UnlessTrue : Bool → Type 0 → Type 0
+UnlessTrue true P = Unit {0}
+UnlessTrue false P = P
 
 -- A fault is that of a reading. Want of memory, of which a test tells, may come whatever the reading gives.
-abbrev pub HasFault : {A F : Type 0} → (F → Bool) → Result A F → F → Type 0
-HasFault is_memory reading fault = Unless (is_memory fault) (reading ≡ Err fault)
+abbrev pub IsReadingFault : {A F : Type 0} → (F → Bool) → Result A F → F → Type 0
+IsReadingFault is_memory reading fault = UnlessTrue (is_memory fault) (reading ≡ Err fault)
 
 -- An answer, seen by a view, is that of a reading, unless memory was wanted.
-abbrev pub Gives : {A B F : Type 0} → (F → Bool) → (A → B) → Result A F → Result B F → Type 0
-Gives is_memory view (Ok x) reading = reading ≡ Ok (view x)
-Gives is_memory view (Err fault) reading = HasFault is_memory reading fault
+abbrev pub AgreesWith : {A B F : Type 0} → (F → Bool) → (A → B) → Result A F → Result B F → Type 0
+AgreesWith is_memory view (Ok x) reading = reading ≡ Ok (view x)
+AgreesWith is_memory view (Err fault) reading = IsReadingFault is_memory reading fault

@@ -1,7 +1,7 @@
 //! Files by name, as the program is given them.
 
 ghost use Rattle.std.specs.Prelude.{◌≡◌};
-ghost use Rattle.itv_base.specs.Outside.{ShelfTold, Fetches};
+ghost use Rattle.itv_base.specs.Outside.{ShelfView, Fetches};
 ghost use Rattle.itv_base.specs.declared.shelf.FetchFault.TheVariants.{NoMemory};
 
 use crate::text::NoMemory as OutOfMemory;
@@ -46,7 +46,7 @@ impl From<OutOfMemory> for FetchFault {
 pub trait Shelf {
     /// What the shelf tells: its files, if it does; how often a fetch has failed, a count that never falls and stays at the last
     /// value of 64 bits; the name that was asked in the latest fetch that failed; and whether fetches fail only for absent files.
-    ghost told: { Self → ShelfTold };
+    ghost told: { Self → ShelfView };
 
     /// The first `cap` bytes of a file, or all of them where it is shorter. It fails only where the count of faults rose, and
     /// then the name is the last one that failed. Want of memory changes nothing that is told.

@@ -2,7 +2,7 @@
 
 ghost use Rattle.std.specs.Prelude.{map};
 ghost use Rattle.std.specs.List.{concat};
-ghost use Rattle.itv_base.specs.Outside.{SinkTold, Puts};
+ghost use Rattle.itv_base.specs.Outside.{SinkView, Puts};
 
 use thiserror::Error;
 
@@ -15,7 +15,7 @@ pub struct PutFailed;
 pub trait Sink {
     /// What the sink tells: what was written, if it does, and how often a put has failed, a count that never falls and stays at
     /// the last value of 64 bits.
-    ghost told: { Self → SinkTold };
+    ghost told: { Self → SinkView };
 
     /// Appends the piece. Where the put failed a front of the piece was appended, and the count of faults rose.
     fn put(&mut self, piece: &[u8]) -> Result<(), PutFailed>

@@ -2,7 +2,7 @@
 
 ghost use Rattle.std.specs.Prelude.{◌≡◌, ◌≤◌, None, OnOk, OnErr};
 ghost use Rattle.std.specs.Io.KnownBytes.{Appends};
-ghost use Rattle.itv_base.specs.Outside.{Rose};
+ghost use Rattle.itv_base.specs.Outside.{FaultCounted};
 ghost use Rattle.itv_base.specs.Step.{WritesFront};
 
 use crate::sink::{PutFailed, Sink};
@@ -65,7 +65,7 @@ fn put_by<W: Write>(out: &mut W, piece: &[u8], faults: &mut u64) -> Result<(), P
     ensures front { OnErr result (WritesFront (W.contents out.old) (W.contents out.new) piece.now) }
     ensures still { OnOk result (faults.new ≡ faults.old) }
     ensures count { OnErr result (faults.old ≤ faults.new) }
-    ensures rose { OnErr result (Rose faults.old faults.new) }
+    ensures rose { OnErr result (FaultCounted faults.old faults.new) }
 {
     match write_whole(out, piece) {
         Ok(()) => Ok(()),

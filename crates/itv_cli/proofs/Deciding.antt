@@ -15,7 +15,7 @@ use Rattle.bounds_report.specs.Reports.{IsWrittenReport, Reports, Sums}
 use Rattle.bounds_report.specs.declared.summary.Summary.{Summary}
 use Rattle.bounds_report.proofs.WrittenLaws.{written_is_bare, written_is_shown}
 use Rattle.summary_report.specs.Summary.{AnswersSummary}
-use Rattle.redraw_report.specs.Redraw.{AnswersRedraw, Says, is_wide}
+use Rattle.redraw_report.specs.Redraw.{AnswersRedraw, AnswersEndWord, is_wide}
 use Rattle.itv_cli.specs.Bounds.{AnswersBounds, DecidesWithin}
 use Rattle.itv_cli.specs.Job.{Answers}
 use Rattle.itv_cli.specs.declared.ready.Ready.TheVariants as ready
@@ -60,7 +60,7 @@ drawn_or_refused : (is_wide : Bool) → (if is_wide then answers.DesignRefused e
 drawn_or_refused true e = cc e
 drawn_or_refused false e = cc e
 
-says_undecided : (drawn : Drawn) (lines : List Entry) (word : EndWord) (answer : Answer) (text : List ℕ) → Says drawn lines word answer text → answer ≡ answers.Undecided → word ≡ endings.Undecided
+says_undecided : (drawn : Drawn) (lines : List Entry) (word : EndWord) (answer : Answer) (text : List ℕ) → AnswersEndWord drawn lines word answer text → answer ≡ answers.Undecided → word ≡ endings.Undecided
 says_undecided drawn lines endings.Pass answer text s e = absurd (cc (s.0, e))
 says_undecided drawn lines endings.Fail answer text s e = absurd (drawn_or_refused (is_wide drawn s.failed) (sym s.is_answer ∙ e))
 says_undecided drawn lines endings.Inconsistent answer text s e = absurd (cc (s.0, e))

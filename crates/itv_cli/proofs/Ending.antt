@@ -1,13 +1,13 @@
 -- How a run ends, and what its end says.
 use Rattle.std.proofs.Common.{◌≡◌, ◌<◌, ◌∙◌, inl, inr, List, ℕ, Option, Some, None, IfSome, Result, Ok, Err, refl, sym, ap, subst, arith}
 use Rattle.std.specs.Bool.{⊤}
-use Rattle.itv_base.specs.Outside.{Files, ShelfTold, SinkTold, Puts, Rose}
-use Rattle.jobs.specs.Works.{Works}
+use Rattle.itv_base.specs.Outside.{Files, ShelfView, SinkView, Puts, FaultCounted}
+use Rattle.jobs.specs.Works.{JobWrote}
 use Rattle.jobs.specs.declared.answer.Answer.{Answer}
 use Rattle.jobs.specs.declared.answer.Answer.TheVariants as answers
 use Rattle.jobs.specs.declared.unanswered.Unanswered.{Unanswered}
 use Rattle.jobs.specs.declared.unanswered.Unanswered.TheVariants as unanswered
-use Rattle.reading.specs.declared.place.Place.{Place}
+use Rattle.reading.specs.declared.place.RefusalPlace.{RefusalPlace}
 use Rattle.reading.specs.declared.refusal.Refusal.{Refusal}
 use Rattle.reading.specs.declared.stop.Stop.{Stop}
 use Rattle.reading.specs.declared.stop.Stop.TheVariants as stops
@@ -18,26 +18,26 @@ use Rattle.words.specs.Task.{Task, taken, task, help, bad_words}
 use Rattle.itv_cli.specs.declared.outcome.Outcome.{Outcome}
 use Rattle.itv_cli.specs.declared.outcome.Outcome.TheVariants.{AllPass, Help, SomeFail, Inconsistent, Undecided, Refused, ReadFault, WriteFault, NoMemory, BadWords, CheckRefused}
 use Rattle.itv_cli.specs.declared.ready.Ready.{Ready}
-use Rattle.itv_cli.specs.Job.{Answers, Begins, made_for, opening}
-use Rattle.itv_cli.specs.Run.{Call, CameTo, EndsOver, EndsBy, FilesDecide, HasAnswered, IsKept, Means, Wanted, Wrote, Completes, RefusesWords, ShowsFaults, outcome_of}
-use Rattle.itv_cli.specs.Run.Wanted.{at_end}
-use Rattle.itv_cli.specs.Step.{OpensFor, Stops, Tells, answered, end_after}
+use Rattle.itv_cli.specs.Job.{Answers, MayHaveWritten, made_for, opening}
+use Rattle.itv_cli.specs.Run.{Call, HasRead, ReadsOver, OutcomeBy, FilesDecide, HasAnswered, IsShelfUnchanged, OutcomeMeans, IntendedText, Wrote, Completes, RefusesWords, ShowsFaults, outcome_of}
+use Rattle.itv_cli.specs.Run.IntendedText.{at_end}
+use Rattle.itv_cli.specs.Step.{OpensFor, Stops, EndsWithText, answered, end_after}
 
 -- ---- what each end says
 
 -- what a run tells after a put of a text
-pub tells : {E : Type 0} (old new : SinkTold) (text : List ℕ) (end result : Outcome) (put : Result ⊤ E)
-    → Puts old new text put → result ≡ end_after put end → Tells old new text end result
+pub tells : {E : Type 0} (old new : SinkView) (text : List ℕ) (end result : Outcome) (put : Result ⊤ E)
+    → Puts old new text put → result ≡ end_after put end → EndsWithText old new text end result
 tells old new text end result (Ok x) puts is = inl (is, puts)
 tells old new text end result (Err e) puts is = inr (is, puts)
 
 -- the end of a run that told a text
-pub told : (call : Call) (text : List ℕ) (end result : Outcome) → Tells call.sink_before call.sink_after text end result
-    → Wanted call text → (Wrote call text → Means call end) → Means call result
+pub told : (call : Call) (text : List ℕ) (end result : Outcome) → EndsWithText call.sink_before call.sink_after text end result
+    → IntendedText call text → (Wrote call text → OutcomeMeans call end) → OutcomeMeans call result
 told call text end result (inl p) wanted means = rw p.0 (means p.1)
 told call text end result (inr p) wanted means = rw p.0 (record { text = text; wanted = wanted; cut = p.1 })
 
-means_answer : (call : Call) (answer : Answer) → HasAnswered call answer → Means call (outcome_of answer)
+means_answer : (call : Call) (answer : Answer) → HasAnswered call answer → OutcomeMeans call (outcome_of answer)
 means_answer call answers.AllPass h = h
 means_answer call answers.SomeFail h = h
 means_answer call answers.Inconsistent h = h
@@ -46,26 +46,26 @@ means_answer call answers.CheckRefused h = h
 means_answer call answers.DesignRefused h = inr h
 
 -- what a reading that gave something leaves of the shelf
-kept_by : (made : Option Files) (old new : ShelfTold) (asked : Task) (given : Ready) → EndsOver made old new asked (ready given) → new ≡ old
+kept_by : (made : Option Files) (old new : ShelfView) (asked : Task) (given : Ready) → ReadsOver made old new asked (ready given) → new ≡ old
 kept_by None old new asked given h = h.1
 kept_by (Some files) old new asked given h = h.1
 
-kept_refused : (made : Option Files) (old new : ShelfTold) (asked : Task) (place : Place) (why : Refusal) → EndsOver made old new asked (refused place why) → new ≡ old
+kept_refused : (made : Option Files) (old new : ShelfView) (asked : Task) (place : RefusalPlace) (why : Refusal) → ReadsOver made old new asked (refused place why) → new ≡ old
 kept_refused None old new asked place why h = h.1
 kept_refused (Some files) old new asked place why h = h.1
 
-kept_ready : (call : Call) (given : Ready) → CameTo call (ready given) → IsKept call
+kept_ready : (call : Call) (given : Ready) → HasRead call (ready given) → IsShelfUnchanged call
 kept_ready call given c = kept_by (made_for c.asked) call.shelf_before call.shelf_after c.asked given c.ends
 
 -- all was read, and the job has done its work
-pub worked : (call : Call) (given : Ready) (r : Result Answer Unanswered) → CameTo call (ready given) → Works (Answers given) (Begins given) call.sink_before call.sink_after r → Means call (answered r)
+pub worked : (call : Call) (given : Ready) (r : Result Answer Unanswered) → HasRead call (ready given) → JobWrote (Answers given) (MayHaveWritten given) call.sink_before call.sink_after r → OutcomeMeans call (answered r)
 worked call given (Ok answer) came w = means_answer call answer (record { given = given; came = came; text = w.0; answers = w.1; wrote = w.2 })
 worked call given (Err unanswered.PutFailed) came w = record { text = w.0; wanted = at_end (ready given) came w.1; cut = w.2 }
 worked call given (Err unanswered.NoMemory) came w = record { sink = w; shelf = kept_ready call given came }
 
 -- the reading gave nothing
 pub unworked : (call : Call) (asked : Task) (stop : Stop) (result : Outcome) → taken call.words ≡ task asked → OpensFor call.shelf_before call.shelf_after asked (Err stop)
-    → Stops call.sink_before call.sink_after stop result → Means call result
+    → Stops call.sink_before call.sink_after stop result → OutcomeMeans call result
 unworked call asked (stops.Refused place why) result is o s =
     told call (refusal_text place why) Refused result s (at_end (refused place why) (record { asked = asked; words = is; ends = o }) refl)
     (λ wrote. inl (record { place = place; why = why; came = record { asked = asked; words = is; ends = o }; wrote = wrote }))
@@ -87,21 +87,21 @@ when_some None P h = tt
 when_some (Some x) P h = h x refl
 
 -- the files of a reading that gave something decide
-decide_ready : (made : Option Files) (old new : ShelfTold) (asked : Task) (given : Ready) (outcome : Outcome) → EndsOver made old new asked (ready given) → EndsBy (ready given) outcome
+decide_ready : (made : Option Files) (old new : ShelfView) (asked : Task) (given : Ready) (outcome : Outcome) → ReadsOver made old new asked (ready given) → OutcomeBy (ready given) outcome
     → FilesDecide made old.files asked outcome
 decide_ready None old new asked given outcome h by =
-    when_some old.files (λ files. EndsBy (told_end files (opening asked)) outcome) (λ files e. subst (λ end. EndsBy end outcome) (sym (told_ready old files (opening asked) given e h.0)) by)
-decide_ready (Some files) old new asked given outcome h by = subst (λ end. EndsBy end outcome) h.0 by
+    when_some old.files (λ files. OutcomeBy (told_end files (opening asked)) outcome) (λ files e. subst (λ end. OutcomeBy end outcome) (sym (told_ready old files (opening asked) given e h.0)) by)
+decide_ready (Some files) old new asked given outcome h by = subst (λ end. OutcomeBy end outcome) h.0 by
 
-decide_refused : (made : Option Files) (old new : ShelfTold) (asked : Task) (place : Place) (why : Refusal) → EndsOver made old new asked (refused place why) → FilesDecide made old.files asked Refused
+decide_refused : (made : Option Files) (old new : ShelfView) (asked : Task) (place : RefusalPlace) (why : Refusal) → ReadsOver made old new asked (refused place why) → FilesDecide made old.files asked Refused
 decide_refused None old new asked place why h =
-    when_some old.files (λ files. EndsBy (told_end files (opening asked)) Refused) (λ files e. subst (λ end. EndsBy end Refused) (sym (told_refused old files (opening asked) place why e h.0)) refl)
-decide_refused (Some files) old new asked place why h = subst (λ end. EndsBy end Refused) h.0 refl
+    when_some old.files (λ files. OutcomeBy (told_end files (opening asked)) Refused) (λ files e. subst (λ end. OutcomeBy end Refused) (sym (told_refused old files (opening asked) place why e h.0)) refl)
+decide_refused (Some files) old new asked place why h = subst (λ end. OutcomeBy end Refused) h.0 refl
 
-decide_unread : (made : Option Files) (old new : ShelfTold) (asked : Task) (place : Place) (name : List ℕ) → ¬ (Rose old.faults new.faults) → EndsOver made old new asked (unread place name)
+decide_unread : (made : Option Files) (old new : ShelfView) (asked : Task) (place : RefusalPlace) (name : List ℕ) → ¬ (FaultCounted old.faults new.faults) → ReadsOver made old new asked (unread place name)
     → FilesDecide made old.files asked ReadFault
 decide_unread None old new asked place name quiet h = absurd (quiet h.1.rose)
-decide_unread (Some files) old new asked place name quiet h = subst (λ end. EndsBy end ReadFault) h.0 refl
+decide_unread (Some files) old new asked place name quiet h = subst (λ end. OutcomeBy end ReadFault) h.0 refl
 
 abbrev Decides : Call → Task → Outcome → Type 0
 Decides call asked outcome = FilesDecide (made_for asked) call.shelf_before.files asked outcome
@@ -111,7 +111,7 @@ by_answer call asked answer is h =
     subst (λ t. Decides call t (outcome_of answer)) (same_task call asked h.came.asked is h.came.words)
     (decide_ready (made_for h.came.asked) call.shelf_before call.shelf_after h.came.asked h.given (outcome_of answer) h.came.ends (answer, h.text, h.answers, refl))
 
-pub completes : (call : Call) (result : Outcome) → Means call result → Completes call result
+pub completes : (call : Call) (result : Outcome) → OutcomeMeans call result → Completes call result
 completes call AllPass m asked is quiet = inr (by_answer call asked answers.AllPass is m)
 completes call Help m asked is quiet = absurd (cc (m.words, is))
 completes call SomeFail m asked is quiet = inr (by_answer call asked answers.SomeFail is m)
@@ -130,16 +130,16 @@ completes call BadWords m asked is quiet = absurd (cc (m.words, is))
 completes call CheckRefused m asked is quiet = inr (by_answer call asked answers.CheckRefused is m)
 
 -- words that ask for a task are neither bad nor a wish for help
-came_no_bad : (call : Call) (end : End Ready) → CameTo call end → taken call.words ≡ bad_words → ⊥
+came_no_bad : (call : Call) (end : End Ready) → HasRead call end → taken call.words ≡ bad_words → ⊥
 came_no_bad call end c is = cc (c.words, is)
 
-came_no_help : (call : Call) (end : End Ready) → CameTo call end → taken call.words ≡ help → ⊥
+came_no_help : (call : Call) (end : End Ready) → HasRead call end → taken call.words ≡ help → ⊥
 came_no_help call end c is = cc (c.words, is)
 
-refuses_none : (call : Call) (end : End Ready) (result : Outcome) → CameTo call end → RefusesWords call result
+refuses_none : (call : Call) (end : End Ready) (result : Outcome) → HasRead call end → RefusesWords call result
 refuses_none call end result c quiet = (λ is. absurd (came_no_bad call end c is), λ is. absurd (came_no_help call end c is))
 
-pub refuses_words : (call : Call) (result : Outcome) → Means call result → RefusesWords call result
+pub refuses_words : (call : Call) (result : Outcome) → OutcomeMeans call result → RefusesWords call result
 refuses_words call AllPass m = refuses_none call (ready m.given) AllPass m.came
 refuses_words call Help m = λ quiet. (λ is. absurd (cc (m.words, is)), λ is. inr refl)
 refuses_words call SomeFail m = refuses_none call (ready m.given) SomeFail m.came
@@ -158,18 +158,18 @@ still : (before now : ℕ) → now ≡ before → before < now → ⊥
 still before now e h = omega (arith, e, h)
 
 quiet_sink : (call : Call) (text : List ℕ) → Wrote call text → call.sink_before.faults < call.sink_after.faults → ⊥
-quiet_sink call text wrote h = still _ _ (ap (λ (t : SinkTold). t.faults) wrote) h
+quiet_sink call text wrote h = still _ _ (ap (λ (t : SinkView). t.faults) wrote) h
 
-quiet_shelf : (call : Call) → IsKept call → call.shelf_before.faults < call.shelf_after.faults → ⊥
-quiet_shelf call kept h = still _ _ (ap (λ (t : ShelfTold). t.faults) kept) h
+quiet_shelf : (call : Call) → IsShelfUnchanged call → call.shelf_before.faults < call.shelf_after.faults → ⊥
+quiet_shelf call kept h = still _ _ (ap (λ (t : ShelfView). t.faults) kept) h
 
-shows_none : (call : Call) (text : List ℕ) (result : Outcome) → Wrote call text → IsKept call → ShowsFaults call result
+shows_none : (call : Call) (text : List ℕ) (result : Outcome) → Wrote call text → IsShelfUnchanged call → ShowsFaults call result
 shows_none call text result wrote kept = (λ h. absurd (quiet_sink call text wrote h), λ h. absurd (quiet_shelf call kept h))
 
 shows_answer : (call : Call) (answer : Answer) (result : Outcome) → HasAnswered call answer → ShowsFaults call result
 shows_answer call answer result m = shows_none call m.text result m.wrote (kept_ready call m.given m.came)
 
-pub shows_faults : (call : Call) (result : Outcome) → Means call result → ShowsFaults call result
+pub shows_faults : (call : Call) (result : Outcome) → OutcomeMeans call result → ShowsFaults call result
 shows_faults call AllPass m = shows_answer call answers.AllPass AllPass m
 shows_faults call Help m = shows_none call m.text Help m.wrote m.shelf
 shows_faults call SomeFail m = shows_answer call answers.SomeFail SomeFail m
@@ -180,6 +180,6 @@ shows_faults call Refused (inl m) =
     shows_none call (refusal_text m.place m.why) Refused m.wrote (kept_refused (made_for m.came.asked) call.shelf_before call.shelf_after m.came.asked m.place m.why m.came.ends)
 shows_faults call ReadFault m = (λ h. absurd (quiet_sink call (unread_text m.place) m.wrote h), λ h. inl refl)
 shows_faults call WriteFault m = (λ h. refl, λ h. inr refl)
-shows_faults call NoMemory m = (λ h. absurd (still _ _ (ap (λ (t : SinkTold). t.faults) m.sink) h), λ h. absurd (quiet_shelf call m.shelf h))
+shows_faults call NoMemory m = (λ h. absurd (still _ _ (ap (λ (t : SinkView). t.faults) m.sink) h), λ h. absurd (quiet_shelf call m.shelf h))
 shows_faults call BadWords m = shows_none call _ BadWords m.wrote m.shelf
 shows_faults call CheckRefused m = shows_answer call answers.CheckRefused CheckRefused m

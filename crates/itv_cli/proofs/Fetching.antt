@@ -1,8 +1,8 @@
 -- What the reading for a task answers, by what its steps do.
 use Rattle.std.proofs.Common.{◌≡◌, ℕ, true, List, Some, None, IsNone, Result, Ok, Err, refl, sym, ap, subst}
 use Rattle.itv_base.specs.Memory.{MemShelf, shelf_told}
-use Rattle.itv_base.specs.Outside.{FailedFor, Files, IsMissing, ShelfTold, file_of}
-use Rattle.design_gen.specs.Files.{IsDesign, design_files}
+use Rattle.itv_base.specs.Outside.{FailedFor, Files, IsMissing, ShelfView, file_of}
+use Rattle.design_gen.specs.Files.{IsDesignShelf, design_files}
 use Rattle.reading.specs.declared.stop.Stop.{Stop}
 use Rattle.reading.specs.declared.stop.Stop.TheVariants.{Refused, ReadFault, NoMemory}
 use Rattle.reading.proofs.Opens.{told_ready, told_refused, told_unread}
@@ -13,14 +13,14 @@ use Rattle.itv_cli.specs.Job.{made_for, opening}
 use Rattle.itv_cli.specs.Step.{OpensFor, OpensMade}
 
 -- what is read from the files of the shelf
-pub opens_shelf : (old new : ShelfTold) (asked : Task) (r : Result Ready Stop) → made_for asked ≡ None → Opens (λ given. given) old new (opening asked) r → OpensFor old new asked r
+pub opens_shelf : (old new : ShelfView) (asked : Task) (r : Result Ready Stop) → made_for asked ≡ None → Opens (λ given. given) old new (opening asked) r → OpensFor old new asked r
 opens_shelf old new asked (Ok given) own h = rw own h
 opens_shelf old new asked (Err (Refused place why)) own h = rw own h
 opens_shelf old new asked (Err (ReadFault place)) own h = rw own h
 opens_shelf old new asked (Err NoMemory) own h = h
 
 -- what is read from made files, while the shelf stays as it is
-pub opens_made : (told : ShelfTold) (files : Files) (asked : Task) (r : Result Ready Stop) → made_for asked ≡ Some files → OpensMade files asked r → OpensFor told told asked r
+pub opens_made : (told : ShelfView) (files : Files) (asked : Task) (r : Result Ready Stop) → made_for asked ≡ Some files → OpensMade files asked r → OpensFor told told asked r
 opens_made told files asked (Ok given) made h = rw made (h, refl)
 opens_made told files asked (Err (Refused place why)) made h = rw made (h, refl)
 opens_made told files asked (Err (ReadFault place)) made h = rw made (h.0, (h.1, refl))
@@ -28,7 +28,7 @@ opens_made told files asked (Err NoMemory) made h = refl
 
 -- ---- a made shelf
 
-module _ (size most : ℕ) (made : MemShelf) (after : ShelfTold) (is : IsDesign size made) where
+module _ (size most : ℕ) (made : MemShelf) (after : ShelfView) (is : IsDesignShelf size made) where
   files_are : (shelf_told made).files ≡ Some (design_files size)
   files_are = ap (λ s. (shelf_told s).files) is
 

@@ -8,14 +8,14 @@ use Rattle.drawn.specs.Drawn.{Drawn}
 use Rattle.unroll.specs.declared.fault.UnrollFault.TheVariants.{TooMany}
 use Rattle.unroll.specs.declared.limit.Limit.TheVariants.{MatrixEvents, SessionRows}
 use Rattle.unroll.specs.declared.limit.TheConstants.{MAX_SESSION_ROWS}
-use Rattle.reading.specs.declared.place.Place.TheVariants.{Design, Edits, Report}
+use Rattle.reading.specs.declared.place.RefusalPlace.TheVariants.{Design, Edits, Report}
 use Rattle.reading.specs.declared.refusal.Refusal.TheVariants as refusals
 use Rattle.plan.specs.Notes.{plan_note}
 use Rattle.plan.specs.Plan.{Planned}
 use Rattle.reading.specs.Design.{design_at, drawn_at, plan_at}
-use Rattle.reading.specs.Opening.{Opening, gives, refuses, ◌>>=◌, at, file_at}
+use Rattle.reading.specs.Opening.{FileReading, gives, refuses, ◌>>=◌, at, file_at}
 use Rattle.words.specs.Task.{Task, bounds, fall, settle, redraw, why, brief, lint, matrix, check, confirm, generated, whatif}
-use Rattle.bounds_report.specs.Reports.{BeginsReport}
+use Rattle.bounds_report.specs.Reports.{MayHaveBegun}
 use Rattle.brief_report.specs.Brief.{AnswersBrief, BeginsBrief}
 use Rattle.fall_report.specs.Fall.{AnswersFall, BeginsFall}
 use Rattle.falling.specs.View.{view_of}
@@ -39,42 +39,42 @@ use Rattle.itv_cli.specs.declared.ready.Ready.TheVariants as ready
 -- ---- what each reads
 
 -- a drawn network for a matrix, which is refused where it has too many events
-abbrev pub matrix_at : Drawn → Opening Ready
+abbrev pub matrix_at : Drawn → FileReading Ready
 matrix_at drawn = if nat_lt MAX_MATRIX_EVENTS drawn.net.events then refuses Design (refusals.Limits (TooMany MatrixEvents drawn.net.events)) else gives (ready.Matrix drawn)
 
 -- a drawn network for falling values, with its view; it is refused where it has choices of both kinds, with the first of each
-abbrev pub fall_in : ℕ → Bool → Drawn → Result View Mixed → Opening Ready
+abbrev pub fall_in : ℕ → Bool → Drawn → Result View Mixed → FileReading Ready
 fall_in budget cert drawn (Ok view) = gives (ready.Fall drawn view budget cert)
 fall_in budget cert drawn (Err choices) = refuses Design (refusals.Mixed choices.late choices.early)
 
-abbrev pub fall_at : ℕ → Bool → Drawn → Opening Ready
+abbrev pub fall_at : ℕ → Bool → Drawn → FileReading Ready
 fall_at budget cert drawn = fall_in budget cert drawn (view_of drawn.net)
 
 -- a drawn network for the edits in the bytes of a file
-abbrev pub edits_in : ℕ → Drawn → List ℕ → Opening Ready
+abbrev pub edits_in : ℕ → Drawn → List ℕ → FileReading Ready
 edits_in budget drawn bytes = do
   edits ← at Edits refusals.Edits (edits_of drawn.net bytes)
   gives (ready.Whatif drawn edits budget)
 
 -- with the file of edits behind it
-abbrev pub edits_at : List ℕ → ℕ → Drawn → Opening Ready
+abbrev pub edits_at : List ℕ → ℕ → Drawn → FileReading Ready
 edits_at name budget drawn = do
   bytes ← file_at Edits name MAX_EDITS_BYTES
   edits_in budget drawn bytes
 
 -- a drawn network for edits, which is refused where it has too many rows, before its edits are fetched
-abbrev pub whatif_at : List ℕ → ℕ → Drawn → Opening Ready
+abbrev pub whatif_at : List ℕ → ℕ → Drawn → FileReading Ready
 whatif_at edits budget drawn =
     if nat_lt MAX_SESSION_ROWS (length drawn.rows) then refuses Design (refusals.Limits (TooMany SessionRows (length drawn.rows))) else edits_at edits budget drawn
 
 -- the plan of the design of a file, and the network that it draws
-abbrev pub planned_at : List ℕ → Opening (Planned × Drawn)
+abbrev pub planned_at : List ℕ → FileReading (Planned × Drawn)
 planned_at name = do
   plan ← plan_at name
   drawn ← drawn_at plan.netlist plan.sheets
   gives (plan, drawn)
 
-abbrev pub opening : Task → Opening Ready
+abbrev pub opening : Task → FileReading Ready
 opening (bounds design budget cert) = do
   drawn ← design_at design
   gives (ready.Bounds drawn budget cert)
@@ -136,16 +136,16 @@ Answers (ready.Generated drawn size budget) answer text = AnswersSummary drawn s
 Answers (ready.Whatif drawn edits budget) answer text = AnswersWhatif drawn budget edits answer text
 
 -- what it may have begun to write
-abbrev pub Begins : Ready → List ℕ → Type 0
-Begins (ready.Bounds drawn budget cert) text = BeginsReport drawn budget cert text
-Begins (ready.Fall drawn view budget cert) text = BeginsFall drawn budget cert text
-Begins (ready.Settle drawn budget cert) text = IsSettleText drawn cert text
-Begins (ready.Redraw drawn budget) text = BeginsRedraw drawn budget text
-Begins (ready.Why plan drawn budget) text = BeginsWhy (plan_note plan) drawn budget text
-Begins (ready.Brief plan drawn budget) text = BeginsBrief (plan_note plan) drawn budget text
-Begins (ready.Lint plan drawn budget) text = BeginsLint plan drawn budget text
-Begins (ready.Matrix drawn) text = BeginsMatrix drawn text
-Begins (ready.Check drawn report) text = BeginsCheck drawn report text
-Begins (ready.Confirm drawn report) text = BeginsConfirm drawn report text
-Begins (ready.Generated drawn size budget) text = BeginsSummary drawn size budget text
-Begins (ready.Whatif drawn edits budget) text = BeginsWhatif drawn budget edits text
+abbrev pub MayHaveWritten : Ready → List ℕ → Type 0
+MayHaveWritten (ready.Bounds drawn budget cert) text = MayHaveBegun drawn budget cert text
+MayHaveWritten (ready.Fall drawn view budget cert) text = BeginsFall drawn budget cert text
+MayHaveWritten (ready.Settle drawn budget cert) text = IsSettleText drawn cert text
+MayHaveWritten (ready.Redraw drawn budget) text = BeginsRedraw drawn budget text
+MayHaveWritten (ready.Why plan drawn budget) text = BeginsWhy (plan_note plan) drawn budget text
+MayHaveWritten (ready.Brief plan drawn budget) text = BeginsBrief (plan_note plan) drawn budget text
+MayHaveWritten (ready.Lint plan drawn budget) text = BeginsLint plan drawn budget text
+MayHaveWritten (ready.Matrix drawn) text = BeginsMatrix drawn text
+MayHaveWritten (ready.Check drawn report) text = BeginsCheck drawn report text
+MayHaveWritten (ready.Confirm drawn report) text = BeginsConfirm drawn report text
+MayHaveWritten (ready.Generated drawn size budget) text = BeginsSummary drawn size budget text
+MayHaveWritten (ready.Whatif drawn edits budget) text = BeginsWhatif drawn budget edits text

@@ -1,48 +1,48 @@
--- What the end of a run says: where it comes from, and what was written. The claim is `Means`; what stands above it are its words, and what
+-- What the end of a run says: where it comes from, and what was written. The claim is `OutcomeMeans`; what stands above it are its words, and what
 -- stands below follows from it. Nothing here speaks of a job: what each reads and answers stands in `Job`.
 use Rattle.std.specs.Prelude.{◌≡◌, ◌<◌, ◌⊎◌, ℕ, List, Option, Some, None, IfSome, codes}
-use Rattle.itv_base.specs.Outside.{Files, ShelfTold, SinkTold, Rose, grown, CutShort}
+use Rattle.itv_base.specs.Outside.{Files, ShelfView, SinkView, FaultCounted, grown, CutShort}
 use Rattle.jobs.specs.declared.answer.Answer.{Answer}
 use Rattle.jobs.specs.declared.answer.Answer.TheVariants as answers
-use Rattle.reading.specs.declared.place.Place.{Place}
+use Rattle.reading.specs.declared.place.RefusalPlace.{RefusalPlace}
 use Rattle.reading.specs.declared.refusal.Refusal.{Refusal}
-use Rattle.reading.specs.Opening.{End, Ends, ready, refused, unread, told_end}
+use Rattle.reading.specs.Opening.{End, RunsToEnd, ready, refused, unread, told_end}
 use Rattle.reading.specs.Refusal.{refusal_text, unread_text}
 use Rattle.words.specs.Task.{Task, taken, task, help, bad_words}
 use Rattle.itv_cli.specs.declared.outcome.Outcome.{Outcome}
 use Rattle.itv_cli.specs.declared.outcome.Outcome.TheVariants.{AllPass, Help, SomeFail, Inconsistent, Undecided, Refused, ReadFault, WriteFault, NoMemory, BadWords, CheckRefused}
 use Rattle.itv_cli.specs.declared.ready.Ready.{Ready}
-use Rattle.itv_cli.specs.Job.{Answers, Begins, made_for, opening}
+use Rattle.itv_cli.specs.Job.{Answers, MayHaveWritten, made_for, opening}
 
 -- a run: its words, and what the shelf and the sink tell before and after it
 pub record Call : Type 0 where
   pub words : List (List ℕ)
-  pub shelf_before : ShelfTold
-  pub shelf_after : ShelfTold
-  pub sink_before : SinkTold
-  pub sink_after : SinkTold
+  pub shelf_before : ShelfView
+  pub shelf_after : ShelfView
+  pub sink_before : SinkView
+  pub sink_after : SinkView
 
 -- a run, from what is told before and after it
-abbrev pub call_of : List (List ℕ) → ShelfTold → ShelfTold → SinkTold → SinkTold → Call
+abbrev pub call_of : List (List ℕ) → ShelfView → ShelfView → SinkView → SinkView → Call
 call_of words shelf shelf' sink sink' = record { words = words; shelf_before = shelf; shelf_after = shelf'; sink_before = sink; sink_after = sink' }
 
 -- ---- what was read
 
 -- The reading for a task came to an end: over the files of the shelf, or over files that were made for it. These decide the end, and the
 -- shelf tells what it told before.
-abbrev pub EndsOver : Option Files → ShelfTold → ShelfTold → Task → End Ready → Type 0
-EndsOver None old new asked end = Ends old new (opening asked) end
-EndsOver (Some made) old new asked end = (end ≡ told_end made (opening asked)) × (new ≡ old)
+abbrev pub ReadsOver : Option Files → ShelfView → ShelfView → Task → End Ready → Type 0
+ReadsOver None old new asked end = RunsToEnd old new (opening asked) end
+ReadsOver (Some made) old new asked end = (end ≡ told_end made (opening asked)) × (new ≡ old)
 
 -- the words ask for a task, and the reading for it came to an end
-pub record CameTo (call : Call) (end : End Ready) : Type 0 where
+pub record HasRead (call : Call) (end : End Ready) : Type 0 where
   pub asked : Task
   pub words : taken call.words ≡ task asked
-  pub ends : EndsOver (made_for asked) call.shelf_before call.shelf_after asked end
+  pub ends : ReadsOver (made_for asked) call.shelf_before call.shelf_after asked end
 
 -- no fetch of the run failed, and what the shelf tells is as before
-abbrev pub IsKept : Call → Type 0
-IsKept call = call.shelf_after ≡ call.shelf_before
+abbrev pub IsShelfUnchanged : Call → Type 0
+IsShelfUnchanged call = call.shelf_after ≡ call.shelf_before
 
 -- ---- what was written
 
@@ -52,31 +52,31 @@ Wrote call text = call.sink_after ≡ grown call.sink_before text
 
 -- what a run was to write at an end of its reading
 abbrev pub ToWrite : End Ready → List ℕ → Type 0
-ToWrite (ready given) text = Begins given text
+ToWrite (ready given) text = MayHaveWritten given text
 ToWrite (refused place why) text = text ≡ refusal_text place why
 ToWrite (unread place name) text = text ≡ unread_text place
 
 -- a text that the run was to write; of the text of help nothing is said
-pub data Wanted (call : Call) (text : List ℕ) : Type 0 where
-  for_help : taken call.words ≡ help → IsKept call → Wanted call text
-  for_bad_words : taken call.words ≡ bad_words → IsKept call → text ≡ codes "bad words\n" → Wanted call text
-  at_end : (end : End Ready) → CameTo call end → ToWrite end text → Wanted call text
+pub data IntendedText (call : Call) (text : List ℕ) : Type 0 where
+  for_help : taken call.words ≡ help → IsShelfUnchanged call → IntendedText call text
+  for_bad_words : taken call.words ≡ bad_words → IsShelfUnchanged call → text ≡ codes "bad words\n" → IntendedText call text
+  at_end : (end : End Ready) → HasRead call end → ToWrite end text → IntendedText call text
 
 -- ---- the ends
 
 -- all was read, and what the job answers was written
 pub record HasAnswered (call : Call) (answer : Answer) : Type 0 where
   pub given : Ready
-  pub came : CameTo call (ready given)
+  pub came : HasRead call (ready given)
   pub text : List ℕ
   pub answers : Answers given answer text
   pub wrote : Wrote call text
 
 -- the files are refused, and the line of the first refusal was written
 pub record IsRefused (call : Call) : Type 0 where
-  pub place : Place
+  pub place : RefusalPlace
   pub why : Refusal
-  pub came : CameTo call (refused place why)
+  pub came : HasRead call (refused place why)
   pub wrote : Wrote call (refusal_text place why)
 
 -- the files are refused, or all was read and the job refuses the design, and the line of that is what it answers
@@ -85,55 +85,55 @@ HasRefused call = IsRefused call ⊎ HasAnswered call answers.DesignRefused
 
 -- the fetch of a file failed in this run, and the line that names its place was written
 pub record HasReadFault (call : Call) : Type 0 where
-  pub place : Place
+  pub place : RefusalPlace
   pub name : List ℕ
-  pub came : CameTo call (unread place name)
+  pub came : HasRead call (unread place name)
   pub wrote : Wrote call (unread_text place)
 
 -- a put failed in this run, and a front of what was to be written was
 pub record HasWriteFault (call : Call) : Type 0 where
   pub text : List ℕ
-  pub wanted : Wanted call text
+  pub wanted : IntendedText call text
   pub cut : CutShort call.sink_before call.sink_after text
 
 -- memory was not found, before the first put
 pub record IsUntouched (call : Call) : Type 0 where
   pub sink : call.sink_after ≡ call.sink_before
-  pub shelf : IsKept call
+  pub shelf : IsShelfUnchanged call
 
 -- the words are refused, and a line that says so was written
 pub record HasBadWords (call : Call) : Type 0 where
   pub words : taken call.words ≡ bad_words
   pub wrote : Wrote call (codes "bad words\n")
-  pub shelf : IsKept call
+  pub shelf : IsShelfUnchanged call
 
 -- the words ask for help, and some text was written
 pub record HasHelped (call : Call) : Type 0 where
   pub words : taken call.words ≡ help
   pub text : List ℕ
   pub wrote : Wrote call text
-  pub shelf : IsKept call
+  pub shelf : IsShelfUnchanged call
 
 -- what each end says of a run
-abbrev pub Means : Call → Outcome → Type 0
-Means call AllPass = HasAnswered call answers.AllPass
-Means call Help = HasHelped call
-Means call SomeFail = HasAnswered call answers.SomeFail
-Means call Inconsistent = HasAnswered call answers.Inconsistent
-Means call Undecided = HasAnswered call answers.Undecided
-Means call Refused = HasRefused call
-Means call ReadFault = HasReadFault call
-Means call WriteFault = HasWriteFault call
-Means call NoMemory = IsUntouched call
-Means call BadWords = HasBadWords call
-Means call CheckRefused = HasAnswered call answers.CheckRefused
+abbrev pub OutcomeMeans : Call → Outcome → Type 0
+OutcomeMeans call AllPass = HasAnswered call answers.AllPass
+OutcomeMeans call Help = HasHelped call
+OutcomeMeans call SomeFail = HasAnswered call answers.SomeFail
+OutcomeMeans call Inconsistent = HasAnswered call answers.Inconsistent
+OutcomeMeans call Undecided = HasAnswered call answers.Undecided
+OutcomeMeans call Refused = HasRefused call
+OutcomeMeans call ReadFault = HasReadFault call
+OutcomeMeans call WriteFault = HasWriteFault call
+OutcomeMeans call NoMemory = IsUntouched call
+OutcomeMeans call BadWords = HasBadWords call
+OutcomeMeans call CheckRefused = HasAnswered call answers.CheckRefused
 
 -- ---- which end comes: these follow from what the ends say
 
 -- neither count of faults rose
 pub record HasNoFault (call : Call) : Type 0 where
-  pub shelf : ¬ (Rose call.shelf_before.faults call.shelf_after.faults)
-  pub sink : ¬ (Rose call.sink_before.faults call.sink_after.faults)
+  pub shelf : ¬ (FaultCounted call.shelf_before.faults call.shelf_after.faults)
+  pub sink : ¬ (FaultCounted call.sink_before.faults call.sink_after.faults)
 
 -- the end for an answer
 abbrev pub outcome_of : Answer → Outcome
@@ -145,15 +145,15 @@ outcome_of answers.CheckRefused = CheckRefused
 outcome_of answers.DesignRefused = Refused
 
 -- the end for an end of the reading
-abbrev pub EndsBy : End Ready → Outcome → Type 0
-EndsBy (ready given) outcome = (answer : Answer) × (text : List ℕ) × Answers given answer text × (outcome ≡ outcome_of answer)
-EndsBy (refused place why) outcome = outcome ≡ Refused
-EndsBy (unread place name) outcome = outcome ≡ ReadFault
+abbrev pub OutcomeBy : End Ready → Outcome → Type 0
+OutcomeBy (ready given) outcome = (answer : Answer) × (text : List ℕ) × Answers given answer text × (outcome ≡ outcome_of answer)
+OutcomeBy (refused place why) outcome = outcome ≡ Refused
+OutcomeBy (unread place name) outcome = outcome ≡ ReadFault
 
 -- the end is the one for the files of the shelf, where they are told, or for files that were made for a task
 abbrev pub FilesDecide : Option Files → Option Files → Task → Outcome → Type 0
-FilesDecide None told asked outcome = IfSome told (λ files. EndsBy (told_end files (opening asked)) outcome)
-FilesDecide (Some made) told asked outcome = EndsBy (told_end made (opening asked)) outcome
+FilesDecide None told asked outcome = IfSome told (λ files. OutcomeBy (told_end files (opening asked)) outcome)
+FilesDecide (Some made) told asked outcome = OutcomeBy (told_end made (opening asked)) outcome
 
 -- where the words ask for a task and no fault rose, the end is the one for its files, or memory was not found
 abbrev pub Completes : Call → Outcome → Type 0
@@ -163,7 +163,7 @@ Completes call outcome =
 -- where the words ask for no task and no put failed, the end is the one for them, or memory was not found
 abbrev pub RefusesWords : Call → Outcome → Type 0
 RefusesWords call outcome =
-    ¬ (Rose call.sink_before.faults call.sink_after.faults)
+    ¬ (FaultCounted call.sink_before.faults call.sink_after.faults)
     → (taken call.words ≡ bad_words → (outcome ≡ NoMemory) ⊎ (outcome ≡ BadWords)) × (taken call.words ≡ help → (outcome ≡ NoMemory) ⊎ (outcome ≡ Help))
 
 -- a count that grew in the run shows in its end

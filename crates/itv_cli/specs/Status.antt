@@ -2,10 +2,10 @@
 use Rattle.std.specs.Prelude.{◌≡◌, ℕ, false, List, [], None}
 use Rattle.std.specs.declared.io.ErrorKind.{ErrorKind}
 use Rattle.std.specs.declared.io.ErrorKind.TheVariants.{OutOfMemory}
-use Rattle.itv_base.specs.Outside.{ShelfTold, SinkTold}
+use Rattle.itv_base.specs.Outside.{ShelfView, SinkView}
 use Rattle.itv_cli.specs.declared.outcome.Outcome.{Outcome}
 use Rattle.itv_cli.specs.declared.outcome.Outcome.TheVariants.{AllPass, Help, SomeFail, Inconsistent, Undecided, Refused, ReadFault, WriteFault, NoMemory, BadWords, CheckRefused}
-use Rattle.itv_cli.specs.Run.{Call, Means, call_of}
+use Rattle.itv_cli.specs.Run.{Call, OutcomeMeans, call_of}
 
 -- the status of each end of a run
 abbrev pub code_of : Outcome → ℕ
@@ -32,24 +32,24 @@ status_without_words _ = no_words
 
 -- a run came to an end, and this is its status
 abbrev pub HasRun : Call → ℕ → Type 0
-HasRun call status = (outcome : Outcome) × Means call outcome × (status ≡ code_of outcome)
+HasRun call status = (outcome : Outcome) × OutcomeMeans call outcome × (status ≡ code_of outcome)
 
 -- for want of words nothing was read and nothing written, and this is the status of it
-abbrev pub HasNoWords : ErrorKind → ShelfTold → ShelfTold → SinkTold → SinkTold → ℕ → Type 0
+abbrev pub HasNoWords : ErrorKind → ShelfView → ShelfView → SinkView → SinkView → ℕ → Type 0
 HasNoWords kind shelf shelf' sink sink' status = (shelf' ≡ shelf) × (sink' ≡ sink) × (status ≡ status_without_words kind)
 
 -- ---- the real files and the real output
 
 -- files of which nothing is told, before a run
-abbrev pub nothing_failed : ShelfTold
+abbrev pub nothing_failed : ShelfView
 nothing_failed = record { files = None; faults = 0; last = []; is_faithful = false }
 
 -- an output of which nothing is told, before a run
-abbrev pub nothing_written : SinkTold
+abbrev pub nothing_written : SinkView
 nothing_written = record { written = None; faults = 0 }
 
 -- What the status of the program says: the words were not to be had, or it is that of the end of a run over files and an output of which
 -- nothing is told before it. Which words the run had is not said.
 pub data EndsWith (status : ℕ) : Type 0 where
   without_words : status ≡ no_words → EndsWith status
-  with_run : (words : List (List ℕ)) (shelf : ShelfTold) (sink : SinkTold) → HasRun (call_of words nothing_failed shelf nothing_written sink) status → EndsWith status
+  with_run : (words : List (List ℕ)) (shelf : ShelfView) (sink : SinkView) → HasRun (call_of words nothing_failed shelf nothing_written sink) status → EndsWith status

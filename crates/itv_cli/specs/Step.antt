@@ -1,12 +1,12 @@
 -- What the steps of a run answer: words of contracts within this crate.
 use Rattle.std.specs.Prelude.{◌≡◌, ◌≤◌, ◌⊎◌, ℕ, ⊤, List, length, All, IsOk, Result, Ok, Err}
 use Rattle.itv_base.specs.declared.limits.TheConstants.{MAX_MATRIX_EVENTS}
-use Rattle.itv_base.specs.Outside.{Files, ShelfTold, SinkTold, grown, CutShort}
+use Rattle.itv_base.specs.Outside.{Files, ShelfView, SinkView, grown, CutShort}
 use Rattle.compose.specs.Compose.{composed_on}
 use Rattle.drawn.specs.Drawn.{Drawn}
 use Rattle.falling.specs.View.{IsViewOf}
 use Rattle.slack_report.specs.Entry.{IsName}
-use Rattle.bounds_report.specs.Reports.{HasRanges}
+use Rattle.bounds_report.specs.Reports.{HasRowRanges}
 use Rattle.unroll.specs.declared.limit.TheConstants.{MAX_SESSION_ROWS}
 use Rattle.edits.specs.EditLine.{IsThere}
 use Rattle.jobs.specs.declared.answer.Answer.{Answer}
@@ -23,12 +23,12 @@ use Rattle.itv_cli.specs.declared.outcome.Outcome.TheVariants as ends
 use Rattle.itv_cli.specs.declared.ready.Ready.{Ready}
 use Rattle.itv_cli.specs.declared.ready.Ready.TheVariants as given
 use Rattle.itv_cli.specs.Job.{made_for, opening}
-use Rattle.itv_cli.specs.Run.{EndsOver, outcome_of}
+use Rattle.itv_cli.specs.Run.{ReadsOver, outcome_of}
 
 -- the names of the events and the ranges of the rows have their form
 pub record HasForm (drawn : Drawn) : Type 0 where
   pub names : All IsName drawn.names
-  pub ranges : HasRanges drawn
+  pub ranges : HasRowRanges drawn
 
 -- what a job may be given
 abbrev pub IsAllowed : Ready → Type 0
@@ -53,10 +53,10 @@ OpensMade files asked (Err (ReadFault place)) = (name : List ℕ) × (unread pla
 OpensMade files asked (Err NoMemory) = Unit {0}
 
 -- what the reading for a task answers, over the files of the shelf or over files that are made for it
-abbrev pub OpensFor : ShelfTold → ShelfTold → Task → Result Ready Stop → Type 0
-OpensFor old new asked (Ok x) = EndsOver (made_for asked) old new asked (ready x)
-OpensFor old new asked (Err (Refused place why)) = EndsOver (made_for asked) old new asked (refused place why)
-OpensFor old new asked (Err (ReadFault place)) = (name : List ℕ) × EndsOver (made_for asked) old new asked (unread place name)
+abbrev pub OpensFor : ShelfView → ShelfView → Task → Result Ready Stop → Type 0
+OpensFor old new asked (Ok x) = ReadsOver (made_for asked) old new asked (ready x)
+OpensFor old new asked (Err (Refused place why)) = ReadsOver (made_for asked) old new asked (refused place why)
+OpensFor old new asked (Err (ReadFault place)) = (name : List ℕ) × ReadsOver (made_for asked) old new asked (unread place name)
 OpensFor old new asked (Err NoMemory) = new ≡ old
 
 -- the end after the last put
@@ -71,11 +71,11 @@ answered (Err unanswered.PutFailed) = ends.WriteFault
 answered (Err unanswered.NoMemory) = ends.NoMemory
 
 -- a run that ends after a text was put, or a front of it
-abbrev pub Tells : SinkTold → SinkTold → List ℕ → Outcome → Outcome → Type 0
-Tells old new text end outcome = ((outcome ≡ end) × (new ≡ grown old text)) ⊎ ((outcome ≡ ends.WriteFault) × CutShort old new text)
+abbrev pub EndsWithText : SinkView → SinkView → List ℕ → Outcome → Outcome → Type 0
+EndsWithText old new text end outcome = ((outcome ≡ end) × (new ≡ grown old text)) ⊎ ((outcome ≡ ends.WriteFault) × CutShort old new text)
 
 -- a run that ends where its reading gave nothing
-abbrev pub Stops : SinkTold → SinkTold → Stop → Outcome → Type 0
-Stops old new (Refused place why) outcome = Tells old new (refusal_text place why) ends.Refused outcome
-Stops old new (ReadFault place) outcome = Tells old new (unread_text place) ends.ReadFault outcome
+abbrev pub Stops : SinkView → SinkView → Stop → Outcome → Type 0
+Stops old new (Refused place why) outcome = EndsWithText old new (refusal_text place why) ends.Refused outcome
+Stops old new (ReadFault place) outcome = EndsWithText old new (unread_text place) ends.ReadFault outcome
 Stops old new NoMemory outcome = (outcome ≡ ends.NoMemory) × (new ≡ old)

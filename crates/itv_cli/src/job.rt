@@ -1,8 +1,8 @@
 //! What each job writes.
 
 ghost use Rattle.std.specs.Prelude.{◌≡◌};
-ghost use Rattle.jobs.specs.Works.{Works};
-ghost use Rattle.itv_cli.specs.Job.{Answers, Begins};
+ghost use Rattle.jobs.specs.Works.{JobWrote};
+ghost use Rattle.itv_cli.specs.Job.{Answers, MayHaveWritten};
 ghost use Rattle.itv_cli.specs.Job as job;
 ghost use Rattle.itv_cli.specs.declared.ready.Ready.TheVariants as ready;
 ghost use Rattle.words.specs.Task.{IsBudget};
@@ -29,7 +29,7 @@ use why_report::write_why;
 /// Does the job for which all is read, and writes what it answers. All memory is taken before the first put.
 pub fn answer<K: Sink>(alloc: Global, given: &Ready, sink: &mut K) -> Result<Answer, Unanswered>
     requires allowed { IsAllowed given.now }
-    ensures works { Works (Answers given.now) (Begins given.now) (K.told sink.old) (K.told sink.new) result }
+    ensures works { JobWrote (Answers given.now) (MayHaveWritten given.now) (K.told sink.old) (K.told sink.new) result }
 {
     match given {
         Ready::Bounds {
@@ -89,7 +89,7 @@ fn answer_bounds<K: Sink>(
     sink: &mut K,
 ) -> Result<Answer, Unanswered>
     requires budget { IsBudget budget }
-    ensures works { Works (Answers (ready.Bounds drawn.now budget cert)) (Begins (ready.Bounds drawn.now budget cert))
+    ensures works { JobWrote (Answers (ready.Bounds drawn.now budget cert)) (MayHaveWritten (ready.Bounds drawn.now budget cert))
         (K.told sink.old) (K.told sink.new) result }
 {
     // A network is within its limits, so that no search closes more cases than there are cause choices.
@@ -112,7 +112,7 @@ fn answer_redraw<K: Sink>(
 ) -> Result<Answer, Unanswered>
     requires budget { IsBudget budget }
     requires form { HasForm drawn.now }
-    ensures works { Works (Answers (ready.Redraw drawn.now budget)) (Begins (ready.Redraw drawn.now budget))
+    ensures works { JobWrote (Answers (ready.Redraw drawn.now budget)) (MayHaveWritten (ready.Redraw drawn.now budget))
         (K.told sink.old) (K.told sink.new) result }
 {
     // As in job bounds.
@@ -130,7 +130,7 @@ fn answer_generated<K: Sink>(
     sink: &mut K,
 ) -> Result<Answer, Unanswered>
     requires budget { IsBudget budget }
-    ensures works { Works (Answers (ready.Generated drawn.now size budget)) (Begins (ready.Generated drawn.now size budget))
+    ensures works { JobWrote (Answers (ready.Generated drawn.now size budget)) (MayHaveWritten (ready.Generated drawn.now size budget))
         (K.told sink.old) (K.told sink.new) result }
 {
     // As in job bounds.

@@ -2,7 +2,7 @@
 
 ghost use Rattle.std.specs.Prelude.{◌≡◌, ◌≤◌, IfOk, codes, length};
 ghost use Rattle.design_gen.specs.Files.{IsSize, design_files};
-ghost use Rattle.reading.specs.Step.{Opens, Reads};
+ghost use Rattle.reading.specs.Step.{Opens, ReadsAs};
 ghost use Rattle.words.specs.Task.{IsBudget, IsWithinLimits};
 ghost use Rattle.words.specs.Task as said;
 ghost use Rattle.words.specs.View.{task_view};
@@ -10,14 +10,14 @@ ghost use Rattle.unroll.specs.declared.limit.TheConstants.{MAX_SESSION_ROWS};
 ghost use Rattle.itv_cli.specs.Job.{edits_at, edits_in, fall_at, matrix_at, opening, whatif_at};
 ghost use Rattle.itv_cli.specs.Step.{IsAllowed, OpensFor, OpensMade};
 
-use crate::planned::{Planned, open_planned};
+use crate::planned::{PlannedNetwork, open_planned};
 use crate::ready::Ready;
 use design_gen::{GenFault, make};
 use drawn::DrawnNetwork;
 use edits::{MAX_EDITS_BYTES, read_edits};
 use falling::{Mixed, View};
 use itv_base::{MAX_MATRIX_EVENTS, REPORT_LIMIT, Shelf};
-use reading::{Place, Refusal, Stop, edits_stop, fetch_file, open_design};
+use reading::{Refusal, RefusalPlace, Stop, edits_stop, fetch_file, open_design};
 use std::alloc::Global;
 use unroll::{Limit, MAX_SESSION_ROWS, UnrollFault};
 use words::Task;
@@ -100,7 +100,7 @@ fn open_fall<H: Shelf>(
 
 // A drawn network that has a view.
 fn for_fall(drawn: DrawnNetwork, budget: u64, cert: bool) -> Result<Ready, Stop>
-    ensures reads { Reads (λ given. given) (fall_at budget cert drawn) result }
+    ensures reads { ReadsAs (λ given. given) (fall_at budget cert drawn) result }
     ensures allowed { IfOk result IsAllowed }
 {
     match View::of(drawn.network()) {
@@ -111,7 +111,7 @@ fn for_fall(drawn: DrawnNetwork, budget: u64, cert: bool) -> Result<Ready, Stop>
             cert,
         }),
         Err(Mixed { late, early }) => Err(Stop::Refused(
-            Place::Design,
+            RefusalPlace::Design,
             Refusal::Mixed(late, early),
         )),
     }
@@ -165,7 +165,7 @@ fn open_why<H: Shelf>(
         (opening (said.why design.now budget)) result }
     ensures allowed { IfOk result IsAllowed }
 {
-    let Planned { plan, drawn } = open_planned(alloc, design, shelf)?;
+    let PlannedNetwork { plan, drawn } = open_planned(alloc, design, shelf)?;
     Ok(Ready::Why {
         plan,
         drawn,
@@ -185,7 +185,7 @@ fn open_brief<H: Shelf>(
         (opening (said.brief design.now budget)) result }
     ensures allowed { IfOk result IsAllowed }
 {
-    let Planned { plan, drawn } = open_planned(alloc, design, shelf)?;
+    let PlannedNetwork { plan, drawn } = open_planned(alloc, design, shelf)?;
     Ok(Ready::Brief {
         plan,
         drawn,
@@ -205,7 +205,7 @@ fn open_lint<H: Shelf>(
         (opening (said.lint design.now budget)) result }
     ensures allowed { IfOk result IsAllowed }
 {
-    let Planned { plan, drawn } = open_planned(alloc, design, shelf)?;
+    let PlannedNetwork { plan, drawn } = open_planned(alloc, design, shelf)?;
     Ok(Ready::Lint {
         plan,
         drawn,
@@ -225,7 +225,7 @@ fn open_matrix<H: Shelf>(alloc: Global, design: &str, shelf: &mut H) -> Result<R
 
 // A drawn network that has few enough events for a matrix.
 fn for_matrix(drawn: DrawnNetwork) -> Result<Ready, Stop>
-    ensures reads { Reads (λ given. given) (matrix_at drawn) result }
+    ensures reads { ReadsAs (λ given. given) (matrix_at drawn) result }
     ensures allowed { IfOk result IsAllowed }
 {
     let events = drawn.network().events();
@@ -237,13 +237,13 @@ fn for_matrix(drawn: DrawnNetwork) -> Result<Ready, Stop>
 
 // The refusal of a network that has so much of what a job allows less of.
 fn too_many(limit: Limit, count: u64) -> Stop
-    ensures { result ≡ Stop.Refused Place.Design (Refusal.Limits (UnrollFault.TooMany limit count)) }
+    ensures { result ≡ Stop.Refused RefusalPlace.Design (Refusal.Limits (UnrollFault.TooMany limit count)) }
 {
     let fault = UnrollFault::TooMany {
         limit,
         count: u128::from(count),
     };
-    Stop::Refused(Place::Design, Refusal::Limits(fault))
+    Stop::Refused(RefusalPlace::Design, Refusal::Limits(fault))
 }
 
 // What job check reads: the report behind the design.
@@ -258,7 +258,7 @@ fn open_check<H: Shelf>(
     ensures allowed { IfOk result IsAllowed }
 {
     let drawn = open_design(alloc, design, shelf)?;
-    let report = fetch_file(alloc, Place::Report, report, REPORT_LIMIT, shelf)?;
+    let report = fetch_file(alloc, RefusalPlace::Report, report, REPORT_LIMIT, shelf)?;
     Ok(Ready::Check { drawn, report })
 }
 
@@ -274,7 +274,7 @@ fn open_confirm<H: Shelf>(
     ensures allowed { IfOk result IsAllowed }
 {
     let drawn = open_design(alloc, design, shelf)?;
-    let report = fetch_file(alloc, Place::Report, report, REPORT_LIMIT, shelf)?;
+    let report = fetch_file(alloc, RefusalPlace::Report, report, REPORT_LIMIT, shelf)?;
     Ok(Ready::Confirm { drawn, report })
 }
 
@@ -329,7 +329,13 @@ fn with_edits<H: Shelf>(
         (edits_at edits.now budget drawn) result }
     ensures allowed { IfOk result IsAllowed }
 {
-    let bytes = fetch_file(alloc, Place::Edits, edits, MAX_EDITS_BYTES as u32, shelf)?;
+    let bytes = fetch_file(
+        alloc,
+        RefusalPlace::Edits,
+        edits,
+        MAX_EDITS_BYTES as u32,
+        shelf,
+    )?;
     for_edits(alloc, drawn, budget, bytes.as_slice())
 }
 
@@ -337,7 +343,7 @@ fn with_edits<H: Shelf>(
 fn for_edits(alloc: Global, drawn: DrawnNetwork, budget: u64, bytes: &[u8]) -> Result<Ready, Stop>
     requires rows { length drawn.rows ≤ MAX_SESSION_ROWS }
     requires budget { IsBudget budget }
-    ensures reads { Reads (λ given. given) (edits_in budget drawn bytes.now) result }
+    ensures reads { ReadsAs (λ given. given) (edits_in budget drawn bytes.now) result }
     ensures allowed { IfOk result IsAllowed }
 {
     match read_edits(alloc, drawn.network(), bytes) {
@@ -346,7 +352,7 @@ fn for_edits(alloc: Global, drawn: DrawnNetwork, budget: u64, bytes: &[u8]) -> R
             edits,
             budget,
         }),
-        Err(fault) => Err(edits_stop(Place::Edits, fault)),
+        Err(fault) => Err(edits_stop(RefusalPlace::Edits, fault)),
     }
 }
 

@@ -14,17 +14,21 @@ use std::alloc::Global;
 
 /// A plan, and the network that it draws.
 #[derive(Debug, Drop)]
-pub struct Planned {
+pub struct PlannedNetwork {
     pub plan: Plan,
     pub drawn: DrawnNetwork,
 }
 
 /// The plan of the design of a file, and the network that it draws; or the first refusal, or the file that failed.
-pub fn open_planned<H: Shelf>(alloc: Global, name: &str, shelf: &mut H) -> Result<Planned, Stop>
+pub fn open_planned<H: Shelf>(
+    alloc: Global,
+    name: &str,
+    shelf: &mut H,
+) -> Result<PlannedNetwork, Stop>
     ensures opens { Opens (λ p. (p.plan, p.drawn)) (H.told shelf.old) (H.told shelf.new) (planned_at name.now) result }
     ensures composed { IfOk result (λ p. IsOk (composed_on p.plan.netlist (sheets_on p.plan.sheets p.plan.netlist.parts))) }
 {
     let plan = open_plan(alloc, name, shelf)?;
     let drawn = draw_plan(alloc, &plan)?;
-    Ok(Planned { plan, drawn })
+    Ok(PlannedNetwork { plan, drawn })
 }

@@ -4,7 +4,7 @@ ghost use Rattle.std.specs.Prelude.{◌≡◌, IfOk, MatchResult, drop, map, str
 ghost use Rattle.std.specs.Vec.Iter.{into_iter_items};
 ghost use Rattle.std.specs.IoError.{error_kind};
 ghost use Rattle.std.specs.Process.{exit_status};
-ghost use Rattle.itv_cli.specs.Run.{Means, call_of};
+ghost use Rattle.itv_cli.specs.Run.{OutcomeMeans, call_of};
 ghost use Rattle.itv_cli.specs.Status.{EndsWith, HasNoWords, HasRun, code_of, status_without_words};
 
 use crate::outcome::Outcome;
@@ -62,7 +62,7 @@ fn run_given<H: Shelf, K: Sink>(
     shelf: &mut H,
     sink: &mut K,
 ) -> Outcome
-    ensures means { Means (call_of (drop 1 (map string_bytes (into_iter_items given)))
+    ensures means { OutcomeMeans (call_of (drop 1 (map string_bytes (into_iter_items given)))
         (H.told shelf.old) (H.told shelf.new) (K.told sink.old) (K.told sink.new)) result }
 {
     match words_of(alloc, given) {

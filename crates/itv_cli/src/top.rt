@@ -5,17 +5,17 @@ ghost use Rattle.reading.specs.Refusal.{refusal_text, unread_text};
 ghost use Rattle.words.specs.Task.{IsWithinLimits, taken};
 ghost use Rattle.words.specs.Task as said;
 ghost use Rattle.words.specs.View.{task_view};
-ghost use Rattle.itv_cli.specs.Run.{call_of, Means, Completes, RefusesWords, ShowsFaults};
-ghost use Rattle.itv_cli.specs.Step.{Stops, Tells, answered, end_after};
+ghost use Rattle.itv_cli.specs.Run.{call_of, OutcomeMeans, Completes, RefusesWords, ShowsFaults};
+ghost use Rattle.itv_cli.specs.Step.{Stops, EndsWithText, answered, end_after};
 
 use crate::job::answer;
 use crate::opening::open;
 use crate::outcome::Outcome;
 use itv_base::{NoMemory, PutFailed, Shelf, Sink, Texts};
 use jobs::{Answer, Unanswered};
-use reading::{Place, Refusal, Stop, put_refusal, put_unread};
+use reading::{Refusal, RefusalPlace, Stop, put_refusal, put_unread};
 use std::alloc::Global;
-use words::{Answer as Words, Task, read_words};
+use words::{Invocation as Words, Task, read_words};
 
 /// Does what the words ask for: reads the files of a job, and writes what it answers.
 ///
@@ -26,7 +26,7 @@ use words::{Answer as Words, Task, read_words};
 ///
 /// Want of memory may come in place of any end, and nothing is written then.
 pub fn run<H: Shelf, K: Sink>(alloc: Global, words: &Texts, shelf: &mut H, sink: &mut K) -> Outcome
-    ensures means { Means
+    ensures means { OutcomeMeans
         (call_of words.now (H.told shelf.old) (H.told shelf.new) (K.told sink.old) (K.told sink.new)) result }
     ensures completes { Completes
         (call_of words.now (H.told shelf.old) (H.told shelf.new) (K.told sink.old) (K.told sink.new)) result }
@@ -40,7 +40,7 @@ pub fn run<H: Shelf, K: Sink>(alloc: Global, words: &Texts, shelf: &mut H, sink:
 
 // The run, with what its end says.
 fn run_once<H: Shelf, K: Sink>(alloc: Global, words: &Texts, shelf: &mut H, sink: &mut K) -> Outcome
-    ensures { Means (call_of words.now (H.told shelf.old) (H.told shelf.new) (K.told sink.old) (K.told sink.new))
+    ensures { OutcomeMeans (call_of words.now (H.told shelf.old) (H.told shelf.new) (K.told sink.old) (K.told sink.new))
         result }
 {
     match read_words(alloc, words) {
@@ -60,7 +60,7 @@ fn run_task<H: Shelf, K: Sink>(
 ) -> Outcome
     requires limits { IsWithinLimits (task_view task) }
     ensures { (words : List (List ℕ)) → taken words ≡ said.task (task_view task.entry)
-        → Means (call_of words (H.told shelf.old) (H.told shelf.new) (K.told sink.old) (K.told sink.new)) result }
+        → OutcomeMeans (call_of words (H.told shelf.old) (H.told shelf.new) (K.told sink.old) (K.told sink.new)) result }
 {
     match open(alloc, task, shelf) {
         Ok(given) => answered(answer(alloc, &given, sink)),
@@ -96,22 +96,22 @@ fn stopped<K: Sink>(stop: &Stop, sink: &mut K) -> Outcome
 }
 
 // Ends a run by a refusal.
-fn refuse<K: Sink>(place: Place, why: Refusal, sink: &mut K) -> Outcome
-    ensures { Tells (K.told sink.old) (K.told sink.new) (refusal_text place why) Outcome.Refused result }
+fn refuse<K: Sink>(place: RefusalPlace, why: Refusal, sink: &mut K) -> Outcome
+    ensures { EndsWithText (K.told sink.old) (K.told sink.new) (refusal_text place why) Outcome.Refused result }
 {
     end_after(put_refusal(place, why, sink), Outcome::Refused)
 }
 
 // Ends a run by a file that could not be read.
-fn miss<K: Sink>(place: Place, sink: &mut K) -> Outcome
-    ensures { Tells (K.told sink.old) (K.told sink.new) (unread_text place) Outcome.ReadFault result }
+fn miss<K: Sink>(place: RefusalPlace, sink: &mut K) -> Outcome
+    ensures { EndsWithText (K.told sink.old) (K.told sink.new) (unread_text place) Outcome.ReadFault result }
 {
     end_after(put_unread(place, sink), Outcome::ReadFault)
 }
 
 // Ends a run by a text.
 fn tell<K: Sink>(text: &[u8], end: Outcome, sink: &mut K) -> Outcome
-    ensures { Tells (K.told sink.old) (K.told sink.new) text.now end result }
+    ensures { EndsWithText (K.told sink.old) (K.told sink.new) text.now end result }
 {
     end_after(sink.put(text), end)
 }

@@ -1,12 +1,12 @@
 -- What a job answers, and what it writes.
 use Rattle.std.specs.Prelude.{◌≡◌, ℕ, List, Result, Ok, Err}
-use Rattle.itv_base.specs.Outside.{CutShort, SinkTold, grown}
+use Rattle.itv_base.specs.Outside.{CutShort, SinkView, grown}
 use Rattle.jobs.specs.declared.unanswered.Unanswered.{Unanswered}
 use Rattle.jobs.specs.declared.unanswered.Unanswered.TheVariants.{PutFailed, NoMemory}
 
 -- A job wrote a text that it may give with its answer. Where a put failed it wrote a front of a text that it may begin, and where
 -- memory was not found nothing.
-abbrev pub Works : {A : Type 0} → (A → List ℕ → Type 0) → (List ℕ → Type 0) → SinkTold → SinkTold → Result A Unanswered → Type 0
-Works Answers Begins old new (Ok answer) = (text : List ℕ) × Answers answer text × (new ≡ grown old text)
-Works Answers Begins old new (Err PutFailed) = (text : List ℕ) × Begins text × CutShort old new text
-Works Answers Begins old new (Err NoMemory) = new ≡ old
+abbrev pub JobWrote : {A : Type 0} → (A → List ℕ → Type 0) → (List ℕ → Type 0) → SinkView → SinkView → Result A Unanswered → Type 0
+JobWrote Answers Begins old new (Ok answer) = (text : List ℕ) × Answers answer text × (new ≡ grown old text)
+JobWrote Answers Begins old new (Err PutFailed) = (text : List ℕ) × Begins text × CutShort old new text
+JobWrote Answers Begins old new (Err NoMemory) = new ≡ old

@@ -1,6 +1,6 @@
 //! What all jobs share: how a job ended, which the program tells by its exit status, or why it has no answer; and the lines of
 //! events and rows.
-//! The contract that each job states of what it answers and writes is the word `Works`.
+//! The contract that each job states of what it answers and writes is the word `JobWrote`.
 #![tactic(auto)]
 
 mod answer;

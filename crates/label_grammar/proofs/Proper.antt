@@ -4,7 +4,7 @@ use Rattle.std.specs.Option.{option_map_or, option_and_then}
 use Rattle.itv_base.specs.Range.{Ends, IsRange, has_wide, is_reversed}
 use Rattle.itv_base.proofs.Ranges.{is_range}
 use Rattle.label_grammar.specs.declared.label.LabelFault.{LabelFault}
-use Rattle.label_grammar.specs.Answer.{judged}
+use Rattle.label_grammar.specs.Answer.{judged_label}
 use Rattle.label_grammar.specs.Label.{LooseLabel, Span, fixed, named, Version, version_1, version_2, fixed_ends, IsProper}
 use Rattle.label_grammar.specs.Reading.{label_of}
 use Rattle.label_grammar.proofs.Pieces.{Inverts}
@@ -28,9 +28,9 @@ proper_span label proper = ranges label.ends proper.narrow proper.ordered
     ranges (Some (named name)) narrow ordered = tt
 
 -- what is read of a label is proper
-pub judged_is_proper : {E : Type 0} (v : Version E) (tell : List ℕ → Option (E × List ℕ)) → Inverts v tell → (text : List ℕ) → IfOk (judged v.outright (label_of tell text)) (IsProper v)
-judged_is_proper {E} v tell inverts text = ok_at (judged v.outright (label_of tell text)) refl
+pub judged_is_proper : {E : Type 0} (v : Version E) (tell : List ℕ → Option (E × List ℕ)) → Inverts v tell → (text : List ℕ) → IfOk (judged_label v.outright (label_of tell text)) (IsProper v)
+judged_is_proper {E} v tell inverts text = ok_at (judged_label v.outright (label_of tell text)) refl
   where
-    ok_at : (r : Result (LooseLabel E) LabelFault) → judged v.outright (label_of tell text) ≡ r → IfOk r (IsProper v)
+    ok_at : (r : Result (LooseLabel E) LabelFault) → judged_label v.outright (label_of tell text) ≡ r → IfOk r (IsProper v)
     ok_at (Ok label) is = (spells_proper v tell inverts text (label_of tell text) label refl is).0
     ok_at (Err fault) is = tt

@@ -8,16 +8,16 @@ use Rattle.label_grammar.specs.Label.{LooseLabel, Version, IsLoose, has_wide_end
 
 -- A text that spells no label is refused first, then a label that tells an end that is too wide, and then one with its ends the wrong
 -- way round. Only ends that it tells outright are looked at.
-abbrev pub judged : {E : Type 0} → (E → Option Ends) → Option (LooseLabel E) → Result (LooseLabel E) LabelFault
-judged outright None = Err BadLabel
-judged outright (Some l) =
+abbrev pub judged_label : {E : Type 0} → (E → Option Ends) → Option (LooseLabel E) → Result (LooseLabel E) LabelFault
+judged_label outright None = Err BadLabel
+judged_label outright (Some l) =
     if option_map_or has_wide (option_and_then outright l.ends) false then Err TooWide
     else (if option_map_or is_reversed (option_and_then outright l.ends) false then Err EmptyRange else Ok l)
 
 -- the answer, without where its texts lie in memory, is what was judged
-abbrev pub Gives : {R E : Type 0} → (R → LooseLabel E) → Result R LabelFault → Result (LooseLabel E) LabelFault → Type 0
-Gives view (Ok l) answer = answer ≡ Ok (view l)
-Gives view (Err fault) answer = answer ≡ Err fault
+abbrev pub LabelAgrees : {R E : Type 0} → (R → LooseLabel E) → Result R LabelFault → Result (LooseLabel E) LabelFault → Type 0
+LabelAgrees view (Ok l) answer = answer ≡ Ok (view l)
+LabelAgrees view (Err fault) answer = answer ≡ Err fault
 
 -- no label spells the text
 abbrev pub IsUnspelled : {E : Type 0} → Version E → List ℕ → Type 0

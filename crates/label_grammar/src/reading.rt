@@ -5,7 +5,7 @@ ghost use Rattle.itv_base.specs.Range.{Ends};
 ghost use Rattle.label_grammar.specs.Label.{LooseLabel, label_view, version_1, IsProper, spelling};
 ghost use Rattle.label_grammar.specs.Reading.{ends_of, label_of};
 ghost use Rattle.label_grammar.specs.Step.Form.{number_value, ends_view, capped, judged_ends, judged_range};
-ghost use Rattle.label_grammar.specs.Answer.{judged, Gives, IsUnspelled, SpellsWideEnd, SpellsReversedEnds};
+ghost use Rattle.label_grammar.specs.Answer.{judged_label, LabelAgrees, IsUnspelled, SpellsWideEnd, SpellsReversedEnds};
 
 use crate::form::{EndPair, Number};
 use crate::label::{Label, LabelFault};
@@ -46,7 +46,7 @@ fn range_between(ends: Option<EndPair<'_>>) -> Result<Option<Range>, LabelFault>
 
 // What `read_label` answers, by the reading of texts. Its other clauses follow from this one.
 fn read_judged(text: &str) -> Result<Label<'_>, LabelFault>
-    ensures { Gives label_view result (judged (λ ends. Some ends) (label_of ends_of text.now)) }
+    ensures { LabelAgrees label_view result (judged_label (λ ends. Some ends) (label_of ends_of text.now)) }
 {
     let form = read_form(text).ok_or(LabelFault::BadLabel)?;
     let range = range_between(form.told)?;
@@ -73,7 +73,7 @@ pub fn read_label<'a>(text: &'a str) -> Result<Label<'a>, LabelFault>
     ensures wide { IsErrOf result LabelFault.TooWide ↔ SpellsWideEnd version_1 text.now }
     ensures empty { IsErrOf result LabelFault.EmptyRange ↔ SpellsReversedEnds version_1 text.now }
     // The same by the reading of texts, as definitions above this crate name it.
-    ensures exact { Gives label_view result (judged (λ ends. Some ends) (label_of ends_of text.now)) }
+    ensures exact { LabelAgrees label_view result (judged_label (λ ends. Some ends) (label_of ends_of text.now)) }
 {
     read_judged(text)
 }

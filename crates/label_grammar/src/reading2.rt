@@ -4,7 +4,7 @@ ghost use Rattle.std.specs.Prelude.{◌≡◌, ◌↔◌, Some, Ok, Err, IfOk, I
 ghost use Rattle.label_grammar.specs.Label.{LooseLabel, Span as SpanSeen, fixed_ends, label2_view, span_view, version_2, IsProper, spelling};
 ghost use Rattle.label_grammar.specs.Reading.{span_of, label_of};
 ghost use Rattle.label_grammar.specs.Step.Form.{written_view, judged_span};
-ghost use Rattle.label_grammar.specs.Answer.{judged, Gives, IsUnspelled, SpellsWideEnd, SpellsReversedEnds};
+ghost use Rattle.label_grammar.specs.Answer.{judged_label, LabelAgrees, IsUnspelled, SpellsWideEnd, SpellsReversedEnds};
 
 use crate::form::WrittenSpan;
 use crate::label::LabelFault;
@@ -44,7 +44,7 @@ fn judged_span<'a>(written: Option<WrittenSpan<'a>>) -> Result<Option<Span<'a>>,
 
 // What `read_label2` answers, by the reading of texts. Its other clauses follow from this one.
 fn read_judged2(text: &str) -> Result<Label2<'_>, LabelFault>
-    ensures { Gives label2_view result (judged fixed_ends (label_of span_of text.now)) }
+    ensures { LabelAgrees label2_view result (judged_label fixed_ends (label_of span_of text.now)) }
 {
     let form = read_form2(text).ok_or(LabelFault::BadLabel)?;
     match judged_span(form.told) {
@@ -73,7 +73,7 @@ pub fn read_label2<'a>(text: &'a str) -> Result<Label2<'a>, LabelFault>
     ensures wide { IsErrOf result LabelFault.TooWide ↔ SpellsWideEnd version_2 text.now }
     ensures empty { IsErrOf result LabelFault.EmptyRange ↔ SpellsReversedEnds version_2 text.now }
     // The same by the reading of texts, as definitions above this crate name it.
-    ensures exact { Gives label2_view result (judged fixed_ends (label_of span_of text.now)) }
+    ensures exact { LabelAgrees label2_view result (judged_label fixed_ends (label_of span_of text.now)) }
 {
     read_judged2(text)
 }

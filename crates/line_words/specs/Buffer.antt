@@ -1,6 +1,6 @@
 -- What a buffer for a line has gathered.
 use Rattle.std.specs.Prelude.{ℕ, ◌+◌, Bool, nat_le, if◌then◌else◌, List, ◌++◌, length, Some}
-use Rattle.itv_base.specs.Outside.{SinkTold, raised}
+use Rattle.itv_base.specs.Outside.{SinkView, one_more_fault}
 
 -- the bytes, how many there may be, and how often a piece did not fit
 pub record Gathered : Type 0 where
@@ -8,7 +8,7 @@ pub record Gathered : Type 0 where
   pub room : ℕ
   pub faults : ℕ
 
-abbrev pub buffer_told : Gathered → SinkTold
+abbrev pub buffer_told : Gathered → SinkView
 buffer_told b = record { written = Some b.bytes; faults = b.faults }
 
 -- a piece fits beside the bytes
@@ -17,4 +17,4 @@ fits b piece = nat_le (length b.bytes + length piece) b.room
 
 -- what a put leaves: the bytes with the piece where it fits, and else the same bytes and one fault more
 abbrev pub after_put : Gathered → List ℕ → Gathered
-after_put b piece = if fits b piece then record b { bytes = b.bytes ++ piece } else record b { faults = raised b.faults }
+after_put b piece = if fits b piece then record b { bytes = b.bytes ++ piece } else record b { faults = one_more_fault b.faults }

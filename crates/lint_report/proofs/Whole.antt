@@ -1,18 +1,18 @@
 -- The whole text of the job.
 use Rattle.std.proofs.Common.{◌≡◌, ℕ, List, refl, ap, ◌∙◌}
 use Rattle.std.specs.Prelude.{OnErr, Result, Ok, Err}
-use Rattle.itv_base.specs.Outside.{CutShort, SinkTold}
+use Rattle.itv_base.specs.Outside.{CutShort, SinkView}
 use Rattle.compose.specs.Design.{Composed}
 use Rattle.drawn.specs.Drawn.{Drawn}
 use Rattle.jobs.specs.declared.answer.Answer.{Answer}
 use Rattle.plan.specs.Plan.{Planned}
 use Rattle.warnings.specs.declared.warning.Warning.{Warning}
-use Rattle.lint_report.specs.declared.put_found.Told.{Told}
+use Rattle.lint_report.specs.declared.put_found.LintFindings.{LintFindings}
 use Rattle.lint_report.specs.Lint.{AnswersLint, BeginsLint, answer_by}
-use Rattle.lint_report.specs.Step.{IsTold}
+use Rattle.lint_report.specs.Step.{AreLintFindings}
 use Rattle.lint_report.specs.Text.{is_clean, lint_text}
 
-module _ (plan : Planned) (design : Composed) (network : Drawn) (budget : ℕ) (told : Told) (is : IsTold plan design network budget told) where
+module _ (plan : Planned) (design : Composed) (network : Drawn) (budget : ℕ) (told : LintFindings) (is : AreLintFindings plan design network budget told) where
   abbrev text : List ℕ
   text = lint_text plan design network told.warnings.items told.found.items
 
@@ -31,6 +31,6 @@ module _ (plan : Planned) (design : Composed) (network : Drawn) (budget : ℕ) (
   }
 
   -- and a front of it begins it
-  pub begins_lint : {B E : Type 0} (result : Result B E) (old new : SinkTold) → CutShort old new text → OnErr result ((whole : List ℕ) × BeginsLint plan network budget whole × CutShort old new whole)
+  pub begins_lint : {B E : Type 0} (result : Result B E) (old new : SinkView) → CutShort old new text → OnErr result ((whole : List ℕ) × BeginsLint plan network budget whole × CutShort old new whole)
   begins_lint (Ok x) old new cut = tt
   begins_lint (Err e) old new cut = (text, (answer_by told.clean, answers_lint _ refl), cut)

@@ -7,7 +7,7 @@ use Rattle.explained.specs.declared.finding.Finding.{Finding}
 use Rattle.explained.specs.Answers.{AreFound, IsFindingFound, SettlesWithin}
 use Rattle.plan.specs.Plan.{Planned, sheets_on}
 use Rattle.warnings.specs.Warnings.{warnings_of}
-use Rattle.lint_report.specs.declared.put_found.Told.{Told}
+use Rattle.lint_report.specs.declared.put_found.LintFindings.{LintFindings}
 use Rattle.lint_report.specs.declared.line.Line.{Line}
 use Rattle.lint_report.specs.declared.line.Line.TheVariants.{Drawing, Order}
 use Rattle.lint_report.specs.Text.{is_clean, order_text, warning_text}
@@ -19,7 +19,7 @@ line_text plan d (Order number) = order_text number
 
 -- All that the lines tell is right: the warnings are those of the design of the plan, and what was found of the rows stands behind a
 -- finding.
-pub record IsTold (plan : Planned) (design : Composed) (network : Drawn) (budget : ℕ) (told : Told) : Type 0 where
+pub record AreLintFindings (plan : Planned) (design : Composed) (network : Drawn) (budget : ℕ) (told : LintFindings) : Type 0 where
   pub is_design : composed_on plan.netlist (sheets_on plan.sheets plan.netlist.parts) ≡ Ok design
   pub warnings : told.warnings.items ≡ warnings_of plan design
   pub finding : (finding : Finding) × IsFindingFound network.net finding × AreFound network finding told.found.items × SettlesWithin network.net budget finding told.found.items

@@ -11,7 +11,7 @@ use Rattle.origin.specs.declared.origin.Origin.{Origin}
 use Rattle.origin.specs.declared.origin.Origin.TheVariants as drawn
 use Rattle.plan.specs.Plan.{Planned}
 use Rattle.sheet.specs.declared.mark.Mark.{Mark}
-use Rattle.sheet.specs.Contents.{Contents}
+use Rattle.sheet.specs.Contents.{SheetContents}
 use Rattle.compose.specs.declared.mark.DesignMark.{DesignMark}
 use Rattle.compose.specs.Design.{Composed}
 use Rattle.compose.specs.Nets.{marks_at}
@@ -20,7 +20,7 @@ use Rattle.origin.specs.Order.{is_lane}
 use Rattle.explained.specs.declared.bound.BoundFound.{BoundFound}
 use Rattle.explained.specs.declared.bound.BoundFound.TheVariants.{Closed, Unbounded, Within}
 use Rattle.explained.specs.declared.row.RowFound.{RowFound}
-use Rattle.warnings.specs.declared.warning.Spot.{Spot}
+use Rattle.warnings.specs.declared.warning.DrawnPlace.{DrawnPlace}
 use Rattle.warnings.specs.declared.warning.Warning.{Warning}
 use Rattle.warnings.specs.declared.warning.Warning.TheVariants.{Rows, Comment, Note, SheetKey, NetlistKey, Both, Single, Never, Drivers, Own}
 
@@ -36,7 +36,7 @@ place_words d part (drawn.Edge n) = part_word d part ∷ origin_text (drawn.Edge
 place_words d part (drawn.Pin net pin) = origin_text (drawn.Pin net pin) ∷ []
 place_words d part (drawn.Wire n) = origin_text (drawn.Wire n) ∷ []
 
-abbrev pub spot_words : Composed → Spot → List Word
+abbrev pub spot_words : Composed → DrawnPlace → List Word
 spot_words d spot = place_words d spot.part spot.origin
 
 -- the name of a mark of a part
@@ -51,7 +51,7 @@ mark_word d mark = part_word d mark.part ++ (46 ∷ mark_byte d mark)
 
 -- such a key of the sheet of a part
 abbrev pub sheet_key_word : Composed → ℕ → ℕ → Word
-sheet_key_word d part key = unwrap_or (option_and_then (λ (sheet : Contents). slice_get sheet.near key) (slice_get d.sheets part)) []
+sheet_key_word d part key = unwrap_or (option_and_then (λ (sheet : SheetContents). slice_get sheet.near key) (slice_get d.sheets part)) []
 
 -- such a key of the netlist
 abbrev pub netlist_key_word : Planned → ℕ → Word

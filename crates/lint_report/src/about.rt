@@ -14,10 +14,14 @@ use itv_base::{PutFailed, Sink, Texts, put_all};
 use line_words::put_spaced;
 use origin::{Origin, put_origin};
 use plan::Plan;
-use warnings::Spot;
+use warnings::DrawnPlace;
 
 /// Puts a space and a word for each word of what draws something.
-pub fn put_spot<K: Sink>(design: &Design<'_>, spot: &Spot, sink: &mut K) -> Result<(), PutFailed>
+pub fn put_spot<K: Sink>(
+    design: &Design<'_>,
+    spot: &DrawnPlace,
+    sink: &mut K,
+) -> Result<(), PutFailed>
     ensures puts { Puts (K.told sink.old) (K.told sink.new) (flat_map spaced (spot_words design.now spot.now)) result }
 {
     match spot.origin {

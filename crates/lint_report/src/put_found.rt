@@ -18,7 +18,7 @@ use warnings::Warning;
 
 /// All that the lines tell: the warnings of the drawing, what was found of the rows, and whether there is nothing to warn of.
 #[derive(Drop)]
-pub struct Told {
+pub struct LintFindings {
     pub warnings: Vec<Warning>,
     pub found: Vec<RowFound>,
     pub clean: bool,
@@ -29,7 +29,7 @@ pub fn put_text<K: Sink>(
     plan: &Plan,
     design: &Design<'_>,
     drawn: &DrawnNetwork,
-    told: &Told,
+    told: &LintFindings,
     buffer: &mut LineBuffer,
     sink: &mut K,
 ) -> Result<(), PutFailed>

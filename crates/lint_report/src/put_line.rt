@@ -16,7 +16,7 @@ use itv_base::{PutFailed, Sink, number_text, put_all};
 use line_words::{LineBuffer, put_spaced};
 use origin::Origin;
 use plan::Plan;
-use warnings::{Spot, Warning};
+use warnings::{DrawnPlace, Warning};
 
 /// Puts a line and its end: by one put where it fits the buffer, and else piece by piece. What the buffer held before is forgotten.
 pub fn put_line<K: Sink>(
@@ -100,7 +100,7 @@ fn put_warning_words<K: Sink>(
 fn put_keyed<K: Sink>(
     key: &[u8],
     design: &Design<'_>,
-    spot: &Spot,
+    spot: &DrawnPlace,
     sink: &mut K,
 ) -> Result<(), PutFailed>
     ensures puts { Puts (K.told sink.old) (K.told sink.new) (flat_map spaced (key.now ∷ spot_words design.now spot.now)) result }
@@ -112,8 +112,8 @@ fn put_keyed<K: Sink>(
 // What draws two rules for one mark.
 fn put_both<K: Sink>(
     design: &Design<'_>,
-    first: &Spot,
-    other: &Spot,
+    first: &DrawnPlace,
+    other: &DrawnPlace,
     sink: &mut K,
 ) -> Result<(), PutFailed>
     ensures puts { Puts (K.told sink.old) (K.told sink.new)

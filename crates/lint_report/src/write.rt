@@ -4,15 +4,15 @@ ghost use Rattle.std.specs.Prelude.{◌≡◌, ◌≤◌, ℕ, List, IfOk, IsOk,
 ghost use Rattle.itv_base.specs.Outside.{CutShort, grown};
 ghost use Rattle.itv_base.specs.declared.limits.TheConstants.{MAX_BUDGET};
 ghost use Rattle.compose.specs.Compose.{composed_on};
-ghost use Rattle.jobs.specs.Works.{Works};
+ghost use Rattle.jobs.specs.Works.{JobWrote};
 ghost use Rattle.plan.specs.Plan.{sheets_on};
 ghost use Rattle.lint_report.specs.Lint.{AnswersLint, BeginsLint, answer_by};
 ghost use Rattle.lint_report.specs.Text.{is_clean};
-ghost use Rattle.lint_report.specs.Step.{IsTold};
+ghost use Rattle.lint_report.specs.Step.{AreLintFindings};
 
 use crate::designing::design_of;
 use crate::over::is_clean;
-use crate::put_found::{Told, put_text};
+use crate::put_found::{LintFindings, put_text};
 use compose::Design;
 use drawn::DrawnNetwork;
 use explained::explain;
@@ -38,7 +38,7 @@ pub fn write_lint<K: Sink>(
     requires design { IsOk (composed_on plan.now.netlist (sheets_on plan.now.sheets plan.now.netlist.parts)) }
     requires least { 1 ≤ budget }
     requires most { budget ≤ MAX_BUDGET }
-    ensures works { Works (AnswersLint plan.now drawn.now budget) (BeginsLint plan.now drawn.now budget) (K.told sink.old) (K.told sink.new) result }
+    ensures works { JobWrote (AnswersLint plan.now drawn.now budget) (BeginsLint plan.now drawn.now budget) (K.told sink.old) (K.told sink.new) result }
 {
     let design = design_of(alloc, plan)?;
     let told = find_told(alloc, plan, &design, drawn, budget)?;
@@ -53,16 +53,16 @@ fn find_told(
     design: &Design<'_>,
     drawn: &DrawnNetwork,
     budget: u64,
-) -> Result<Told, NoMemory>
+) -> Result<LintFindings, NoMemory>
     requires design { composed_on plan.now.netlist (sheets_on plan.now.sheets plan.now.netlist.parts) ≡ Ok design.now }
     requires least { 1 ≤ budget }
     requires most { budget ≤ MAX_BUDGET }
-    ensures told { IfOk result (IsTold plan.now design.now drawn.now budget) }
+    ensures told { IfOk result (AreLintFindings plan.now design.now drawn.now budget) }
 {
     let warnings = warnings_of(alloc, plan, design)?;
     let found = explain(alloc, drawn, budget)?.rows;
     let clean = is_clean(drawn, &warnings, &found);
-    Ok(Told {
+    Ok(LintFindings {
         warnings,
         found,
         clean,
@@ -74,15 +74,15 @@ fn put_told<K: Sink>(
     plan: &Plan,
     design: &Design<'_>,
     drawn: &DrawnNetwork,
-    told: &Told,
+    told: &LintFindings,
     buffer: &mut LineBuffer,
     sink: &mut K,
 ) -> Result<Answer, PutFailed>
     requires clean { told.now.clean ≡ is_clean drawn.now told.now.warnings.items told.now.found.items }
-    ensures answers { (budget : ℕ) → IsTold plan.now design.now drawn.now budget told.now
+    ensures answers { (budget : ℕ) → AreLintFindings plan.now design.now drawn.now budget told.now
         → IfOk result (λ answer. (text : List ℕ) × AnswersLint plan.now drawn.now budget answer text
         × (K.told sink.new ≡ grown (K.told sink.old) text)) }
-    ensures begins { (budget : ℕ) → IsTold plan.now design.now drawn.now budget told.now
+    ensures begins { (budget : ℕ) → AreLintFindings plan.now design.now drawn.now budget told.now
         → OnErr result ((text : List ℕ) × BeginsLint plan.now drawn.now budget text
         × CutShort (K.told sink.old) (K.told sink.new) text) }
 {

@@ -3,7 +3,7 @@
 ghost use Rattle.std.specs.Prelude.{◌≤◌};
 ghost use Rattle.itv_base.specs.Outside.{Puts};
 ghost use Rattle.itv_base.specs.declared.limits.TheConstants.{MAX_MATRIX_EVENTS};
-ghost use Rattle.jobs.specs.Works.{Works};
+ghost use Rattle.jobs.specs.Works.{JobWrote};
 ghost use Rattle.minplus.specs.Matrix.{IsSquare};
 ghost use Rattle.slack_report.specs.Entry.{finding};
 ghost use Rattle.slack_report.specs.Text.{entry_text};
@@ -28,7 +28,7 @@ pub fn write_matrix<K: Sink>(
     sink: &mut K,
 ) -> Result<Answer, Unanswered>
     requires events { drawn.now.net.events ≤ MAX_MATRIX_EVENTS }
-    ensures works { Works (AnswersMatrix drawn.now) (BeginsMatrix drawn.now)
+    ensures works { JobWrote (AnswersMatrix drawn.now) (BeginsMatrix drawn.now)
         (K.told sink.old) (K.told sink.new) result }
 {
     let mut buffer = LineBuffer::new(alloc, LINE_ROOM)?;

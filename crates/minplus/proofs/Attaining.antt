@@ -13,7 +13,7 @@ use Rattle.event_graph.specs.RootBound.{HasNoRoot, IsRootBound, MeetsAlways}
 use Rattle.event_graph.specs.Times.{separation, time_of}
 use Rattle.minplus.specs.Rows.{IsSmall}
 use Rattle.minplus.specs.Matrix.{AreRootBounds, IsSquare, cells, number_of}
-use Rattle.minplus.specs.Step.Entries.{BoundsAlways, Entries, IsClosedBelow, IsClosure, IsHeld, IsThere}
+use Rattle.minplus.specs.Step.Entries.{BoundsAlways, Entries, IsClosedBelow, IsClosure, IsEdgeHeld, IsPresent}
 use Rattle.minplus.specs.declared.rows.TheConstants.{ABSENT}
 use Rattle.minplus.proofs.Numbers.{absent_from, lesser, lesser_below, small_there, there_from}
 use Rattle.minplus.proofs.ClosedFurther.{AreEntries, sum_there}
@@ -25,7 +25,7 @@ or_else entry other = cond (int_lt entry ABSENT) entry other
 
 -- which of the two it is
 abbrev pub IsEither : ℤ → ℤ → Type 0
-IsEither entry other = (IsThere entry × (or_else entry other ≡ entry)) ⊎ ((IsThere entry → ⊥) × (or_else entry other ≡ other))
+IsEither entry other = (IsPresent entry × (or_else entry other ≡ entry)) ⊎ ((IsPresent entry → ⊥) × (or_else entry other ≡ other))
 
 pub either_of : (entry other : ℤ) → IsEither entry other
 either_of entry other = by_test (int_lt entry ABSENT) refl
@@ -42,8 +42,8 @@ least_below entries (suc rows) to = int_min (least_below entries rows to) (or_el
 -- what holds of it
 pub record IsLeastBelow (entries : Entries) (rows to : ℕ) (value : ℤ) : Type 0 where
   pub low : value ≤ℤ pos 0
-  pub each : (from : ℕ) → from < rows → IsThere (entries from to) → value ≤ℤ entries from to
-  pub made : (value ≡ pos 0) ⊎ ((from : ℕ) × (from < rows) × IsThere (entries from to) × (value ≡ entries from to))
+  pub each : (from : ℕ) → from < rows → IsPresent (entries from to) → value ≤ℤ entries from to
+  pub made : (value ≡ pos 0) ⊎ ((from : ℕ) × (from < rows) × IsPresent (entries from to) × (value ≡ entries from to))
 
 least_further : (entries : Entries) (rows to : ℕ) (before value : ℤ) → IsLeastBelow entries rows to before → value ≡ int_min before (or_else (entries rows to) (pos 0))
     → IsLeastBelow entries (suc rows) to value
@@ -101,7 +101,7 @@ pub record IsStep (events : ℕ) (entries : Entries) (from to : ℕ) (weight : �
   pub longer : entries from to ≤ℤ weight
 
 -- its entry is there
-step_there : (events : ℕ) (entries : Entries) (from to : ℕ) (weight : ℤ) → IsStep events entries from to weight → IsThere (entries from to)
+step_there : (events : ℕ) (entries : Entries) (from to : ℕ) (weight : ℤ) → IsStep events entries from to weight → IsPresent (entries from to)
 step_there events entries from to weight step =
     let high : weight <ℤ pos (2 ^ 61) = step.weight_small.high in
     let longer : entries from to ≤ℤ weight = step.longer in
@@ -110,10 +110,10 @@ step_there events entries from to weight step =
 -- the path from a source goes on over the edge
 pub record GoesOn (entries : Entries) (source from to : ℕ) (weight : ℤ) : Type 0 where
   pub within : entries source to ≤ℤ (entries source from +ℤ weight)
-  pub there : IsThere (entries source to)
+  pub there : IsPresent (entries source to)
 
 goes_on : (events : ℕ) (entries : Entries) (source from to : ℕ) (weight : ℤ) → AreEntries entries → IsClosedBelow events entries → IsStep events entries from to weight
-    → IsThere (entries source from) → GoesOn entries source from to weight
+    → IsPresent (entries source from) → GoesOn entries source from to weight
 goes_on events entries source from to weight held closed step there =
     let second = step_there events entries from to weight step in
     let within : entries source to ≤ℤ (entries source from +ℤ entries from to) = closed from source to step.from_there there second in
@@ -189,7 +189,7 @@ times_meet : (net : Net) (entries : Entries) (source : ℕ) (lift : ℤ) → pos
 times_meet net entries source lift high closure = record {
   count = times_count entries net.events source lift;
   each = λ name e always is.
-      let held : IsHeld net.events entries e = closure.edges name e always is in
+      let held : IsEdgeHeld net.events entries e = closure.edges name e always is in
       let step : IsStep net.events entries e.from.0 e.to.0 e.weight = record { from_there = held.from; to_there = held.to; weight_small = held.small; longer = held.longer } in
       let follows = time_follows net.events entries source lift e.from.0 e.to.0 e.weight high closure.held closure.closed step in
       let start : time_of (times_from entries net.events source lift) e.from ≡ time_from entries net.events source lift e.from.0 = time_is entries net.events source lift e.from held.from in
@@ -206,7 +206,7 @@ source_time net entries source lift closure below =
       | inr none ↦ absurd (none.0 (omega (arith, ints)))
     ]
 
-there_separation : (net : Net) (entries : Entries) (from to : EventId) (lift : ℤ) → IsClosure net entries → from.0 < net.events → to.0 < net.events → IsThere (entries from.0 to.0)
+there_separation : (net : Net) (entries : Entries) (from to : EventId) (lift : ℤ) → IsClosure net entries → from.0 < net.events → to.0 < net.events → IsPresent (entries from.0 to.0)
     → separation (times_from entries net.events from.0 lift) from to ≡ entries from.0 to.0
 there_separation net entries from to lift closure from_below to_below there =
     let start : time_of (times_from entries net.events from.0 lift) from ≡ pos 0 = source_time net entries from lift closure from_below in
@@ -217,7 +217,7 @@ there_separation net entries from to lift closure from_below to_below there =
       | inr none ↦ absurd (none.0 there)
     ]
 
-lifted_separation : (net : Net) (entries : Entries) (from to : EventId) (lift : ℤ) → IsClosure net entries → from.0 < net.events → to.0 < net.events → (IsThere (entries from.0 to.0) → ⊥)
+lifted_separation : (net : Net) (entries : Entries) (from to : EventId) (lift : ℤ) → IsClosure net entries → from.0 < net.events → to.0 < net.events → (IsPresent (entries from.0 to.0) → ⊥)
     → separation (times_from entries net.events from.0 lift) from to ≡ (least_below entries net.events to.0 +ℤ lift)
 lifted_separation net entries from to lift closure from_below to_below absent =
     let start : time_of (times_from entries net.events from.0 lift) from ≡ pos 0 = source_time net entries from lift closure from_below in
@@ -244,7 +244,7 @@ unfolding lift_past
 past_value (pos n) = omega (arith, ints)
 past_value (negsuc n) = omega (arith, ints)
 
-number_bound : (net : Net) (entries : Entries) (from to : EventId) → IsClosure net entries → from.0 < net.events → to.0 < net.events → IsThere (entries from.0 to.0)
+number_bound : (net : Net) (entries : Entries) (from to : EventId) → IsClosure net entries → from.0 < net.events → to.0 < net.events → IsPresent (entries from.0 to.0)
     → IsRootBound net from to (Some (entries from.0 to.0))
 number_bound net entries from to closure from_below to_below there =
     let lift : ℤ = pos (3 * 2 ^ 61) in
@@ -257,7 +257,7 @@ number_bound net entries from to closure from_below to_below there =
       most = λ times met. closure.bounds times met from.0 to.0 there;
     }
 
-no_bound : (net : Net) (entries : Entries) (from to : EventId) → IsClosure net entries → from.0 < net.events → to.0 < net.events → (IsThere (entries from.0 to.0) → ⊥) → IsRootBound net from to None
+no_bound : (net : Net) (entries : Entries) (from to : EventId) → IsClosure net entries → from.0 < net.events → to.0 < net.events → (IsPresent (entries from.0 to.0) → ⊥) → IsRootBound net from to None
 no_bound net entries from to closure from_below to_below absent value =
     let lift : ℤ = lift_past value in
     let is : separation (times_from entries net.events from.0 lift) from to ≡ (least_below entries net.events to.0 +ℤ lift) = lifted_separation net entries from to lift closure from_below to_below absent in
@@ -276,7 +276,7 @@ root_bound net entries from to closure from_below to_below = by_test (int_lt (en
 -- a negative entry of the diagonal leaves no times
 pub no_root : (net : Net) (entries : Entries) (event : ℕ) → BoundsAlways net entries → entries event event <ℤ pos 0 → HasNoRoot net
 no_root net entries event bounds negative times met =
-    let there : IsThere (entries event event) = omega (arith, ints) in
+    let there : IsPresent (entries event event) = omega (arith, ints) in
     let most : separation times (record { 0 = event }) (record { 0 = event }) ≤ℤ entries event event = bounds times met event event there in
     omega (arith, ints)
 

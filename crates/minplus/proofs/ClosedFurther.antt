@@ -6,7 +6,7 @@ use lib.Signed.{◌≤ℤ◌}
 use Rattle.event_graph.specs.Network.{Net}
 use Rattle.event_graph.specs.Times.{separation}
 use Rattle.minplus.specs.Rows.{IsEntry}
-use Rattle.minplus.specs.Step.Entries.{BoundsAlways, Entries, IsClosedBelow, IsThere, IsThrough, IsWithin}
+use Rattle.minplus.specs.Step.Entries.{BoundsAlways, Entries, IsClosedBelow, IsPresent, IsThrough, IsAtMostSum}
 use Rattle.minplus.proofs.Numbers.{small_there}
 
 -- each entry is a small number, or absent
@@ -31,37 +31,37 @@ column_stays event old new from through zero_there =
 -- a sum of two small entries that is the new one: what is there is within the old entry or the sum
 -- over an event below, with neither part new
 both_old : (event over from to : ℕ) (old new : Entries) → IsThrough event old new → IsClosedBelow event old → over < event
-    → IsThere (old from over) → IsThere (old over to) → new from to ≤ℤ (old from over +ℤ old over to)
+    → IsPresent (old from over) → IsPresent (old over to) → new from to ≤ℤ (old from over +ℤ old over to)
 both_old event over from to old new through closed low first second =
     let within : old from to ≤ℤ (old from over +ℤ old over to) = closed over from to low first second in
     let falls : new from to ≤ℤ old from to = through.falls from to in
     omega (arith, ints)
 
 -- there is a path where its two parts are there
-pub sum_there : (entry first second : ℤ) → IsEntry first → IsEntry second → IsThere first → IsThere second → entry ≤ℤ (first +ℤ second) → IsThere entry
+pub sum_there : (entry first second : ℤ) → IsEntry first → IsEntry second → IsPresent first → IsPresent second → entry ≤ℤ (first +ℤ second) → IsPresent entry
 sum_there entry first second one two first_there second_there within =
     let low = small_there first one first_there in
     let high = small_there second two second_there in
     omega (arith, ints)
 
 second_new : (event over from to : ℕ) (old new : Entries) → AreEntries old → IsThrough event old new → IsClosedBelow event old → over < event
-    → IsThere (old from over) → IsThere (old over event) → IsThere (old event to) → new from to ≤ℤ (old from over +ℤ (old over event +ℤ old event to))
+    → IsPresent (old from over) → IsPresent (old over event) → IsPresent (old event to) → new from to ≤ℤ (old from over +ℤ (old over event +ℤ old event to))
 second_new event over from to old new held through closed low first second third =
     let within : old from event ≤ℤ (old from over +ℤ old over event) = closed over from event low first second in
-    let there : IsThere (old from event) = sum_there _ _ _ (held from over) (held over event) first second within in
+    let there : IsPresent (old from event) = sum_there _ _ _ (held from over) (held over event) first second within in
     let least : new from to ≤ℤ (old from event +ℤ old event to) = through.least from to there third in
     omega (arith, ints)
 
 first_new : (event over from to : ℕ) (old new : Entries) → AreEntries old → IsThrough event old new → IsClosedBelow event old → over < event
-    → IsThere (old from event) → IsThere (old event over) → IsThere (old over to) → new from to ≤ℤ ((old from event +ℤ old event over) +ℤ old over to)
+    → IsPresent (old from event) → IsPresent (old event over) → IsPresent (old over to) → new from to ≤ℤ ((old from event +ℤ old event over) +ℤ old over to)
 first_new event over from to old new held through closed low first second third =
     let within : old event to ≤ℤ (old event over +ℤ old over to) = closed over event to low second third in
-    let there : IsThere (old event to) = sum_there _ _ _ (held event over) (held over to) second third within in
+    let there : IsPresent (old event to) = sum_there _ _ _ (held event over) (held over to) second third within in
     let least : new from to ≤ℤ (old from event +ℤ old event to) = through.least from to first there in
     omega (arith, ints)
 
 both_new : (event over from to : ℕ) (old new : Entries) → IsThrough event old new → IsClosedBelow event old → over < event → old event event ≡ pos 0
-    → IsThere (old from event) → IsThere (old event over) → IsThere (old over event) → IsThere (old event to)
+    → IsPresent (old from event) → IsPresent (old event over) → IsPresent (old over event) → IsPresent (old event to)
     → new from to ≤ℤ ((old from event +ℤ old event over) +ℤ (old over event +ℤ old event to))
 both_new event over from to old new through closed low zero_there first second third fourth =
     let loop : old event event ≤ℤ (old event over +ℤ old over event) = closed over event event low second third in
@@ -70,16 +70,16 @@ both_new event over from to old new through closed low zero_there first second t
 
 -- what is there was there before, or goes over the event
 over_lower : (event over from to : ℕ) (old new : Entries) → AreEntries old → IsThrough event old new → IsClosedBelow event old → over < event → old event event ≡ pos 0
-    → IsWithin (new from to) (new from over) (new over to)
+    → IsAtMostSum (new from to) (new from over) (new over to)
 over_lower event over from to old new held through closed low zero_there first second =
     elim (through.made from over) [
       | inl old_first ↦
           let first_is : new from over ≡ old from over = old_first in
-          let first_there : IsThere (old from over) = omega (arith, ints) in
+          let first_there : IsPresent (old from over) = omega (arith, ints) in
           elim (through.made over to) [
             | inl old_second ↦
                 let second_is : new over to ≡ old over to = old_second in
-                let second_there : IsThere (old over to) = omega (arith, ints) in
+                let second_there : IsPresent (old over to) = omega (arith, ints) in
                 let within = both_old event over from to old new through closed low first_there second_there in
                 omega (arith, ints)
             | inr sum ↦
@@ -92,7 +92,7 @@ over_lower event over from to old new held through closed low zero_there first s
           elim (through.made over to) [
             | inl old_second ↦
                 let second_is : new over to ≡ old over to = old_second in
-                let second_there : IsThere (old over to) = omega (arith, ints) in
+                let second_there : IsPresent (old over to) = omega (arith, ints) in
                 let within = first_new event over from to old new held through closed low sum.0 sum.1 second_there in
                 omega (arith, ints)
             | inr other ↦
@@ -102,12 +102,12 @@ over_lower event over from to old new held through closed low zero_there first s
           ]
     ]
 
-over_event : (event from to : ℕ) (old new : Entries) → IsThrough event old new → old event event ≡ pos 0 → IsWithin (new from to) (new from event) (new event to)
+over_event : (event from to : ℕ) (old new : Entries) → IsThrough event old new → old event event ≡ pos 0 → IsAtMostSum (new from to) (new from event) (new event to)
 over_event event from to old new through zero_there first second =
     let column : new from event ≡ old from event = column_stays event old new from through zero_there in
     let row : new event to ≡ old event to = row_stays event old new to through zero_there in
-    let first_there : IsThere (old from event) = omega (arith, ints) in
-    let second_there : IsThere (old event to) = omega (arith, ints) in
+    let first_there : IsPresent (old from event) = omega (arith, ints) in
+    let second_there : IsPresent (old event to) = omega (arith, ints) in
     let least : new from to ≤ℤ (old from event +ℤ old event to) = through.least from to first_there second_there in
     omega (arith, ints)
 
@@ -117,7 +117,7 @@ closed_further event old new held through closed zero_there =
     λ over from to below.
     elim (cases_eq over event) [
       | inl same ↦
-          let P : ℕ → Type 0 = λ at. IsWithin (new from to) (new from at) (new at to) in
+          let P : ℕ → Type 0 = λ at. IsAtMostSum (new from to) (new from at) (new at to) in
           subst P (sym same) (over_event event from to old new through zero_there)
       | inr apart ↦ over_lower event over from to old new held through closed (omega arith) zero_there
     ]
@@ -129,7 +129,7 @@ bounds_further net event old new through bounds =
     elim (through.made from to) [
       | inl same ↦
           let is : new from to ≡ old from to = same in
-          let was : IsThere (old from to) = omega (arith, ints) in
+          let was : IsPresent (old from to) = omega (arith, ints) in
           let most : separation times (record { 0 = from }) (record { 0 = to }) ≤ℤ old from to = bounds times met from to was in
           omega (arith, ints)
       | inr sum ↦

@@ -5,22 +5,22 @@ use Rattle.std.specs.Prelude.{int_le, int_lt}
 use Rattle.std.specs.Int.{int_min}
 use lib.Signed.{◌≤ℤ◌}
 use Rattle.minplus.specs.Rows.{IsEntry, IsSmall, improved}
-use Rattle.minplus.specs.Step.Entries.{IsThere}
+use Rattle.minplus.specs.Step.Entries.{IsPresent}
 use Rattle.minplus.specs.declared.rows.TheConstants.{ABSENT}
 
-pub there_from : (entry : ℤ) → int_lt entry ABSENT ≡ true → IsThere entry
+pub there_from : (entry : ℤ) → int_lt entry ABSENT ≡ true → IsPresent entry
 there_from entry h = grind (arith, ints)
 
-pub absent_from : (entry : ℤ) → int_lt entry ABSENT ≡ false → IsThere entry → ⊥
+pub absent_from : (entry : ℤ) → int_lt entry ABSENT ≡ false → IsPresent entry → ⊥
 absent_from entry h there = grind (arith, ints)
 
 -- an entry that is there is small
-pub small_there : (entry : ℤ) → IsEntry entry → IsThere entry → IsSmall entry
+pub small_there : (entry : ℤ) → IsEntry entry → IsPresent entry → IsSmall entry
 small_there entry (inl absent) there = absurd (omega (arith, ints))
 small_there entry (inr small) there = small
 
 -- a small entry is there
-pub there_small : (entry : ℤ) → IsSmall entry → IsThere entry
+pub there_small : (entry : ℤ) → IsSmall entry → IsPresent entry
 there_small entry small = omega (arith, ints)
 
 small_below : (x : ℤ) → IsSmall x → int_le ABSENT x ≡ false
@@ -46,8 +46,8 @@ lesser_below x y = (omega (arith, ints, clamps), omega (arith, ints, clamps))
 -- an entry was improved by another one and a weight
 pub record IsImproved (weight entry other new : ℤ) : Type 0 where
   pub falls : new ≤ℤ entry
-  pub least : IsThere other → new ≤ℤ (weight +ℤ other)
-  pub made : (new ≡ entry) ⊎ (IsThere other × (new ≡ (weight +ℤ other)))
+  pub least : IsPresent other → new ≤ℤ (weight +ℤ other)
+  pub made : (new ≡ entry) ⊎ (IsPresent other × (new ≡ (weight +ℤ other)))
 
 swapped : (weight other new : ℤ) → new ≡ other +ℤ weight → new ≡ weight +ℤ other
 swapped weight other new is = omega (arith, ints)

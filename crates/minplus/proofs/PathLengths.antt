@@ -7,13 +7,13 @@ use Rattle.std.proofs.lemmas.Int.{ints}
 use Rattle.std.proofs.lemmas.Map.Steps.{length-le_from_distinct_below}
 use lib.Signed.{◌≤ℤ◌}
 use Rattle.minplus.specs.Rows.{IsSmall}
-use Rattle.minplus.specs.Step.Entries.{Entries, IsClosedBelow, IsThere, IsThrough}
-use Rattle.minplus.specs.Step.Paths.{AreBelow, ArePaths, AreSteps, HasPath, IsPath}
+use Rattle.minplus.specs.Step.Entries.{Entries, IsClosedBelow, IsPresent, IsThrough}
+use Rattle.minplus.specs.Step.Paths.{AreBelow, ArePaths, AreSteps, HasPath, IsEntryPath}
 use Rattle.minplus.proofs.ClosedFurther.{AreEntries, sum_there}
 
 -- two paths make one
-pub joined : (steps : Entries) (from middle to : ℕ) (first second : List ℕ) (a b : ℤ) → IsPath steps from first middle a → IsPath steps middle second to b
-    → IsPath steps from (first ++ middle ∷ second) to (a +ℤ b)
+pub joined : (steps : Entries) (from middle to : ℕ) (first second : List ℕ) (a b : ℤ) → IsEntryPath steps from first middle a → IsEntryPath steps middle second to b
+    → IsEntryPath steps from (first ++ middle ∷ second) to (a +ℤ b)
 joined steps from middle to [] second a b one two = (b, one.0, two, ap (λ x. x +ℤ b) one.1)
 joined steps from middle to (event ∷ first) second a b one two =
     let is : a ≡ steps from event +ℤ one.0 = one.3 in
@@ -23,12 +23,12 @@ joined steps from middle to (event ∷ first) second a b one two =
 pub record IsCut (steps : Entries) (from middle to : ℕ) (first second : List ℕ) (sum : ℤ) : Type 0 where
   pub a : ℤ
   pub b : ℤ
-  pub one : IsPath steps from first middle a
-  pub two : IsPath steps middle second to b
+  pub one : IsEntryPath steps from first middle a
+  pub two : IsEntryPath steps middle second to b
   pub is : sum ≡ (a +ℤ b)
 
 -- a path is two paths
-pub cut : (steps : Entries) (from middle to : ℕ) (first second : List ℕ) (sum : ℤ) → IsPath steps from (first ++ middle ∷ second) to sum → IsCut steps from middle to first second sum
+pub cut : (steps : Entries) (from middle to : ℕ) (first second : List ℕ) (sum : ℤ) → IsEntryPath steps from (first ++ middle ∷ second) to sum → IsCut steps from middle to first second sum
 cut steps from middle to [] second sum path = record { a = steps from middle; b = path.0; one = (path.1, refl); two = path.2; is = path.3 }
 cut steps from middle to (event ∷ first) second sum path =
     let rest = cut steps event middle to first second path.0 path.2 in
@@ -38,16 +38,16 @@ cut steps from middle to (event ∷ first) second sum path =
 
 -- no path over events below is shorter than the entry
 pub no_shorter : (steps entries : Entries) (limit from to : ℕ) (over : List ℕ) (sum : ℤ) → AreEntries entries → ((x y : ℕ) → entries x y ≤ℤ steps x y)
-    → IsClosedBelow limit entries → AreBelow limit over → IsPath steps from over to sum → IsThere (entries from to) × (entries from to ≤ℤ sum)
+    → IsClosedBelow limit entries → AreBelow limit over → IsEntryPath steps from over to sum → IsPresent (entries from to) × (entries from to ≤ℤ sum)
 no_shorter steps entries limit from to [] sum held falls closed below path =
     let fall : entries from to ≤ℤ steps from to = falls from to in
     let is : sum ≡ steps from to = path.1 in
-    let there : IsThere (steps from to) = path.0 in
+    let there : IsPresent (steps from to) = path.0 in
     (omega (arith, ints), omega (arith, ints))
 no_shorter steps entries limit from to (event ∷ over) sum held falls closed below path =
     let fall : entries from event ≤ℤ steps from event = falls from event in
-    let step : IsThere (steps from event) = path.1 in
-    let first : IsThere (entries from event) = omega (arith, ints) in
+    let step : IsPresent (steps from event) = path.1 in
+    let first : IsPresent (entries from event) = omega (arith, ints) in
     let rest = no_shorter steps entries limit event to over path.0 held falls closed below.1 path.2 in
     let rest_below : entries event to ≤ℤ path.0 = rest.1 in
     let within : entries from to ≤ℤ (entries from event +ℤ entries event to) = closed event from to below.0 first rest.0 in
@@ -57,7 +57,7 @@ no_shorter steps entries limit from to (event ∷ over) sum held falls closed be
 -- paths that share an event make none that is shorter: the event is left and met again
 pub no_shorter_by_sharing : (steps entries : Entries) (event shared from to : ℕ) (a b c d : List ℕ) (one two : ℤ) → AreEntries entries → ((x y : ℕ) → entries x y ≤ℤ steps x y)
     → IsClosedBelow event entries → entries event event ≡ pos 0 → shared < event → AreBelow event a → AreBelow event b → AreBelow event c → AreBelow event d
-    → IsPath steps from (a ++ shared ∷ b) event one → IsPath steps event (c ++ shared ∷ d) to two → entries from to ≤ℤ (one +ℤ two)
+    → IsEntryPath steps from (a ++ shared ∷ b) event one → IsEntryPath steps event (c ++ shared ∷ d) to two → entries from to ≤ℤ (one +ℤ two)
 no_shorter_by_sharing steps entries event shared from to a b c d one two held falls closed zero_there low below_a below_b below_c below_d first second =
     let front = cut steps from shared event a b one first in
     let back = cut steps event shared to c d two second in
@@ -175,7 +175,7 @@ by_apart : (steps old new : Entries) (event from to : ℕ) → (first : HasPath 
 by_apart steps old new event from to first second is apart =
     record {
       over = first.over ++ event ∷ second.over;
-      path = let P : ℤ → Type 0 = λ sum. IsPath steps from (first.over ++ event ∷ second.over) to sum in
+      path = let P : ℤ → Type 0 = λ sum. IsEntryPath steps from (first.over ++ event ∷ second.over) to sum in
           subst P (sym is) (joined steps from event to first.over second.over _ _ first.path second.path);
       below = below_joined event first.over second.over first.below second.below;
       distinct = distinct_joined event first.over second.over first.below second.below first.distinct second.distinct apart;
@@ -192,14 +192,14 @@ by_sharing steps old new event from to step first second sharing =
     let d = sharing.second.back in
     let below_one : AreBelow event (a ++ shared ∷ b) = subst (AreBelow event) sharing.first.is first.below in
     let below_two : AreBelow event (c ++ shared ∷ d) = subst (AreBelow event) sharing.second.is second.below in
-    let one : IsPath steps from (a ++ shared ∷ b) event (old from event) = let P : List ℕ → Type 0 = λ over. IsPath steps from over event (old from event) in subst P sharing.first.is first.path in
-    let two : IsPath steps event (c ++ shared ∷ d) to (old event to) = let P : List ℕ → Type 0 = λ over. IsPath steps event over to (old event to) in subst P sharing.second.is second.path in
+    let one : IsEntryPath steps from (a ++ shared ∷ b) event (old from event) = let P : List ℕ → Type 0 = λ over. IsEntryPath steps from over event (old from event) in subst P sharing.first.is first.path in
+    let two : IsEntryPath steps event (c ++ shared ∷ d) to (old event to) = let P : List ℕ → Type 0 = λ over. IsEntryPath steps event over to (old event to) in subst P sharing.second.is second.path in
     no_shorter_by_sharing steps old event shared from to a b c d (old from event) (old event to) step.held step.falls step.closed step.diagonal sharing.low
     (below_first event shared a b below_one) (below_second event shared a b below_one) (below_first event shared c d below_two) (below_second event shared c d below_two) one two
 
-unchanged : (steps old new : Entries) (event from to : ℕ) → ArePaths steps event old → new from to ≡ old from to → IsThere (new from to) → HasPath steps (event + 1) from to (new from to)
+unchanged : (steps old new : Entries) (event from to : ℕ) → ArePaths steps event old → new from to ≡ old from to → IsPresent (new from to) → HasPath steps (event + 1) from to (new from to)
 unchanged steps old new event from to paths same there =
-    let was : IsThere (old from to) = omega (arith, ints) in
+    let was : IsPresent (old from to) = omega (arith, ints) in
     let P : ℤ → Type 0 = λ sum. HasPath steps (event + 1) from to sum in
     subst P (sym same) (kept steps event from to (old from to) (paths from to was))
 
@@ -223,7 +223,7 @@ paths_further steps old new event step from to there =
 
 -- ---- lengths
 -- a path is no longer, up or down, than the limit for each of its steps
-length_near : (limit : ℕ) (steps : Entries) (from to : ℕ) (over : List ℕ) (sum : ℤ) → AreSteps (pos limit) steps → IsPath steps from over to sum
+length_near : (limit : ℕ) (steps : Entries) (from to : ℕ) (over : List ℕ) (sum : ℤ) → AreSteps (pos limit) steps → IsEntryPath steps from over to sum
     → (neg_ℤ (pos ((length over + 1) * limit)) ≤ℤ sum) × (sum ≤ℤ pos ((length over + 1) * limit))
 length_near limit steps from to [] sum small path =
     let near = small from to path.0 in

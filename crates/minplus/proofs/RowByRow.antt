@@ -8,7 +8,7 @@ use mir.Val.{SFits}
 use Rattle.minplus.specs.Rows.{IsEntry, Improves, entry_at, improved}
 use Rattle.minplus.specs.Matrix.{IsSquare, cells}
 use Rattle.minplus.specs.Step.Rows.{RowThrough}
-use Rattle.minplus.specs.Step.Entries.{IsThere, IsThrough, IsWithin}
+use Rattle.minplus.specs.Step.Entries.{IsPresent, IsThrough, IsAtMostSum}
 use Rattle.minplus.specs.declared.rows.TheConstants.{ABSENT}
 use Rattle.minplus.proofs.Numbers.{IsImproved, improved_is, there_from}
 
@@ -21,7 +21,7 @@ entry_held row place held =
     ]
 
 -- a row was improved with its entry of the event as the weight
-row_improved : (event : ℕ) (old through new : List ℤ) (weight : ℤ) → weight ≡ entry_at old event → IsThere weight → All IsEntry through → Improves weight old through new
+row_improved : (event : ℕ) (old through new : List ℤ) (weight : ℤ) → weight ≡ entry_at old event → IsPresent weight → All IsEntry through → Improves weight old through new
     → RowThrough event old through new
 row_improved event old through new weight is there held improves = record {
   count = improves.count;
@@ -29,7 +29,7 @@ row_improved event old through new weight is there held improves = record {
   least = λ to first second. let within = (at to).least second in rw (improves.each to, sym is) within;
   made = λ to. elim ((at to).made) [
     | inl same ↦ inl (improves.each to ∙ same)
-    | inr sum ↦ inr (subst IsThere is there, sum.0, improves.each to ∙ sum.1 ∙ ap (λ w. w +ℤ entry_at through to) is)
+    | inr sum ↦ inr (subst IsPresent is there, sum.0, improves.each to ∙ sum.1 ∙ ap (λ w. w +ℤ entry_at through to) is)
   ];
 }
   where
@@ -102,7 +102,7 @@ all_through event old now through half = record {
       | inl same ↦ inl same
       | inr sum ↦
           let same : entry_at through to ≡ cells old event to = ap (λ (row : List ℤ). entry_at row to) half.own in
-          inr (sum.0, subst IsThere same sum.1, sum.2 ∙ ap (λ x. cells old from event +ℤ x) same)
+          inr (sum.0, subst IsPresent same sum.1, sum.2 ∙ ap (λ x. cells old from event +ℤ x) same)
     ]
     | inr past ↦ inl (stays from to past)
   ];
@@ -111,10 +111,10 @@ all_through event old now through half = record {
     stays : (from to : ℕ) → length old ≤ from → cells now from to ≡ cells old from to
     stays from to past = ap (λ (row : List ℤ). entry_at row to) (half.left from past)
 
-    own : (to : ℕ) (entry first : ℤ) → IsWithin entry first (entry_at through to) → IsWithin entry first (cells old event to)
+    own : (to : ℕ) (entry first : ℤ) → IsAtMostSum entry first (entry_at through to) → IsAtMostSum entry first (cells old event to)
     own to entry first within =
         let same : entry_at through to ≡ cells old event to = ap (λ (row : List ℤ). entry_at row to) half.own in
-        subst (IsWithin entry first) same within
+        subst (IsAtMostSum entry first) same within
 
 -- each row has entries
 pub rows_held : (rows : List (List ℤ)) → ((from to : ℕ) → IsEntry (cells rows from to)) → All (All IsEntry) rows

@@ -8,10 +8,10 @@ use Rattle.itv_base.specs.declared.limits.TheConstants.{END_LIMIT, MAX_MATRIX_EV
 use Rattle.event_graph.specs.Network.{Net}
 use Rattle.minplus.specs.Rows.{IsEntry}
 use Rattle.minplus.specs.Matrix.{cells}
-use Rattle.minplus.specs.Step.Entries.{Entries, HoldsEdges, IsClosure, IsHeld, IsThere, IsThrough}
-use Rattle.minplus.specs.Step.Edges.{AreBounds}
+use Rattle.minplus.specs.Step.Entries.{Entries, HoldsEdges, IsClosure, IsEdgeHeld, IsPresent, IsThrough}
+use Rattle.minplus.specs.Step.Edges.{BoundSeparations}
 use Rattle.minplus.specs.Step.Paths.{ArePaths, AreSteps}
-use Rattle.minplus.specs.Step.Stage.{Stage}
+use Rattle.minplus.specs.Step.Stage.{PivotStage}
 use Rattle.minplus.proofs.Numbers.{small_there}
 use Rattle.minplus.proofs.ClosedFurther.{AreEntries, bounds_further, closed_further}
 use Rattle.minplus.proofs.PathLengths.{path_small, paths_further}
@@ -33,20 +33,20 @@ held_further steps old new event small few held through paths from to =
           let first = small_there _ (held from event) sum.0 in
           let second = small_there _ (held event to) sum.1 in
           let is : new from to ≡ old from event +ℤ old event to = sum.2 in
-          let there : IsThere (new from to) = omega (arith, ints) in
+          let there : IsPresent (new from to) = omega (arith, ints) in
           inr (path_small steps (event + 1) end_limit from to (new from to) (fits (event + 1) few) small (paths from to there))
     ]
 
 edges_further : (net : Net) (old new : Entries) → ((from to : ℕ) → new from to ≤ℤ old from to) → HoldsEdges net old → HoldsEdges net new
 edges_further net old new falls edges name e always is =
-    let held : IsHeld net.events old e = edges name e always is in
+    let held : IsEdgeHeld net.events old e = edges name e always is in
     let longer : old e.from.0 e.to.0 ≤ℤ e.weight = held.longer in
     let fall : new e.from.0 e.to.0 ≤ℤ old e.from.0 e.to.0 = falls e.from.0 e.to.0 in
     record { from = held.from; to = held.to; small = held.small; longer = omega (arith, ints) }
 
 -- one event more, where no entry of the diagonal has become negative
-pub stage_further : (net : Net) (steps old new : Entries) (event : ℕ) → event < net.events → net.events ≤ MAX_MATRIX_EVENTS → Stage net steps event old → IsThrough event old new
-    → ((at : ℕ) → at < net.events → pos 0 ≤ℤ new at at) → Stage net steps (event + 1) new
+pub stage_further : (net : Net) (steps old new : Entries) (event : ℕ) → event < net.events → net.events ≤ MAX_MATRIX_EVENTS → PivotStage net steps event old → IsThrough event old new
+    → ((at : ℕ) → at < net.events → pos 0 ≤ℤ new at at) → PivotStage net steps (event + 1) new
 stage_further net steps old new event below few stage through sound =
     let paths : ArePaths steps (event + 1) new = paths_further steps old new event
     (record { held = stage.held; falls = stage.falls; through = through; closed = stage.closed; diagonal = stage.diagonal event below; paths = stage.paths }) in
@@ -69,7 +69,7 @@ stage_further net steps old new event below few stage through sound =
     }
 
 -- all events
-pub closure_at_end : (net : Net) (steps entries : Entries) → Stage net steps net.events entries → IsClosure net entries
+pub closure_at_end : (net : Net) (steps entries : Entries) → PivotStage net steps net.events entries → IsClosure net entries
 closure_at_end net steps entries stage = record { held = stage.held; closed = stage.closed; diagonal = stage.diagonal; edges = stage.edges; bounds = stage.bounds }
 
 nothing_twice : IsDistinct eqb []
@@ -77,8 +77,8 @@ unfolding IsDistinct
 nothing_twice = tt
 
 -- the always-edges alone, before the first event
-pub stage_at_start : (net : Net) (rows : List (List ℤ)) → AreBounds net rows → HoldsEdges net (cells rows) → ((at : ℕ) → at < net.events → pos 0 ≤ℤ cells rows at at)
-    → Stage net (cells rows) 0 (cells rows)
+pub stage_at_start : (net : Net) (rows : List (List ℤ)) → BoundSeparations net rows → HoldsEdges net (cells rows) → ((at : ℕ) → at < net.events → pos 0 ≤ℤ cells rows at at)
+    → PivotStage net (cells rows) 0 (cells rows)
 stage_at_start net rows bounds edges sound = record {
   small = bounds.small;
   held = bounds.held;

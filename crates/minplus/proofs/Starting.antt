@@ -19,22 +19,22 @@ use Rattle.event_graph.proofs.EdgesMet.{All-found, cause_of}
 use Rattle.event_graph.specs.Times.{separation}
 use Rattle.minplus.specs.Rows.{IsEntry, IsSmall, entry_at}
 use Rattle.minplus.specs.Matrix.{IsSquare, cells}
-use Rattle.minplus.specs.Step.Entries.{BoundsAlways, Entries, HoldsEdges, IsHeld, IsThere}
+use Rattle.minplus.specs.Step.Entries.{BoundsAlways, Entries, HoldsEdges, IsEdgeHeld, IsPresent}
 use Rattle.minplus.specs.Step.Paths.{AreSteps}
-use Rattle.minplus.specs.Step.Edges.{AreBounds, AreEmptyRows, Falls, HoldsCause, HoldsEdge, IsAlwaysEdge, Lowers}
+use Rattle.minplus.specs.Step.Edges.{BoundSeparations, AreEmptyRows, NoneRose, HoldsCause, HoldsEdge, IsAlwaysEdge, Lowers}
 use Rattle.minplus.specs.declared.rows.TheConstants.{ABSENT}
 
-pub falls_further : (old mid new : Entries) → Falls old mid → Falls mid new → Falls old new
+pub falls_further : (old mid new : Entries) → NoneRose old mid → NoneRose mid new → NoneRose old new
 falls_further old mid new first second from to =
     let one : mid from to ≤ℤ old from to = first from to in
     let two : new from to ≤ℤ mid from to = second from to in
     omega (arith, ints)
 
-pub falls_not : (entries : Entries) → Falls entries entries
+pub falls_not : (entries : Entries) → NoneRose entries entries
 falls_not entries from to = omega (arith, ints)
 
 -- an edge that is held is held by lesser entries too
-pub held_by_less : (events : ℕ) (old new : Entries) (e : Edge) → Falls old new → IsHeld events old e → IsHeld events new e
+pub held_by_less : (events : ℕ) (old new : Entries) (e : Edge) → NoneRose old new → IsEdgeHeld events old e → IsEdgeHeld events new e
 held_by_less events old new e falls held =
     let fall : new e.from.0 e.to.0 ≤ℤ old e.from.0 e.to.0 = falls e.from.0 e.to.0 in
     let longer : old e.from.0 e.to.0 ≤ℤ e.weight = held.longer in
@@ -46,7 +46,7 @@ bounds_lowered net name e old new named lowers bounds times met from to there =
     elim (lowers.made from to) [
       | inl same ↦
           let is : new from to ≡ old from to = same in
-          let was : IsThere (old from to) = omega (arith, ints) in
+          let was : IsPresent (old from to) = omega (arith, ints) in
           let most : separation times (record { 0 = from }) (record { 0 = to }) ≤ℤ old from to = bounds times met from to was in
           omega (arith, ints)
       | inr lowered ↦
@@ -68,7 +68,7 @@ steps_lowered net name e old new named lowers small from to there =
     elim (lowers.made from to) [
       | inl same ↦
           let is : new from to ≡ old from to = same in
-          let was : IsThere (old from to) = omega (arith, ints) in
+          let was : IsPresent (old from to) = omega (arith, ints) in
           let P : ℤ → Type 0 = λ step. (neg_ℤ END_LIMIT ≤ℤ step) × (step ≤ℤ END_LIMIT) in
           subst P (sym same) (small from to was)
       | inr lowered ↦
@@ -77,7 +77,7 @@ steps_lowered net name e old new named lowers small from to there =
     ]
 
 -- one always-edge more
-pub bounds_after : (net : Net) (name : EdgeName) (e : Edge) (old new : List (List ℤ)) → IsAlwaysEdge net name e → IsSquare (length old) new → Lowers e (cells old) (cells new) → AreBounds net old → AreBounds net new
+pub bounds_after : (net : Net) (name : EdgeName) (e : Edge) (old new : List (List ℤ)) → IsAlwaysEdge net name e → IsSquare (length old) new → Lowers e (cells old) (cells new) → BoundSeparations net old → BoundSeparations net new
 bounds_after net name e old new named square lowers bounds = record {
   square = subst (λ events. IsSquare events new) bounds.square.count square;
   held = λ from to. elim (lowers.made from to) [
@@ -96,7 +96,7 @@ bounds_after net name e old new named square lowers bounds = record {
 pub edge_held : (net : Net) (name : EdgeName) (e : Edge) (old new : Entries) → IsAlwaysEdge net name e → Lowers e old new → HoldsEdge net new name
 edge_held net name e old new named lowers other always is =
     let same : e ≡ other = same_Some _ _ (sym named.is ∙ is) in
-    subst (IsHeld net.events new) same (record { from = named.from; to = named.to; small = end_small e.weight named.within; longer = lowers.met })
+    subst (IsEdgeHeld net.events new) same (record { from = named.from; to = named.to; small = end_small e.weight named.within; longer = lowers.met })
 
 -- ---- the edges of all constraints
 -- the edges of the causes below a number are held
@@ -107,17 +107,17 @@ HoldsCausesBelow net entries constraint count = (cause : ℕ) → cause < count 
 abbrev pub HoldsConstraintsBelow : Net → Entries → ℕ → Type 0
 HoldsConstraintsBelow net entries count = (constraint cause : ℕ) → constraint < count → HoldsCause net entries constraint cause
 
-pub cause_by_less : (net : Net) (old new : Entries) (constraint cause : ℕ) → Falls old new → HoldsCause net old constraint cause → HoldsCause net new constraint cause
+pub cause_by_less : (net : Net) (old new : Entries) (constraint cause : ℕ) → NoneRose old new → HoldsCause net old constraint cause → HoldsCause net new constraint cause
 cause_by_less net old new constraint cause falls holds side e always is = held_by_less net.events old new e falls (holds side e always is)
 
 -- both sides of a cause
-pub both_sides : (net : Net) (mid new : Entries) (constraint cause : ℕ) → Falls mid new
+pub both_sides : (net : Net) (mid new : Entries) (constraint cause : ℕ) → NoneRose mid new
     → HoldsEdge net mid (record { constraint = constraint; cause = cause; side = Lower }) → HoldsEdge net new (record { constraint = constraint; cause = cause; side = Upper })
     → HoldsCause net new constraint cause
 both_sides net mid new constraint cause falls lower upper Lower e always is = held_by_less net.events mid new e falls (lower e always is)
 both_sides net mid new constraint cause falls lower upper Upper e always is = upper e always is
 
-pub causes_more : (net : Net) (old new : Entries) (constraint count : ℕ) → HoldsCausesBelow net old constraint count → Falls old new → HoldsCause net new constraint count
+pub causes_more : (net : Net) (old new : Entries) (constraint count : ℕ) → HoldsCausesBelow net old constraint count → NoneRose old new → HoldsCause net new constraint count
     → HoldsCausesBelow net new constraint (count + 1)
 causes_more net old new constraint count before falls here cause below =
     elim (cases_eq cause count) [
@@ -142,7 +142,7 @@ all_causes net entries constraint count is_net counted below cause side e always
     let named : named_causes c.kind (length c.causes) ≡ count = same_Some _ _ (ap (option_map cause_count_of) (sym at) ∙ counted) in
     below cause (cause_within c.kind cause (length c.causes) count (slice_get_within _ _ _ found.1) allowed.count named) side e always is)
 
-pub constraints_more : (net : Net) (old new : Entries) (count : ℕ) → HoldsConstraintsBelow net old count → Falls old new → ((cause : ℕ) → HoldsCause net new count cause)
+pub constraints_more : (net : Net) (old new : Entries) (count : ℕ) → HoldsConstraintsBelow net old count → NoneRose old new → ((cause : ℕ) → HoldsCause net new count cause)
     → HoldsConstraintsBelow net new (count + 1)
 constraints_more net old new count before falls here constraint cause below =
     elim (cases_eq constraint count) [
@@ -201,7 +201,7 @@ zero_small : IsSmall (pos 0)
 zero_small = record { low = omega (arith, ints); high = omega (arith, ints) }
 
 -- they are bounds
-pub empty_bounds : (net : Net) (rows : List (List ℤ)) → AreEmptyRows net.events net.events rows → AreBounds net rows
+pub empty_bounds : (net : Net) (rows : List (List ℤ)) → AreEmptyRows net.events net.events rows → BoundSeparations net rows
 empty_bounds net rows empty = record {
   square = record {
     count = empty.count_is;

@@ -7,19 +7,19 @@ ghost use Rattle.minplus.specs.Rows.{IsEntry};
 ghost use Rattle.minplus.specs.Matrix.{IsSquare, cells};
 ghost use Rattle.minplus.specs.Step.Rows.{RowThrough};
 ghost use Rattle.minplus.specs.Step.Entries.{HoldsEdges, IsClosure, IsThrough};
-ghost use Rattle.minplus.specs.Step.Edges.{AreBounds};
+ghost use Rattle.minplus.specs.Step.Edges.{BoundSeparations};
 
 use crate::fault::MatrixFault;
 use crate::lanes::row_lanes;
-use crate::row::{Row, entry};
+use crate::row::{MatrixRow, entry};
 use crate::rows::ABSENT;
 use event_graph::Network;
 
 /// Improves the rows of the always-edges through each event in turn. The answer is `Loop` as soon as an entry
 /// of the diagonal is negative, so that no entry leaves the sums of two paths over different events.
-pub fn close(net: &Network, rows: &mut [Row], through: &mut [i64]) -> Result<(), MatrixFault>
+pub fn close(net: &Network, rows: &mut [MatrixRow], through: &mut [i64]) -> Result<(), MatrixFault>
     requires few { net.now.events ≤ MAX_MATRIX_EVENTS }
-    requires bounds { AreBounds net.now rows.old }
+    requires bounds { BoundSeparations net.now rows.old }
     requires edges { HoldsEdges net.now (cells rows.old) }
     requires room { length through.old ≡ length rows.old }
     ensures square { IsSquare net.now.events rows.new }
@@ -39,7 +39,7 @@ pub fn close(net: &Network, rows: &mut [Row], through: &mut [i64]) -> Result<(),
 }
 
 // Whether no entry of the diagonal is negative.
-fn is_sound(rows: &[Row]) -> bool
+fn is_sound(rows: &[MatrixRow]) -> bool
     requires { IsSquare (length rows.now) rows.now }
     ensures yes { result ≡ true → (at : ℕ) → at < length rows.now → pos 0 ≤ℤ cells rows.now at at }
     ensures no { result ≡ false → (at : ℕ) × (cells rows.now at at <ℤ pos 0) }
@@ -53,7 +53,7 @@ fn is_sound(rows: &[Row]) -> bool
 }
 
 // Improves each row through an event. The entries of its own row are put into `through` first.
-fn improve_through(rows: &mut [Row], through: &mut [i64], event: usize)
+fn improve_through(rows: &mut [MatrixRow], through: &mut [i64], event: usize)
     requires square { IsSquare (length rows.old) rows.old }
     requires event { event < length rows.old }
     requires room { length through.old ≡ length rows.old }
@@ -69,7 +69,7 @@ fn improve_through(rows: &mut [Row], through: &mut [i64], event: usize)
 }
 
 // Improves one of the rows through an event.
-fn improve_nth(rows: &mut [Row], k: usize, through: &[i64], event: usize)
+fn improve_nth(rows: &mut [MatrixRow], k: usize, through: &[i64], event: usize)
     requires row { k < length rows.old }
     requires lengths { length through.now ≡ length (slice_index_or rows.old k []) }
     requires event { event < length (slice_index_or rows.old k []) }

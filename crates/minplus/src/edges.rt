@@ -7,9 +7,9 @@ ghost use Rattle.minplus.specs.declared.rows.TheConstants.{ABSENT};
 ghost use Rattle.minplus.specs.Matrix.{IsSquare, cells};
 ghost use Rattle.minplus.specs.Step.Entries.{HoldsEdges};
 ghost use Rattle.minplus.specs.Step.Rows.{LowersEntry};
-ghost use Rattle.minplus.specs.Step.Edges.{AreBounds, AreEmptyRows, Falls, HoldsCause, HoldsEdge, IsAlwaysEdge, Lowers};
+ghost use Rattle.minplus.specs.Step.Edges.{BoundSeparations, AreEmptyRows, NoneRose, HoldsCause, HoldsEdge, IsAlwaysEdge, Lowers};
 
-use crate::row::Row;
+use crate::row::MatrixRow;
 use crate::rows::ABSENT;
 use event_graph::{Edge, Network};
 use itv_base::{EdgeName, NoMemory, Side};
@@ -17,8 +17,8 @@ use std::alloc::Global;
 
 /// The rows of the always-edges: 0 or less from each event to itself, and from one event to another the
 /// least weight of an always-edge between them.
-pub fn first_rows(alloc: Global, net: &Network) -> Result<Vec<Row>, NoMemory>
-    ensures bounds { IfOk result (λ rows. AreBounds net.now rows.items) }
+pub fn first_rows(alloc: Global, net: &Network) -> Result<Vec<MatrixRow>, NoMemory>
+    ensures bounds { IfOk result (λ rows. BoundSeparations net.now rows.items) }
     ensures edges { IfOk result (λ rows. HoldsEdges net.now (cells rows.items)) }
 {
     let mut rows = empty_rows(alloc, net.events() as usize)?;
@@ -27,7 +27,7 @@ pub fn first_rows(alloc: Global, net: &Network) -> Result<Vec<Row>, NoMemory>
 }
 
 // The rows of no edges: 0 from each event to itself, and nothing else.
-fn empty_rows(alloc: Global, events: usize) -> Result<Vec<Row>, NoMemory>
+fn empty_rows(alloc: Global, events: usize) -> Result<Vec<MatrixRow>, NoMemory>
     ensures { IfOk result (λ rows. AreEmptyRows events events rows.items) }
 {
     let mut rows = Vec::with_capacity(alloc, events)?;
@@ -37,20 +37,20 @@ fn empty_rows(alloc: Global, events: usize) -> Result<Vec<Row>, NoMemory>
     Ok(rows)
 }
 
-fn empty_row(alloc: Global, events: usize, own: usize) -> Result<Row, NoMemory>
+fn empty_row(alloc: Global, events: usize, own: usize) -> Result<MatrixRow, NoMemory>
     requires { own < events }
     ensures { IfOk result (λ row. row ≡ slice_set (replicate events ABSENT) own (pos 0)) }
 {
     let mut entries = vec![in alloc; ABSENT; events]?;
     entries[own] = 0;
-    Ok(Row { entries })
+    Ok(MatrixRow { entries })
 }
 
 // Lowers the entries to the weights of the always-edges.
-fn lower_all(net: &Network, rows: &mut [Row])
+fn lower_all(net: &Network, rows: &mut [MatrixRow])
     requires net { IsNet net.now }
-    requires bounds { AreBounds net.now rows.old }
-    ensures bounds { AreBounds net.now rows.new }
+    requires bounds { BoundSeparations net.now rows.old }
+    ensures bounds { BoundSeparations net.now rows.new }
     ensures edges { HoldsEdges net.now (cells rows.new) }
 {
     for constraint in 0..net.len() {
@@ -59,12 +59,12 @@ fn lower_all(net: &Network, rows: &mut [Row])
 }
 
 // Lowers the entries to the weights of the always-edges of a constraint.
-fn lower_constraint(net: &Network, constraint: u32, rows: &mut [Row])
+fn lower_constraint(net: &Network, constraint: u32, rows: &mut [MatrixRow])
     requires net { IsNet net.now }
     requires constraint { constraint < length net.now.constraints }
-    requires bounds { AreBounds net.now rows.old }
-    ensures bounds { AreBounds net.now rows.new }
-    ensures falls { Falls (cells rows.old) (cells rows.new) }
+    requires bounds { BoundSeparations net.now rows.old }
+    ensures bounds { BoundSeparations net.now rows.new }
+    ensures falls { NoneRose (cells rows.old) (cells rows.new) }
     ensures causes { (cause : ℕ) → HoldsCause net.now (cells rows.new) constraint cause }
 {
     for cause in 0..net.cause_count(constraint).max(1) {
@@ -73,10 +73,10 @@ fn lower_constraint(net: &Network, constraint: u32, rows: &mut [Row])
 }
 
 // Lowers the entries to the weights of the always-edges of a cause, on both sides.
-fn lower_cause(net: &Network, constraint: u32, cause: u32, rows: &mut [Row])
-    requires { AreBounds net.now rows.old }
-    ensures bounds { AreBounds net.now rows.new }
-    ensures falls { Falls (cells rows.old) (cells rows.new) }
+fn lower_cause(net: &Network, constraint: u32, cause: u32, rows: &mut [MatrixRow])
+    requires { BoundSeparations net.now rows.old }
+    ensures bounds { BoundSeparations net.now rows.new }
+    ensures falls { NoneRose (cells rows.old) (cells rows.new) }
     ensures cause { HoldsCause net.now (cells rows.new) constraint cause }
 {
     let lower = EdgeName {
@@ -94,10 +94,10 @@ fn lower_cause(net: &Network, constraint: u32, cause: u32, rows: &mut [Row])
 }
 
 // Lowers an entry to the weight of the edge of a name, if it is an always-edge.
-fn lower_named(net: &Network, name: EdgeName, rows: &mut [Row])
-    requires { AreBounds net.now rows.old }
-    ensures bounds { AreBounds net.now rows.new }
-    ensures falls { Falls (cells rows.old) (cells rows.new) }
+fn lower_named(net: &Network, name: EdgeName, rows: &mut [MatrixRow])
+    requires { BoundSeparations net.now rows.old }
+    ensures bounds { BoundSeparations net.now rows.new }
+    ensures falls { NoneRose (cells rows.old) (cells rows.new) }
     ensures edge { HoldsEdge net.now (cells rows.new) name }
 {
     if let Some(edge) = always_edge(net, name) {
@@ -118,7 +118,7 @@ fn always_edge(net: &Network, name: EdgeName) -> Option<Edge>
 }
 
 // Lowers the entry of an edge's ends to its weight.
-fn lower(rows: &mut [Row], edge: Edge)
+fn lower(rows: &mut [MatrixRow], edge: Edge)
     requires square { IsSquare (length rows.old) rows.old }
     requires from { edge.from.0 < length rows.old }
     requires to { edge.to.0 < length rows.old }
@@ -129,7 +129,7 @@ fn lower(rows: &mut [Row], edge: Edge)
 }
 
 // Lowers an entry of one of the rows.
-fn lower_nth(rows: &mut [Row], k: usize, place: usize, weight: i64)
+fn lower_nth(rows: &mut [MatrixRow], k: usize, place: usize, weight: i64)
     requires row { k < length rows.old }
     requires place { place < length (slice_index_or rows.old k []) }
     ensures row { LowersEntry place weight

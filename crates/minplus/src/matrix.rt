@@ -8,7 +8,7 @@ ghost use Rattle.minplus.specs.Matrix.{AreRootBounds, IsMatrixFault};
 use crate::closing::close;
 use crate::edges::first_rows;
 use crate::fault::MatrixFault;
-use crate::row::{Row, entry};
+use crate::row::{MatrixRow, entry};
 use crate::rows::ABSENT;
 use event_graph::Network;
 use itv_base::{EventId, MAX_MATRIX_EVENTS};
@@ -18,7 +18,7 @@ use std::marker::Model;
 /// A number, or nothing, for each pair of events. Contracts see the list of its rows.
 #[derive(Debug, Drop)]
 pub struct Matrix {
-    rows: Vec<Row>,
+    rows: Vec<MatrixRow>,
 }
 
 impl Model for Matrix {

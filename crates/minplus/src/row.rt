@@ -7,11 +7,11 @@ use std::marker::Model;
 
 /// The entries from one event to each event. Contracts see their list.
 #[derive(Debug, Drop)]
-pub struct Row {
+pub struct MatrixRow {
     pub entries: Vec<i64>,
 }
 
-impl Model for Row {
+impl Model for MatrixRow {
     ghost use Rattle.std.specs.Prelude.{List, ℤ};
 
     ghost Value = { List ℤ };
@@ -20,7 +20,7 @@ impl Model for Row {
 }
 
 /// The entry of the rows from one event to another, by their numbers.
-pub fn entry(rows: &[Row], from: usize, to: usize) -> i64
+pub fn entry(rows: &[MatrixRow], from: usize, to: usize) -> i64
     requires from { from < length rows.now }
     requires to { to < length (slice_index_or rows.now from []) }
     ensures entry { result ≡ cells rows.now from to }

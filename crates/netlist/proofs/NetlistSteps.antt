@@ -14,11 +14,11 @@ use Rattle.netlist.specs.Fault.{is_memory}
 use Rattle.json_tree.specs.Words.{list_at}
 use Rattle.near_keys.specs.NearKeys.{near_in_netlist}
 use Rattle.netlist.specs.Netlist.{cycles_of, edges_of, list_if, parts_of, nets_of, wires_of, netlist_of, sheet_names, with_part, with_net, with_wire, version_of}
-use Rattle.itv_base.specs.Reading.{walk, Unless, HasFault}
-use Rattle.itv_base.proofs.Faults.{HasFault-first}
+use Rattle.itv_base.specs.Reading.{walk, UnlessTrue, IsReadingFault}
+use Rattle.itv_base.proofs.Faults.{IsReadingFault-first}
 
 -- what holds, holds unless a test is met
-holds_unless : {P : Type 0} (b : Bool) → P → Unless b P
+holds_unless : {P : Type 0} (b : Bool) → P → UnlessTrue b P
 holds_unless true p = tt
 holds_unless false p = p
 
@@ -36,9 +36,9 @@ module _ (tree : Data) where
       parts-many many = rw (read, many) refl
 
       module _ (few : nat_le (length listed) MAX_PARTS ≡ true) where
-        pub parts-fault : (fault : NetlistFault) → HasFault is_memory (walk (with_part version) 0 [] listed) fault → HasFault is_memory (parts_of version tree) fault
+        pub parts-fault : (fault : NetlistFault) → IsReadingFault is_memory (walk (with_part version) 0 [] listed) fault → IsReadingFault is_memory (parts_of version tree) fault
         unfolding parts_of
-        parts-fault fault h = rw (read, few) (HasFault-first is_memory (walk (with_part version) 0 [] listed) _ fault h)
+        parts-fault fault h = rw (read, few) (IsReadingFault-first is_memory (walk (with_part version) 0 [] listed) _ fault h)
 
         module _ (parts : List Part) (are : walk (with_part version) 0 [] listed ≡ Ok parts) where
           pub parts-sheets : nat_le (length (sheet_names parts)) MAX_SHEET_NAMES ≡ false → parts_of version tree ≡ Err (TooManySheets (length (sheet_names parts)))
@@ -51,7 +51,7 @@ module _ (tree : Data) where
 
   -- ---- nets and wires
 
-  pub nets-fault : (fault : NetlistFault) → list_if (get (codes "nets") tree) NetsNotList ≡ Err fault → HasFault is_memory (nets_of tree) fault
+  pub nets-fault : (fault : NetlistFault) → list_if (get (codes "nets") tree) NetsNotList ≡ Err fault → IsReadingFault is_memory (nets_of tree) fault
   unfolding nets_of
   nets-fault fault is = rw is (holds_unless (is_memory fault) refl)
 
@@ -59,7 +59,7 @@ module _ (tree : Data) where
   unfolding nets_of
   nets-are listed is = rw is refl
 
-  pub wires-fault : (fault : NetlistFault) → list_if (get (codes "edges") tree) EdgesNotList ≡ Err fault → HasFault is_memory (wires_of tree) fault
+  pub wires-fault : (fault : NetlistFault) → list_if (get (codes "edges") tree) EdgesNotList ≡ Err fault → IsReadingFault is_memory (wires_of tree) fault
   unfolding wires_of
   wires-fault fault is = rw is (holds_unless (is_memory fault) refl)
 
@@ -67,7 +67,7 @@ module _ (tree : Data) where
   unfolding wires_of
   wires-are listed is = rw is refl
 
-  pub edges-fault : (fault : NetlistFault) → list_if (get (codes "edges") tree) EdgesNotList ≡ Err fault → HasFault is_memory (edges_of tree) fault
+  pub edges-fault : (fault : NetlistFault) → list_if (get (codes "edges") tree) EdgesNotList ≡ Err fault → IsReadingFault is_memory (edges_of tree) fault
   unfolding edges_of
   edges-fault fault is = rw is (holds_unless (is_memory fault) refl)
 
@@ -77,34 +77,34 @@ module _ (tree : Data) where
 
   -- ---- the whole
 
-  pub version-fault : (fault : NetlistFault) → HasFault is_memory (version_of tree) fault → HasFault is_memory (netlist_of tree) fault
+  pub version-fault : (fault : NetlistFault) → IsReadingFault is_memory (version_of tree) fault → IsReadingFault is_memory (netlist_of tree) fault
   unfolding netlist_of
-  version-fault fault h = HasFault-first is_memory (version_of tree) _ fault h
+  version-fault fault h = IsReadingFault-first is_memory (version_of tree) _ fault h
 
   module _ (version : ℕ) (told : version_of tree ≡ Ok version) where
-    pub cycles-fault : (fault : NetlistFault) → HasFault is_memory (cycles_of tree) fault → HasFault is_memory (netlist_of tree) fault
+    pub cycles-fault : (fault : NetlistFault) → IsReadingFault is_memory (cycles_of tree) fault → IsReadingFault is_memory (netlist_of tree) fault
     unfolding netlist_of
-    cycles-fault fault h = rw told (HasFault-first is_memory (cycles_of tree) _ fault h)
+    cycles-fault fault h = rw told (IsReadingFault-first is_memory (cycles_of tree) _ fault h)
 
     module _ (cycles : ℕ) (counted : cycles_of tree ≡ Ok cycles) where
-      pub all_parts-fault : (fault : NetlistFault) → HasFault is_memory (parts_of version tree) fault → HasFault is_memory (netlist_of tree) fault
+      pub all_parts-fault : (fault : NetlistFault) → IsReadingFault is_memory (parts_of version tree) fault → IsReadingFault is_memory (netlist_of tree) fault
       unfolding netlist_of
-      all_parts-fault fault h = rw (told, counted) (HasFault-first is_memory (parts_of version tree) _ fault h)
+      all_parts-fault fault h = rw (told, counted) (IsReadingFault-first is_memory (parts_of version tree) _ fault h)
 
       module _ (parts : List Part) (are : parts_of version tree ≡ Ok parts) where
-        pub all_nets-fault : (fault : NetlistFault) → HasFault is_memory (nets_of tree) fault → HasFault is_memory (netlist_of tree) fault
+        pub all_nets-fault : (fault : NetlistFault) → IsReadingFault is_memory (nets_of tree) fault → IsReadingFault is_memory (netlist_of tree) fault
         unfolding netlist_of
-        all_nets-fault fault h = rw (told, counted, are) (HasFault-first is_memory (nets_of tree) _ fault h)
+        all_nets-fault fault h = rw (told, counted, are) (IsReadingFault-first is_memory (nets_of tree) _ fault h)
 
         module _ (nets : List JoinedPins) (joined : nets_of tree ≡ Ok nets) where
-          pub all_wires-fault : (fault : NetlistFault) → HasFault is_memory (wires_of tree) fault → HasFault is_memory (netlist_of tree) fault
+          pub all_wires-fault : (fault : NetlistFault) → IsReadingFault is_memory (wires_of tree) fault → IsReadingFault is_memory (netlist_of tree) fault
           unfolding netlist_of
-          all_wires-fault fault h = rw (told, counted, are, joined) (HasFault-first is_memory (wires_of tree) _ fault h)
+          all_wires-fault fault h = rw (told, counted, are, joined) (IsReadingFault-first is_memory (wires_of tree) _ fault h)
 
           module _ (wires : List (Option Wire)) (wired : wires_of tree ≡ Ok wires) where
-            pub all_edges-fault : (fault : NetlistFault) → HasFault is_memory (edges_of tree) fault → HasFault is_memory (netlist_of tree) fault
+            pub all_edges-fault : (fault : NetlistFault) → IsReadingFault is_memory (edges_of tree) fault → IsReadingFault is_memory (netlist_of tree) fault
             unfolding netlist_of
-            all_edges-fault fault h = rw (told, counted, are, joined, wired) (HasFault-first is_memory (edges_of tree) _ fault h)
+            all_edges-fault fault h = rw (told, counted, are, joined, wired) (IsReadingFault-first is_memory (edges_of tree) _ fault h)
 
             pub netlist-ok : (edges : List (List ℕ)) → edges_of tree ≡ Ok edges → (near : List (List ℕ)) → near ≡ near_in_netlist tree
                 → netlist_of tree ≡ Ok (record { version = version; cycles = cycles; parts = parts; nets = nets; wires = wires; edges = edges; near = near })

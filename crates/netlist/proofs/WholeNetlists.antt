@@ -10,7 +10,7 @@ use Rattle.itv_base.specs.Range.{Ends, IsRange, has_wide, is_reversed}
 use Rattle.itv_base.specs.declared.limits.TheConstants.{MAX_CYCLES, MAX_PARTS, MAX_SHEET_NAMES}
 use Rattle.itv_base.specs.declared.range.RangeFault.TheVariants.{TooWide, EmptyRange}
 use Rattle.label_grammar.specs.declared.label.LabelFault.{LabelFault}
-use Rattle.label_grammar.specs.Answer.{judged}
+use Rattle.label_grammar.specs.Answer.{judged_label}
 use Rattle.label_grammar.specs.Label.{LooseLabel, version_1, IsProper}
 use Rattle.label_grammar.specs.Reading.{ends_of, label_of}
 use Rattle.label_grammar.specs.Wire.{PartMark, WireSeen, comment, timing, malformed, wire_of}
@@ -22,7 +22,7 @@ use Rattle.netlist.specs.declared.fault.NetlistFault.TheVariants as faults
 use Rattle.netlist.specs.declared.part.Part.{Part}
 use Rattle.netlist.specs.declared.pin.PinText.{PinText}
 use Rattle.netlist.specs.declared.wire.Wire.{Wire}
-use Rattle.netlist.specs.Contents.{Contents, JoinedPins}
+use Rattle.netlist.specs.Contents.{NetlistContents, JoinedPins}
 use Rattle.json_tree.specs.Words.{list_at, whole_at}
 use Rattle.netlist.specs.Netlist.{cycles_from, cycles_of, delay_of, demand, edges_of, is_part, labelled, list_if, net_of, netlist_of, nets_of, part_of, parts_of, pins_of, range_of, seen_wire, sheet_names, unless_empty, version_of, wire_at, wires_of, with_net, with_part, with_wire}
 use Rattle.itv_base.specs.Reading.{walk}
@@ -140,7 +140,7 @@ labelled_whole n from to (Ok label) proper = record { shift = proper.loose.shift
 seen_whole : (n : ℕ) (seen : WireSeen) → IfOk (seen_wire n seen) IsWholeIfAny
 seen_whole n comment = tt
 seen_whole n malformed = tt
-seen_whole n (timing from to label) = labelled_whole n from to (judged (λ ends. Some ends) (label_of ends_of label)) (judged_is_proper version_1 ends_of ends_invert label)
+seen_whole n (timing from to label) = labelled_whole n from to (judged_label (λ ends. Some ends) (label_of ends_of label)) (judged_is_proper version_1 ends_of ends_invert label)
 
 wire_whole : (n : ℕ) (d : Data) → IfOk (wire_at n d) IsWholeIfAny
 wire_whole n d =
@@ -169,5 +169,5 @@ read_whole tree =
     (λ edges _. record { some = count.0; few = count.1; few_parts = few.count; few_sheets = few.sheets; whole_nets = joined; whole_wires = are }))))))
 
 -- the netlist of a tree is whole
-pub netlist_whole : (tree : Data) (netlist : Contents) → netlist_of tree ≡ Ok netlist → IsNetlist netlist
+pub netlist_whole : (tree : Data) (netlist : NetlistContents) → netlist_of tree ≡ Ok netlist → IsNetlist netlist
 netlist_whole tree netlist is = IfOk-at_ok IsNetlist is (read_whole tree)

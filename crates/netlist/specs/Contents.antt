@@ -13,7 +13,7 @@ pub record JoinedPins : Type 0 where
 -- The version, the number of cycles, and the parts, nets and wires in order; a wire that is a comment is none. The edges are the texts
 -- of the wires in order, as they are written, comments among them. The near keys are those of the tree, of its parts and of its nets
 -- that are passed over and nearly are keys which are read.
-pub record Contents : Type 0 where
+pub record NetlistContents : Type 0 where
   pub version : ℕ
   pub cycles : ℕ
   pub parts : List Part

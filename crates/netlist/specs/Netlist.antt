@@ -10,7 +10,7 @@ use Rattle.itv_base.specs.Range.{Ends, has_wide, is_reversed}
 use Rattle.itv_base.specs.declared.range.RangeFault.TheVariants.{TooWide, EmptyRange}
 use Rattle.itv_base.specs.declared.limits.TheConstants.{MAX_CYCLES, MAX_PARTS, MAX_SHEET_NAMES}
 use Rattle.label_grammar.specs.declared.label.LabelFault.{LabelFault}
-use Rattle.label_grammar.specs.Answer.{judged}
+use Rattle.label_grammar.specs.Answer.{judged_label}
 use Rattle.itv_base.specs.Characters.{is_name}
 use Rattle.itv_base.specs.Cuts.{is_full_stop}
 use Rattle.label_grammar.specs.Label.{LooseLabel}
@@ -21,7 +21,7 @@ use Rattle.netlist.specs.declared.fault.NetlistFault.TheVariants.{NotObject, Ver
 use Rattle.netlist.specs.declared.part.Part as code
 use Rattle.netlist.specs.declared.pin.PinText.{PinText}
 use Rattle.netlist.specs.declared.wire.Wire.{Wire}
-use Rattle.netlist.specs.Contents.{Contents, JoinedPins}
+use Rattle.netlist.specs.Contents.{NetlistContents, JoinedPins}
 use Rattle.itv_base.specs.Reading.{◌>>=◌, walk}
 
 -- ---- what stands under a key
@@ -165,7 +165,7 @@ labelled n from to (Ok label) = Ok (Some (record {
 abbrev pub seen_wire : ℕ → WireSeen → Result (Option Wire) NetlistFault
 seen_wire n comment = Ok None
 seen_wire n malformed = Err (Edge n)
-seen_wire n (timing from to label) = labelled n from to (judged (λ ends. Some ends) (label_of ends_of label))
+seen_wire n (timing from to label) = labelled n from to (judged_label (λ ends. Some ends) (label_of ends_of label))
 
 -- what the text of wire n says: nothing where it is a comment
 abbrev pub wire_at : ℕ → Data → Result (Option Wire) NetlistFault
@@ -185,7 +185,7 @@ edges_of tree = list_if (get (codes "edges") tree) EdgesNotList >>= λ listed. O
 
 -- The netlist of a tree, or its first fault. No other key of the tree, of a part or of a net is read, and of those only the near ones
 -- are told.
-unfoldable pub netlist_of : Data → Result Contents NetlistFault
+unfoldable pub netlist_of : Data → Result NetlistContents NetlistFault
 netlist_of tree = do
   version ← version_of tree
   cycles ← cycles_of tree
@@ -196,7 +196,7 @@ netlist_of tree = do
   Ok (record { version = version; cycles = cycles; parts = parts; nets = nets; wires = wires; edges = edges; near = near_in_netlist tree })
 
 -- the netlist that the sheet of a name stands for: one part in one cycle, of version 1; it has no keys
-abbrev pub lone_netlist : List ℕ → Contents
+abbrev pub lone_netlist : List ℕ → NetlistContents
 lone_netlist sheet = record {
   version = 1;
   cycles = 1;

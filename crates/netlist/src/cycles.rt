@@ -4,7 +4,7 @@ ghost use Rattle.std.specs.Prelude.{◌≡◌};
 ghost use Rattle.serde_json.specs.View.{view};
 ghost use Rattle.netlist.specs.Fault.{is_memory};
 ghost use Rattle.netlist.specs.Netlist.{cycles_from, cycles_of, version_from, version_of};
-ghost use Rattle.itv_base.specs.Reading.{Gives};
+ghost use Rattle.itv_base.specs.Reading.{AgreesWith};
 
 use crate::fault::NetlistFault;
 use itv_base::MAX_CYCLES;
@@ -14,7 +14,7 @@ use serde_json::Value;
 /// The version of an object, if it is one that is read here, or the first fault of this.
 #[tactic(auto, unfolding(crate::specs::Netlist::version_of))]
 pub fn read_version(tree: &Value) -> Result<u32, NetlistFault>
-    ensures { Gives is_memory (λ version. version) result (version_of (view tree.now)) }
+    ensures { AgreesWith is_memory (λ version. version) result (version_of (view tree.now)) }
 {
     if !tree.is_object() {
         return Err(NetlistFault::NotObject);
@@ -27,7 +27,7 @@ pub fn read_version(tree: &Value) -> Result<u32, NetlistFault>
 /// The number of cycles of a tree, or its fault.
 #[tactic(auto, unfolding(crate::specs::Netlist::cycles_of))]
 pub fn read_cycles(tree: &Value) -> Result<u32, NetlistFault>
-    ensures { Gives is_memory (λ cycles. cycles) result (cycles_of (view tree.now)) }
+    ensures { AgreesWith is_memory (λ cycles. cycles) result (cycles_of (view tree.now)) }
 {
     whole_at(tree, "cycles")
         .and_then(cycles_from)

@@ -19,7 +19,7 @@ mod wire;
 mod wires;
 
 pub use fault::NetlistFault;
-pub use net::{Net, Nets};
+pub use net::{Nets, PinNet};
 pub use netlist::Netlist;
 pub use part::{Part, Parts};
 pub use pin::{PinText, PinTexts};

@@ -8,12 +8,12 @@ use std::marker::Model;
 
 /// A net: its first pin drives each of the others, with a delay in picoseconds.
 #[derive(Debug, Drop)]
-pub struct Net {
+pub struct PinNet {
     pub(crate) pins: PinTexts,
     pub(crate) delay: Range,
 }
 
-impl Model for Net {
+impl Model for PinNet {
     ghost use Rattle.netlist.specs.Contents.{JoinedPins};
 
     ghost Value = { JoinedPins };
@@ -21,7 +21,7 @@ impl Model for Net {
     ghost view = { λ n. record { pins = n.pins; delay = n.delay } };
 }
 
-impl Net {
+impl PinNet {
     /// The pins in order, one at least.
     pub fn pins(&self) -> &PinTexts
         ensures pins { result.now ≡ self.now.pins }
@@ -38,4 +38,4 @@ impl Net {
 }
 
 /// Nets in the order in which they are listed.
-pub type Nets = Listing<Net>;
+pub type Nets = Listing<PinNet>;

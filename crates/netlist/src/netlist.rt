@@ -26,11 +26,11 @@ pub struct Netlist {
 
 impl Model for Netlist {
     ghost use Rattle.std.specs.Prelude.{◌≡◌};
-    ghost use Rattle.netlist.specs.Contents.{Contents};
+    ghost use Rattle.netlist.specs.Contents.{NetlistContents};
     ghost use Rattle.netlist.specs.Netlist.{sheet_names as names_of};
     ghost use Rattle.netlist.specs.Whole.{IsNetlist};
 
-    ghost Value = { Contents };
+    ghost Value = { NetlistContents };
 
     ghost view = { λ n. record { version = n.version; cycles = n.cycles; parts = n.parts; nets = n.nets; wires = n.wires; edges = n.edges; near = n.near } };
 

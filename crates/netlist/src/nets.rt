@@ -6,10 +6,10 @@ ghost use Rattle.serde_json.specs.View.{view};
 ghost use Rattle.json_tree.specs.Pairs.{ends_view};
 ghost use Rattle.netlist.specs.Fault.{is_memory};
 ghost use Rattle.netlist.specs.Netlist.{delay_of, net_of, range_of, with_net};
-ghost use Rattle.itv_base.specs.Reading.{Gives, walk};
+ghost use Rattle.itv_base.specs.Reading.{AgreesWith, walk};
 
 use crate::fault::NetlistFault;
-use crate::net::{Net, Nets};
+use crate::net::{Nets, PinNet};
 use crate::pins::read_pins;
 use itv_base::{Range, RangeFault};
 use json_tree::{EndPair, ends_by, list_of};
@@ -18,7 +18,7 @@ use std::alloc::Global;
 
 /// The nets of the elements of a list, or the first fault.
 pub fn read_nets(alloc: Global, list: &[Value]) -> Result<Nets, NetlistFault>
-    ensures { Gives is_memory (λ nets. nets) result (walk with_net 0 [] (map view list.now)) }
+    ensures { AgreesWith is_memory (λ nets. nets) result (walk with_net 0 [] (map view list.now)) }
 {
     let mut nets = Nets::new(alloc);
     for (n, element) in list.iter().enumerate() {
@@ -29,22 +29,22 @@ pub fn read_nets(alloc: Global, list: &[Value]) -> Result<Nets, NetlistFault>
 
 // Puts net n at the end.
 fn push_net(alloc: Global, nets: &mut Nets, n: u64, element: &Value) -> Result<(), NetlistFault>
-    ensures { Gives is_memory (λ _. nets.new) result (with_net n nets.old (view element.now)) }
+    ensures { AgreesWith is_memory (λ _. nets.new) result (with_net n nets.old (view element.now)) }
 {
     nets.push(read_net(alloc, n, element)?)?;
     Ok(())
 }
 
 // The pins and the delay of net n.
-fn read_net(alloc: Global, n: u64, element: &Value) -> Result<Net, NetlistFault>
-    ensures { Gives is_memory (λ net. net) result (net_of n (view element.now)) }
+fn read_net(alloc: Global, n: u64, element: &Value) -> Result<PinNet, NetlistFault>
+    ensures { AgreesWith is_memory (λ net. net) result (net_of n (view element.now)) }
 {
     let pins = read_pins(alloc, n, element)?;
     let Some(ends) = delay_of(element.get("delay")) else {
         return Err(NetlistFault::Net(n));
     };
     let delay = range_of(n, ends)?;
-    Ok(Net { pins, delay })
+    Ok(PinNet { pins, delay })
 }
 
 // The two ends of a delay, which is 0 where it is missing.
@@ -66,7 +66,7 @@ fn delay_of(delay: Option<&Value>) -> Option<EndPair>
 
 // The range of the ends of net n.
 fn range_of(n: u64, ends: EndPair) -> Result<Range, NetlistFault>
-    ensures { Gives is_memory (λ range. range) result (range_of n (ends_view ends)) }
+    ensures { AgreesWith is_memory (λ range. range) result (range_of n (ends_view ends)) }
 {
     match Range::new(ends.low, ends.high) {
         Ok(range) => Ok(range),

@@ -5,7 +5,7 @@ ghost use Rattle.std.specs.Option.{option_copied};
 ghost use Rattle.serde_json.specs.View.{view};
 ghost use Rattle.netlist.specs.Fault.{is_memory};
 ghost use Rattle.netlist.specs.Netlist.{grade_of, is_part, part_of, with_part};
-ghost use Rattle.itv_base.specs.Reading.{Gives, walk};
+ghost use Rattle.itv_base.specs.Reading.{AgreesWith, walk};
 
 use crate::fault::NetlistFault;
 use crate::part::{Part, Parts};
@@ -17,7 +17,7 @@ use std::alloc::Global;
 
 /// The parts of the elements of a list, or the first fault.
 pub fn read_parts(alloc: Global, version: u32, list: &[Value]) -> Result<Parts, NetlistFault>
-    ensures { Gives is_memory (λ parts. parts) result (walk (with_part version) 0 [] (map view list.now)) }
+    ensures { AgreesWith is_memory (λ parts. parts) result (walk (with_part version) 0 [] (map view list.now)) }
 {
     let mut parts = Parts::new(alloc);
     for (n, element) in list.iter().enumerate() {
@@ -34,7 +34,7 @@ fn push_part(
     n: u64,
     element: &Value,
 ) -> Result<(), NetlistFault>
-    ensures { Gives is_memory (λ _. parts.new) result (with_part version n parts.old (view element.now)) }
+    ensures { AgreesWith is_memory (λ _. parts.new) result (with_part version n parts.old (view element.now)) }
 {
     let Some(part) = read_part(alloc, version, element)? else {
         return Err(NetlistFault::Part(n));

@@ -5,7 +5,7 @@ ghost use Rattle.serde_json.specs.View.{view};
 ghost use Rattle.json_tree.specs.Words.{all_of};
 ghost use Rattle.netlist.specs.Fault.{is_memory};
 ghost use Rattle.netlist.specs.Netlist.{pin_at, pin_of, pins_of};
-ghost use Rattle.itv_base.specs.Reading.{Gives};
+ghost use Rattle.itv_base.specs.Reading.{AgreesWith};
 ghost use Rattle.netlist.specs.declared.fault.NetlistFault.TheVariants as faults;
 
 use crate::fault::NetlistFault;
@@ -17,7 +17,7 @@ use std::alloc::Global;
 
 /// The pins of net n, one at least, or its fault where it has no list of pin texts.
 pub fn read_pins(alloc: Global, n: u64, net: &Value) -> Result<PinTexts, NetlistFault>
-    ensures { Gives is_memory (λ pins. pins) result (ok_or (pins_of (view net.now)) (faults.Net n)) }
+    ensures { AgreesWith is_memory (λ pins. pins) result (ok_or (pins_of (view net.now)) (faults.Net n)) }
 {
     let Some(list) = list_at(net, "pins") else {
         return Err(NetlistFault::Net(n));

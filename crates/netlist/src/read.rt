@@ -4,7 +4,7 @@ ghost use Rattle.std.specs.Prelude.{◌≡◌, ◌≤◌, OnOk, IfOk, length};
 ghost use Rattle.serde_json.specs.View.{view};
 ghost use Rattle.netlist.specs.Fault.{is_memory};
 ghost use Rattle.netlist.specs.Netlist.{edges_of, netlist_of, nets_of, parts_of, sheet_names, wires_of};
-ghost use Rattle.itv_base.specs.Reading.{Gives};
+ghost use Rattle.itv_base.specs.Reading.{AgreesWith};
 
 use crate::cycles::{read_cycles, read_version};
 use crate::fault::NetlistFault;
@@ -33,7 +33,7 @@ use std::alloc::Global;
 ///
 /// `NoMemory` may come in place of a netlist or a fault. After any fault no netlist was made.
 pub fn read_netlist(alloc: Global, tree: &Value) -> Result<Netlist, NetlistFault>
-    ensures answer { Gives is_memory (λ netlist. netlist) result (netlist_of (view tree.now)) }
+    ensures answer { AgreesWith is_memory (λ netlist. netlist) result (netlist_of (view tree.now)) }
 {
     let version = read_version(tree)?;
     let cycles = read_cycles(tree)?;
@@ -63,7 +63,7 @@ struct NamedParts {
 
 // The parts of a tree, or the first fault of them.
 fn parts_of(alloc: Global, version: u32, tree: &Value) -> Result<NamedParts, NetlistFault>
-    ensures parts { Gives is_memory (λ read. read.parts) result (parts_of version (view tree.now)) }
+    ensures parts { AgreesWith is_memory (λ read. read.parts) result (parts_of version (view tree.now)) }
     ensures names { IfOk result (λ read. read.sheet_names ≡ sheet_names read.parts) }
 {
     let Some(list) = list_at(tree, "parts") else {
@@ -83,7 +83,7 @@ fn parts_of(alloc: Global, version: u32, tree: &Value) -> Result<NamedParts, Net
 
 // The nets of a tree, none where it has no such key, or the first fault of them.
 fn nets_of(alloc: Global, tree: &Value) -> Result<Nets, NetlistFault>
-    ensures { Gives is_memory (λ nets. nets) result (nets_of (view tree.now)) }
+    ensures { AgreesWith is_memory (λ nets. nets) result (nets_of (view tree.now)) }
 {
     let list = list_if(tree, "nets", NetlistFault::NetsNotList)?;
     read_nets(alloc, list)
@@ -91,7 +91,7 @@ fn nets_of(alloc: Global, tree: &Value) -> Result<Nets, NetlistFault>
 
 // The wires of a tree, none where it has no such key, or the first fault of them.
 fn wires_of(alloc: Global, tree: &Value) -> Result<Wires, NetlistFault>
-    ensures { Gives is_memory (λ wires. wires) result (wires_of (view tree.now)) }
+    ensures { AgreesWith is_memory (λ wires. wires) result (wires_of (view tree.now)) }
 {
     let list = list_if(tree, "edges", NetlistFault::EdgesNotList)?;
     read_wires(alloc, list)
@@ -99,7 +99,7 @@ fn wires_of(alloc: Global, tree: &Value) -> Result<Wires, NetlistFault>
 
 // The texts of the wires of a tree, none where it has no such key, or the fault of what stands there.
 fn edges_of(alloc: Global, tree: &Value) -> Result<Texts, NetlistFault>
-    ensures { Gives is_memory (λ edges. edges) result (edges_of (view tree.now)) }
+    ensures { AgreesWith is_memory (λ edges. edges) result (edges_of (view tree.now)) }
 {
     let list = list_if(tree, "edges", NetlistFault::EdgesNotList)?;
     let texts = texts_of(alloc, list)?;

@@ -5,7 +5,7 @@ ghost use Rattle.label_grammar.specs.Wire.{wire_of};
 ghost use Rattle.serde_json.specs.View.{view};
 ghost use Rattle.netlist.specs.Fault.{is_memory};
 ghost use Rattle.netlist.specs.Netlist.{seen_wire, wire_at, with_wire};
-ghost use Rattle.itv_base.specs.Reading.{Gives, walk};
+ghost use Rattle.itv_base.specs.Reading.{AgreesWith, walk};
 
 use crate::fault::NetlistFault;
 use crate::tree::owned;
@@ -17,7 +17,7 @@ use std::alloc::Global;
 
 /// The wires of the elements of a list, or the first fault.
 pub fn read_wires(alloc: Global, list: &[Value]) -> Result<Wires, NetlistFault>
-    ensures { Gives is_memory (λ wires. wires) result (walk with_wire 0 [] (map view list.now)) }
+    ensures { AgreesWith is_memory (λ wires. wires) result (walk with_wire 0 [] (map view list.now)) }
 {
     let mut wires = Wires::new(alloc);
     for (n, element) in list.iter().enumerate() {
@@ -28,7 +28,7 @@ pub fn read_wires(alloc: Global, list: &[Value]) -> Result<Wires, NetlistFault>
 
 // Puts wire n at the end.
 fn push_wire(alloc: Global, wires: &mut Wires, n: u64, element: &Value) -> Result<(), NetlistFault>
-    ensures { Gives is_memory (λ _. wires.new) result (with_wire n wires.old (view element.now)) }
+    ensures { AgreesWith is_memory (λ _. wires.new) result (with_wire n wires.old (view element.now)) }
 {
     let Some(text) = element.as_str() else {
         return Err(NetlistFault::Edge(n));
@@ -39,7 +39,7 @@ fn push_wire(alloc: Global, wires: &mut Wires, n: u64, element: &Value) -> Resul
 
 // What the text of wire n says: nothing where it is a comment.
 fn wire_of(alloc: Global, n: u64, text: &str) -> Result<Option<Wire>, NetlistFault>
-    ensures { Gives is_memory (λ wire. wire) result (seen_wire n (wire_of text.now)) }
+    ensures { AgreesWith is_memory (λ wire. wire) result (seen_wire n (wire_of text.now)) }
 {
     let (from_part, from_mark, to_part, to_mark, label) = match read_wire(text) {
         WireText::Comment => return Ok(None),

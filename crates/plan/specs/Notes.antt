@@ -7,7 +7,7 @@ use Rattle.std.specs.Str.{bytes_eq}
 use Rattle.label_grammar.specs.declared.label.LabelFault.{LabelFault}
 use Rattle.label_grammar.specs.Label.{LooseLabel, fixed_ends}
 use Rattle.label_grammar.specs.Reading.{ends_of, span_of, label_of}
-use Rattle.label_grammar.specs.Answer.{judged}
+use Rattle.label_grammar.specs.Answer.{judged_label}
 use Rattle.label_grammar.specs.Edge.{EdgeSeen, edge_of}
 use Rattle.label_grammar.specs.Edge as edges
 use Rattle.label_grammar.specs.Wire.{WireSeen, wire_of}
@@ -15,7 +15,7 @@ use Rattle.label_grammar.specs.Wire as wires
 use Rattle.origin.specs.declared.origin.Origin.{Origin}
 use Rattle.origin.specs.declared.origin.Origin.TheVariants.{Lane, Edge, Pin, Wire}
 use Rattle.netlist.specs.declared.part.Part.{Part}
-use Rattle.sheet.specs.Contents.{Contents}
+use Rattle.sheet.specs.Contents.{SheetContents}
 use Rattle.compose.specs.Sheets.{key_of}
 use Rattle.plan.specs.Plan.{Planned, sheet_among}
 
@@ -30,17 +30,17 @@ abbrev pub is_printed : List ℕ → Bool
 is_printed text = list_all is_printed_byte text
 
 -- a note that can be printed; one that can't, or none, is an empty text
-abbrev pub printed : Option (List ℕ) → List ℕ
-printed note = if is_printed (unwrap_or note []) then unwrap_or note [] else []
+abbrev pub printed_note : Option (List ℕ) → List ℕ
+printed_note note = if is_printed (unwrap_or note []) then unwrap_or note [] else []
 
 -- the note of a label that was read, or an empty text; one that can't be printed is left out
 abbrev pub note_by : {E : Type 0} → Result (LooseLabel E) LabelFault → List ℕ
-note_by (Ok label) = printed label.note
+note_by (Ok label) = printed_note label.note
 note_by (Err fault) = []
 
 -- the note of a label, by the version
 abbrev pub label_note : ℕ → List ℕ → List ℕ
-label_note version label = if version == 2 then note_by (judged fixed_ends (label_of span_of label)) else note_by (judged (λ ends. Some ends) (label_of ends_of label))
+label_note version label = if version == 2 then note_by (judged_label fixed_ends (label_of span_of label)) else note_by (judged_label (λ ends. Some ends) (label_of ends_of label))
 
 -- ---- edges and wires
 
@@ -64,7 +64,7 @@ wire_note text = wire_seen_note (wire_of text)
 
 -- the text of an edge of the sheet of a part
 abbrev pub edge_on : Planned → Part → ℕ → Option (List ℕ)
-edge_on plan part n = option_and_then (λ (sheet : Contents). slice_get sheet.edges n) (sheet_among plan.sheets (key_of part))
+edge_on plan part n = option_and_then (λ (sheet : SheetContents). slice_get sheet.edges n) (sheet_among plan.sheets (key_of part))
 
 -- the text of an edge of the sheet of the first part with a name
 abbrev pub edge_named : Planned → List ℕ → ℕ → Option (List ℕ)

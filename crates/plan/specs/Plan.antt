@@ -4,28 +4,28 @@ use Rattle.std.specs.List.{filter_map}
 use Rattle.std.specs.Map.{lookup}
 use Rattle.sheet.specs.Contents as sheet
 use Rattle.netlist.specs.declared.part.Part.{Part}
-use Rattle.netlist.specs.Contents.{Contents}
+use Rattle.netlist.specs.Contents.{NetlistContents}
 use Rattle.compose.specs.Sheets.{key_of, same_key}
 use Rattle.compose.specs.declared.sheet_key.SheetKey.{SheetKey}
 
 -- ---- sheets by their names and speed grades
 
 abbrev pub NamedSheets : Type 0
-NamedSheets = List (SheetKey × sheet.Contents)
+NamedSheets = List (SheetKey × sheet.SheetContents)
 
 -- the sheet of a key
-abbrev pub sheet_among : NamedSheets → SheetKey → Option sheet.Contents
+abbrev pub sheet_among : NamedSheets → SheetKey → Option sheet.SheetContents
 sheet_among sheets key = lookup (same_key key) sheets
 
 -- the sheets that parts are drawn on
-abbrev pub sheets_on : NamedSheets → List Part → List sheet.Contents
+abbrev pub sheets_on : NamedSheets → List Part → List sheet.SheetContents
 sheets_on sheets parts = filter_map (λ part. sheet_among sheets (key_of part)) parts
 
 -- ---- plans
 
 -- what was read of a design: its netlist, and the sheets of its parts
 pub record Planned : Type 0 where
-  pub netlist : Contents
+  pub netlist : NetlistContents
   pub sheets : NamedSheets
 
 -- each part has its sheet

@@ -6,5 +6,5 @@ use Rattle.compose.specs.Sheets.{key_of}
 use Rattle.plan.specs.Plan.{NamedSheets, sheet_among}
 
 -- part by part, the sheet of the part stands at its place
-abbrev pub ArePlaces : NamedSheets → List Part → List ℕ → Type 0
-ArePlaces sheets parts places = map (slice_get (values_of sheets)) places ≡ map (λ (part : Part). sheet_among sheets (key_of part)) parts
+abbrev pub ArePartPlaces : NamedSheets → List Part → List ℕ → Type 0
+ArePartPlaces sheets parts places = map (slice_get (values_of sheets)) places ≡ map (λ (part : Part). sheet_among sheets (key_of part)) parts

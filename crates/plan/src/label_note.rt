@@ -3,10 +3,10 @@
 ghost use Rattle.std.specs.Prelude.{◌≡◌, ◌&&◌, Some, nat_le};
 ghost use Rattle.std.specs.List.{list_all};
 ghost use Rattle.std.specs.Option.{option_copied};
-ghost use Rattle.label_grammar.specs.Answer.{judged};
+ghost use Rattle.label_grammar.specs.Answer.{judged_label};
 ghost use Rattle.label_grammar.specs.Label.{fixed_ends};
 ghost use Rattle.label_grammar.specs.Reading.{ends_of, label_of, span_of};
-ghost use Rattle.plan.specs.Notes.{edge_note, is_printed, is_printed_byte, label_note, note_by, printed, wire_note};
+ghost use Rattle.plan.specs.Notes.{edge_note, is_printed, is_printed_byte, label_note, note_by, printed_note, wire_note};
 
 use label_grammar::{EdgeText, WireText, read_edge, read_label, read_label2, read_wire};
 
@@ -43,27 +43,27 @@ fn label_note(version: u32, label: &str) -> &str
 
 // The note of a label of version 1.
 fn plain_note(label: &str) -> &str
-    ensures { result.now ≡ note_by (judged (λ ends. Some ends) (label_of ends_of label.now)) }
+    ensures { result.now ≡ note_by (judged_label (λ ends. Some ends) (label_of ends_of label.now)) }
 {
     match read_label(label) {
-        Ok(label) => printed(label.note),
+        Ok(label) => printed_note(label.note),
         Err(_) => "",
     }
 }
 
 // The note of a label of version 2.
 fn graded_note(label: &str) -> &str
-    ensures { result.now ≡ note_by (judged fixed_ends (label_of span_of label.now)) }
+    ensures { result.now ≡ note_by (judged_label fixed_ends (label_of span_of label.now)) }
 {
     match read_label2(label) {
-        Ok(label) => printed(label.note),
+        Ok(label) => printed_note(label.note),
         Err(_) => "",
     }
 }
 
 // A note that can be printed, and else an empty text.
-fn printed(note: Option<&str>) -> &str
-    ensures { result.now ≡ printed (option_copied note.entry) }
+fn printed_note(note: Option<&str>) -> &str
+    ensures { result.now ≡ printed_note (option_copied note.entry) }
 {
     match note {
         Some(note) if is_printed(note.as_bytes()) => note,

@@ -5,7 +5,7 @@ ghost use Rattle.std.specs.Map.{values_of};
 ghost use Rattle.netlist.specs.declared.part.Part.{Part as PartSeen};
 ghost use Rattle.compose.specs.Sheets.{key_of};
 ghost use Rattle.plan.specs.Plan.{sheet_among};
-ghost use Rattle.plan.specs.Step.{ArePlaces};
+ghost use Rattle.plan.specs.Step.{ArePartPlaces};
 
 use compose::{SheetKey, Sheets};
 use itv_base::NoMemory;
@@ -15,7 +15,7 @@ use std::alloc::Global;
 /// Where the sheets of parts stand among sheets that have them, part by part.
 pub fn places_of(alloc: Global, parts: &[Part], sheets: &Sheets) -> Result<Vec<usize>, NoMemory>
     requires { All (λ (part : PartSeen). IsSome (sheet_among sheets.now.entries (key_of part))) parts.now }
-    ensures { IfOk result (λ places. ArePlaces sheets.now.entries parts.now places.items) }
+    ensures { IfOk result (λ places. ArePartPlaces sheets.now.entries parts.now places.items) }
 {
     let mut places = Vec::new(alloc);
     for part in parts {

@@ -30,14 +30,14 @@ pub struct Plan {
 
 impl Model for Plan {
     ghost use Rattle.plan.specs.Plan.{IsPlan, Planned};
-    ghost use Rattle.plan.specs.Step.{ArePlaces};
+    ghost use Rattle.plan.specs.Step.{ArePartPlaces};
 
     ghost Value = { Planned };
 
     ghost view = { λ p. record { netlist = p.netlist; sheets = p.sheets.entries } };
 
     ghost invariant = { λ p. IsPlan (record { netlist = p.netlist; sheets = p.sheets.entries })
-        × ArePlaces p.sheets.entries p.netlist.parts p.places.items };
+        × ArePartPlaces p.sheets.entries p.netlist.parts p.places.items };
 }
 
 impl Plan {

@@ -3,10 +3,10 @@ use Rattle.std.proofs.Common.{◌≡◌, ℕ, ◌&&◌, true, false, List, [], i
 use Rattle.std.specs.Prelude.{is_none}
 use Rattle.serde_json.specs.Data.{Data}
 use Rattle.serde_json.specs.Find.{get, as_object}
-use Rattle.itv_base.specs.Outside.{ShelfTold}
-use Rattle.itv_base.specs.Reading.{HasFault}
-use Rattle.sheet.specs.Contents.{Contents as SheetContents}
-use Rattle.netlist.specs.Contents.{Contents}
+use Rattle.itv_base.specs.Outside.{ShelfView}
+use Rattle.itv_base.specs.Reading.{IsReadingFault}
+use Rattle.sheet.specs.Contents.{SheetContents}
+use Rattle.netlist.specs.Contents.{NetlistContents}
 use Rattle.netlist.specs.Netlist.{lone_netlist, netlist_of, sheet_names}
 use Rattle.compose.specs.declared.fault.JoinFault.{JoinFault}
 use Rattle.compose.specs.Fault.{is_memory as is_join_memory}
@@ -18,18 +18,18 @@ use Rattle.unroll.specs.declared.fault.UnrollFault.{UnrollFault}
 use Rattle.unroll.specs.Fault.{is_memory as is_limit_memory}
 use Rattle.drawn.specs.Drawn.{Drawn}
 use Rattle.unroll.specs.Limits.{unrolled}
-use Rattle.reading.specs.declared.place.Place.TheVariants.{File, Design}
+use Rattle.reading.specs.declared.place.RefusalPlace.TheVariants.{File, Design}
 use Rattle.reading.specs.declared.refusal.Refusal.TheVariants.{Netlist, Joins, Limits}
 use Rattle.reading.specs.declared.stop.Stop.{Stop}
-use Rattle.reading.specs.Opening.{◌>>=◌, at, gives, Comes, ready}
+use Rattle.reading.specs.Opening.{◌>>=◌, at, gives, RunsTo, ready}
 use Rattle.plan.specs.Plan.{NamedSheets, Planned}
 use Rattle.reading.specs.Design.{drawn_at, lone_at, netlist_at, sheets_of_files, tree_planned, with_sheet}
 use Rattle.reading.specs.Step.{Opens, stop_of}
 use Rattle.reading.specs.Step.Lone.{lone_plan, plain_key}
 use Rattle.reading.proofs.Opens.{at_ok, at_err, comes_then, opens_stop, opens_then, opens_up}
 
-module _ (told : ShelfTold) (netlist : Contents) (sheets : SheetMap) where
-  pub joins_refused : (fault : JoinFault) → HasFault is_join_memory (composed netlist sheets) fault
+module _ (told : ShelfView) (netlist : NetlistContents) (sheets : SheetMap) where
+  pub joins_refused : (fault : JoinFault) → IsReadingFault is_join_memory (composed netlist sheets) fault
       → Opens (λ (d : Drawn). d) told told (drawn_at netlist sheets.entries) (Err (stop_of is_join_memory Joins Design fault))
   unfolding drawn_at
   joins_refused fault h =
@@ -37,7 +37,7 @@ module _ (told : ShelfTold) (netlist : Contents) (sheets : SheetMap) where
       (at_err is_join_memory (λ (d : Composed). d) told Design Joins (composed netlist sheets) fault h)
 
   module _ (design : Composed) (is : composed netlist sheets ≡ Ok design) where
-    pub limits_refused : (fault : UnrollFault) → HasFault is_limit_memory (unrolled design) fault
+    pub limits_refused : (fault : UnrollFault) → IsReadingFault is_limit_memory (unrolled design) fault
         → Opens (λ (d : Drawn). d) told told (drawn_at netlist sheets.entries) (Err (stop_of is_limit_memory Limits Design fault))
     unfolding drawn_at
     limits_refused fault h =
@@ -45,14 +45,14 @@ module _ (told : ShelfTold) (netlist : Contents) (sheets : SheetMap) where
         (at_ok told Design Joins (composed netlist sheets) design is, refl)
         (at_err is_limit_memory (λ (d : Drawn). d) told Design Limits (unrolled design) fault h)
 
-    pub drawn_ready : (drawn : Drawn) → unrolled design ≡ Ok drawn → Comes told (drawn_at netlist sheets.entries) (ready drawn)
+    pub drawn_ready : (drawn : Drawn) → unrolled design ≡ Ok drawn → RunsTo told (drawn_at netlist sheets.entries) (ready drawn)
     unfolding drawn_at
     drawn_ready drawn e =
         comes_then told (at Design Joins (composed netlist sheets)) (λ design. at Design Limits (unrolled design)) design (ready drawn) (at_ok told Design Joins (composed netlist sheets) design is)
         (at_ok told Design Limits (unrolled design) drawn e)
 
 -- the same netlist and the same sheets, told otherwise
-pub drawn_same : (told : ShelfTold) (n m : Contents) (es fs : NamedSheets) (r : Result Drawn Stop) → n ≡ m → es ≡ fs → Opens (λ (d : Drawn). d) told told (drawn_at n es) r → Opens (λ (d : Drawn). d) told told (drawn_at m fs) r
+pub drawn_same : (told : ShelfView) (n m : NetlistContents) (es fs : NamedSheets) (r : Result Drawn Stop) → n ≡ m → es ≡ fs → Opens (λ (d : Drawn). d) told told (drawn_at n es) r → Opens (λ (d : Drawn). d) told told (drawn_at m fs) r
 drawn_same told n m es fs r e f h = subst (λ x. Opens (λ (d : Drawn). d) told told (drawn_at m x) r) f (subst (λ x. Opens (λ (d : Drawn). d) told told (drawn_at x es) r) e h)
 
 -- ---- lone sheets
@@ -63,20 +63,20 @@ pub sheet_put : (name : List ℕ) (key : SheetKey) (sheet : SheetContents) (befo
 sheet_put name key sheet before sheets named none put = rw (put, none, named) refl
 
 -- the plan of a netlist and of sheets that are those of a lone sheet
-pub lone_same : (name : List ℕ) (sheet : SheetContents) (netlist : Contents) (sheets : NamedSheets) → netlist ≡ lone_netlist name → sheets ≡ with_sheet [] (plain_key name) sheet
+pub lone_same : (name : List ℕ) (sheet : SheetContents) (netlist : NetlistContents) (sheets : NamedSheets) → netlist ≡ lone_netlist name → sheets ≡ with_sheet [] (plain_key name) sheet
     → record { netlist = netlist; sheets = sheets } ≡ lone_plan name sheet
 lone_same name sheet netlist sheets is has = rw (is, has) refl
 
 -- ---- netlists
 
-module _ (old new : ShelfTold) (tree : Data) (netlist : Contents) (is : netlist_of tree ≡ Ok netlist) (r : Result Planned Stop) where
+module _ (old new : ShelfView) (tree : Data) (netlist : NetlistContents) (is : netlist_of tree ≡ Ok netlist) (r : Result Planned Stop) where
   abbrev planned : NamedSheets → Planned
   planned sheets = record { netlist = netlist; sheets = sheets }
 
   -- the netlist was read, and its sheets are
   netlist_read : Opens (λ (p : Planned). p) old new (sheets_of_files netlist (sheet_names netlist.parts) >>= (λ sheets. gives (planned sheets))) r → Opens (λ (p : Planned). p) old new (netlist_at tree) r
   netlist_read h =
-      opens_then (λ (n : Contents). n) (λ (p : Planned). p) (at (File 0) Netlist (netlist_of tree)) (λ n. sheets_of_files n (sheet_names n.parts) >>= (λ sheets. gives (record { netlist = n; sheets = sheets }))) old old new netlist r
+      opens_then (λ (n : NetlistContents). n) (λ (p : Planned). p) (at (File 0) Netlist (netlist_of tree)) (λ n. sheets_of_files n (sheet_names n.parts) >>= (λ sheets. gives (record { netlist = n; sheets = sheets }))) old old new netlist r
       (at_ok old (File 0) Netlist (netlist_of tree) netlist is, refl) h
 
   -- they can't be read
@@ -92,7 +92,7 @@ module _ (old new : ShelfTold) (tree : Data) (netlist : Contents) (is : netlist_
 
 -- ---- trees
 
-module _ (old new : ShelfTold) (name : List ℕ) (tree : Data) (r : Result Planned Stop) where
+module _ (old new : ShelfView) (name : List ℕ) (tree : Data) (r : Result Planned Stop) where
   pub lone_on : (is_some (as_object tree) && is_none (get (codes "itv") tree)) ≡ true → Opens (λ (p : Planned). p) old new (lone_at name tree) r → Opens (λ (p : Planned). p) old new (tree_planned name tree) r
   lone_on e h = rw e h
 

@@ -3,8 +3,8 @@ use Rattle.std.proofs.Common.{◌≡◌, ℕ, ◌==◌, ◌&&◌, Bool, true, fa
 use Rattle.std.specs.Prelude.{is_none, is_some}
 use Rattle.std.specs.Str.{bytes_eq}
 use Rattle.serde_json.specs.Data.{Data}
-use Rattle.itv_base.specs.Outside.{ShelfTold}
-use Rattle.itv_base.specs.Reading.{HasFault}
+use Rattle.itv_base.specs.Outside.{ShelfView}
+use Rattle.itv_base.specs.Reading.{IsReadingFault}
 use Rattle.wavejson.specs.declared.fault.DiagramFault.{DiagramFault}
 use Rattle.wavejson.specs.Drawing.{Drawing, diagram_of}
 use Rattle.wavejson.specs.Fault.{is_memory as is_diagram_memory}
@@ -12,16 +12,16 @@ use Rattle.grades.specs.declared.grade.Grade.{Grade}
 use Rattle.grades.specs.declared.fault.GradesFault.{GradesFault}
 use Rattle.grades.specs.Fault.{is_memory as is_grades_memory}
 use Rattle.grades.specs.Grades.{grades_of}
-use Rattle.sheet.specs.Contents.{Contents as SheetContents}
+use Rattle.sheet.specs.Contents.{SheetContents}
 use Rattle.sheet.specs.Sheet.{sheet_by}
 use Rattle.netlist.specs.declared.part.Part.{Part}
-use Rattle.netlist.specs.Contents.{Contents}
+use Rattle.netlist.specs.Contents.{NetlistContents}
 use Rattle.compose.specs.Sheets.{key_of}
-use Rattle.reading.specs.declared.place.Place.{Place}
-use Rattle.reading.specs.declared.place.Place.TheVariants.{File}
+use Rattle.reading.specs.declared.place.RefusalPlace.{RefusalPlace}
+use Rattle.reading.specs.declared.place.RefusalPlace.TheVariants.{File}
 use Rattle.reading.specs.declared.refusal.Refusal.TheVariants.{Diagram, Grades, Sheet}
 use Rattle.reading.specs.declared.stop.Stop.{Stop}
-use Rattle.reading.specs.Opening.{Opening, gives, at, each, ready, ◌>>=◌}
+use Rattle.reading.specs.Opening.{FileReading, gives, at, each, ready, ◌>>=◌}
 use Rattle.plan.specs.Plan.{NamedSheets, sheet_among}
 use Rattle.reading.specs.Design.{grades_in, is_unread, sheets_at, with_part, with_sheet}
 use Rattle.reading.specs.Step.{Opens, stop_of}
@@ -29,7 +29,7 @@ use Rattle.reading.proofs.Opens.{at_ok, at_err, opens_stop, opens_then, opens_up
 
 -- ---- grades
 
-module _ (told : ShelfTold) (version : ℕ) (place : Place) (tree : Data) where
+module _ (told : ShelfView) (version : ℕ) (place : RefusalPlace) (tree : Data) where
   abbrev Told : Result (Option (List Grade)) Stop → Type 0
   Told r = Opens (λ (g : Option (List Grade)). g) told told (grades_in version place tree) r
 
@@ -40,7 +40,7 @@ module _ (told : ShelfTold) (version : ℕ) (place : Place) (tree : Data) where
     pub grades_some : (grades : List Grade) → grades_of tree ≡ Ok grades → Told (Ok (Some grades))
     grades_some grades is = rw (second, is) (refl, refl)
 
-    pub grades_refused : (fault : GradesFault) → HasFault is_grades_memory (grades_of tree) fault → Told (Err (stop_of is_grades_memory Grades place fault))
+    pub grades_refused : (fault : GradesFault) → IsReadingFault is_grades_memory (grades_of tree) fault → Told (Err (stop_of is_grades_memory Grades place fault))
     grades_refused fault h =
         rw second
         (opens_stop (λ (g : List Grade). g) (λ (g : Option (List Grade)). g) (at place Grades (grades_of tree)) (λ grades. gives (Some grades)) told told (stop_of is_grades_memory Grades place fault)
@@ -66,7 +66,7 @@ some_if : {A : Type 0} (o : Option A) → is_some o ≡ true → is_none o ≡ f
 some_if None is = absurd (cc is)
 some_if (Some x) is = refl
 
-module _ (told : ShelfTold) (place : Place) (name : List ℕ) (grades : Option (List Grade)) (drawing : Drawing) (n : ℕ) (sheets : NamedSheets) (part : Part) where
+module _ (told : ShelfView) (place : RefusalPlace) (name : List ℕ) (grades : Option (List Grade)) (drawing : Drawing) (n : ℕ) (sheets : NamedSheets) (part : Part) where
   module _ {Y : Type 0} (v : Y → NamedSheets) where
     passed : (y : Y) → is_unread sheets name part ≡ false → v y ≡ sheets → Opens v told told (with_part place name grades drawing n sheets part) (Ok y)
     passed y known same = rw known (ap (λ x. ready x) same, refl)
@@ -97,15 +97,15 @@ module _ (told : ShelfTold) (place : Place) (name : List ℕ) (grades : Option (
 
 -- ---- the sheets of a tree
 
-module _ (told : ShelfTold) (netlist : Contents) (number : ℕ) (sheets : NamedSheets) (name : List ℕ) (tree : Data) where
-  abbrev parts_from : Drawing → Option (List Grade) → Opening NamedSheets
+module _ (told : ShelfView) (netlist : NetlistContents) (number : ℕ) (sheets : NamedSheets) (name : List ℕ) (tree : Data) where
+  abbrev parts_from : Drawing → Option (List Grade) → FileReading NamedSheets
   parts_from drawing grades = each (with_part (File number) name grades drawing) 0 sheets netlist.parts
 
-  abbrev grades_from : Drawing → Opening NamedSheets
+  abbrev grades_from : Drawing → FileReading NamedSheets
   grades_from drawing = grades_in netlist.version (File number) tree >>= (λ grades. parts_from drawing grades)
 
   module _ {Y : Type 0} (v : Y → NamedSheets) where
-    pub diagram_refused : (fault : DiagramFault) → HasFault is_diagram_memory (diagram_of tree) fault → Opens v told told (sheets_at netlist number sheets name tree) (Err (stop_of is_diagram_memory Diagram (File number) fault))
+    pub diagram_refused : (fault : DiagramFault) → IsReadingFault is_diagram_memory (diagram_of tree) fault → Opens v told told (sheets_at netlist number sheets name tree) (Err (stop_of is_diagram_memory Diagram (File number) fault))
     diagram_refused fault h =
         opens_stop (λ (d : Drawing). d) v (at (File number) Diagram (diagram_of tree)) grades_from told told (stop_of is_diagram_memory Diagram (File number) fault)
         (at_err is_diagram_memory (λ (d : Drawing). d) told (File number) Diagram (diagram_of tree) fault h)

@@ -4,22 +4,22 @@ use Rattle.std.specs.Prelude.{is_none}
 use Rattle.std.specs.Str.{bytes_eq}
 use Rattle.std.proofs.lemmas.List.Elements.{All-cons, All-nil, All-weaker}
 use Rattle.std.proofs.lemmas.Slice.Eq.{bytes_eq-Decides}
-use Rattle.itv_base.specs.Outside.{ShelfTold}
+use Rattle.itv_base.specs.Outside.{ShelfView}
 use Rattle.wavejson.specs.Drawing.{Drawing, diagram_of}
 use Rattle.grades.specs.declared.grade.Grade.{Grade}
-use Rattle.sheet.specs.Contents.{Contents as SheetContents}
+use Rattle.sheet.specs.Contents.{SheetContents}
 use Rattle.sheet.specs.Sheet.{sheet_by}
 use Rattle.netlist.specs.declared.part.Part.{Part}
-use Rattle.netlist.specs.Contents.{Contents}
+use Rattle.netlist.specs.Contents.{NetlistContents}
 use Rattle.netlist.specs.Netlist.{lone_netlist, sheet_names}
 use Rattle.netlist.proofs.SheetNames.{sheets_hold}
 use Rattle.compose.specs.declared.sheet_key.SheetKey.{SheetKey}
 use Rattle.compose.specs.Sheets.{key_of, same_key}
 use Rattle.compose.proofs.Keys.{same_key_itself}
-use Rattle.reading.specs.declared.place.Place.{Place}
-use Rattle.reading.specs.declared.place.Place.TheVariants.{File}
+use Rattle.reading.specs.declared.place.RefusalPlace.{RefusalPlace}
+use Rattle.reading.specs.declared.place.RefusalPlace.TheVariants.{File}
 use Rattle.reading.specs.declared.refusal.Refusal.TheVariants.{Diagram, Sheet}
-use Rattle.reading.specs.Opening.{gives, at, each, Comes, ready, ◌>>=◌}
+use Rattle.reading.specs.Opening.{gives, at, each, RunsTo, ready, ◌>>=◌}
 use Rattle.plan.specs.Plan.{NamedSheets, sheet_among}
 use Rattle.reading.specs.Design.{grades_in, is_unread, sheets_at, sheets_in, sheets_of_files, tree_in, with_part, with_sheet}
 use Rattle.reading.specs.Step.Lone.{plain_key}
@@ -59,13 +59,13 @@ sheet_kept (e ∷ es) key other sheet there = at (same_key key e.0) (sheet_kept 
     at false rest there = found_too (same_key other e.0) e.1 e.1 (sheet_among es other) (sheet_among (with_sheet es key sheet) other) rest there
 
 -- the sheet of the one part of a netlist that a sheet stands for is there
-pub lone_drawn : (name : List ℕ) (netlist : Contents) (sheets : NamedSheets) (sheet : SheetContents) → netlist ≡ lone_netlist name → sheets ≡ with_sheet [] (plain_key name) sheet
+pub lone_drawn : (name : List ℕ) (netlist : NetlistContents) (sheets : NamedSheets) (sheet : SheetContents) → netlist ≡ lone_netlist name → sheets ≡ with_sheet [] (plain_key name) sheet
     → All (λ (part : Part). IsThere (key_of part) sheets) netlist.parts
 lone_drawn name netlist sheets sheet is has =
     let one : All (λ (part : Part). IsThere (key_of part) (with_sheet [] (plain_key name) sheet)) (lone_netlist name).parts =
     All-cons (λ (part : Part). IsThere (key_of part) (with_sheet [] (plain_key name) sheet)) _ [] (sheet_added [] (plain_key name) sheet) (All-nil (λ (part : Part). IsThere (key_of part) (with_sheet [] (plain_key name) sheet))) in
     let same : All (λ (part : Part). IsThere (key_of part) sheets) (lone_netlist name).parts = subst (λ (es : NamedSheets). All (λ (part : Part). IsThere (key_of part) es) (lone_netlist name).parts) (sym has) one in
-    subst (λ (n : Contents). All (λ (part : Part). IsThere (key_of part) sheets) n.parts) (sym is) same
+    subst (λ (n : NetlistContents). All (λ (part : Part). IsThere (key_of part) sheets) n.parts) (sym is) same
 
 -- ---- the parts of one file
 
@@ -77,13 +77,13 @@ both_of : (a b : Bool) → a ≡ true → (a && b) ≡ false → b ≡ false
 both_of true b is none = none
 both_of false b is none = absurd (cc is)
 
-module _ (shelf : ShelfTold) (place : Place) (name : List ℕ) (grades : Option (List Grade)) (drawing : Drawing) where
+module _ (shelf : ShelfView) (place : RefusalPlace) (name : List ℕ) (grades : Option (List Grade)) (drawing : Drawing) where
   -- a part that is drawn on the file has its sheet behind it
-  part_brings : (n : ℕ) (sheets more : NamedSheets) (part : Part) → Comes shelf (with_part place name grades drawing n sheets part) (ready more) → part.sheet ≡ name → IsThere (key_of part) more
+  part_brings : (n : ℕ) (sheets more : NamedSheets) (part : Part) → RunsTo shelf (with_part place name grades drawing n sheets part) (ready more) → part.sheet ≡ name → IsThere (key_of part) more
   part_brings n sheets more part comes named = by (is_unread sheets name part) refl comes
     where
       by : (b : Bool) → is_unread sheets name part ≡ b
-          → Comes shelf (if b then (at place Sheet (sheet_by grades part.grade drawing) >>= (λ sheet. gives (with_sheet sheets (key_of part) sheet))) else gives sheets) (ready more) → IsThere (key_of part) more
+          → RunsTo shelf (if b then (at place Sheet (sheet_by grades part.grade drawing) >>= (λ sheet. gives (with_sheet sheets (key_of part) sheet))) else gives sheets) (ready more) → IsThere (key_of part) more
       by true unread came =
           let (sheet, first, rest) = opening_then shelf (at place Sheet (sheet_by grades part.grade drawing)) (λ sheet. gives (with_sheet sheets (key_of part) sheet)) more came in
           subst (IsThere (key_of part)) (gave shelf (with_sheet sheets (key_of part) sheet) more rest) (sheet_added sheets (key_of part) sheet)
@@ -91,10 +91,10 @@ module _ (shelf : ShelfTold) (place : Place) (name : List ℕ) (grades : Option 
           let same : bytes_eq name part.sheet ≡ true = (bytes_eq-Decides name part.sheet).1 (sym named) in
           subst (IsThere (key_of part)) (gave shelf sheets more came) (some_if (sheet_among sheets (key_of part)) (both_of (bytes_eq name part.sheet) (is_none (sheet_among sheets (key_of part))) same known))
 
-  part_keeps : (key : SheetKey) (n : ℕ) (sheets more : NamedSheets) (part : Part) → IsThere key sheets → Comes shelf (with_part place name grades drawing n sheets part) (ready more) → IsThere key more
+  part_keeps : (key : SheetKey) (n : ℕ) (sheets more : NamedSheets) (part : Part) → IsThere key sheets → RunsTo shelf (with_part place name grades drawing n sheets part) (ready more) → IsThere key more
   part_keeps key n sheets more part there comes = by (is_unread sheets name part) comes
     where
-      by : (b : Bool) → Comes shelf (if b then (at place Sheet (sheet_by grades part.grade drawing) >>= (λ sheet. gives (with_sheet sheets (key_of part) sheet))) else gives sheets) (ready more) → IsThere key more
+      by : (b : Bool) → RunsTo shelf (if b then (at place Sheet (sheet_by grades part.grade drawing) >>= (λ sheet. gives (with_sheet sheets (key_of part) sheet))) else gives sheets) (ready more) → IsThere key more
       by true came =
           let (sheet, first, rest) = opening_then shelf (at place Sheet (sheet_by grades part.grade drawing)) (λ sheet. gives (with_sheet sheets (key_of part) sheet)) more came in
           subst (IsThere key) (gave shelf (with_sheet sheets (key_of part) sheet) more rest) (sheet_kept sheets (key_of part) key sheet there)
@@ -106,36 +106,36 @@ module _ (shelf : ShelfTold) (place : Place) (name : List ℕ) (grades : Option 
 abbrev pub AreDrawn : List Part → List ℕ → NamedSheets → Type 0
 AreDrawn parts name sheets = All (λ (part : Part). part.sheet ≡ name → IsThere (key_of part) sheets) parts
 
-module _ (shelf : ShelfTold) (netlist : Contents) where
+module _ (shelf : ShelfView) (netlist : NetlistContents) where
   -- what the reading of a file went through
-  file_parts : (number : ℕ) (sheets more : NamedSheets) (name : List ℕ) → Comes shelf (sheets_in netlist number sheets name) (ready more)
-      → (drawing : Drawing) × (grades : Option (List Grade)) × Comes shelf (each (with_part (File number) name grades drawing) 0 sheets netlist.parts) (ready more)
+  file_parts : (number : ℕ) (sheets more : NamedSheets) (name : List ℕ) → RunsTo shelf (sheets_in netlist number sheets name) (ready more)
+      → (drawing : Drawing) × (grades : Option (List Grade)) × RunsTo shelf (each (with_part (File number) name grades drawing) 0 sheets netlist.parts) (ready more)
   file_parts number sheets more name comes =
       let (tree, fetched, read) = opening_then shelf (tree_in (File number) name) (λ tree. sheets_at netlist number sheets name tree) more comes in
       let (drawing, drawn, rest) = opening_then shelf (at (File number) Diagram (diagram_of tree)) (λ drawing. grades_in netlist.version (File number) tree >>= (λ grades. each (with_part (File number) name grades drawing) 0 sheets netlist.parts)) more read in
       let (grades, told, last) = opening_then shelf (grades_in netlist.version (File number) tree) (λ grades. each (with_part (File number) name grades drawing) 0 sheets netlist.parts) more rest in
       (drawing, grades, last)
 
-  file_brings : (number : ℕ) (sheets more : NamedSheets) (name : List ℕ) → Comes shelf (sheets_in netlist number sheets name) (ready more) → AreDrawn netlist.parts name more
+  file_brings : (number : ℕ) (sheets more : NamedSheets) (name : List ℕ) → RunsTo shelf (sheets_in netlist number sheets name) (ready more) → AreDrawn netlist.parts name more
   file_brings number sheets more name comes =
       let (drawing, grades, last) = file_parts number sheets more name comes in
       each_brings (λ (part : Part) sheets. part.sheet ≡ name → IsThere (key_of part) sheets) shelf (with_part (File number) name grades drawing)
       (part_brings shelf (File number) name grades drawing)
       (λ y n a b x holds came named. part_keeps shelf (File number) name grades drawing (key_of y) n a b x (holds named) came) 0 sheets more netlist.parts last
 
-  file_keeps : (key : SheetKey) (number : ℕ) (sheets more : NamedSheets) (name : List ℕ) → IsThere key sheets → Comes shelf (sheets_in netlist number sheets name) (ready more) → IsThere key more
+  file_keeps : (key : SheetKey) (number : ℕ) (sheets more : NamedSheets) (name : List ℕ) → IsThere key sheets → RunsTo shelf (sheets_in netlist number sheets name) (ready more) → IsThere key more
   file_keeps key number sheets more name there comes =
       let (drawing, grades, last) = file_parts number sheets more name comes in
       each_keeps (IsThere key) shelf (with_part (File number) name grades drawing) (part_keeps shelf (File number) name grades drawing key) 0 sheets more netlist.parts there last
 
-  files_bring : (names : List (List ℕ)) (sheets : NamedSheets) → Comes shelf (sheets_of_files netlist names) (ready sheets) → All (λ name. AreDrawn netlist.parts name sheets) names
+  files_bring : (names : List (List ℕ)) (sheets : NamedSheets) → RunsTo shelf (sheets_of_files netlist names) (ready sheets) → All (λ name. AreDrawn netlist.parts name sheets) names
   files_bring names sheets comes =
       each_brings (λ name sheets. AreDrawn netlist.parts name sheets) shelf (sheets_in netlist) file_brings
       (λ name n a b x holds came. All-weaker (λ (part : Part). part.sheet ≡ name → IsThere (key_of part) a) (λ (part : Part). part.sheet ≡ name → IsThere (key_of part) b)
       (λ part is named. file_keeps (key_of part) n a b x (is named) came) netlist.parts holds) 1 [] sheets names comes
 
   -- the sheet of each part is there
-  pub parts_drawn : (sheets : NamedSheets) → Comes shelf (sheets_of_files netlist (sheet_names netlist.parts)) (ready sheets) → All (λ (part : Part). IsThere (key_of part) sheets) netlist.parts
+  pub parts_drawn : (sheets : NamedSheets) → RunsTo shelf (sheets_of_files netlist (sheet_names netlist.parts)) (ready sheets) → All (λ (part : Part). IsThere (key_of part) sheets) netlist.parts
   parts_drawn sheets comes =
       let by_sheet : All (λ (part : Part). AreDrawn netlist.parts part.sheet sheets) netlist.parts = sheets_hold (λ name. AreDrawn netlist.parts name sheets) netlist.parts (files_bring (sheet_names netlist.parts) sheets comes) in
       λ k d within. by_sheet k d within k d within refl

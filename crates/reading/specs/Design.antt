@@ -12,7 +12,7 @@ use Rattle.grades.specs.Grades.{grades_of}
 use Rattle.sheet.specs.Contents as sheet
 use Rattle.sheet.specs.Sheet.{sheet_by}
 use Rattle.netlist.specs.declared.part.Part.{Part}
-use Rattle.netlist.specs.Contents.{Contents}
+use Rattle.netlist.specs.Contents.{NetlistContents}
 use Rattle.netlist.specs.Netlist.{netlist_of, lone_netlist, sheet_names}
 use Rattle.compose.specs.Compose.{composed_on}
 use Rattle.compose.specs.Sheets.{key_of, same_key}
@@ -20,10 +20,10 @@ use Rattle.compose.specs.declared.sheet_key.SheetKey.{SheetKey}
 use Rattle.plan.specs.Plan.{NamedSheets, Planned, sheet_among, sheets_on}
 use Rattle.drawn.specs.Drawn.{Drawn}
 use Rattle.unroll.specs.Limits.{unrolled}
-use Rattle.reading.specs.declared.place.Place.{Place}
-use Rattle.reading.specs.declared.place.Place.TheVariants.{File, Design}
+use Rattle.reading.specs.declared.place.RefusalPlace.{RefusalPlace}
+use Rattle.reading.specs.declared.place.RefusalPlace.TheVariants.{File, Design}
 use Rattle.reading.specs.declared.refusal.Refusal.TheVariants.{NotJson, Diagram, Grades, Sheet, Netlist, Joins, Limits}
-use Rattle.reading.specs.Opening.{Opening, gives, ◌>>=◌, at, each, file_at}
+use Rattle.reading.specs.Opening.{FileReading, gives, ◌>>=◌, at, each, file_at}
 
 -- ---- files
 
@@ -31,11 +31,11 @@ use Rattle.reading.specs.Opening.{Opening, gives, ◌>>=◌, at, each, file_at}
 abbrev pub tree_of : List ℕ → Option Data
 tree_of bytes = if is_utf8 bytes then read bytes else None
 
-unfoldable pub tree_at : Place → List ℕ → Opening Data
+unfoldable pub tree_at : RefusalPlace → List ℕ → FileReading Data
 tree_at place bytes = at place (λ fault. fault) (ok_or (tree_of bytes) NotJson)
 
 -- the tree of a file
-abbrev pub tree_in : Place → List ℕ → Opening Data
+abbrev pub tree_in : RefusalPlace → List ℕ → FileReading Data
 tree_in place name = do
   bytes ← file_at place name FILE_LIMIT
   tree_at place bytes
@@ -43,13 +43,13 @@ tree_in place name = do
 -- ---- sheets by their names and speed grades
 
 -- with one more sheet
-abbrev pub with_sheet : NamedSheets → SheetKey → sheet.Contents → NamedSheets
+abbrev pub with_sheet : NamedSheets → SheetKey → sheet.SheetContents → NamedSheets
 with_sheet sheets key sheet = insert_entry same_key sheets key sheet
 
 -- ---- the sheets of files
 
 -- the speed grades of a file; in version 1 there are none, and what stands there is passed over
-abbrev pub grades_in : ℕ → Place → Data → Opening (Option (List Grade))
+abbrev pub grades_in : ℕ → RefusalPlace → Data → FileReading (Option (List Grade))
 grades_in version place tree =
     if version == 2 then (at place Grades (grades_of tree) >>= λ grades. gives (Some grades)) else gives None
 
@@ -58,7 +58,7 @@ abbrev pub is_unread : NamedSheets → List ℕ → Part → Bool
 is_unread sheets name part = bytes_eq name part.sheet && is_none (sheet_among sheets (key_of part))
 
 -- The sheets with that of one part more, if it is drawn on this file at a grade, or at none, that no part before it named.
-abbrev pub with_part : Place → List ℕ → Option (List Grade) → Drawing → ℕ → NamedSheets → Part → Opening NamedSheets
+abbrev pub with_part : RefusalPlace → List ℕ → Option (List Grade) → Drawing → ℕ → NamedSheets → Part → FileReading NamedSheets
 with_part place name grades drawing n sheets part =
     if is_unread sheets name part
     then (at place Sheet (sheet_by grades part.grade drawing) >>= λ sheet. gives (with_sheet sheets (key_of part) sheet))
@@ -66,43 +66,43 @@ with_part place name grades drawing n sheets part =
 
 -- The sheets that the tree of a file draws, behind those that are read: one for each grade or none, in the order in which the parts
 -- first mention them. The grades are read before the sheets, also where no part has one.
-abbrev pub sheets_at : Contents → ℕ → NamedSheets → List ℕ → Data → Opening NamedSheets
+abbrev pub sheets_at : NetlistContents → ℕ → NamedSheets → List ℕ → Data → FileReading NamedSheets
 sheets_at netlist number sheets name tree = do
   drawing ← at (File number) Diagram (diagram_of tree)
   grades ← grades_in netlist.version (File number) tree
   each (with_part (File number) name grades drawing) 0 sheets netlist.parts
 
 -- the sheets of a file
-abbrev pub sheets_in : Contents → ℕ → NamedSheets → List ℕ → Opening NamedSheets
+abbrev pub sheets_in : NetlistContents → ℕ → NamedSheets → List ℕ → FileReading NamedSheets
 sheets_in netlist number sheets name = do
   tree ← tree_in (File number) name
   sheets_at netlist number sheets name tree
 
 -- the sheets of files, which are files 1, 2 and so on
-abbrev pub sheets_of_files : Contents → List (List ℕ) → Opening NamedSheets
+abbrev pub sheets_of_files : NetlistContents → List (List ℕ) → FileReading NamedSheets
 sheets_of_files netlist names = each (sheets_in netlist) 1 [] names
 
 -- ---- plans
 
 -- the plan of a lone sheet, which is the one part of a netlist
-abbrev pub lone_at : List ℕ → Data → Opening Planned
+abbrev pub lone_at : List ℕ → Data → FileReading Planned
 lone_at name tree = do
   sheets ← sheets_at (lone_netlist name) 0 [] name tree
   gives (record { netlist = lone_netlist name; sheets = sheets })
 
 -- The plan of a netlist: the sheets that it names are fetched in the order in which they are first mentioned, as files 1, 2 and so on.
-abbrev pub netlist_at : Data → Opening Planned
+abbrev pub netlist_at : Data → FileReading Planned
 netlist_at tree = do
   netlist ← at (File 0) Netlist (netlist_of tree)
   sheets ← sheets_of_files netlist (sheet_names netlist.parts)
   gives (record { netlist = netlist; sheets = sheets })
 
 -- An object without the key `itv` is a lone sheet. Any other tree is a netlist, or refused as one.
-abbrev pub tree_planned : List ℕ → Data → Opening Planned
+abbrev pub tree_planned : List ℕ → Data → FileReading Planned
 tree_planned name tree = if is_some (as_object tree) && is_none (get (codes "itv") tree) then lone_at name tree else netlist_at tree
 
 -- the plan of the design of a file
-abbrev pub plan_at : List ℕ → Opening Planned
+abbrev pub plan_at : List ℕ → FileReading Planned
 plan_at name = do
   tree ← tree_in (File 0) name
   tree_planned name tree
@@ -110,13 +110,13 @@ plan_at name = do
 -- ---- designs
 
 -- What a netlist and its sheets draw. The faults of joins come before the limits.
-unfoldable pub drawn_at : Contents → NamedSheets → Opening Drawn
+unfoldable pub drawn_at : NetlistContents → NamedSheets → FileReading Drawn
 drawn_at netlist sheets = do
   design ← at Design Joins (composed_on netlist (sheets_on sheets netlist.parts))
   at Design Limits (unrolled design)
 
 -- what the design of a file draws
-abbrev pub design_at : List ℕ → Opening Drawn
+abbrev pub design_at : List ℕ → FileReading Drawn
 design_at name = do
   plan ← plan_at name
   drawn_at plan.netlist plan.sheets

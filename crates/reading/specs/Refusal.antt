@@ -23,7 +23,7 @@ use Rattle.unroll.specs.declared.fault.UnrollFault.{UnrollFault}
 use Rattle.unroll.specs.declared.fault.UnrollFault.TheVariants as unroll
 use Rattle.edits.specs.declared.fault.EditsFault.{EditsFault}
 use Rattle.edits.specs.declared.fault.EditsFault.TheVariants as edits
-use Rattle.reading.specs.declared.place.Place.{Place}
+use Rattle.reading.specs.declared.place.RefusalPlace.{RefusalPlace}
 use Rattle.reading.specs.declared.refusal.Refusal.{Refusal}
 use Rattle.reading.specs.declared.refusal.Refusal.TheVariants.{TooLong, NotJson, Diagram, Grades, Sheet, Netlist, Joins, Limits, Mixed, Wide, Edits}
 use Rattle.reading.specs.Place.{place_words}
@@ -106,9 +106,9 @@ fault_words (Edits (edits.NoSuch n)) = codes "NoSuch" ∷ number_text n ∷ []
 fault_words (Edits edits.NoMemory) = []
 
 -- the line of a refusal
-unfoldable pub refusal_text : Place → Refusal → List ℕ
+unfoldable pub refusal_text : RefusalPlace → Refusal → List ℕ
 refusal_text place why = ended (line_of (codes "refused" ∷ place_words place ++ fault_words why))
 
 -- the line of a file that could not be read
-unfoldable pub unread_text : Place → List ℕ
+unfoldable pub unread_text : RefusalPlace → List ℕ
 unread_text place = ended (line_of (codes "cannot" ∷ codes "read" ∷ place_words place))

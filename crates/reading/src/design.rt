@@ -1,9 +1,9 @@
 //! Reading a design.
 
 ghost use Rattle.reading.specs.Design.{design_at, drawn_at};
-ghost use Rattle.reading.specs.Step.{Opens, Reads};
+ghost use Rattle.reading.specs.Step.{Opens, ReadsAs};
 
-use crate::place::Place;
+use crate::place::RefusalPlace;
 use crate::planning::open_plan;
 use crate::stop::{Stop, join_stop, limit_stop};
 use compose::compose;
@@ -31,14 +31,14 @@ pub fn open_design<H: Shelf>(alloc: Global, name: &str, shelf: &mut H) -> Result
 ///
 /// `NoMemory` may come in place of any answer.
 pub fn draw_plan(alloc: Global, plan: &Plan) -> Result<DrawnNetwork, Stop>
-    ensures draws { Reads (λ drawn. drawn) (drawn_at plan.now.netlist plan.now.sheets) result }
+    ensures draws { ReadsAs (λ drawn. drawn) (drawn_at plan.now.netlist plan.now.sheets) result }
 {
     let design = match compose(alloc, plan.netlist(), plan.sheets()) {
         Ok(design) => design,
-        Err(fault) => return Err(join_stop(Place::Design, fault)),
+        Err(fault) => return Err(join_stop(RefusalPlace::Design, fault)),
     };
     match unroll(alloc, &design) {
         Ok(drawn) => Ok(drawn),
-        Err(fault) => Err(limit_stop(Place::Design, fault)),
+        Err(fault) => Err(limit_stop(RefusalPlace::Design, fault)),
     }
 }

@@ -4,9 +4,9 @@ ghost use Rattle.std.specs.Prelude.{◌<◌, ◌+◌, ◌^◌};
 ghost use Rattle.serde_json.specs.View.{view};
 ghost use Rattle.reading.specs.Design.{tree_at, tree_in};
 ghost use Rattle.reading.specs.Opening.{file_at, within_limit};
-ghost use Rattle.reading.specs.Step.{Opens, Reads};
+ghost use Rattle.reading.specs.Step.{Opens, ReadsAs};
 
-use crate::place::Place;
+use crate::place::RefusalPlace;
 use crate::refusal::Refusal;
 use crate::stop::Stop;
 use itv_base::{FILE_LIMIT, FetchFault, Listing, Shelf};
@@ -16,7 +16,7 @@ use std::alloc::Global;
 /// The tree of a file. A file that is longer than [`FILE_LIMIT`] or no JSON is refused.
 pub fn open_tree<H: Shelf>(
     alloc: Global,
-    place: Place,
+    place: RefusalPlace,
     name: &str,
     shelf: &mut H,
 ) -> Result<Value, Stop>
@@ -32,7 +32,7 @@ pub fn open_tree<H: Shelf>(
 /// its name with the shelf, and any other answer leaves the shelf as it was.
 pub fn fetch_file<H: Shelf>(
     alloc: Global,
-    place: Place,
+    place: RefusalPlace,
     name: &str,
     limit: u32,
     shelf: &mut H,
@@ -49,8 +49,8 @@ pub fn fetch_file<H: Shelf>(
 }
 
 // Bytes that are not longer than a limit.
-fn judge_length(place: Place, bytes: Vec<u8>, limit: u32) -> Result<Listing<u8>, Stop>
-    ensures { Reads (λ bytes. bytes) (within_limit place limit bytes.items) result }
+fn judge_length(place: RefusalPlace, bytes: Vec<u8>, limit: u32) -> Result<Listing<u8>, Stop>
+    ensures { ReadsAs (λ bytes. bytes) (within_limit place limit bytes.items) result }
 {
     if bytes.len() > limit as usize {
         return Err(Stop::Refused(place, Refusal::TooLong));
@@ -59,8 +59,8 @@ fn judge_length(place: Place, bytes: Vec<u8>, limit: u32) -> Result<Listing<u8>,
 }
 
 // The tree of some bytes.
-fn read_tree(alloc: Global, place: Place, bytes: &[u8]) -> Result<Value, Stop>
-    ensures { Reads view (tree_at place bytes.now) result }
+fn read_tree(alloc: Global, place: RefusalPlace, bytes: &[u8]) -> Result<Value, Stop>
+    ensures { ReadsAs view (tree_at place bytes.now) result }
 {
     match Value::from_slice(alloc, bytes) {
         Ok(tree) => Ok(tree),

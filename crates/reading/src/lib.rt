@@ -15,7 +15,7 @@ mod stop;
 
 pub use design::{draw_plan, open_design};
 pub use file::fetch_file;
-pub use place::Place;
+pub use place::RefusalPlace;
 pub use planning::open_plan;
 pub use put::{put_refusal, put_unread};
 pub use refusal::Refusal;

@@ -2,7 +2,7 @@
 
 /// Where something is refused or could not be read.
 #[derive(Clone, Copy, Debug, PartialEq, Eq)]
-pub enum Place {
+pub enum RefusalPlace {
     /// A file: 0 is the design file, and the files of the sheets follow in the order in which the netlist first mentions them.
     File(u64),
     /// The design as a whole: its joins and its limits.

@@ -4,11 +4,11 @@ ghost use Rattle.std.specs.Prelude.{◌≡◌, ◌&&◌, IfOk, is_some, is_none,
 ghost use Rattle.serde_json.specs.Find.{get, as_object};
 ghost use Rattle.serde_json.specs.View.{view};
 ghost use Rattle.reading.specs.Design.{lone_at, netlist_at, plan_at};
-ghost use Rattle.reading.specs.Step.{Opens, Reads};
+ghost use Rattle.reading.specs.Step.{Opens, ReadsAs};
 ghost use Rattle.reading.specs.Step.Lone.{lone_plan, plain_key};
 
 use crate::file::open_tree;
-use crate::place::Place;
+use crate::place::RefusalPlace;
 use crate::sheets::{open_sheets, push_sheet, read_plain_sheet};
 use crate::stop::{Stop, netlist_stop};
 use compose::{SheetKey, Sheets};
@@ -32,7 +32,7 @@ pub fn open_plan<H: Shelf>(alloc: Global, name: &str, shelf: &mut H) -> Result<P
     ensures opens { Opens (λ plan. plan) (H.told shelf.old) (H.told shelf.new)
         (plan_at name.now) result }
 {
-    let tree = open_tree(alloc, Place::File(0), name, shelf)?;
+    let tree = open_tree(alloc, RefusalPlace::File(0), name, shelf)?;
     if is_lone(&tree) {
         read_lone(alloc, name, &tree)
     } else {
@@ -49,9 +49,9 @@ fn is_lone(tree: &Value) -> bool
 
 // The plan of a lone sheet.
 fn read_lone(alloc: Global, name: &str, tree: &Value) -> Result<Plan, Stop>
-    ensures { Reads (λ plan. plan) (lone_at name.now (view tree.now)) result }
+    ensures { ReadsAs (λ plan. plan) (lone_at name.now (view tree.now)) result }
 {
-    let sheet = read_plain_sheet(alloc, Place::File(0), tree)?;
+    let sheet = read_plain_sheet(alloc, RefusalPlace::File(0), tree)?;
     let plan = lone_plan(alloc, name, sheet)?;
     Ok(plan)
 }
@@ -84,7 +84,7 @@ fn open_netlist<H: Shelf>(alloc: Global, tree: &Value, shelf: &mut H) -> Result<
 {
     let netlist = match read_netlist(alloc, tree) {
         Ok(netlist) => netlist,
-        Err(fault) => return Err(netlist_stop(Place::File(0), fault)),
+        Err(fault) => return Err(netlist_stop(RefusalPlace::File(0), fault)),
     };
     let sheets = open_sheets(alloc, &netlist, shelf)?;
     let plan = Plan::of(alloc, netlist, sheets)?;

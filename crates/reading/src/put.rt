@@ -7,10 +7,10 @@ ghost use Rattle.itv_base.specs.Outside.{Puts};
 ghost use Rattle.line_words.specs.Lines.{spaced};
 ghost use Rattle.reading.specs.Place.{place_words};
 ghost use Rattle.reading.specs.Refusal.{fault_words, label_fault_name, limit_name, range_fault_name, refusal_text, unread_text};
-ghost use Rattle.reading.specs.Step.Word.{spelled};
+ghost use Rattle.reading.specs.Step.Word.{word_spelled};
 
 use self::Word::{Count, Number, Text};
-use crate::place::Place;
+use crate::place::RefusalPlace;
 use crate::refusal::Refusal;
 use compose::JoinFault;
 use edits::EditsFault;
@@ -24,7 +24,11 @@ use unroll::{Limit, UnrollFault};
 use wavejson::DiagramFault;
 
 /// Writes the line of a refusal: `refused`, the place, and the fault with what it keeps.
-pub fn put_refusal<K: Sink>(place: Place, why: Refusal, sink: &mut K) -> Result<(), PutFailed>
+pub fn put_refusal<K: Sink>(
+    place: RefusalPlace,
+    why: Refusal,
+    sink: &mut K,
+) -> Result<(), PutFailed>
     ensures puts { Puts (K.told sink.old) (K.told sink.new) (refusal_text place why) result }
 {
     sink.put(b"refused")?;
@@ -34,7 +38,7 @@ pub fn put_refusal<K: Sink>(place: Place, why: Refusal, sink: &mut K) -> Result<
 }
 
 /// Writes the line of a file that could not be read.
-pub fn put_unread<K: Sink>(place: Place, sink: &mut K) -> Result<(), PutFailed>
+pub fn put_unread<K: Sink>(place: RefusalPlace, sink: &mut K) -> Result<(), PutFailed>
     ensures puts { Puts (K.told sink.old) (K.told sink.new) (unread_text place) result }
 {
     sink.put(b"cannot read")?;
@@ -54,7 +58,7 @@ enum Word<'a> {
 
 // Writes each of some words behind a space.
 fn put_words<K: Sink>(words: &[Word], sink: &mut K) -> Result<(), PutFailed>
-    ensures { Puts (K.told sink.old) (K.told sink.new) (flat_map spaced (map spelled words.now)) result }
+    ensures { Puts (K.told sink.old) (K.told sink.new) (flat_map spaced (map word_spelled words.now)) result }
 {
     for word in words {
         put_word(*word, sink)?;
@@ -63,7 +67,7 @@ fn put_words<K: Sink>(words: &[Word], sink: &mut K) -> Result<(), PutFailed>
 }
 
 fn put_word<K: Sink>(word: Word, sink: &mut K) -> Result<(), PutFailed>
-    ensures { Puts (K.told sink.old) (K.told sink.new) (spaced (spelled word.entry)) result }
+    ensures { Puts (K.told sink.old) (K.told sink.new) (spaced (word_spelled word.entry)) result }
 {
     let mut digits = Buffer::new();
     match word {
@@ -82,14 +86,14 @@ fn wide_text(number: u128, buffer: &mut Buffer) -> &str
 
 // ---- places and faults
 
-fn put_place<K: Sink>(place: Place, sink: &mut K) -> Result<(), PutFailed>
+fn put_place<K: Sink>(place: RefusalPlace, sink: &mut K) -> Result<(), PutFailed>
     ensures { Puts (K.told sink.old) (K.told sink.new) (flat_map spaced (place_words place)) result }
 {
     match place {
-        Place::File(number) => put_words(&[Text(b"file"), Number(number)], sink),
-        Place::Design => put_words(&[Text(b"design")], sink),
-        Place::Report => put_words(&[Text(b"report")], sink),
-        Place::Edits => put_words(&[Text(b"edits")], sink),
+        RefusalPlace::File(number) => put_words(&[Text(b"file"), Number(number)], sink),
+        RefusalPlace::Design => put_words(&[Text(b"design")], sink),
+        RefusalPlace::Report => put_words(&[Text(b"report")], sink),
+        RefusalPlace::Edits => put_words(&[Text(b"edits")], sink),
     }
 }
 

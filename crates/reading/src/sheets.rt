@@ -4,18 +4,18 @@ ghost use Rattle.std.specs.Prelude.{◌≡◌, ℕ, OnOk};
 ghost use Rattle.std.specs.Option.{option_copied};
 ghost use Rattle.std.specs.Str.{bytes_eq};
 ghost use Rattle.serde_json.specs.View.{view};
-ghost use Rattle.itv_base.specs.Reading.{Gives};
+ghost use Rattle.itv_base.specs.Reading.{AgreesWith};
 ghost use Rattle.sheet.specs.Fault.{is_memory};
 ghost use Rattle.sheet.specs.Sheet.{sheet_by};
 ghost use Rattle.netlist.specs.Netlist.{sheet_names};
 ghost use Rattle.reading.specs.Design.{grades_in, sheets_at, sheets_in, sheets_of_files, with_part, with_sheet};
 ghost use Rattle.reading.specs.Opening.{at, each};
-ghost use Rattle.reading.specs.Step.{Opens, Reads};
+ghost use Rattle.reading.specs.Step.{Opens, ReadsAs};
 ghost use Rattle.reading.specs.Step.Lone.{plain_sheet_at};
 ghost use Rattle.reading.specs.declared.refusal.Refusal.TheVariants as refusals;
 
 use crate::file::open_tree;
-use crate::place::Place;
+use crate::place::RefusalPlace;
 use crate::stop::{Stop, diagram_stop, grades_stop, sheet_stop};
 use compose::{SheetKey, Sheets};
 use itv_base::{NoMemory, Shelf, Text};
@@ -62,7 +62,7 @@ fn open_file<H: Shelf>(
     ensures { Opens (λ _. sheets.new.entries) (H.told shelf.old) (H.told shelf.new)
         (sheets_in netlist.now number sheets.old.entries name.now) result }
 {
-    let tree = open_tree(alloc, Place::File(number), name, shelf)?;
+    let tree = open_tree(alloc, RefusalPlace::File(number), name, shelf)?;
     read_sheets(alloc, netlist, number, name, &tree, sheets)
 }
 
@@ -75,10 +75,10 @@ fn read_sheets(
     tree: &Value,
     sheets: &mut Sheets,
 ) -> Result<(), Stop>
-    ensures { Reads (λ _. sheets.new.entries)
+    ensures { ReadsAs (λ _. sheets.new.entries)
         (sheets_at netlist.now number sheets.old.entries name.now (view tree.now)) result }
 {
-    let place = Place::File(number);
+    let place = RefusalPlace::File(number);
     let diagram = match read_diagram(alloc, tree) {
         Ok(diagram) => diagram,
         Err(fault) => return Err(diagram_stop(place, fault)),
@@ -92,10 +92,10 @@ fn read_sheets(
 fn grades_in(
     alloc: Global,
     version: u32,
-    place: Place,
+    place: RefusalPlace,
     tree: &Value,
 ) -> Result<Option<Grades>, Stop>
-    ensures { Reads (λ grades. grades) (grades_in version place (view tree.now)) result }
+    ensures { ReadsAs (λ grades. grades) (grades_in version place (view tree.now)) result }
 {
     if version != 2 {
         return Ok(None);
@@ -109,14 +109,14 @@ fn grades_in(
 // Puts the sheets of all parts of a file in.
 fn push_parts(
     alloc: Global,
-    place: Place,
+    place: RefusalPlace,
     name: &str,
     grades: &Option<Grades>,
     diagram: &Diagram,
     parts: &[Part],
     sheets: &mut Sheets,
 ) -> Result<(), Stop>
-    ensures { Reads (λ _. sheets.new.entries)
+    ensures { ReadsAs (λ _. sheets.new.entries)
         (each (with_part place name.now grades.now diagram.now) 0 sheets.old.entries parts.now) result }
 {
     for part in parts {
@@ -128,14 +128,14 @@ fn push_parts(
 // Puts the sheet of a part in, if the part is drawn on this file, and no part before it has its speed grade.
 fn push_part(
     alloc: Global,
-    place: Place,
+    place: RefusalPlace,
     name: &str,
     grades: &Option<Grades>,
     diagram: &Diagram,
     part: &Part,
     sheets: &mut Sheets,
 ) -> Result<(), Stop>
-    ensures { (n : ℕ) → Reads (λ _. sheets.new.entries)
+    ensures { (n : ℕ) → ReadsAs (λ _. sheets.new.entries)
         (with_part place name.now grades.now diagram.now n sheets.old.entries part.now) result }
 {
     if !is_on(name, part) {
@@ -168,12 +168,12 @@ pub fn push_sheet(sheets: &mut Sheets, key: SheetKey, sheet: Sheet) -> Result<()
 // The sheet of a drawing for a place.
 fn read_sheet_by(
     alloc: Global,
-    place: Place,
+    place: RefusalPlace,
     grades: &Option<Grades>,
     grade: &Option<Text>,
     diagram: &Diagram,
 ) -> Result<Sheet, Stop>
-    ensures { Reads (λ sheet. sheet) (at place refusals.Sheet (sheet_by grades.now grade.now diagram.now)) result }
+    ensures { ReadsAs (λ sheet. sheet) (at place refusals.Sheet (sheet_by grades.now grade.now diagram.now)) result }
 {
     match sheet_by(alloc, grades, grade, diagram) {
         Ok(sheet) => Ok(sheet),
@@ -188,7 +188,7 @@ fn sheet_by(
     grade: &Option<Text>,
     diagram: &Diagram,
 ) -> Result<Sheet, SheetFault>
-    ensures { Gives is_memory (λ sheet. sheet) result (sheet_by grades.now grade.now diagram.now) }
+    ensures { AgreesWith is_memory (λ sheet. sheet) result (sheet_by grades.now grade.now diagram.now) }
 {
     match grades {
         None => read_sheet(alloc, diagram),
@@ -207,8 +207,8 @@ fn text_of(text: &Option<Text>) -> Option<&str>
 }
 
 /// The sheet that a tree draws in version 1.
-pub fn read_plain_sheet(alloc: Global, place: Place, tree: &Value) -> Result<Sheet, Stop>
-    ensures { Reads (λ sheet. sheet) (plain_sheet_at place (view tree.now)) result }
+pub fn read_plain_sheet(alloc: Global, place: RefusalPlace, tree: &Value) -> Result<Sheet, Stop>
+    ensures { ReadsAs (λ sheet. sheet) (plain_sheet_at place (view tree.now)) result }
 {
     let diagram = match read_diagram(alloc, tree) {
         Ok(diagram) => diagram,

@@ -11,7 +11,7 @@ ghost use Rattle.edits.specs.EditsFile.{is_memory as is_edits_memory};
 ghost use Rattle.reading.specs.Step.{stop_of};
 ghost use Rattle.reading.specs.declared.stop.Stop.TheVariants.{NoMemory};
 
-use crate::place::Place;
+use crate::place::RefusalPlace;
 use crate::refusal::Refusal;
 use compose::JoinFault;
 use edits::EditsFault;
@@ -26,9 +26,9 @@ use wavejson::DiagramFault;
 #[derive(Clone, Copy, Debug, PartialEq, Eq)]
 pub enum Stop {
     /// The first refusal, and its place.
-    Refused(Place, Refusal),
+    Refused(RefusalPlace, Refusal),
     /// The fetch of the file at a place failed.
-    ReadFault(Place),
+    ReadFault(RefusalPlace),
     NoMemory,
 }
 
@@ -49,7 +49,7 @@ impl From<OutOfMemory> for Stop {
 }
 
 /// By a fault of a diagram.
-pub fn diagram_stop(place: Place, fault: DiagramFault) -> Stop
+pub fn diagram_stop(place: RefusalPlace, fault: DiagramFault) -> Stop
     ensures { result ≡ stop_of is_diagram_memory Refusal.Diagram place fault }
 {
     match fault {
@@ -59,7 +59,7 @@ pub fn diagram_stop(place: Place, fault: DiagramFault) -> Stop
 }
 
 /// By a fault of the speed grades of a file.
-pub fn grades_stop(place: Place, fault: GradesFault) -> Stop
+pub fn grades_stop(place: RefusalPlace, fault: GradesFault) -> Stop
     ensures { result ≡ stop_of is_grades_memory Refusal.Grades place fault }
 {
     match fault {
@@ -69,7 +69,7 @@ pub fn grades_stop(place: Place, fault: GradesFault) -> Stop
 }
 
 /// By a fault of a sheet.
-pub fn sheet_stop(place: Place, fault: SheetFault) -> Stop
+pub fn sheet_stop(place: RefusalPlace, fault: SheetFault) -> Stop
     ensures { result ≡ stop_of is_sheet_memory Refusal.Sheet place fault }
 {
     match fault {
@@ -79,7 +79,7 @@ pub fn sheet_stop(place: Place, fault: SheetFault) -> Stop
 }
 
 /// By a fault of a netlist.
-pub fn netlist_stop(place: Place, fault: NetlistFault) -> Stop
+pub fn netlist_stop(place: RefusalPlace, fault: NetlistFault) -> Stop
     ensures { result ≡ stop_of is_netlist_memory Refusal.Netlist place fault }
 {
     match fault {
@@ -89,7 +89,7 @@ pub fn netlist_stop(place: Place, fault: NetlistFault) -> Stop
 }
 
 /// By a fault of the joins of a design.
-pub fn join_stop(place: Place, fault: JoinFault) -> Stop
+pub fn join_stop(place: RefusalPlace, fault: JoinFault) -> Stop
     ensures { result ≡ stop_of is_join_memory Refusal.Joins place fault }
 {
     match fault {
@@ -99,7 +99,7 @@ pub fn join_stop(place: Place, fault: JoinFault) -> Stop
 }
 
 /// By a limit that is passed.
-pub fn limit_stop(place: Place, fault: UnrollFault) -> Stop
+pub fn limit_stop(place: RefusalPlace, fault: UnrollFault) -> Stop
     ensures { result ≡ stop_of is_limit_memory Refusal.Limits place fault }
 {
     match fault {
@@ -109,7 +109,7 @@ pub fn limit_stop(place: Place, fault: UnrollFault) -> Stop
 }
 
 /// By a fault of a file of edits.
-pub fn edits_stop(place: Place, fault: EditsFault) -> Stop
+pub fn edits_stop(place: RefusalPlace, fault: EditsFault) -> Stop
     ensures stop { result ≡ stop_of is_edits_memory Refusal.Edits place fault }
 {
     match fault {

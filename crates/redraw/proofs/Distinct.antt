@@ -3,10 +3,10 @@ use Rattle.std.proofs.Common.{◌≡◌, ◌+◌, ◌<◌, ◌==◌, ◌⊎◌, 
 use Rattle.std.proofs.lemmas.Bool.{eqb-false}
 use Rattle.std.specs.List.{range_with_len}
 use Rattle.itv_base.specs.declared.names.EventId.{EventId}
-use Rattle.redraw.specs.declared.stand.Stand.{Stand}
+use Rattle.redraw.specs.declared.stand.DrawnEvent.{DrawnEvent}
 use Rattle.redraw.specs.declared.stand.Timed.{Timed}
 use Rattle.redraw.specs.declared.stand.TheConstants.{MOST_DRAWN}
-use Rattle.redraw.specs.Order.{drawn_events, event, in_rank, is_other, ordered, timed_at, with_timed}
+use Rattle.redraw.specs.Order.{drawn_events, event, in_rank, is_other, ordered_events, timed_at, with_timed}
 use Rattle.redraw.specs.Drawing.{first_stand, next_stand, number_in, stands_after, stands_of}
 use Rattle.redraw.proofs.Ordered.{AreNumbered, Every, every_take, every_with}
 
@@ -113,7 +113,7 @@ across_none : (xs : List Timed) → AreAcross [] xs
 across_none [] = tt
 across_none (x ∷ xs) = (tt, across_none xs)
 
-pub ordered_apart : (from to : EventId) (n : ℕ) (times : List ℤ) → AllApart (ordered from to n times)
+pub ordered_apart : (from to : EventId) (n : ℕ) (times : List ℤ) → AllApart (ordered_events from to n times)
 ordered_apart from to n times =
     fold_apart [] (map (timed_at times) (drawn_events from to n)) tt (timed_apart times (drawn_events from to n) (drawn_apart from to n))
     (across_none (map (timed_at times) (drawn_events from to n)))
@@ -141,7 +141,7 @@ has_fold e done (x ∷ xs) (inl h) = has_fold e (with_timed done x) xs (inl (has
 has_fold e done (x ∷ xs) (inr (inl is)) = has_fold e (with_timed done x) xs (inl (has_with e done x (inl is)))
 has_fold e done (x ∷ xs) (inr (inr h)) = has_fold e (with_timed done x) xs (inr h)
 
-pub has_from : (from to : EventId) (n : ℕ) (times : List ℤ) → Has from (ordered from to n times)
+pub has_from : (from to : EventId) (n : ℕ) (times : List ℤ) → Has from (ordered_events from to n times)
 unfolding drawn_events
 has_from from to n times = has_fold from [] (map (timed_at times) (drawn_events from to n)) (inr (inl refl))
 
@@ -150,14 +150,14 @@ has_second : (from to : EventId) (t : Bool) (rest : List EventId) (times : List 
 has_second from to true rest times e = inl (sym (eqb-true to.0 from.0 e))
 has_second from to false rest times e = inr (inl refl)
 
-pub has_to : (from to : EventId) (n : ℕ) (times : List ℤ) → Has to (ordered from to n times)
+pub has_to : (from to : EventId) (n : ℕ) (times : List ℤ) → Has to (ordered_events from to n times)
 unfolding drawn_events
 has_to from to n times =
     has_fold to [] (map (timed_at times) (drawn_events from to n)) (inr (has_second from to (to.0 == from.0) (filtered (is_other from to) 0 n) times refl))
 
 -- ---- numbers
 
-pub numbered_after : (last : Timed) (before : Stand) (xs : List Timed) → AreNumbered (before.number + 1) (stands_after last before xs)
+pub numbered_after : (last : Timed) (before : DrawnEvent) (xs : List Timed) → AreNumbered (before.number + 1) (stands_after last before xs)
 numbered_after last before [] = tt
 numbered_after last before (x ∷ xs) = (refl, numbered_after x (next_stand last before x) xs)
 
@@ -165,7 +165,7 @@ pub numbered_stands : (xs : List Timed) → AreNumbered 0 (stands_of xs)
 numbered_stands [] = tt
 numbered_stands (x ∷ xs) = (refl, numbered_after x (first_stand x) xs)
 
-number_after : (e : EventId) (last : Timed) (before : Stand) (xs : List Timed) → Has e xs
+number_after : (e : EventId) (last : Timed) (before : DrawnEvent) (xs : List Timed) → Has e xs
     → number_in (stands_after last before xs) e < (before.number + 1) + length xs
 number_after e last before [] h = absurd h
 number_after e last before (x ∷ xs) h = by_test (x.event.0 == e.0) refl (λ k. number_after e x (next_stand last before x) xs k) where

@@ -7,10 +7,10 @@ use Rattle.event_graph.specs.Times.{separation, time_of}
 use Rattle.falling.proofs.Near.{IsKept, below_or_not}
 use Rattle.drawn.specs.declared.row.Row.{Row}
 use Rattle.drawn.specs.Drawn.{Drawn, IsRowOf}
-use Rattle.redraw.specs.declared.stand.Stand.{Stand}
+use Rattle.redraw.specs.declared.stand.DrawnEvent.{DrawnEvent}
 use Rattle.redraw.specs.declared.stand.Timed.{Timed}
 use Rattle.redraw.specs.Narrowing.{lesser, narrowed, widest_gap}
-use Rattle.redraw.specs.Order.{drawn_events, ordered, timed_at}
+use Rattle.redraw.specs.Order.{drawn_events, ordered_events, timed_at}
 use Rattle.redraw.specs.Drawing.{first_stand, next_stand, nowhere, row_stands, stands_after, stands_drawn, stands_of, time_in}
 use Rattle.redraw.specs.Laws.{DrawnStayAbove, DrawnStayBelow}
 use Rattle.redraw.specs.Step.{AreInOrder, Follow}
@@ -74,7 +74,7 @@ IsDrawnAs old new = IsDrawnBy widest_gap old new
 up_of : (a b : ℤ) → a ≤ℤ b → pos 0 ≤ℤ (b -ℤ a)
 up_of a b h = omega (arith, ints)
 
-next_drawn : (last : Timed) (before : Stand) (x : Timed) → last.time ≤ℤ x.time → IsDrawnAs (x.time -ℤ last.time) ((next_stand last before x).time -ℤ before.time)
+next_drawn : (last : Timed) (before : DrawnEvent) (x : Timed) → last.time ≤ℤ x.time → IsDrawnAs (x.time -ℤ last.time) ((next_stand last before x).time -ℤ before.time)
 next_drawn last before x le =
     same_drawn widest_gap (x.time -ℤ last.time) (x.time -ℤ last.time) (lesser (x.time -ℤ last.time) (pos widest_gap)) _ refl
     (behind before.time (lesser (x.time -ℤ last.time) (pos widest_gap))) (drawn_as widest_gap (x.time -ℤ last.time) (up_of last.time x.time le)) where
@@ -82,7 +82,7 @@ next_drawn last before x le =
       behind t g = omega (arith, ints)
 
 -- from the event before to one behind it
-later_drawn : (e : EventId) (last : Timed) (before : Stand) (xs : List Timed) → Follow last xs → Has e xs
+later_drawn : (e : EventId) (last : Timed) (before : DrawnEvent) (xs : List Timed) → Follow last xs → Has e xs
     → IsDrawnAs (timed_in xs e -ℤ last.time) (time_in (stands_after last before xs) e -ℤ before.time)
 later_drawn e last before [] follow h = absurd h
 later_drawn e last before (x ∷ xs) follow h =
@@ -110,7 +110,7 @@ none_between a b = same_drawn widest_gap (pos 0) (a -ℤ a) (pos 0) (b -ℤ b) (
   zero_of : (z : ℤ) → pos 0 ≡ (z -ℤ z)
   zero_of z = omega (arith, ints)
 
-pair_at : (a b : EventId) (x : Timed) (s : Stand) (xs : List Timed) → s.event ≡ x.event → Follow x xs → (x.event.0 ≡ a.0) ⊎ Has a xs → (x.event.0 ≡ b.0) ⊎ Has b xs
+pair_at : (a b : EventId) (x : Timed) (s : DrawnEvent) (xs : List Timed) → s.event ≡ x.event → Follow x xs → (x.event.0 ≡ a.0) ⊎ Has a xs → (x.event.0 ≡ b.0) ⊎ Has b xs
     → (Has a xs → Has b xs → AreDrawn (timed_in xs a) (timed_in xs b) (time_in (stands_after x s xs) a) (time_in (stands_after x s xs) b))
     → AreDrawn (timed_in (x ∷ xs) a) (timed_in (x ∷ xs) b) (time_in (s ∷ stands_after x s xs) a) (time_in (s ∷ stands_after x s xs) b)
 pair_at a b x s xs same follow in_a in_b both =
@@ -131,7 +131,7 @@ pair_at a b x s xs same follow in_a in_b both =
       by_tests false true e f = inr (later_drawn a x s xs follow (behind a e in_a))
       by_tests false false e f = both (behind a e in_a) (behind b f in_b)
 
-pair_after : (a b : EventId) (last : Timed) (before : Stand) (xs : List Timed) → Follow last xs → Has a xs → Has b xs
+pair_after : (a b : EventId) (last : Timed) (before : DrawnEvent) (xs : List Timed) → Follow last xs → Has a xs → Has b xs
     → AreDrawn (timed_in xs a) (timed_in xs b) (time_in (stands_after last before xs) a) (time_in (stands_after last before xs) b)
 pair_after a b last before [] follow in_a in_b = absurd in_a
 pair_after a b last before (x ∷ xs) follow in_a in_b =
@@ -175,30 +175,30 @@ each_at : (times : List ℤ) (es : List EventId) → Every (IsAtTime times) (map
 each_at times [] = tt
 each_at times (e ∷ es) = (refl, each_at times es)
 
-both_kept : (from to a b : EventId) (n : ℕ) (times : List ℤ) → Has a (ordered from to n times) → Has b (ordered from to n times)
-    → IsKept widest_gap (separation times a b) (time_in (stands_of (ordered from to n times)) b -ℤ time_in (stands_of (ordered from to n times)) a)
-    × IsKept widest_gap (separation times b a) (time_in (stands_of (ordered from to n times)) a -ℤ time_in (stands_of (ordered from to n times)) b)
+both_kept : (from to a b : EventId) (n : ℕ) (times : List ℤ) → Has a (ordered_events from to n times) → Has b (ordered_events from to n times)
+    → IsKept widest_gap (separation times a b) (time_in (stands_of (ordered_events from to n times)) b -ℤ time_in (stands_of (ordered_events from to n times)) a)
+    × IsKept widest_gap (separation times b a) (time_in (stands_of (ordered_events from to n times)) a -ℤ time_in (stands_of (ordered_events from to n times)) b)
 both_kept from to a b n times in_a in_b =
     let at = every_in_order (IsAtTime times) (map (timed_at times) (drawn_events from to n)) (each_at times (drawn_events from to n)) in
-    let at_a : timed_in (ordered from to n times) a ≡ time_of times a = time_found times a (ordered from to n times) at in_a in
-    let at_b : timed_in (ordered from to n times) b ≡ time_of times b = time_found times b (ordered from to n times) at in_b in
-    kept_both (time_of times a) (time_of times b) (time_in (stands_of (ordered from to n times)) a) (time_in (stands_of (ordered from to n times)) b)
-    (subst (λ z. AreDrawn (time_of times a) z (time_in (stands_of (ordered from to n times)) a) (time_in (stands_of (ordered from to n times)) b)) at_b
-    (subst (λ z. AreDrawn z (timed_in (ordered from to n times) b) (time_in (stands_of (ordered from to n times)) a) (time_in (stands_of (ordered from to n times)) b)) at_a
-    (pair_drawn a b (ordered from to n times) (sorted_in_order (map (timed_at times) (drawn_events from to n))) in_a in_b)))
+    let at_a : timed_in (ordered_events from to n times) a ≡ time_of times a = time_found times a (ordered_events from to n times) at in_a in
+    let at_b : timed_in (ordered_events from to n times) b ≡ time_of times b = time_found times b (ordered_events from to n times) at in_b in
+    kept_both (time_of times a) (time_of times b) (time_in (stands_of (ordered_events from to n times)) a) (time_in (stands_of (ordered_events from to n times)) b)
+    (subst (λ z. AreDrawn (time_of times a) z (time_in (stands_of (ordered_events from to n times)) a) (time_in (stands_of (ordered_events from to n times)) b)) at_b
+    (subst (λ z. AreDrawn z (timed_in (ordered_events from to n times) b) (time_in (stands_of (ordered_events from to n times)) a) (time_in (stands_of (ordered_events from to n times)) b)) at_a
+    (pair_drawn a b (ordered_events from to n times) (sorted_in_order (map (timed_at times) (drawn_events from to n))) in_a in_b)))
 
 -- the separation of two events that are drawn
-pub any_kept : (from to a b : EventId) (n : ℕ) (times : List ℤ) → Has a (ordered from to n times) → Has b (ordered from to n times)
-    → IsKept widest_gap (separation times a b) (time_in (stands_of (ordered from to n times)) b -ℤ time_in (stands_of (ordered from to n times)) a)
+pub any_kept : (from to a b : EventId) (n : ℕ) (times : List ℤ) → Has a (ordered_events from to n times) → Has b (ordered_events from to n times)
+    → IsKept widest_gap (separation times a b) (time_in (stands_of (ordered_events from to n times)) b -ℤ time_in (stands_of (ordered_events from to n times)) a)
 any_kept from to a b n times in_a in_b = (both_kept from to a b n times in_a in_b).0
 
 row_kept : (from to : EventId) (n : ℕ) (times : List ℤ)
-    → IsKept widest_gap (separation times from to) (time_in (stands_of (ordered from to n times)) to -ℤ time_in (stands_of (ordered from to n times)) from)
-    × IsKept widest_gap (separation times to from) (time_in (stands_of (ordered from to n times)) from -ℤ time_in (stands_of (ordered from to n times)) to)
+    → IsKept widest_gap (separation times from to) (time_in (stands_of (ordered_events from to n times)) to -ℤ time_in (stands_of (ordered_events from to n times)) from)
+    × IsKept widest_gap (separation times to from) (time_in (stands_of (ordered_events from to n times)) from -ℤ time_in (stands_of (ordered_events from to n times)) to)
 row_kept from to n times = both_kept from to from to n times (has_from from to n times) (has_to from to n times)
 
 pub stands_same : (drawn : Drawn) (row : ℕ) (asked : Row) (times : List ℤ) → slice_get drawn.rows row ≡ Some asked → length times ≡ drawn.net.events → IsRowOf drawn.net asked
-    → stands_drawn drawn row times ≡ stands_of (ordered asked.from asked.to (length times) times)
+    → stands_drawn drawn row times ≡ stands_of (ordered_events asked.from asked.to (length times) times)
 stands_same drawn row asked times there count within =
     ap (λ (r : Row). row_stands drawn.net.events r (narrowed widest_gap times)) (ap (λ o. unwrap_or o nowhere) there)
     ∙ at_row drawn asked times count within.0 within.1
@@ -207,10 +207,10 @@ pub drawn_stay_above : DrawnStayAbove
 drawn_stay_above drawn row asked times high there within count inner h =
     let kept = row_kept asked.from asked.to (length times) times in
     rw (stands_same drawn row asked times there count within)
-    (stays_above widest_gap (time_of times asked.from) (time_of times asked.to) (time_in (stands_of (ordered asked.from asked.to (length times) times)) asked.from) (time_in (stands_of (ordered asked.from asked.to (length times) times)) asked.to) high inner.0 inner.1 kept.0 kept.1 h)
+    (stays_above widest_gap (time_of times asked.from) (time_of times asked.to) (time_in (stands_of (ordered_events asked.from asked.to (length times) times)) asked.from) (time_in (stands_of (ordered_events asked.from asked.to (length times) times)) asked.to) high inner.0 inner.1 kept.0 kept.1 h)
 
 pub drawn_stay_below : DrawnStayBelow
 drawn_stay_below drawn row asked times low there within count inner h =
     let kept = row_kept asked.from asked.to (length times) times in
     rw (stands_same drawn row asked times there count within)
-    (stays_below widest_gap (time_of times asked.from) (time_of times asked.to) (time_in (stands_of (ordered asked.from asked.to (length times) times)) asked.from) (time_in (stands_of (ordered asked.from asked.to (length times) times)) asked.to) low inner.0 inner.1 kept.0 kept.1 h)
+    (stays_below widest_gap (time_of times asked.from) (time_of times asked.to) (time_in (stands_of (ordered_events asked.from asked.to (length times) times)) asked.from) (time_in (stands_of (ordered_events asked.from asked.to (length times) times)) asked.to) low inner.0 inner.1 kept.0 kept.1 h)

@@ -8,10 +8,10 @@ use Rattle.itv_base.specs.declared.names.EventId.{EventId}
 use Rattle.event_graph.specs.Times.{separation, time_of}
 use Rattle.falling.specs.Cap.{widest_end}
 use Rattle.falling.proofs.Near.{IsKept, KeepsNear, satisfies_kept}
-use Rattle.redraw.specs.declared.stand.Stand.{Stand}
+use Rattle.redraw.specs.declared.stand.DrawnEvent.{DrawnEvent}
 use Rattle.redraw.specs.declared.stand.TheConstants.{MOST_DRAWN}
 use Rattle.redraw.specs.Narrowing.{widest_gap}
-use Rattle.redraw.specs.Order.{drawn_events, event, in_rank, is_other, ordered, timed_at}
+use Rattle.redraw.specs.Order.{drawn_events, event, in_rank, is_other, ordered_events, timed_at}
 use Rattle.redraw.specs.Drawing.{stands_drawn, time_in}
 use Rattle.redraw.specs.Laws.{DrawnBelong, event_times}
 use Rattle.redraw.proofs.Distinct.{Has, has_fold}
@@ -119,7 +119,7 @@ has_timed times e [] h = absurd h
 has_timed times e (f ∷ fs) (inl same) = inl same
 has_timed times e (f ∷ fs) (inr h) = inr (has_timed times e fs h)
 
-has_each : (from to e : EventId) (n : ℕ) (times : List ℤ) → n ≤ MOST_DRAWN → from.0 < n → to.0 < n → e.0 < n → Has e (ordered from to n times)
+has_each : (from to e : EventId) (n : ℕ) (times : List ℤ) → n ≤ MOST_DRAWN → from.0 < n → to.0 < n → e.0 < n → Has e (ordered_events from to n times)
 unfolding drawn_events
 has_each from to e n times few in_from in_to within =
     let all : take MOST_DRAWN (in_rank from to n) ≡ in_rank from to n = take_all MOST_DRAWN (in_rank from to n) (omega (arith, rank_few from to n in_from in_to)) in
@@ -128,10 +128,10 @@ has_each from to e n times few in_from in_to within =
 
 -- ---- the drawn times, by event
 
-at_event : (n : ℕ) (ss : List Stand) (e : EventId) → e.0 < n → time_of (event_times n ss) e ≡ time_in ss e
+at_event : (n : ℕ) (ss : List DrawnEvent) (e : EventId) → e.0 < n → time_of (event_times n ss) e ≡ time_in ss e
 at_event n ss e within = get_or-map-range_with_len (λ (number : ℕ). time_in ss (event number)) 0 n e.0 e.0 (pos 0) within (omega arith)
 
-belong_at : (n : ℕ) (ss : List Stand) (times : List ℤ) (a b : EventId) → a.0 < n → b.0 < n → IsKept widest_gap (separation times a b) (time_in ss b -ℤ time_in ss a)
+belong_at : (n : ℕ) (ss : List DrawnEvent) (times : List ℤ) (a b : EventId) → a.0 < n → b.0 < n → IsKept widest_gap (separation times a b) (time_in ss b -ℤ time_in ss a)
     → IsKept widest_gap (separation times a b) (separation (event_times n ss) a b)
 belong_at n ss times a b in_a in_b h = rw (at_event n ss b in_b, at_event n ss a in_a) h
 

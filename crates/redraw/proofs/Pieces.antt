@@ -10,7 +10,7 @@ use Rattle.std.proofs.lemmas.List.Folds.{list_all-append}
 use Rattle.itv_base.specs.declared.names.EventId.{EventId}
 use Rattle.itv_base.specs.Names.{Name}
 use Rattle.itv_base.specs.Numerals.{end_text, number_text}
-use Rattle.itv_base.specs.Outside.{CutShort, Puts, SinkTold, grown}
+use Rattle.itv_base.specs.Outside.{CutShort, Puts, SinkView, grown}
 use Rattle.itv_base.specs.Range.{Ends}
 use Rattle.itv_base.proofs.Numbers.{digit_range}
 use Rattle.itv_base.proofs.Numerals.{digits-text}
@@ -18,7 +18,7 @@ use Rattle.itv_base.proofs.Written.{Left, cut_more, puts_same, puts_then}
 use Rattle.label_grammar.specs.declared.label.Kind.{Kind}
 use Rattle.label_grammar.specs.declared.label.Kind.TheVariants.{Lin, Late, Early, Req, Ask}
 use Rattle.label_grammar.specs.Label.{LooseLabel, ends_text, spelling, version_1}
-use Rattle.redraw.specs.declared.stand.Stand.{Stand}
+use Rattle.redraw.specs.declared.stand.DrawnEvent.{DrawnEvent}
 use Rattle.redraw.specs.declared.stand.TheConstants.{MOST_DRAWN}
 use Rattle.redraw.specs.Narrowing.{widest_gap}
 use Rattle.redraw.specs.Drawing.{Lane, demand_edge, edge_text, exactly, lane_of, mark_at, number_in, range_label, rising_lane, sketch_of, step_edge, step_edges, steps_of}
@@ -27,10 +27,10 @@ use Rattle.redraw.specs.Step.{AreNear, StandNear, edge_front, lane_end, lane_fro
 
 -- ---- two puts
 
-pub first_cut : (old new : SinkTold) (xs ys whole : List ℕ) → whole ≡ xs ++ ys → CutShort old new xs → CutShort old new whole
+pub first_cut : (old new : SinkView) (xs ys whole : List ℕ) → whole ≡ xs ++ ys → CutShort old new xs → CutShort old new whole
 first_cut old new xs ys whole e c = subst (λ w. CutShort old new w) (sym e) (cut_more old new xs ys c)
 
-pub both_put : {E : Type 0} (old mid new : SinkTold) (xs ys whole : List ℕ) (r : Result ⊤ E) → whole ≡ xs ++ ys → mid ≡ grown old xs → Puts mid new ys r → Puts old new whole r
+pub both_put : {E : Type 0} (old mid new : SinkView) (xs ys whole : List ℕ) (r : Result ⊤ E) → whole ≡ xs ++ ys → mid ≡ grown old xs → Puts mid new ys r → Puts old new whole r
 both_put old mid new xs ys whole r e g p = puts_same old new (xs ++ ys) whole r (sym e) (puts_then old mid new xs ys r g p)
 
 -- ---- bytes that stand as they are
@@ -174,7 +174,7 @@ edge_is from to kind ends =
 
 -- ---- lists of lanes and edges
 
-pub lanes_at : (lane : Stand → List ℕ) (stands : List Stand) (i : ℕ) (d : Stand) → i < length stands
+pub lanes_at : (lane : DrawnEvent → List ℕ) (stands : List DrawnEvent) (i : ℕ) (d : DrawnEvent) → i < length stands
     → after_commas (map lane (drop i stands)) ≡ (44 ∷ lane (get_or stands i d)) ++ after_commas (map lane (drop (i + 1) stands))
 lanes_at lane stands i d within = ap (λ l. after_commas (map lane l)) (drop_more stands i d within)
 
@@ -187,24 +187,24 @@ all_rest {X} P xs h = subst (λ l. All P l) (sym (rest_is xs)) (all_drop xs h) w
   all_drop [] h i d within = absurd (omega arith)
   all_drop (x ∷ xs) h i d within = h (suc i) d (omega arith)
 
-pub lanes_first : (lane : Stand → List ℕ) (stands : List Stand) (d : Stand) → 1 ≤ length stands
+pub lanes_first : (lane : DrawnEvent → List ℕ) (stands : List DrawnEvent) (d : DrawnEvent) → 1 ≤ length stands
     → with_commas (map lane stands) ≡ lane (get_or stands 0 d) ++ after_commas (map lane (take (length stands - 1) (drop 1 stands)))
 lanes_first lane [] d some = absurd (omega arith)
 lanes_first lane (s ∷ ss) d some = ap (λ l. lane s ++ after_commas (map lane l)) (sym (rest_is (s ∷ ss)))
 
-pub steps_at : (before : Stand) (stands : List Stand) (i : ℕ) (d : Stand) → i < length stands
+pub steps_at : (before : DrawnEvent) (stands : List DrawnEvent) (i : ℕ) (d : DrawnEvent) → i < length stands
     → steps_text (step_edges before (drop i stands)) ≡ (quoted (step_edge before (get_or stands i d)) ++ codes ",") ++ steps_text (step_edges (get_or stands i d) (drop (i + 1) stands))
 steps_at before stands i d within = ap (λ l. steps_text (step_edges before l)) (drop_more stands i d within)
 
-pub near_at : (before : Stand) (stands : List Stand) (i : ℕ) (d : Stand) → i < length stands → AreNear before (drop i stands)
+pub near_at : (before : DrawnEvent) (stands : List DrawnEvent) (i : ℕ) (d : DrawnEvent) → i < length stands → AreNear before (drop i stands)
     → (pos 0 ≤ℤ ((get_or stands i d).time -ℤ before.time)) × (((get_or stands i d).time -ℤ before.time) ≤ℤ pos widest_gap) × AreNear (get_or stands i d) (drop (i + 1) stands)
 near_at before stands i d within h = subst (λ l. AreNear before l) (drop_more stands i d within) h
 
-pub steps_first : (stands : List Stand) (d : Stand) → 1 ≤ length stands → steps_text (steps_of stands) ≡ steps_text (step_edges (get_or stands 0 d) (take (length stands - 1) (drop 1 stands)))
+pub steps_first : (stands : List DrawnEvent) (d : DrawnEvent) → 1 ≤ length stands → steps_text (steps_of stands) ≡ steps_text (step_edges (get_or stands 0 d) (take (length stands - 1) (drop 1 stands)))
 steps_first [] d some = absurd (omega arith)
 steps_first (s ∷ ss) d some = ap (λ l. steps_text (step_edges s l)) (sym (rest_is (s ∷ ss)))
 
-pub near_first : (stands : List Stand) (d : Stand) → 1 ≤ length stands → StandNear stands → AreNear (get_or stands 0 d) (take (length stands - 1) (drop 1 stands))
+pub near_first : (stands : List DrawnEvent) (d : DrawnEvent) → 1 ≤ length stands → StandNear stands → AreNear (get_or stands 0 d) (take (length stands - 1) (drop 1 stands))
 near_first [] d some h = absurd (omega arith)
 near_first (s ∷ ss) d some h = subst (λ l. AreNear s l) (sym (rest_is (s ∷ ss))) h
 
@@ -222,28 +222,28 @@ edges_are (e ∷ es) last =
       regroup : (a b c d : List ℕ) → a ++ (b ++ (c ++ d)) ≡ ((a ++ b) ++ c) ++ d
       regroup a b c d = simp append_assoc refl
 
-pub step_is : (before stand : Stand) (from to : ℕ) (range : Ends) → from ≡ mark_at before.number → to ≡ mark_at stand.number → range ≡ exactly (stand.time -ℤ before.time)
+pub step_is : (before stand : DrawnEvent) (from to : ℕ) (range : Ends) → from ≡ mark_at before.number → to ≡ mark_at stand.number → range ≡ exactly (stand.time -ℤ before.time)
     → quoted (step_edge before stand) ++ codes "," ≡ quoted (edge_text from to (range_label Lin range)) ++ codes ","
 step_is before stand from to range at_from at_to at_range =
     ap (λ f. quoted (edge_text f (mark_at stand.number) (range_label Lin (exactly (stand.time -ℤ before.time)))) ++ codes ",") (sym at_from)
     ∙ ap (λ t. quoted (edge_text from t (range_label Lin (exactly (stand.time -ℤ before.time)))) ++ codes ",") (sym at_to)
     ∙ ap (λ r. quoted (edge_text from to (range_label Lin r)) ++ codes ",") (sym at_range)
 
-pub demand_is : (stands : List Stand) (from to : EventId) (ends : Ends) (tail head from_mark to_mark : ℕ) → tail ≡ number_in stands from → head ≡ number_in stands to
+pub demand_is : (stands : List DrawnEvent) (from to : EventId) (ends : Ends) (tail head from_mark to_mark : ℕ) → tail ≡ number_in stands from → head ≡ number_in stands to
     → from_mark ≡ mark_at tail → to_mark ≡ mark_at head → quoted (edge_text from_mark to_mark (range_label Req ends)) ≡ quoted (demand_edge stands from to ends)
 demand_is stands from to ends tail head from_mark to_mark at_tail at_head at_from at_to =
     ap (λ m. quoted (edge_text m to_mark (range_label Req ends))) (at_from ∙ ap mark_at at_tail)
     ∙ ap (λ m. quoted (edge_text (mark_at (number_in stands from)) m (range_label Req ends))) (at_to ∙ ap mark_at at_head)
 
-pub number_at : (stands : List Stand) (i : ℕ) (d : Stand) (event : EventId) → i < length stands
+pub number_at : (stands : List DrawnEvent) (i : ℕ) (d : DrawnEvent) (event : EventId) → i < length stands
     → number_in (drop i stands) event ≡ (if (get_or stands i d).event.0 == event.0 then (get_or stands i d).number else number_in (drop (i + 1) stands) event)
 number_at stands i d event within = ap (λ l. number_in l event) (drop_more stands i d within)
 
-pub number_none : (stands : List Stand) (i : ℕ) (event : EventId) → length stands ≤ i → number_in (drop i stands) event ≡ 0
+pub number_none : (stands : List DrawnEvent) (i : ℕ) (event : EventId) → length stands ≤ i → number_in (drop i stands) event ≡ 0
 number_none stands i event h = ap (λ l. number_in l event) (drop_all i stands h)
 
 -- some edges are put, and the others follow an event
-pub record AreLeft (old now : SinkTold) (first before : Stand) (rest stands : List Stand) : Type 0 where
+pub record AreLeft (old now : SinkView) (first before : DrawnEvent) (rest stands : List DrawnEvent) : Type 0 where
   pub left : Left old now (steps_text (step_edges before rest)) (steps_text (step_edges first stands))
   pub near : AreNear before rest
   pub number : before.number < MOST_DRAWN
@@ -252,15 +252,15 @@ pub signal_is : (lanes rest edges : List ℕ) → codes "{\"signal\":[" ++ (lane
     ≡ (codes "{\"signal\":[" ++ lanes) ++ ((codes "],\"edge\":[" ++ edges) ++ codes "]}\n")
 signal_is lanes rest edges = simp append_assoc refl
 
-map_both : (lane : Stand → Lane) (stands : List Stand) → map lane_text (map lane stands) ≡ map (λ (s : Stand). lane_text (lane s)) stands
+map_both : (lane : DrawnEvent → Lane) (stands : List DrawnEvent) → map lane_text (map lane stands) ≡ map (λ (s : DrawnEvent). lane_text (lane s)) stands
 map_both lane [] = refl
 map_both lane (s ∷ ss) = ap (λ l. lane_text (lane s) ∷ l) (map_both lane ss)
 
-pub text_is : (name : EventId → Name) (from to : EventId) (ends : Ends) (stands : List Stand)
+pub text_is : (name : EventId → Name) (from to : EventId) (ends : Ends) (stands : List DrawnEvent)
     → sketch_text (sketch_of name from to ends stands)
-    ≡ (codes "{\"signal\":[" ++ with_commas (map (λ (s : Stand). lane_text (lane_of name s)) stands))
+    ≡ (codes "{\"signal\":[" ++ with_commas (map (λ (s : DrawnEvent). lane_text (lane_of name s)) stands))
     ++ ((codes "],\"edge\":[" ++ (steps_text (steps_of stands) ++ quoted (demand_edge stands from to ends))) ++ codes "]}\n")
 text_is name from to ends stands =
     ap (λ l. codes "{\"signal\":[" ++ (with_commas l ++ (codes "],\"edge\":[" ++ (with_commas (map quoted (steps_of stands ++ demand_edge stands from to ends ∷ [])) ++ codes "]}\n")))) (map_both (lane_of name) stands)
-    ∙ ap (λ l. codes "{\"signal\":[" ++ (with_commas (map (λ (s : Stand). lane_text (lane_of name s)) stands) ++ (codes "],\"edge\":[" ++ (l ++ codes "]}\n")))) (edges_are (steps_of stands) (demand_edge stands from to ends))
-    ∙ signal_is (with_commas (map (λ (s : Stand). lane_text (lane_of name s)) stands)) [] (steps_text (steps_of stands) ++ quoted (demand_edge stands from to ends))
+    ∙ ap (λ l. codes "{\"signal\":[" ++ (with_commas (map (λ (s : DrawnEvent). lane_text (lane_of name s)) stands) ++ (codes "],\"edge\":[" ++ (l ++ codes "]}\n")))) (edges_are (steps_of stands) (demand_edge stands from to ends))
+    ∙ signal_is (with_commas (map (λ (s : DrawnEvent). lane_text (lane_of name s)) stands)) [] (steps_text (steps_of stands) ++ quoted (demand_edge stands from to ends))

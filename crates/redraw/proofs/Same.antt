@@ -5,10 +5,10 @@ use Rattle.itv_base.specs.declared.names.EventId.{EventId}
 use Rattle.event_graph.specs.Times.{separation, time_of}
 use Rattle.falling.proofs.Near.{IsKept, KeepsNear, below_or_not, keeps_in}
 use Rattle.drawn.specs.declared.row.Row.{Row}
-use Rattle.redraw.specs.declared.stand.Stand.{Stand}
+use Rattle.redraw.specs.declared.stand.DrawnEvent.{DrawnEvent}
 use Rattle.redraw.specs.declared.stand.Timed.{Timed}
 use Rattle.redraw.specs.Narrowing.{lesser, narrowed, widest_gap}
-use Rattle.redraw.specs.Order.{drawn_events, in_order, ordered, timed_at, with_timed}
+use Rattle.redraw.specs.Order.{drawn_events, in_order, ordered_events, timed_at, with_timed}
 use Rattle.redraw.specs.Drawing.{next_stand, row_stands, stands_after, stands_of}
 use Rattle.redraw.specs.Step.{AreInOrder, Follow}
 use Rattle.redraw.proofs.Narrow.{keeps_narrowed}
@@ -114,16 +114,16 @@ gap_same n times others last x keeps at_last at_x le =
     lesser_same (x.time -ℤ last.time) ((moved_to others x).time -ℤ (moved_to others last).time) (up_of last.time x.time le)
     (rw (separation_at last x times at_last.1 at_x.1) (keeps last.event x.event at_last.0 at_x.0))
 
-abbrev next_by : Timed → Stand → Bool → ℤ → Stand
+abbrev next_by : Timed → DrawnEvent → Bool → ℤ → DrawnEvent
 next_by x before b g = record { event = x.event; number = before.number + 1; place = if b then before.place + 1 else before.place; time = before.time +ℤ g }
 
-next_same : (n : ℕ) (times others : List ℤ) (last : Timed) (before : Stand) (x : Timed) → KeepsNear widest_gap n times others → IsAt n times last → IsAt n times x
+next_same : (n : ℕ) (times others : List ℤ) (last : Timed) (before : DrawnEvent) (x : Timed) → KeepsNear widest_gap n times others → IsAt n times last → IsAt n times x
     → last.time ≤ℤ x.time → next_stand (moved_to others last) before (moved_to others x) ≡ next_stand last before x
 next_same n times others last before x keeps at_last at_x le =
     ap (λ b. next_by x before b (lesser ((moved_to others x).time -ℤ (moved_to others last).time) (pos widest_gap))) (later_same n times others last x keeps at_last at_x)
     ∙ ap (λ g. next_by x before (int_lt last.time x.time) g) (gap_same n times others last x keeps at_last at_x le)
 
-after_same : (n : ℕ) (times others : List ℤ) (last : Timed) (before : Stand) (xs : List Timed) → KeepsNear widest_gap n times others → IsAt n times last → Every (IsAt n times) xs
+after_same : (n : ℕ) (times others : List ℤ) (last : Timed) (before : DrawnEvent) (xs : List Timed) → KeepsNear widest_gap n times others → IsAt n times last → Every (IsAt n times) xs
     → Follow last xs → stands_after (moved_to others last) before (map (moved_to others) xs) ≡ stands_after last before xs
 after_same n times others last before [] keeps at_last h follow = refl
 after_same n times others last before (x ∷ xs) keeps at_last h follow =
@@ -145,7 +145,7 @@ every_at n times [] h = tt
 every_at n times (e ∷ es) h = ((h.0, refl), every_at n times es h.1)
 
 pair_same : (n : ℕ) (from to : EventId) (times others : List ℤ) → from.0 < n → to.0 < n → KeepsNear widest_gap n times others
-    → stands_of (ordered from to n others) ≡ stands_of (ordered from to n times)
+    → stands_of (ordered_events from to n others) ≡ stands_of (ordered_events from to n times)
 pair_same n from to times others in_from in_to keeps =
     let es : List EventId = drawn_events from to n in
     let at = every_at n times (drawn_events from to n) (every_drawn from to n in_from in_to) in

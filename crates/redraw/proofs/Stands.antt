@@ -3,7 +3,7 @@ use Rattle.std.proofs.Common.{◌≡◌, ◌+◌, ◌*◌, ◌<◌, ◌≤◌, �
 use Rattle.std.proofs.lemmas.Int.{ints}
 use Rattle.std.proofs.lemmas.List.{drop_all, drop_more, take_more_set}
 use Rattle.event_graph.specs.Times.{IsTime}
-use Rattle.redraw.specs.declared.stand.Stand.{Stand}
+use Rattle.redraw.specs.declared.stand.DrawnEvent.{DrawnEvent}
 use Rattle.redraw.specs.declared.stand.Timed.{Timed}
 use Rattle.redraw.specs.declared.stand.TheConstants.{MOST_DRAWN}
 use Rattle.redraw.specs.Narrowing.{lesser, widest_gap}
@@ -11,7 +11,7 @@ use Rattle.redraw.specs.Drawing.{first_stand, next_stand, stands_after, stands_o
 use Rattle.redraw.specs.Step.{AreInOrder, Follow}
 
 -- the first events stand, and the others are to follow the last of them
-pub record IsUp (timed : List Timed) (stands : List Stand) (k : ℕ) (last : Timed) (before : Stand) : Type 0 where
+pub record IsUp (timed : List Timed) (stands : List DrawnEvent) (k : ℕ) (last : Timed) (before : DrawnEvent) : Type 0 where
   pub room : length stands ≡ MOST_DRAWN
   pub least : 1 ≤ k
   pub most : k ≤ length timed
@@ -23,7 +23,7 @@ pub record IsUp (timed : List Timed) (stands : List Stand) (k : ℕ) (last : Tim
   pub low : pos 0 ≤ℤ before.time
   pub high : before.time ≤ℤ pos (k * widest_gap)
 
-pub up_first : (timed : List Timed) (stands : List Stand) (d : Timed) → 1 ≤ length timed → length stands ≡ MOST_DRAWN → AreInOrder timed
+pub up_first : (timed : List Timed) (stands : List DrawnEvent) (d : Timed) → 1 ≤ length timed → length stands ≡ MOST_DRAWN → AreInOrder timed
     → All (λ (x : Timed). IsTime x.time) timed → IsUp timed (set stands 0 (first_stand (get_or timed 0 d))) 1 (get_or timed 0 d) (first_stand (get_or timed 0 d))
 up_first [] stands d some room order small = absurd (omega arith)
 up_first (x ∷ xs) [] d some room order small = absurd (omega arith)
@@ -65,12 +65,12 @@ next_high time gap k width h g =
 next_low : (time gap : ℤ) → pos 0 ≤ℤ time → pos 0 ≤ℤ gap → pos 0 ≤ℤ (time +ℤ gap)
 next_low time gap h g = omega (arith, ints)
 
-pub up_next : (timed : List Timed) (stands : List Stand) (k : ℕ) (last d : Timed) (before : Stand) → k < length timed → length timed ≤ MOST_DRAWN
+pub up_next : (timed : List Timed) (stands : List DrawnEvent) (k : ℕ) (last d : Timed) (before : DrawnEvent) → k < length timed → length timed ≤ MOST_DRAWN
     → All (λ (x : Timed). IsTime x.time) timed → IsUp timed stands k last before
     → IsUp timed (set stands k (next_stand last before (get_or timed k d))) (k + 1) (get_or timed k d) (next_stand last before (get_or timed k d))
 up_next timed stands k last d before within few small up =
     let x : Timed = get_or timed k d in
-    let s : Stand = next_stand last before (get_or timed k d) in
+    let s : DrawnEvent = next_stand last before (get_or timed k d) in
     let at = order_at timed k last d within up.order in
     let gap = kept_gap last.time (get_or timed k d).time at.0 in
     let in_stands : k < length stands = omega (arith, up.room) in
@@ -93,7 +93,7 @@ up_next timed stands k last d before within few small up =
 pub up_high : (time : ℤ) (k : ℕ) → k ≤ MOST_DRAWN → time ≤ℤ pos (k * widest_gap) → time ≤ℤ pos (MOST_DRAWN * widest_gap)
 up_high time k few h = omega (arith, ints)
 
-pub up_all : (timed : List Timed) (stands : List Stand) (k : ℕ) (last : Timed) (before : Stand) → length timed ≤ k → IsUp timed stands k last before
+pub up_all : (timed : List Timed) (stands : List DrawnEvent) (k : ℕ) (last : Timed) (before : DrawnEvent) → length timed ≤ k → IsUp timed stands k last before
     → take (length timed) stands ≡ stands_of timed
 up_all timed stands k last before all up =
     let same : k ≡ length timed = omega (arith, up.most) in

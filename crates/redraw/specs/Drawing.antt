@@ -12,10 +12,10 @@ use Rattle.slack_report.specs.Text.{name_word}
 use Rattle.origin.specs.declared.origin.Origin.TheVariants.{Edge}
 use Rattle.drawn.specs.declared.row.Row.{Row}
 use Rattle.drawn.specs.Drawn.{Drawn, name_of}
-use Rattle.redraw.specs.declared.stand.Stand.{Stand}
+use Rattle.redraw.specs.declared.stand.DrawnEvent.{DrawnEvent}
 use Rattle.redraw.specs.declared.stand.Timed.{Timed}
 use Rattle.redraw.specs.Narrowing.{lesser, narrowed, widest_gap}
-use Rattle.redraw.specs.Order.{ordered}
+use Rattle.redraw.specs.Order.{ordered_events}
 
 -- the marks, in the order in which events get them: letters, digits, and then all other visible ASCII characters but the full stop
 abbrev pub marks : List ℕ
@@ -26,11 +26,11 @@ mark_at number = slice_index marks number
 
 -- ---- where events stand
 
-abbrev pub first_stand : Timed → Stand
+abbrev pub first_stand : Timed → DrawnEvent
 first_stand x = record { event = x.event; number = 0; place = 1; time = pos 0 }
 
 -- The event behind another one: one place on where it comes later, and no further in time than the greatest gap that is kept.
-abbrev pub next_stand : Timed → Stand → Timed → Stand
+abbrev pub next_stand : Timed → DrawnEvent → Timed → DrawnEvent
 next_stand last before x = record {
   event = x.event;
   number = before.number + 1;
@@ -38,26 +38,26 @@ next_stand last before x = record {
   time = before.time +ℤ lesser (x.time -ℤ last.time) (pos widest_gap);
 }
 
-abbrev pub stands_after : Timed → Stand → List Timed → List Stand
+abbrev pub stands_after : Timed → DrawnEvent → List Timed → List DrawnEvent
 stands_after last before [] = []
 stands_after last before (x ∷ xs) = next_stand last before x ∷ stands_after x (next_stand last before x) xs
 
 -- events in order of time, with where they stand
-abbrev pub stands_of : List Timed → List Stand
+abbrev pub stands_of : List Timed → List DrawnEvent
 stands_of [] = []
 stands_of (x ∷ xs) = first_stand x ∷ stands_after x (first_stand x) xs
 
 -- the drawn times in order
-abbrev pub drawn_times : List Stand → List ℤ
-drawn_times stands = map (λ (s : Stand). s.time) stands
+abbrev pub drawn_times : List DrawnEvent → List ℤ
+drawn_times stands = map (λ (s : DrawnEvent). s.time) stands
 
 -- the event's own number among those that stand
-abbrev pub number_in : List Stand → EventId → ℕ
+abbrev pub number_in : List DrawnEvent → EventId → ℕ
 number_in [] e = 0
 number_in (s ∷ ss) e = if s.event.0 == e.0 then s.number else number_in ss e
 
 -- the event's drawn time
-abbrev pub time_in : List Stand → EventId → ℤ
+abbrev pub time_in : List DrawnEvent → EventId → ℤ
 time_in [] e = pos 0
 time_in (s ∷ ss) e = if s.event.0 == e.0 then s.time else time_in ss e
 
@@ -76,7 +76,7 @@ rising_lane name place mark = record {
   node = replicate place 46 ++ mark ∷ [];
 }
 
-abbrev pub lane_of : (EventId → Name) → Stand → Lane
+abbrev pub lane_of : (EventId → Name) → DrawnEvent → Lane
 lane_of name s = rising_lane (name_word (name s.event)) s.place (mark_at s.number)
 
 abbrev pub range_label : Kind → Ends → LooseLabel Ends
@@ -90,27 +90,27 @@ abbrev pub exactly : ℤ → Ends
 exactly distance = record { low = Some distance; high = Some distance }
 
 -- the edge that keeps two events apart as they are drawn
-abbrev pub step_edge : Stand → Stand → List ℕ
+abbrev pub step_edge : DrawnEvent → DrawnEvent → List ℕ
 step_edge before s = edge_text (mark_at before.number) (mark_at s.number) (range_label Lin (exactly (s.time -ℤ before.time)))
 
 -- one for each two that stand next to each other
-abbrev pub step_edges : Stand → List Stand → List (List ℕ)
+abbrev pub step_edges : DrawnEvent → List DrawnEvent → List (List ℕ)
 step_edges before [] = []
 step_edges before (s ∷ ss) = step_edge before s ∷ step_edges s ss
 
-abbrev pub steps_of : List Stand → List (List ℕ)
+abbrev pub steps_of : List DrawnEvent → List (List ℕ)
 steps_of [] = []
 steps_of (s ∷ ss) = step_edges s ss
 
 -- what the row demands
-abbrev pub demand_edge : List Stand → EventId → EventId → Ends → List ℕ
+abbrev pub demand_edge : List DrawnEvent → EventId → EventId → Ends → List ℕ
 demand_edge stands from to ends = edge_text (mark_at (number_in stands from)) (mark_at (number_in stands to)) (range_label Req ends)
 
 pub record Sketch : Type 0 where
   pub lanes : List Lane
   pub edges : List (List ℕ)
 
-abbrev pub sketch_of : (EventId → Name) → EventId → EventId → Ends → List Stand → Sketch
+abbrev pub sketch_of : (EventId → Name) → EventId → EventId → Ends → List DrawnEvent → Sketch
 sketch_of name from to ends stands = record {
   lanes = map (lane_of name) stands;
   edges = steps_of stands ++ demand_edge stands from to ends ∷ [];
@@ -130,11 +130,11 @@ abbrev pub row_at : Drawn → ℕ → Row
 row_at drawn row = unwrap_or (slice_get drawn.rows row) nowhere
 
 -- where the drawn events of a row stand by some times
-abbrev pub row_stands : ℕ → Row → List ℤ → List Stand
-row_stands events row times = stands_of (ordered row.from row.to events times)
+abbrev pub row_stands : ℕ → Row → List ℤ → List DrawnEvent
+row_stands events row times = stands_of (ordered_events row.from row.to events times)
 
 -- where the drawn events of a row stand by the narrowed times
-abbrev pub stands_drawn : Drawn → ℕ → List ℤ → List Stand
+abbrev pub stands_drawn : Drawn → ℕ → List ℤ → List DrawnEvent
 stands_drawn drawn row times = row_stands drawn.net.events (row_at drawn row) (narrowed widest_gap times)
 
 -- the drawing of a row at some times

@@ -9,7 +9,7 @@ use Rattle.drawn.specs.declared.row.Row.{Row}
 use Rattle.drawn.specs.Drawn.{Drawn, IsRowOf, name_of, nameless}
 use Rattle.slack_report.specs.Entry.{IsName}
 use Rattle.slack_report.specs.Text.{name_word}
-use Rattle.redraw.specs.declared.stand.Stand.{Stand}
+use Rattle.redraw.specs.declared.stand.DrawnEvent.{DrawnEvent}
 use Rattle.redraw.specs.declared.stand.TheConstants.{MOST_DRAWN}
 use Rattle.redraw.specs.Drawing.{stands_drawn, time_in}
 use Rattle.redraw.specs.Narrowing.{HasGapsWithin, narrowed, widest_gap}
@@ -51,7 +51,7 @@ DrawnStayBelow = (drawn : Drawn) (row : ℕ) (asked : Row) (times : List ℤ) (l
     → (time_in (stands_drawn drawn row times) asked.to -ℤ time_in (stands_drawn drawn row times) asked.from) <ℤ low
 
 -- the drawn times of so many events, by event
-abbrev pub event_times : ℕ → List Stand → List ℤ
+abbrev pub event_times : ℕ → List DrawnEvent → List ℤ
 event_times events stands = map (λ (number : ℕ). time_in stands (event number)) (range_with_len 0 events)
 
 -- in a design of few enough events all are drawn, and the drawn times of satisfying times satisfy

@@ -5,7 +5,7 @@ use Rattle.itv_base.specs.declared.names.EventId.{EventId}
 use Rattle.itv_base.specs.Numerals.{number_text}
 use Rattle.itv_base.specs.declared.row_kind.RowKind.{RowKind}
 use Rattle.itv_base.specs.declared.row_kind.RowKind.TheVariants as asked
-use Rattle.redraw.specs.declared.stand.Stand.{Stand}
+use Rattle.redraw.specs.declared.stand.DrawnEvent.{DrawnEvent}
 use Rattle.redraw.specs.declared.stand.Timed.{Timed}
 use Rattle.redraw.specs.declared.stand.TheConstants.{MOST_DRAWN}
 use Rattle.redraw.specs.Narrowing.{widest_gap}
@@ -16,7 +16,7 @@ abbrev pub comes_by : Timed → Timed → Bool
 comes_by x y = not (int_lt x.time y.time)
 
 -- the first places hold the first of some events in order of time, as many as are drawn
-pub record Holds (times : List ℤ) (timed : List Timed) (count : ℕ) (events : List EventId) : Type 0 where
+pub record HoldsFirst (times : List ℤ) (timed : List Timed) (count : ℕ) (events : List EventId) : Type 0 where
   pub room : length timed ≡ MOST_DRAWN
   pub few : count ≡ min MOST_DRAWN (length events)
   pub items : take count timed ≡ in_order (map (timed_at times) (take MOST_DRAWN events))
@@ -35,18 +35,18 @@ AreInOrder (x ∷ xs) = Follow x xs
 -- ---- where events stand
 
 -- an event of so many at most, at a number that has a mark and a place
-pub record IsStand (events : ℕ) (s : Stand) : Type 0 where
+pub record IsStand (events : ℕ) (s : DrawnEvent) : Type 0 where
   pub event : s.event.0 < events
   pub number : s.number < MOST_DRAWN
   pub least : 1 ≤ s.place
   pub most : s.place ≤ MOST_DRAWN
 
 -- each stands behind the one before it by no more than the greatest gap that is kept
-abbrev pub AreNear : Stand → List Stand → Type 0
+abbrev pub AreNear : DrawnEvent → List DrawnEvent → Type 0
 AreNear before [] = Unit {0}
 AreNear before (s ∷ ss) = (pos 0 ≤ℤ (s.time -ℤ before.time)) × ((s.time -ℤ before.time) ≤ℤ pos widest_gap) × AreNear s ss
 
-abbrev pub StandNear : List Stand → Type 0
+abbrev pub StandNear : List DrawnEvent → Type 0
 StandNear [] = Unit {0}
 StandNear (s ∷ ss) = AreNear s ss
 

@@ -11,4 +11,4 @@ mod standing;
 mod write;
 
 pub use row::{DrawSpace, draw};
-pub use stand::{MOST_DRAWN, Stand, Timed};
+pub use stand::{DrawnEvent, MOST_DRAWN, Timed};

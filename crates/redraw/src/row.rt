@@ -6,13 +6,13 @@ ghost use Rattle.event_graph.specs.Times.{IsTime};
 ghost use Rattle.drawn.specs.declared.row.Row.{Row};
 ghost use Rattle.drawn.specs.Drawn.{name_of};
 ghost use Rattle.redraw.specs.Drawing.{demand_of, sketch_of, stands_of};
-ghost use Rattle.redraw.specs.Order.{ordered};
+ghost use Rattle.redraw.specs.Order.{ordered_events};
 ghost use Rattle.redraw.specs.Step.{IsDemand};
 ghost use Rattle.redraw.specs.Text.{redrawn, sketch_text};
 ghost use Rattle.redraw.specs.declared.stand.TheConstants.{MOST_DRAWN};
 
 use crate::order::order;
-use crate::stand::{MOST_DRAWN, Stand, Timed};
+use crate::stand::{DrawnEvent, MOST_DRAWN, Timed};
 use crate::standing::stand_up;
 use crate::write::put_sketch;
 use drawn::{DrawnNetwork, Row};
@@ -24,7 +24,7 @@ use std::marker::Model;
 #[derive(Debug, Drop)]
 pub struct DrawSpace {
     timed: Vec<Timed>,
-    stands: Vec<Stand>,
+    stands: Vec<DrawnEvent>,
 }
 
 impl Model for DrawSpace {
@@ -52,7 +52,7 @@ fn demand_of(kind: RowKind) -> Range
 // Lets the drawn events of a row stand, of so many events, and tells how many they are.
 fn place_all(
     timed: &mut [Timed],
-    stands: &mut [Stand],
+    stands: &mut [DrawnEvent],
     asked: &Row,
     events: u32,
     times: &[i64],
@@ -66,7 +66,7 @@ fn place_all(
     ensures timed { length timed.new ≡ MOST_DRAWN }
     ensures stands { length stands.new ≡ MOST_DRAWN }
     ensures count { result ≤ MOST_DRAWN }
-    ensures placed { take result stands.new ≡ stands_of (ordered asked.now.from asked.now.to (length times.now) times.now) }
+    ensures placed { take result stands.new ≡ stands_of (ordered_events asked.now.from asked.now.to (length times.now) times.now) }
 {
     let count = order(timed, asked.from, asked.to, events, times);
     stand_up(&timed[..count], stands);
@@ -80,7 +80,7 @@ fn draw_asked<K: Sink>(
     range: Range,
     times: &[i64],
     timed: &mut [Timed],
-    stands: &mut [Stand],
+    stands: &mut [DrawnEvent],
     sink: &mut K,
 ) -> Result<(), PutFailed>
     requires from { asked.now.from.0 < length times.now }
@@ -92,7 +92,7 @@ fn draw_asked<K: Sink>(
     ensures timed { length timed.new ≡ MOST_DRAWN }
     ensures stands { length stands.new ≡ MOST_DRAWN }
     ensures puts { Puts (K.told sink.old) (K.told sink.new) (sketch_text (sketch_of (name_of names.now) asked.now.from asked.now.to range
-        (stands_of (ordered asked.now.from asked.now.to (length times.now) times.now)))) result }
+        (stands_of (ordered_events asked.now.from asked.now.to (length times.now) times.now)))) result }
 {
     let count = place_all(timed, stands, asked, names.network().events(), times);
     put_sketch(names, &stands[..count], asked.from, asked.to, range, sink)
@@ -107,7 +107,7 @@ impl DrawSpace {
                 event: nothing,
                 time: 0
             }; MOST_DRAWN]?,
-            stands: vec![in alloc; Stand {
+            stands: vec![in alloc; DrawnEvent {
                 event: nothing,
                 number: 0,
                 place: 0,

@@ -15,7 +15,7 @@ pub struct Timed {
 /// An event with its number in the order of time from 0, the place at which its lane rises from 1, and its drawn time in
 /// picoseconds.
 #[derive(Clone, Copy, Debug, PartialEq, Eq)]
-pub struct Stand {
+pub struct DrawnEvent {
     pub event: EventId,
     pub number: u32,
     pub place: u32,

@@ -8,11 +8,11 @@ ghost use Rattle.redraw.specs.Step.{AreInOrder};
 ghost use Rattle.redraw.specs.declared.stand.Timed.{Timed};
 ghost use Rattle.redraw.specs.declared.stand.TheConstants.{MOST_DRAWN};
 
-use crate::stand::{Stand, Timed};
+use crate::stand::{DrawnEvent, Timed};
 use itv_base::END_LIMIT;
 
 /// Puts where events in order of time stand into the first places.
-pub fn stand_up(timed: &[Timed], stands: &mut [Stand])
+pub fn stand_up(timed: &[Timed], stands: &mut [DrawnEvent])
     requires some { 1 ≤ length timed.now }
     requires few { length timed.now ≤ MOST_DRAWN }
     requires room { length stands.old ≡ MOST_DRAWN }
@@ -32,10 +32,10 @@ pub fn stand_up(timed: &[Timed], stands: &mut [Stand])
     }
 }
 
-fn first_stand(item: Timed) -> Stand
+fn first_stand(item: Timed) -> DrawnEvent
     ensures { result ≡ first_stand item }
 {
-    Stand {
+    DrawnEvent {
         event: item.event,
         number: 0,
         place: 1,
@@ -43,7 +43,7 @@ fn first_stand(item: Timed) -> Stand
     }
 }
 
-fn next_stand(last: Timed, before: Stand, item: Timed) -> Stand
+fn next_stand(last: Timed, before: DrawnEvent, item: Timed) -> DrawnEvent
     requires last { IsTime last.time }
     requires item { IsTime item.time }
     requires order { last.time ≤ℤ item.time }
@@ -53,7 +53,7 @@ fn next_stand(last: Timed, before: Stand, item: Timed) -> Stand
     requires high { before.time ≤ℤ pos (MOST_DRAWN * widest_gap) }
     ensures { result ≡ next_stand last before item }
 {
-    Stand {
+    DrawnEvent {
         event: item.event,
         number: before.number + 1,
         place: next_place(before.place, last, item),

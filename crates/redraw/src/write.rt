@@ -12,10 +12,10 @@ ghost use Rattle.redraw.specs.Drawing.{demand_edge, edge_text, exactly, lane_of,
 ghost use Rattle.redraw.specs.Narrowing.{widest_gap};
 ghost use Rattle.redraw.specs.Step.{AreNear, IsStand, StandNear, edge_front, lane_end, lane_front, lane_wave, mark_and_cycle, steps_text};
 ghost use Rattle.redraw.specs.Text.{after_commas, escaped, escaped_byte, lane_text, quoted, sketch_text, with_commas};
-ghost use Rattle.redraw.specs.declared.stand.Stand.{Stand};
+ghost use Rattle.redraw.specs.declared.stand.DrawnEvent.{DrawnEvent};
 ghost use Rattle.redraw.specs.declared.stand.TheConstants.{MOST_DRAWN};
 
-use crate::stand::{MOST_DRAWN, Stand};
+use crate::stand::{DrawnEvent, MOST_DRAWN};
 use drawn::DrawnNetwork;
 use itoa::Buffer;
 use itv_base::{EventId, EventName, PutFailed, Range, Sink, number_text, put_all};
@@ -150,7 +150,7 @@ fn put_lane_back<K: Sink>(place: u32, mark: u8, sink: &mut K) -> Result<(), PutF
 }
 
 // The lane of an event.
-fn put_lane<K: Sink>(names: &DrawnNetwork, stand: Stand, sink: &mut K) -> Result<(), PutFailed>
+fn put_lane<K: Sink>(names: &DrawnNetwork, stand: DrawnEvent, sink: &mut K) -> Result<(), PutFailed>
     requires { IsStand names.now.net.events stand }
     ensures { Puts (K.told sink.old) (K.told sink.new) (lane_text (lane_of (name_of names.now) stand)) result }
 {
@@ -159,7 +159,11 @@ fn put_lane<K: Sink>(names: &DrawnNetwork, stand: Stand, sink: &mut K) -> Result
 }
 
 // A lane behind another one.
-fn put_next_lane<K: Sink>(names: &DrawnNetwork, stand: Stand, sink: &mut K) -> Result<(), PutFailed>
+fn put_next_lane<K: Sink>(
+    names: &DrawnNetwork,
+    stand: DrawnEvent,
+    sink: &mut K,
+) -> Result<(), PutFailed>
     requires { IsStand names.now.net.events stand }
     ensures { Puts (K.told sink.old) (K.told sink.new) (44 ∷ lane_text (lane_of (name_of names.now) stand)) result }
 {
@@ -223,8 +227,8 @@ fn put_edge<K: Sink>(
 }
 
 // The number of an event among those that stand.
-fn number_of(stands: &[Stand], event: EventId) -> u32
-    requires { All (λ (s : Stand). s.number < MOST_DRAWN) stands.now }
+fn number_of(stands: &[DrawnEvent], event: EventId) -> u32
+    requires { All (λ (s : DrawnEvent). s.number < MOST_DRAWN) stands.now }
     ensures number { result ≡ number_in stands.now event }
     ensures marked { result < MOST_DRAWN }
 {
@@ -239,11 +243,11 @@ fn number_of(stands: &[Stand], event: EventId) -> u32
 // The lanes behind the first.
 fn put_other_lanes<K: Sink>(
     names: &DrawnNetwork,
-    stands: &[Stand],
+    stands: &[DrawnEvent],
     sink: &mut K,
 ) -> Result<(), PutFailed>
     requires { All (IsStand names.now.net.events) stands.now }
-    ensures { Puts (K.told sink.old) (K.told sink.new) (after_commas (map (λ (s : Stand). lane_text (lane_of (name_of names.now) s)) stands.now)) result }
+    ensures { Puts (K.told sink.old) (K.told sink.new) (after_commas (map (λ (s : DrawnEvent). lane_text (lane_of (name_of names.now) s)) stands.now)) result }
 {
     for stand in stands {
         put_next_lane(names, *stand, sink)?;
@@ -252,17 +256,21 @@ fn put_other_lanes<K: Sink>(
 }
 
 // The lanes.
-fn put_lanes<K: Sink>(names: &DrawnNetwork, stands: &[Stand], sink: &mut K) -> Result<(), PutFailed>
+fn put_lanes<K: Sink>(
+    names: &DrawnNetwork,
+    stands: &[DrawnEvent],
+    sink: &mut K,
+) -> Result<(), PutFailed>
     requires some { 1 ≤ length stands.now }
     requires stand { All (IsStand names.now.net.events) stands.now }
-    ensures { Puts (K.told sink.old) (K.told sink.new) (with_commas (map (λ (s : Stand). lane_text (lane_of (name_of names.now) s)) stands.now)) result }
+    ensures { Puts (K.told sink.old) (K.told sink.new) (with_commas (map (λ (s : DrawnEvent). lane_text (lane_of (name_of names.now) s)) stands.now)) result }
 {
     put_lane(names, stands[0], sink)?;
     put_other_lanes(names, &stands[1..], sink)
 }
 
 // The range of how far an event is drawn behind another one.
-fn exactly_between(before: Stand, stand: Stand) -> Range
+fn exactly_between(before: DrawnEvent, stand: DrawnEvent) -> Range
     requires low { pos 0 ≤ℤ (stand.time -ℤ before.time) }
     requires high { (stand.time -ℤ before.time) ≤ℤ pos widest_gap }
     ensures range { result ≡ exactly (stand.time -ℤ before.time) }
@@ -276,7 +284,7 @@ fn exactly_between(before: Stand, stand: Stand) -> Range
 }
 
 // The edge that keeps two events apart, with a comma behind it.
-fn put_step<K: Sink>(before: Stand, stand: Stand, sink: &mut K) -> Result<(), PutFailed>
+fn put_step<K: Sink>(before: DrawnEvent, stand: DrawnEvent, sink: &mut K) -> Result<(), PutFailed>
     requires before { before.number < MOST_DRAWN }
     requires number { stand.number < MOST_DRAWN }
     requires low { pos 0 ≤ℤ (stand.time -ℤ before.time) }
@@ -291,9 +299,13 @@ fn put_step<K: Sink>(before: Stand, stand: Stand, sink: &mut K) -> Result<(), Pu
 }
 
 // The edges that keep the events behind one apart, each with a comma behind it.
-fn put_steps_after<K: Sink>(first: Stand, stands: &[Stand], sink: &mut K) -> Result<(), PutFailed>
+fn put_steps_after<K: Sink>(
+    first: DrawnEvent,
+    stands: &[DrawnEvent],
+    sink: &mut K,
+) -> Result<(), PutFailed>
     requires first { first.number < MOST_DRAWN }
-    requires numbers { All (λ (s : Stand). s.number < MOST_DRAWN) stands.now }
+    requires numbers { All (λ (s : DrawnEvent). s.number < MOST_DRAWN) stands.now }
     requires near { AreNear first stands.now }
     ensures { Puts (K.told sink.old) (K.told sink.new) (steps_text (step_edges first stands.now)) result }
 {
@@ -306,9 +318,9 @@ fn put_steps_after<K: Sink>(first: Stand, stands: &[Stand], sink: &mut K) -> Res
 }
 
 // The edges that keep all events apart, each with a comma behind it.
-fn put_steps<K: Sink>(stands: &[Stand], sink: &mut K) -> Result<(), PutFailed>
+fn put_steps<K: Sink>(stands: &[DrawnEvent], sink: &mut K) -> Result<(), PutFailed>
     requires some { 1 ≤ length stands.now }
-    requires numbers { All (λ (s : Stand). s.number < MOST_DRAWN) stands.now }
+    requires numbers { All (λ (s : DrawnEvent). s.number < MOST_DRAWN) stands.now }
     requires near { StandNear stands.now }
     ensures { Puts (K.told sink.old) (K.told sink.new) (steps_text (steps_of stands.now)) result }
 {
@@ -317,13 +329,13 @@ fn put_steps<K: Sink>(stands: &[Stand], sink: &mut K) -> Result<(), PutFailed>
 
 // What the row demands.
 fn put_demand<K: Sink>(
-    stands: &[Stand],
+    stands: &[DrawnEvent],
     from: EventId,
     to: EventId,
     range: Range,
     sink: &mut K,
 ) -> Result<(), PutFailed>
-    requires numbers { All (λ (s : Stand). s.number < MOST_DRAWN) stands.now }
+    requires numbers { All (λ (s : DrawnEvent). s.number < MOST_DRAWN) stands.now }
     ensures { Puts (K.told sink.old) (K.told sink.new) (quoted (demand_edge stands.now from to range)) result }
 {
     let tail = number_of(stands, from);
@@ -336,13 +348,13 @@ fn put_demand<K: Sink>(
 // The list of lanes.
 fn put_signal<K: Sink>(
     names: &DrawnNetwork,
-    stands: &[Stand],
+    stands: &[DrawnEvent],
     sink: &mut K,
 ) -> Result<(), PutFailed>
     requires some { 1 ≤ length stands.now }
     requires stand { All (IsStand names.now.net.events) stands.now }
     ensures { Puts (K.told sink.old) (K.told sink.new) (codes "{\"signal\":["
-        ++ with_commas (map (λ (s : Stand). lane_text (lane_of (name_of names.now) s)) stands.now)) result }
+        ++ with_commas (map (λ (s : DrawnEvent). lane_text (lane_of (name_of names.now) s)) stands.now)) result }
 {
     sink.put(b"{\"signal\":[")?;
     put_lanes(names, stands, sink)
@@ -350,14 +362,14 @@ fn put_signal<K: Sink>(
 
 // All edges.
 fn put_edges<K: Sink>(
-    stands: &[Stand],
+    stands: &[DrawnEvent],
     from: EventId,
     to: EventId,
     range: Range,
     sink: &mut K,
 ) -> Result<(), PutFailed>
     requires some { 1 ≤ length stands.now }
-    requires numbers { All (λ (s : Stand). s.number < MOST_DRAWN) stands.now }
+    requires numbers { All (λ (s : DrawnEvent). s.number < MOST_DRAWN) stands.now }
     requires near { StandNear stands.now }
     ensures { Puts (K.told sink.old) (K.told sink.new)
         (steps_text (steps_of stands.now) ++ quoted (demand_edge stands.now from to range)) result }
@@ -368,14 +380,14 @@ fn put_edges<K: Sink>(
 
 // The list of edges, without its end.
 fn put_edge_list<K: Sink>(
-    stands: &[Stand],
+    stands: &[DrawnEvent],
     from: EventId,
     to: EventId,
     range: Range,
     sink: &mut K,
 ) -> Result<(), PutFailed>
     requires some { 1 ≤ length stands.now }
-    requires numbers { All (λ (s : Stand). s.number < MOST_DRAWN) stands.now }
+    requires numbers { All (λ (s : DrawnEvent). s.number < MOST_DRAWN) stands.now }
     requires near { StandNear stands.now }
     ensures { Puts (K.told sink.old) (K.told sink.new) (codes "],\"edge\":["
         ++ (steps_text (steps_of stands.now) ++ quoted (demand_edge stands.now from to range))) result }
@@ -386,14 +398,14 @@ fn put_edge_list<K: Sink>(
 
 // The list of edges, and the end of the drawing.
 fn put_tail<K: Sink>(
-    stands: &[Stand],
+    stands: &[DrawnEvent],
     from: EventId,
     to: EventId,
     range: Range,
     sink: &mut K,
 ) -> Result<(), PutFailed>
     requires some { 1 ≤ length stands.now }
-    requires numbers { All (λ (s : Stand). s.number < MOST_DRAWN) stands.now }
+    requires numbers { All (λ (s : DrawnEvent). s.number < MOST_DRAWN) stands.now }
     requires near { StandNear stands.now }
     ensures { Puts (K.told sink.old) (K.told sink.new) ((codes "],\"edge\":["
         ++ (steps_text (steps_of stands.now) ++ quoted (demand_edge stands.now from to range))) ++ codes "]}\n") result }
@@ -405,7 +417,7 @@ fn put_tail<K: Sink>(
 /// Writes the drawing of events that stand, with what a row demands of two of them.
 pub fn put_sketch<K: Sink>(
     names: &DrawnNetwork,
-    stands: &[Stand],
+    stands: &[DrawnEvent],
     from: EventId,
     to: EventId,
     range: Range,
@@ -413,7 +425,7 @@ pub fn put_sketch<K: Sink>(
 ) -> Result<(), PutFailed>
     requires some { 1 ≤ length stands.now }
     requires stand { All (IsStand names.now.net.events) stands.now }
-    requires numbers { All (λ (s : Stand). s.number < MOST_DRAWN) stands.now }
+    requires numbers { All (λ (s : DrawnEvent). s.number < MOST_DRAWN) stands.now }
     requires near { StandNear stands.now }
     ensures puts { Puts (K.told sink.old) (K.told sink.new)
         (sketch_text (sketch_of (name_of names.now) from to range stands.now)) result }

@@ -15,10 +15,10 @@ use Rattle.unroll.specs.Drawn.{drawn_of}
 use Rattle.slack_report.specs.Entry.{IsName}
 use Rattle.reading.specs.Design.{design_at}
 use Rattle.reading.specs.Opening.{ready, told_end}
-use Rattle.redraw.specs.declared.stand.Stand.{Stand}
+use Rattle.redraw.specs.declared.stand.DrawnEvent.{DrawnEvent}
 use Rattle.redraw.specs.declared.stand.Timed.{Timed}
 use Rattle.redraw.specs.Drawing.{demand_of, drawn_times, sketch_of, stands_of}
-use Rattle.redraw.specs.Order.{ordered}
+use Rattle.redraw.specs.Order.{ordered_events}
 use Rattle.redraw.specs.Text.{redrawn, sketch_text}
 use Rattle.redraw.proofs.Farther.{stands_same}
 use Rattle.redraw.proofs.Rows.{redrawn_is}
@@ -35,18 +35,18 @@ use Rattle.redraw_design.proofs.Lone.{chain_choices, design_drawn, net_is, rows_
 -- ---- what is read
 
 -- the design that stands
-abbrev again_of : (EventId → Name) → EventId → EventId → Ends → List Stand → Drawn
+abbrev again_of : (EventId → Name) → EventId → EventId → Ends → List DrawnEvent → Drawn
 again_of name from to ends ss = drawn_of (design_drawn (sheet_drawn name from to ends ss))
 
-redrawn_as : (name : EventId → Name) (from to : EventId) (ends : Ends) (ss : List Stand) → IsDrawable name from to ends ss → IsRedrawn ss from to ends (again_of name from to ends ss)
+redrawn_as : (name : EventId → Name) (from to : EventId) (ends : Ends) (ss : List DrawnEvent) → IsDrawable name from to ends ss → IsRedrawn ss from to ends (again_of name from to ends ss)
 redrawn_as name from to ends ss h = record {
   satisfied = λ times. subst (λ (net : Net). Satisfies times net ↔ ((by : ℤ) × (times ≡ shifted (drawn_times ss) by))) (sym (net_is name from to ends ss h.numbers))
-      (chain_satisfied (drawn_times ss) times (omega (arith, h.some, length-map ss (λ (s : Stand). s.time))));
+      (chain_satisfied (drawn_times ss) times (omega (arith, h.some, length-map ss (λ (s : DrawnEvent). s.time))));
   choices = ap (λ (net : Net). cause_choices net.constraints) (net_is name from to ends ss h.numbers) ∙ chain_choices (drawn_times ss);
   rows = rows_are name from to ends ss;
 }
 
-abbrev ReadsAgain : Files → List ℕ → List Stand → EventId → EventId → Ends → Type 0
+abbrev ReadsAgain : Files → List ℕ → List DrawnEvent → EventId → EventId → Ends → Type 0
 ReadsAgain files file ss from to ends = (again : Drawn) × (told_end files (design_at file) ≡ ready again) × IsRedrawn ss from to ends again
 
 pair_again : (drawn : Drawn) (from to : EventId) (ends : Ends) (xs : List Timed) (files : Files) (file : List ℕ) → length drawn.names ≡ drawn.net.events → All IsName drawn.names → IsRange ends
@@ -68,10 +68,10 @@ pub redrawn_is_read : RedrawnIsRead
 redrawn_is_read drawn row asked ends times files file at_row within demands range count named_count named differ there =
     let pair = pair_drawn drawn asked.from asked.to ends times within.0 within.1 differ range in
     let same = stands_same drawn row asked times at_row count within in
-    let at : ordered asked.from asked.to (length times) times ≡ ordered asked.from asked.to drawn.net.events times = ap (λ n. ordered asked.from asked.to n times) count in
-    let drawing : redrawn drawn row times ≡ sketch_text (sketch_of (name_of drawn) asked.from asked.to ends (stands_of (ordered asked.from asked.to drawn.net.events times))) =
+    let at : ordered_events asked.from asked.to (length times) times ≡ ordered_events asked.from asked.to drawn.net.events times = ap (λ n. ordered_events asked.from asked.to n times) count in
+    let drawing : redrawn drawn row times ≡ sketch_text (sketch_of (name_of drawn) asked.from asked.to ends (stands_of (ordered_events asked.from asked.to drawn.net.events times))) =
     redrawn_is drawn row asked times at_row count within.0 within.1
-    ∙ ap (λ kind. sketch_text (sketch_of (name_of drawn) asked.from asked.to (demand_of kind) (stands_of (ordered asked.from asked.to (length times) times)))) demands
+    ∙ ap (λ kind. sketch_text (sketch_of (name_of drawn) asked.from asked.to (demand_of kind) (stands_of (ordered_events asked.from asked.to (length times) times)))) demands
     ∙ ap (λ xs. sketch_text (sketch_of (name_of drawn) asked.from asked.to ends (stands_of xs))) at in
     subst (λ ss. ReadsAgain files file ss asked.from asked.to ends) (sym (same ∙ ap stands_of at))
-    (pair_again drawn asked.from asked.to ends (ordered asked.from asked.to drawn.net.events times) files file named_count named range pair (there ∙ ap (λ text. Some text) drawing))
+    (pair_again drawn asked.from asked.to ends (ordered_events asked.from asked.to drawn.net.events times) files file named_count named range pair (there ∙ ap (λ text. Some text) drawing))

@@ -17,9 +17,9 @@ use Rattle.drawn.specs.Drawn.{Drawn}
 use Rattle.unroll.specs.Drawn.{drawn_of}
 use Rattle.reading.specs.Design.{design_at, drawn_at, tree_at, tree_planned, with_sheet}
 use Rattle.reading.specs.Step.Lone.{plain_key}
-use Rattle.reading.specs.declared.place.Place.TheVariants.{File}
-use Rattle.reading.specs.Opening.{Opening, gives, ◌>>=◌, ready, told_end, unread, within_limit}
-use Rattle.redraw.specs.declared.stand.Stand.{Stand}
+use Rattle.reading.specs.declared.place.RefusalPlace.TheVariants.{File}
+use Rattle.reading.specs.Opening.{FileReading, gives, ◌>>=◌, ready, told_end, unread, within_limit}
+use Rattle.redraw.specs.declared.stand.DrawnEvent.{DrawnEvent}
 use Rattle.redraw.specs.Drawing.{Lane, sketch_of}
 use Rattle.redraw.proofs.Ordered.{Every}
 use Rattle.redraw_design.proofs.Lone.{design_drawn, design_is, unrolled_is}
@@ -29,17 +29,17 @@ use Rattle.redraw_read.proofs.Tree.{diagram_is, sketch_tree}
 -- ---- the tree
 
 -- what a tree draws
-abbrev pub tree_drawn : List ℕ → Data → Opening Drawn
+abbrev pub tree_drawn : List ℕ → Data → FileReading Drawn
 tree_drawn file tree = tree_planned file tree >>= (λ plan. drawn_at plan.netlist plan.sheets)
 
 -- what a drawn sheet draws
-sheet_gives : (name : EventId → Name) (from to : EventId) (ends : Ends) (ss : List Stand) (file : List ℕ) → IsDrawable name from to ends ss
+sheet_gives : (name : EventId → Name) (from to : EventId) (ends : Ends) (ss : List DrawnEvent) (file : List ℕ) → IsDrawable name from to ends ss
     → drawn_at (lone_netlist file) (with_sheet [] (plain_key file) (sheet_drawn name from to ends ss)) ≡ gives (drawn_of (design_drawn (sheet_drawn name from to ends ss)))
 unfolding drawn_at
 sheet_gives name from to ends ss file h =
     rw (same_key_itself (plain_key file), design_is file (sheet_drawn name from to ends ss), unrolled_is name from to ends ss h.numbers h.few) refl
 
-pub tree_gives : (name : EventId → Name) (from to : EventId) (ends : Ends) (ss : List Stand) (file : List ℕ) → IsDrawable name from to ends ss
+pub tree_gives : (name : EventId → Name) (from to : EventId) (ends : Ends) (ss : List DrawnEvent) (file : List ℕ) → IsDrawable name from to ends ss
     → Every (λ (lane : Lane). 0 < length lane.name) (sketch_of name from to ends ss).lanes
     → tree_drawn file (sketch_tree (sketch_of name from to ends ss)) ≡ gives (drawn_of (design_drawn (sheet_drawn name from to ends ss)))
 tree_gives name from to ends ss file h long =
@@ -51,7 +51,7 @@ not_long : (limit n : ℕ) → n ≤ limit → nat_lt limit n ≡ false
 not_long limit n h = search rules
 
 -- the reading behind the bytes of the file
-abbrev next_of : List ℕ → List ℕ → Opening Drawn
+abbrev next_of : List ℕ → List ℕ → FileReading Drawn
 next_of file bytes = ((within_limit (File 0) FILE_LIMIT bytes >>= (λ bytes. tree_at (File 0) bytes)) >>= (λ tree. tree_planned file tree)) >>= (λ plan. drawn_at plan.netlist plan.sheets)
 
 bytes_give : (files : Files) (file bytes : List ℕ) (tree : Data) (drawn : Drawn) → length bytes ≤ FILE_LIMIT → is_utf8 bytes ≡ true → read bytes ≡ Some tree

@@ -11,7 +11,7 @@ use Rattle.itv_base.specs.declared.row_kind.RowKind.TheVariants as asked
 use Rattle.origin.specs.declared.origin.Origin.TheVariants.{Edge}
 use Rattle.event_graph.specs.Edges.{cause_choices}
 use Rattle.event_graph.specs.Network.{Constraint, Net, linear, splittable_count}
-use Rattle.sheet.specs.Contents.{Contents}
+use Rattle.sheet.specs.Contents.{SheetContents}
 use Rattle.netlist.specs.Netlist.{lone_netlist}
 use Rattle.compose.specs.Compose.{composed_on}
 use Rattle.compose.specs.Design.{Composed}
@@ -21,7 +21,7 @@ use Rattle.unroll.specs.Cycle.{rule_behind}
 use Rattle.unroll.specs.Cycles.{constraint_in}
 use Rattle.unroll.specs.Drawn.{drawn_of}
 use Rattle.unroll.specs.Limits.{counts_by, first_passed, unrolled, within}
-use Rattle.redraw.specs.declared.stand.Stand.{Stand}
+use Rattle.redraw.specs.declared.stand.DrawnEvent.{DrawnEvent}
 use Rattle.redraw.specs.declared.stand.TheConstants.{MOST_DRAWN}
 use Rattle.redraw.specs.Drawing.{drawn_times, exactly, number_in}
 use Rattle.redraw.specs.Order.{event}
@@ -35,10 +35,10 @@ use Rattle.redraw_read.proofs.Sheets.{sheet_drawn}
 
 -- ---- the design
 
-abbrev pub design_drawn : Contents → Composed
+abbrev pub design_drawn : SheetContents → Composed
 design_drawn sheet = record { cycles = 1; parts = codes "U" ∷ []; sheets = sheet ∷ []; joins = []; rules = []; rows = [] }
 
-pub design_is : (file : List ℕ) (sheet : Contents) → composed_on (lone_netlist file) (sheet ∷ []) ≡ Ok (design_drawn sheet)
+pub design_is : (file : List ℕ) (sheet : SheetContents) → composed_on (lone_netlist file) (sheet ∷ []) ≡ Ok (design_drawn sheet)
 unfolding composed_on
 design_is file sheet = refl
 
@@ -48,18 +48,18 @@ first_cycle : (m k : ℕ) → 0 * m + (0 + k) ≡ k
 first_cycle m k = omega arith
 
 -- lane order comes from a cycle before, and there is none
-no_orders : (m k : ℕ) (ss : List Stand) → filter_map (constraint_in m 0) (map (rule_behind 0) (orders_from k ss)) ≡ []
+no_orders : (m k : ℕ) (ss : List DrawnEvent) → filter_map (constraint_in m 0) (map (rule_behind 0) (orders_from k ss)) ≡ []
 no_orders m k [] = refl
 no_orders m k (s ∷ ss) = no_orders m (k + 1) ss
 
 -- the constraint of a step
-stepped : (m n : ℕ) (before s : Stand) → s.number ≡ before.number + 1
+stepped : (m n : ℕ) (before s : DrawnEvent) → s.number ≡ before.number + 1
     → constraint_in m 0 (rule_behind 0 (lin_rule (read_of n (step_link before s)))) ≡ Some (linear (event before.number) (event (before.number + 1)) (exactly (s.time -ℤ before.time)))
 stepped m n before s e =
     ap (λ (from : ℕ). Some (linear (event from) (event (0 * m + (0 + s.number))) (exactly (s.time -ℤ before.time)))) (first_cycle m before.number)
     ∙ ap (λ (to : ℕ). Some (linear (event before.number) (event to) (exactly (s.time -ℤ before.time)))) (first_cycle m s.number ∙ e)
 
-chained : (m n : ℕ) (before : Stand) (ss : List Stand) → AreNumbered (before.number + 1) ss
+chained : (m n : ℕ) (before : DrawnEvent) (ss : List DrawnEvent) → AreNumbered (before.number + 1) ss
     → filter_map (constraint_in m 0) (map (rule_behind 0) (map lin_rule (read_from n (step_links before ss)))) ≡ chain_from before.number before.time (drawn_times ss)
 chained m n before [] h = refl
 chained m n before (s ∷ ss) h =
@@ -67,11 +67,11 @@ chained m n before (s ∷ ss) h =
     ∙ ap (λ l. linear (event before.number) (event (before.number + 1)) (exactly (s.time -ℤ before.time)) ∷ l)
     (chained m (n + 1) s ss (subst (λ k. AreNumbered (k + 1) ss) (sym h.0) h.1) ∙ ap (λ k. chain_from k s.time (drawn_times ss)) h.0)
 
-all_chained : (m : ℕ) (ss : List Stand) → AreNumbered 0 ss → filter_map (constraint_in m 0) (map (rule_behind 0) (map lin_rule (read_from 0 (links_by ss)))) ≡ chain (drawn_times ss)
+all_chained : (m : ℕ) (ss : List DrawnEvent) → AreNumbered 0 ss → filter_map (constraint_in m 0) (map (rule_behind 0) (map lin_rule (read_from 0 (links_by ss)))) ≡ chain (drawn_times ss)
 all_chained m [] h = refl
 all_chained m (s ∷ ss) h = chained m 0 s ss (subst (λ k. AreNumbered (k + 1) ss) (sym h.0) h.1) ∙ ap (λ k. chain_from k s.time (drawn_times ss)) h.0
 
-all_constraints : (m : ℕ) (ss : List Stand) → AreNumbered 0 ss
+all_constraints : (m : ℕ) (ss : List DrawnEvent) → AreNumbered 0 ss
     → filter_map (constraint_in m 0) ((map (rule_behind 0) (orders_from 0 ss ++ map lin_rule (read_from 0 (links_by ss))) ++ []) ++ []) ≡ chain (drawn_times ss)
 all_constraints m ss h =
     ap (filter_map (constraint_in m 0)) (append-nil (map (rule_behind 0) (orders_from 0 ss ++ map lin_rule (read_from 0 (links_by ss))) ++ []) ∙ append-nil (map (rule_behind 0) (orders_from 0 ss ++ map lin_rule (read_from 0 (links_by ss)))) ∙ map-append (rule_behind 0) (orders_from 0 ss) (map lin_rule (read_from 0 (links_by ss))))
@@ -79,14 +79,14 @@ all_constraints m ss h =
     ∙ ap (λ l. l ++ filter_map (constraint_in m 0) (map (rule_behind 0) (map lin_rule (read_from 0 (links_by ss))))) (no_orders m 0 ss)
     ∙ all_chained m ss h
 
-length-marked : (name : EventId → Name) (k : ℕ) (ss : List Stand) → length (marks_from name k ss) ≡ length (drawn_times ss)
+length-marked : (name : EventId → Name) (k : ℕ) (ss : List DrawnEvent) → length (marks_from name k ss) ≡ length (drawn_times ss)
 length-marked name k [] = refl
 length-marked name k (s ∷ ss) = ap suc (length-marked name (k + 1) ss)
 
 one_sheet : (n m : ℕ) → n ≡ m → 1 * (0 + n) ≡ m
 one_sheet n m e = omega (arith, e)
 
-pub net_is : (name : EventId → Name) (from to : EventId) (ends : Ends) (ss : List Stand) → AreNumbered 0 ss
+pub net_is : (name : EventId → Name) (from to : EventId) (ends : Ends) (ss : List DrawnEvent) → AreNumbered 0 ss
     → (drawn_of (design_drawn (sheet_drawn name from to ends ss))).net ≡ chain_net (drawn_times ss)
 net_is name from to ends ss h =
     ap (λ (n : ℕ). record { events = n; constraints = filter_map (constraint_in (0 + length (marks_from name 0 ss)) 0) ((map (rule_behind 0) (orders_from 0 ss ++ map lin_rule (read_from 0 (links_by ss))) ++ []) ++ []) })
@@ -100,7 +100,7 @@ row_between from to ends edge = record { kind = asked.Req ends; from = event fro
 row_of : (m from to : ℕ) (ends : Ends) (edge : ℕ) → row_between (0 * m + (0 + from)) (0 * m + (0 + to)) ends edge ≡ row_between from to ends edge
 row_of m from to ends edge = ap (λ n. row_between n (0 * m + (0 + to)) ends edge) (first_cycle m from) ∙ ap (λ n. row_between from n ends edge) (first_cycle m to)
 
-pub rows_are : (name : EventId → Name) (from to : EventId) (ends : Ends) (ss : List Stand)
+pub rows_are : (name : EventId → Name) (from to : EventId) (ends : Ends) (ss : List DrawnEvent)
     → (drawn_of (design_drawn (sheet_drawn name from to ends ss))).rows ≡ row_between (number_in ss from) (number_in ss to) ends (length ss - 1) ∷ []
 rows_are name from to ends ss = ap (λ r. r ∷ []) (row_of (0 + length (marks_from name 0 ss)) (number_in ss from) (number_in ss to) ends (length ss - 1))
 
@@ -147,11 +147,11 @@ within_limits drawn times asked net rows few =
     ∙ ap (λ (s : ℕ). first_passed (counts_by (length times) (length (chain times)) 1 s)) (chain_splits times)
     ∙ none_passed (length times) (length (chain times)) few (omega (arith, short_chain times, few))
 
-pub unrolled_is : (name : EventId → Name) (from to : EventId) (ends : Ends) (ss : List Stand) → AreNumbered 0 ss → length ss ≤ MOST_DRAWN
+pub unrolled_is : (name : EventId → Name) (from to : EventId) (ends : Ends) (ss : List DrawnEvent) → AreNumbered 0 ss → length ss ≤ MOST_DRAWN
     → unrolled (design_drawn (sheet_drawn name from to ends ss)) ≡ Ok (drawn_of (design_drawn (sheet_drawn name from to ends ss)))
 unfolding unrolled
 unrolled_is name from to ends ss numbered few =
     let drawn : Drawn = drawn_of (design_drawn (sheet_drawn name from to ends ss)) in
     ap (within (drawn_of (design_drawn (sheet_drawn name from to ends ss))))
     (within_limits (drawn_of (design_drawn (sheet_drawn name from to ends ss))) (drawn_times ss) (row_between (number_in ss from) (number_in ss to) ends (length ss - 1))
-    (net_is name from to ends ss numbered) (rows_are name from to ends ss) (omega (arith, few, length-map ss (λ (s : Stand). s.time))))
+    (net_is name from to ends ss numbered) (rows_are name from to ends ss) (omega (arith, few, length-map ss (λ (s : DrawnEvent). s.time))))

@@ -13,20 +13,20 @@ use Rattle.drawn.specs.Drawn.{Drawn, IsRowOf}
 use Rattle.slack_report.specs.Entry.{IsName}
 use Rattle.reading.specs.Design.{design_at}
 use Rattle.reading.specs.Opening.{ready, told_end}
-use Rattle.redraw.specs.declared.stand.Stand.{Stand}
+use Rattle.redraw.specs.declared.stand.DrawnEvent.{DrawnEvent}
 use Rattle.redraw.specs.Drawing.{drawn_times, number_in, stands_drawn}
 use Rattle.redraw.specs.Laws.{IsInnerHigh, IsInnerLow, NamesDiffer}
 use Rattle.redraw.specs.Order.{event}
 use Rattle.redraw.specs.Text.{redrawn}
 
 -- the row of the drawing of a pair, whose events are numbered in the order of time; the last edge draws it
-abbrev pub row_again : List Stand → EventId → EventId → Ends → Row
+abbrev pub row_again : List DrawnEvent → EventId → EventId → Ends → Row
 row_again stands from to ends =
     record { kind = Req ends; from = event (number_in stands from); to = event (number_in stands to); origin = Edge (length stands - 1) }
 
 -- What the drawing of a pair is read as: a network without choices that the drawn times satisfy in their order, and what they are plus
 -- one number, and no others; and one row that demands the range of the pair.
-pub record IsRedrawn (stands : List Stand) (from to : EventId) (ends : Ends) (again : Drawn) : Type 0 where
+pub record IsRedrawn (stands : List DrawnEvent) (from to : EventId) (ends : Ends) (again : Drawn) : Type 0 where
   pub satisfied : (times : List ℤ) → (Satisfies times again.net ↔ ((by : ℤ) × (times ≡ shifted (drawn_times stands) by)))
   pub choices : cause_choices again.net.constraints ≡ 1
   pub rows : again.rows ≡ row_again stands from to ends ∷ []
@@ -41,14 +41,14 @@ RedrawnIsRead =
     → (again : Drawn) × (told_end files (design_at file) ≡ ready again) × IsRedrawn (stands_drawn drawn row times) asked.from asked.to ends again
 
 -- a separation is past an end of a range that is not the widest that an end may be
-abbrev pub IsPast : Ends → ℤ → Type 0
-IsPast ends apart = IsSomeAnd ends.high (λ high. IsInnerHigh high × (high <ℤ apart)) ⊎ IsSomeAnd ends.low (λ low. IsInnerLow low × (apart <ℤ low))
+abbrev pub IsPastEnd : Ends → ℤ → Type 0
+IsPastEnd ends apart = IsSomeAnd ends.high (λ high. IsInnerHigh high × (high <ℤ apart)) ⊎ IsSomeAnd ends.low (λ low. IsInnerLow low × (apart <ℤ low))
 
 -- where the times that were drawn are past such an end of what the row demands, so are all times that satisfy what is read
 abbrev pub RedrawnBreaks : Type 0
 RedrawnBreaks =
     (drawn : Drawn) (row : ℕ) (asked : Row) (ends : Ends) (times : List ℤ) (again : Drawn)
-    → slice_get drawn.rows row ≡ Some asked → IsRowOf drawn.net asked → length times ≡ drawn.net.events → IsPast ends (separation times asked.from asked.to)
+    → slice_get drawn.rows row ≡ Some asked → IsRowOf drawn.net asked → length times ≡ drawn.net.events → IsPastEnd ends (separation times asked.from asked.to)
     → IsRedrawn (stands_drawn drawn row times) asked.from asked.to ends again
     → (others : List ℤ) → Satisfies others again.net
     → Allows ends (separation others (row_again (stands_drawn drawn row times) asked.from asked.to ends).from (row_again (stands_drawn drawn row times) asked.from asked.to ends).to) → ⊥

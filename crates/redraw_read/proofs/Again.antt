@@ -5,12 +5,12 @@ use Rattle.itv_base.specs.Range.{Ends, IsRange}
 use Rattle.itv_base.specs.declared.names.EventId.{EventId}
 use Rattle.drawn.specs.Drawn.{Drawn, name_of, nameless}
 use Rattle.slack_report.specs.Entry.{IsName}
-use Rattle.redraw.specs.declared.stand.Stand.{Stand}
+use Rattle.redraw.specs.declared.stand.DrawnEvent.{DrawnEvent}
 use Rattle.redraw.specs.declared.stand.Timed.{Timed}
 use Rattle.redraw.specs.declared.stand.TheConstants.{MOST_DRAWN}
 use Rattle.redraw_read.specs.Again.{IsSheetText, RedrawnIsSheet}
 use Rattle.redraw.specs.Drawing.{Lane, demand_of, lane_of, number_in, sketch_of, stands_drawn, stands_of}
-use Rattle.redraw.specs.Order.{drawn_events, ordered, timed_at}
+use Rattle.redraw.specs.Order.{drawn_events, ordered_events, timed_at}
 use Rattle.redraw.specs.Laws.{NamesDiffer}
 use Rattle.redraw.specs.Step.{IsStand, StandNear}
 use Rattle.redraw.specs.Text.{redrawn, sketch_text}
@@ -19,7 +19,7 @@ use Rattle.redraw_read.proofs.Drawable.{drawable}
 use Rattle.redraw.proofs.Farther.{stands_same}
 use Rattle.redraw_read.proofs.Marks.{IsFew}
 use Rattle.redraw_read.proofs.Read.{length-marks}
-use Rattle.redraw.proofs.Ordered.{Every, every_drawn, every_in_order, every_stand, every_weaker, length-ordered, length-stands, near_stands, some_drawn, sorted_in_order, timed_there}
+use Rattle.redraw.proofs.Ordered.{Every, every_drawn, every_in_order, every_stand, every_weaker, length-ordered_events, length-stands, near_stands, some_drawn, sorted_in_order, timed_there}
 use Rattle.redraw.proofs.Rows.{redrawn_is}
 use Rattle.redraw_read.proofs.Sheets.{IsDrawable, sheet_drawn, sheet_is}
 use Rattle.redraw_read.proofs.Short.{sketch_short}
@@ -35,12 +35,12 @@ named_at drawn e count named within = got drawn.names e.0 (omega arith) named wh
   got (n ∷ ns) zero h all = all 0 n (omega arith)
   got (n ∷ ns) (suc i) h all = got ns i (omega arith) (λ k d lt. all (suc k) d (omega arith))
 
-pub each_named : (drawn : Drawn) (ss : List Stand) → length drawn.names ≡ drawn.net.events → All IsName drawn.names → Every (IsStand drawn.net.events) ss
-    → Every (λ (s : Stand). IsName (name_of drawn s.event)) ss
+pub each_named : (drawn : Drawn) (ss : List DrawnEvent) → length drawn.names ≡ drawn.net.events → All IsName drawn.names → Every (IsStand drawn.net.events) ss
+    → Every (λ (s : DrawnEvent). IsName (name_of drawn s.event)) ss
 each_named drawn [] count named h = tt
 each_named drawn (s ∷ ss) count named h = (named_at drawn s.event count named h.0.event, each_named drawn ss count named h.1)
 
-pub each_long : (name : EventId → Name) (ss : List Stand) → Every (λ (lane : Lane). 0 < length lane.name) (map (lane_of name) ss)
+pub each_long : (name : EventId → Name) (ss : List DrawnEvent) → Every (λ (lane : Lane). 0 < length lane.name) (map (lane_of name) ss)
 each_long name [] = tt
 each_long name (s ∷ ss) = (long_enough (name s.event).part (name s.event).mark _, each_long name ss) where
   long_enough : (part : List ℕ) (mark : ℕ) (rest : List ℕ) → 0 < length (part ++ (46 ∷ mark ∷ rest))
@@ -57,24 +57,24 @@ pub record IsPairDrawn (drawn : Drawn) (from to : EventId) (ends : Ends) (xs : L
   pub in_to : number_in (stands_of xs) to < MOST_DRAWN
 
 pub pair_drawn : (drawn : Drawn) (from to : EventId) (ends : Ends) (times : List ℤ) → from.0 < drawn.net.events → to.0 < drawn.net.events → NamesDiffer drawn → IsRange ends
-    → IsPairDrawn drawn from to ends (ordered from to drawn.net.events times)
+    → IsPairDrawn drawn from to ends (ordered_events from to drawn.net.events times)
 pair_drawn drawn from to ends times in_from in_to differ range =
     let n : ℕ = drawn.net.events in
     let some = some_drawn from to drawn.net.events in
-    let long = length-ordered from to drawn.net.events times in
-    let least : 1 ≤ length (ordered from to drawn.net.events times) = omega (arith, some.0) in
-    let few : length (ordered from to drawn.net.events times) ≤ MOST_DRAWN = omega (arith, some.1) in
+    let long = length-ordered_events from to drawn.net.events times in
+    let least : 1 ≤ length (ordered_events from to drawn.net.events times) = omega (arith, some.0) in
+    let few : length (ordered_events from to drawn.net.events times) ≤ MOST_DRAWN = omega (arith, some.1) in
     let there = every_in_order (λ (x : Timed). x.event.0 < drawn.net.events) (map (timed_at times) (drawn_events from to drawn.net.events))
     (timed_there drawn.net.events times (drawn_events from to drawn.net.events) (every_drawn from to drawn.net.events in_from in_to)) in
-    let stand = every_stand drawn.net.events (ordered from to drawn.net.events times) few there in
-    let near = near_stands (ordered from to drawn.net.events times) (sorted_in_order (map (timed_at times) (drawn_events from to drawn.net.events))) in
+    let stand = every_stand drawn.net.events (ordered_events from to drawn.net.events times) few there in
+    let near = near_stands (ordered_events from to drawn.net.events times) (sorted_in_order (map (timed_at times) (drawn_events from to drawn.net.events))) in
     record {
-      drawable = drawable drawn.net.events (name_of drawn) from to ends times (ordered from to drawn.net.events times) refl least few (length-stands (ordered from to drawn.net.events times)) there
+      drawable = drawable drawn.net.events (name_of drawn) from to ends times (ordered_events from to drawn.net.events times) refl least few (length-stands (ordered_events from to drawn.net.events times)) there
           (every_weaker (IsStand drawn.net.events) IsFew _ (λ s h. h.number) stand) near differ range;
       stand = stand;
       near = near;
-      in_from = omega (arith, number_within from (ordered from to drawn.net.events times) (has_from from to drawn.net.events times));
-      in_to = omega (arith, number_within to (ordered from to drawn.net.events times) (has_to from to drawn.net.events times));
+      in_from = omega (arith, number_within from (ordered_events from to drawn.net.events times) (has_from from to drawn.net.events times));
+      in_to = omega (arith, number_within to (ordered_events from to drawn.net.events times) (has_to from to drawn.net.events times));
     }
 
 pub pair_read : (drawn : Drawn) (from to : EventId) (ends : Ends) (xs : List Timed) → length drawn.names ≡ drawn.net.events → All IsName drawn.names → IsRange ends
@@ -104,11 +104,11 @@ pub redrawn_is_sheet : RedrawnIsSheet
 redrawn_is_sheet drawn row asked ends times there within demands range count named_count named differ =
     let pair = pair_drawn drawn asked.from asked.to ends times within.0 within.1 differ range in
     let same = stands_same drawn row asked times there count within in
-    let at : ordered asked.from asked.to (length times) times ≡ ordered asked.from asked.to drawn.net.events times = ap (λ n. ordered asked.from asked.to n times) count in
-    let drawing : redrawn drawn row times ≡ sketch_text (sketch_of (name_of drawn) asked.from asked.to ends (stands_of (ordered asked.from asked.to drawn.net.events times))) =
+    let at : ordered_events asked.from asked.to (length times) times ≡ ordered_events asked.from asked.to drawn.net.events times = ap (λ n. ordered_events asked.from asked.to n times) count in
+    let drawing : redrawn drawn row times ≡ sketch_text (sketch_of (name_of drawn) asked.from asked.to ends (stands_of (ordered_events asked.from asked.to drawn.net.events times))) =
     redrawn_is drawn row asked times there count within.0 within.1
-    ∙ ap (λ kind. sketch_text (sketch_of (name_of drawn) asked.from asked.to (demand_of kind) (stands_of (ordered asked.from asked.to (length times) times)))) demands
+    ∙ ap (λ kind. sketch_text (sketch_of (name_of drawn) asked.from asked.to (demand_of kind) (stands_of (ordered_events asked.from asked.to (length times) times)))) demands
     ∙ ap (λ xs. sketch_text (sketch_of (name_of drawn) asked.from asked.to ends (stands_of xs))) at in
     subst (λ text. IsSheetText text (stands_drawn drawn row times) asked.from asked.to ends) (sym drawing)
-    (subst (λ ss. IsSheetText (sketch_text (sketch_of (name_of drawn) asked.from asked.to ends (stands_of (ordered asked.from asked.to drawn.net.events times)))) ss asked.from asked.to ends)
-    (sym (same ∙ ap stands_of at)) (pair_read drawn asked.from asked.to ends (ordered asked.from asked.to drawn.net.events times) named_count named range pair))
+    (subst (λ ss. IsSheetText (sketch_text (sketch_of (name_of drawn) asked.from asked.to ends (stands_of (ordered_events asked.from asked.to drawn.net.events times)))) ss asked.from asked.to ends)
+    (sym (same ∙ ap stands_of at)) (pair_read drawn asked.from asked.to ends (ordered_events asked.from asked.to drawn.net.events times) named_count named range pair))

@@ -14,12 +14,12 @@ use Rattle.label_grammar.specs.declared.label.Kind.TheVariants.{Lin, Req}
 use Rattle.label_grammar.specs.Label.{IsProper, is_ask, version_1}
 use Rattle.sheet.specs.Lanes.{first_repeated}
 use Rattle.slack_report.specs.Text.{name_word}
-use Rattle.redraw.specs.declared.stand.Stand.{Stand}
+use Rattle.redraw.specs.declared.stand.DrawnEvent.{DrawnEvent}
 use Rattle.redraw.specs.declared.stand.Timed.{Timed}
 use Rattle.redraw.specs.declared.stand.TheConstants.{MOST_DRAWN}
 use Rattle.redraw.specs.Narrowing.{widest_gap}
 use Rattle.redraw.specs.Drawing.{exactly, next_stand, number_in, range_label, stands_after, stands_of}
-use Rattle.redraw.specs.Order.{ordered}
+use Rattle.redraw.specs.Order.{ordered_events}
 use Rattle.redraw.specs.Step.{AreNear, StandNear}
 use Rattle.redraw.proofs.Distinct.{AllApart, TimedApart, has_from, has_to, number_within, numbered_stands, ordered_apart}
 use Rattle.redraw_read.proofs.Linked.{IsSound, demand_link, links_by, step_links}
@@ -61,7 +61,7 @@ exact_range d low high = ((omega (arith, ints), high), (omega (arith, ints), hig
 
 -- ---- links
 
-steps_sound : (name : EventId → Name) (all : List Stand) (before : Stand) (ss : List Stand) (k : ℕ) → AreNumbered 0 all → length all ≤ MOST_DRAWN → before.number ≡ k → AreNumbered (k + 1) ss
+steps_sound : (name : EventId → Name) (all : List DrawnEvent) (before : DrawnEvent) (ss : List DrawnEvent) (k : ℕ) → AreNumbered 0 all → length all ≤ MOST_DRAWN → before.number ≡ k → AreNumbered (k + 1) ss
     → (k + 1) + length ss ≤ length all → AreNear before ss → Every (IsSound (marks_from name 0 all)) (step_links before ss)
 steps_sound name all before [] k numbered few at h within near = tt
 steps_sound name all before (s ∷ ss) k numbered few at h within near =
@@ -79,11 +79,11 @@ steps_sound name all before (s ∷ ss) k numbered few at h within near =
       steps_sound name all s ss (k + 1) numbered few h.0 h.1 (omega arith) near.2,
     )
 
-links_sound : (name : EventId → Name) (all : List Stand) → AreNumbered 0 all → length all ≤ MOST_DRAWN → StandNear all → Every (IsSound (marks_from name 0 all)) (links_by all)
+links_sound : (name : EventId → Name) (all : List DrawnEvent) → AreNumbered 0 all → length all ≤ MOST_DRAWN → StandNear all → Every (IsSound (marks_from name 0 all)) (links_by all)
 links_sound name [] numbered few near = tt
 links_sound name (s ∷ ss) numbered few near = steps_sound name (s ∷ ss) s ss 0 numbered few numbered.0 numbered.1 (omega arith) near
 
-demand_sound : (name : EventId → Name) (all : List Stand) (from to : EventId) (ends : Ends) → AreNumbered 0 all → length all ≤ MOST_DRAWN → IsRange ends
+demand_sound : (name : EventId → Name) (all : List DrawnEvent) (from to : EventId) (ends : Ends) → AreNumbered 0 all → length all ≤ MOST_DRAWN → IsRange ends
     → number_in all from < length all → number_in all to < length all → IsSound (marks_from name 0 all) (demand_link all from to ends)
 demand_sound name all from to ends numbered few range in_from in_to = record {
   from = number_is name (number_in all from) all numbered few in_from;
@@ -124,7 +124,7 @@ fresh_more n name before x (y ∷ ys) differ here there apart fresh = (
   fresh_more n name before x ys differ here there.1 apart.1 fresh.1,
 )
 
-names_after : (n : ℕ) (name : EventId → Name) (before : List (List ℕ)) (last : Timed) (stand : Stand) (xs : List Timed) → NamesDiffer n name → Every (λ (y : Timed). y.event.0 < n) xs → AllApart xs
+names_after : (n : ℕ) (name : EventId → Name) (before : List (List ℕ)) (last : Timed) (stand : DrawnEvent) (xs : List Timed) → NamesDiffer n name → Every (λ (y : Timed). y.event.0 < n) xs → AllApart xs
     → Every (IsFresh name before) xs → first_repeated bytes_eq (λ (text : List ℕ). text) before (lane_names name (stands_after last stand xs)) ≡ None
 names_after n name before last stand [] differ there apart fresh = refl
 names_after n name before last stand (x ∷ xs) differ there apart fresh =
@@ -143,7 +143,7 @@ names_distinct n name (x ∷ xs) differ there apart =
 
 -- ---- the whole
 
-pub drawable : (n : ℕ) (name : EventId → Name) (from to : EventId) (ends : Ends) (times : List ℤ) (xs : List Timed) → xs ≡ ordered from to n times → 1 ≤ length xs → length xs ≤ MOST_DRAWN
+pub drawable : (n : ℕ) (name : EventId → Name) (from to : EventId) (ends : Ends) (times : List ℤ) (xs : List Timed) → xs ≡ ordered_events from to n times → 1 ≤ length xs → length xs ≤ MOST_DRAWN
     → length (stands_of xs) ≡ length xs → Every (λ (y : Timed). y.event.0 < n) xs → Every IsFew (stands_of xs) → StandNear (stands_of xs) → NamesDiffer n name → IsRange ends
     → IsDrawable name from to ends (stands_of xs)
 drawable n name from to ends times xs at some few count there marked near differ range =

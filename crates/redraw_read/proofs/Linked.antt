@@ -22,7 +22,7 @@ use Rattle.sheet.specs.declared.mark.Mark.{Mark}
 use Rattle.itv_base.specs.declared.row_kind.RowKind.TheVariants as asked
 use Rattle.sheet.specs.Links.{Link, joins, plain, link_of, link_rows, link_rules, number_of, rule_opened, source_of, with_edge}
 use Rattle.sheet.specs.Rule.{SheetRule}
-use Rattle.redraw.specs.declared.stand.Stand.{Stand}
+use Rattle.redraw.specs.declared.stand.DrawnEvent.{DrawnEvent}
 use Rattle.redraw.specs.declared.stand.TheConstants.{MOST_DRAWN}
 use Rattle.redraw.specs.Drawing.{demand_edge, edge_text, exactly, mark_at, number_in, range_label, step_edges, steps_of}
 use Rattle.redraw_read.proofs.Marks.{is_mark_at}
@@ -92,29 +92,29 @@ edges_read marks n done (link ∷ links) h =
 
 -- ---- the links of a drawing
 
-abbrev pub step_link : Stand → Stand → Link
+abbrev pub step_link : DrawnEvent → DrawnEvent → Link
 step_link before s = link_by before.number s.number Lin (exactly (s.time -ℤ before.time))
 
-abbrev pub step_links : Stand → List Stand → List Link
+abbrev pub step_links : DrawnEvent → List DrawnEvent → List Link
 step_links before [] = []
 step_links before (s ∷ ss) = step_link before s ∷ step_links s ss
 
-abbrev pub links_by : List Stand → List Link
+abbrev pub links_by : List DrawnEvent → List Link
 links_by [] = []
 links_by (s ∷ ss) = step_links s ss
 
-abbrev pub demand_link : List Stand → EventId → EventId → Ends → Link
+abbrev pub demand_link : List DrawnEvent → EventId → EventId → Ends → Link
 demand_link stands from to ends = link_by (number_in stands from) (number_in stands to) Req ends
 
-steps_linked : (before : Stand) (ss : List Stand) → step_edges before ss ≡ map link_text (step_links before ss)
+steps_linked : (before : DrawnEvent) (ss : List DrawnEvent) → step_edges before ss ≡ map link_text (step_links before ss)
 steps_linked before [] = refl
 steps_linked before (s ∷ ss) = ap (λ l. link_text (step_link before s) ∷ l) (steps_linked s ss)
 
-all_linked : (stands : List Stand) → steps_of stands ≡ map link_text (links_by stands)
+all_linked : (stands : List DrawnEvent) → steps_of stands ≡ map link_text (links_by stands)
 all_linked [] = refl
 all_linked (s ∷ ss) = steps_linked s ss
 
-pub edges_linked : (stands : List Stand) (from to : EventId) (ends : Ends)
+pub edges_linked : (stands : List DrawnEvent) (from to : EventId) (ends : Ends)
     → steps_of stands ++ demand_edge stands from to ends ∷ [] ≡ map link_text (links_by stands ++ demand_link stands from to ends ∷ [])
 edges_linked stands from to ends =
     ap (λ l. l ++ demand_edge stands from to ends ∷ []) (all_linked stands) ∙ sym (map-append link_text (links_by stands) (demand_link stands from to ends ∷ []))
@@ -124,24 +124,24 @@ edges_linked stands from to ends =
 abbrev pub lin_rule : Link → SheetRule
 lin_rule link = record { kind = rules.Lin; target = link.to; causes = source_of link ∷ [] }
 
-lin_rules : (all : List Link) (n : ℕ) (before : Stand) (ss : List Stand) (last : Link) → last.label.kind ≡ Req
+lin_rules : (all : List Link) (n : ℕ) (before : DrawnEvent) (ss : List DrawnEvent) (last : Link) → last.label.kind ≡ Req
     → filter_map (λ (at : ℕ × Link). rule_opened all (take at.0 all) at.1 at.1.label.kind) (enumerate_from n (read_from n (step_links before ss ++ last ∷ []))) ≡ map lin_rule (read_from n (step_links before ss))
 lin_rules all n before [] last e = rw e refl
 lin_rules all n before (s ∷ ss) last e = ap (λ l. lin_rule (read_of n (step_link before s)) ∷ l) (lin_rules all (n + 1) s ss last e)
 
-pub rules_linked : (stands : List Stand) (from to : EventId) (ends : Ends) → 1 ≤ length stands
+pub rules_linked : (stands : List DrawnEvent) (from to : EventId) (ends : Ends) → 1 ≤ length stands
     → link_rules (read_from 0 (links_by stands ++ demand_link stands from to ends ∷ [])) ≡ map lin_rule (read_from 0 (links_by stands))
 rules_linked [] from to ends some = absurd (omega arith)
 rules_linked (s ∷ ss) from to ends some =
     lin_rules (read_from 0 (step_links s ss ++ demand_link (s ∷ ss) from to ends ∷ [])) 0 s ss (demand_link (s ∷ ss) from to ends) refl
 
-steps_ask_nothing : (n : ℕ) (before : Stand) (ss : List Stand) (last : Link) → link_rows (read_from n (step_links before ss ++ last ∷ [])) ≡ link_rows (read_of (n + length ss) last ∷ [])
+steps_ask_nothing : (n : ℕ) (before : DrawnEvent) (ss : List DrawnEvent) (last : Link) → link_rows (read_from n (step_links before ss ++ last ∷ [])) ≡ link_rows (read_of (n + length ss) last ∷ [])
 steps_ask_nothing n before [] last = ap (λ k. link_rows (read_of k last ∷ [])) (sym (add-zero n))
 steps_ask_nothing n before (s ∷ ss) last =
     let same : (n + 1) + length ss ≡ n + length (s ∷ ss) = omega arith in
     steps_ask_nothing (n + 1) s ss last ∙ ap (λ k. link_rows (read_of k last ∷ [])) same
 
-pub rows_linked : (stands : List Stand) (from to : EventId) (ends : Ends) → 1 ≤ length stands
+pub rows_linked : (stands : List DrawnEvent) (from to : EventId) (ends : Ends) → 1 ≤ length stands
     → link_rows (read_from 0 (links_by stands ++ demand_link stands from to ends ∷ []))
     ≡ (record { kind = asked.Req ends; from = number_in stands from; to = number_in stands to; shift = 0; origin = Edge (length stands - 1) }) ∷ []
 rows_linked [] from to ends some = absurd (omega arith)

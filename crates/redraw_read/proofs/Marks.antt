@@ -10,7 +10,7 @@ use Rattle.sheet.specs.declared.mark.Mark.{Mark}
 use Rattle.sheet.specs.Lanes.{drawn_kind, has_bad_node, is_node_byte, lane_marks}
 use Rattle.sheet.specs.Lanes as sheets
 use Rattle.wavejson.specs.declared.lane_text.LaneText.{LaneText}
-use Rattle.redraw.specs.declared.stand.Stand.{Stand}
+use Rattle.redraw.specs.declared.stand.DrawnEvent.{DrawnEvent}
 use Rattle.redraw.specs.declared.stand.TheConstants.{MOST_DRAWN}
 use Rattle.redraw.specs.Drawing.{lane_of, mark_at}
 use Rattle.redraw.proofs.Ordered.{Every}
@@ -63,29 +63,29 @@ node_good (suc p) m h = node_good p m h
 
 -- ---- those of all lanes
 
-abbrev pub text_lane : (EventId → Name) → Stand → LaneText
+abbrev pub text_lane : (EventId → Name) → DrawnEvent → LaneText
 text_lane name s = drawn_lane (lane_of name s)
 
-abbrev pub mark_of : ℕ → LaneText → Stand → Mark
+abbrev pub mark_of : ℕ → LaneText → DrawnEvent → Mark
 mark_of k lane s = record { lane = k; place = s.place; name = mark_at s.number; kind = drawn_kind lane.wave s.place }
 
-abbrev pub marks_from : (EventId → Name) → ℕ → List Stand → List Mark
+abbrev pub marks_from : (EventId → Name) → ℕ → List DrawnEvent → List Mark
 marks_from name k [] = []
 marks_from name k (s ∷ ss) = mark_of k (text_lane name s) s ∷ marks_from name (k + 1) ss
 
-pub lane_mark : (name : EventId → Name) (k : ℕ) (s : Stand) → s.number < MOST_DRAWN → lane_marks (k, text_lane name s) ≡ mark_of k (text_lane name s) s ∷ []
+pub lane_mark : (name : EventId → Name) (k : ℕ) (s : DrawnEvent) → s.number < MOST_DRAWN → lane_marks (k, text_lane name s) ≡ mark_of k (text_lane name s) s ∷ []
 lane_mark name k s few = one_mark k 0 s.place s.place (mark_at s.number) (text_lane name s) (is_mark_at s.number few) (omega arith)
 
-abbrev pub IsFew : Stand → Type 0
+abbrev pub IsFew : DrawnEvent → Type 0
 IsFew s = s.number < MOST_DRAWN
 
-pub marks_are : (name : EventId → Name) (k : ℕ) (ss : List Stand) → Every IsFew ss → flat_map lane_marks (enumerate_from k (map (text_lane name) ss)) ≡ marks_from name k ss
+pub marks_are : (name : EventId → Name) (k : ℕ) (ss : List DrawnEvent) → Every IsFew ss → flat_map lane_marks (enumerate_from k (map (text_lane name) ss)) ≡ marks_from name k ss
 marks_are name k [] h = refl
 marks_are name k (s ∷ ss) h =
     ap (λ l. l ++ flat_map lane_marks (enumerate_from (k + 1) (map (text_lane name) ss))) (lane_mark name k s h.0)
     ∙ ap (λ l. mark_of k (text_lane name s) s ∷ l) (marks_are name (k + 1) ss h.1)
 
-pub none_bad : (name : EventId → Name) (ss : List Stand) → Every IsFew ss → Every (λ lane. has_bad_node lane ≡ false) (map (text_lane name) ss)
+pub none_bad : (name : EventId → Name) (ss : List DrawnEvent) → Every IsFew ss → Every (λ lane. has_bad_node lane ≡ false) (map (text_lane name) ss)
 none_bad name [] h = tt
 none_bad name (s ∷ ss) h = (ap not (node_good s.place (mark_at s.number) (is_mark_at s.number h.0)), none_bad name ss h.1)
 

@@ -8,11 +8,11 @@ use Rattle.itv_base.specs.declared.names.EventId.{EventId}
 use Rattle.origin.specs.declared.origin.Origin.TheVariants.{Lane}
 use Rattle.sheet.specs.declared.mark.Mark.{Mark}
 use Rattle.sheet.specs.declared.pin.Pin.{Pin}
-use Rattle.sheet.specs.Lanes.{Numbered, first_repeated, follows_rule, has_bad_node, lane_order, numbered_from, order_rules, pin_of}
+use Rattle.sheet.specs.Lanes.{NumberedLane, first_repeated, follows_rule, has_bad_node, lane_order, numbered_from, order_rules, pin_of}
 use Rattle.sheet.specs.Links.{number_of}
 use Rattle.sheet.specs.Rule.{SheetRule}
 use Rattle.sheet.specs.Sheet.{read_marks, read_pins}
-use Rattle.redraw.specs.declared.stand.Stand.{Stand}
+use Rattle.redraw.specs.declared.stand.DrawnEvent.{DrawnEvent}
 use Rattle.redraw.specs.declared.stand.TheConstants.{MOST_DRAWN}
 use Rattle.redraw.specs.Drawing.{mark_at}
 use Rattle.slack_report.specs.Text.{name_word}
@@ -22,7 +22,7 @@ use Rattle.redraw_read.proofs.Tree.{no_position}
 
 -- ---- marks
 
-unrepeated : (name : EventId → Name) (k j : ℕ) (ss : List Stand) → AreNumbered k ss → k + length ss ≤ MOST_DRAWN
+unrepeated : (name : EventId → Name) (k j : ℕ) (ss : List DrawnEvent) → AreNumbered k ss → k + length ss ≤ MOST_DRAWN
     → first_repeated nat_eq (λ (mark : Mark). mark.name) (map mark_at (range_with_len 0 k)) (marks_from name j ss) ≡ None
 unrepeated name k j [] h few = refl
 unrepeated name k j (s ∷ ss) h few =
@@ -33,7 +33,7 @@ unrepeated name k j (s ∷ ss) h few =
     rw fresh
     (ap (λ l. first_repeated nat_eq (λ (mark : Mark). mark.name) l (marks_from name (j + 1) ss)) more ∙ unrepeated name (k + 1) (j + 1) ss h.1 (omega arith))
 
-pub marks_read : (name : EventId → Name) (ss : List Stand) → AreNumbered 0 ss → length ss ≤ MOST_DRAWN → Every IsFew ss
+pub marks_read : (name : EventId → Name) (ss : List DrawnEvent) → AreNumbered 0 ss → length ss ≤ MOST_DRAWN → Every IsFew ss
     → read_marks (map (text_lane name) ss) ≡ Ok (marks_from name 0 ss)
 unfolding read_marks
 marks_read name ss numbered few h =
@@ -41,7 +41,7 @@ marks_read name ss numbered few h =
 
 -- ---- the mark of a number
 
-find_mark : (name : EventId → Name) (k j i : ℕ) (ss : List Stand) → AreNumbered k ss → k ≤ i → i < k + length ss → i < MOST_DRAWN
+find_mark : (name : EventId → Name) (k j i : ℕ) (ss : List DrawnEvent) → AreNumbered k ss → k ≤ i → i < k + length ss → i < MOST_DRAWN
     → position_or_len (λ (mark : Mark). mark.name == mark_at i) (marks_from name j ss) + k ≡ i
 find_mark name k j i [] h least most few = absurd (omega arith)
 find_mark name k j i (s ∷ ss) h least most few =
@@ -55,11 +55,11 @@ find_mark name k j i (s ∷ ss) h least most few =
           rw apart (omega arith)
     ]
 
-pub length-marks : (name : EventId → Name) (j : ℕ) (ss : List Stand) → length (marks_from name j ss) ≡ length ss
+pub length-marks : (name : EventId → Name) (j : ℕ) (ss : List DrawnEvent) → length (marks_from name j ss) ≡ length ss
 length-marks name j [] = refl
 length-marks name j (s ∷ ss) = ap suc (length-marks name (j + 1) ss)
 
-pub number_is : (name : EventId → Name) (i : ℕ) (ss : List Stand) → AreNumbered 0 ss → length ss ≤ MOST_DRAWN → i < length ss → number_of (marks_from name 0 ss) (mark_at i) ≡ Some i
+pub number_is : (name : EventId → Name) (i : ℕ) (ss : List DrawnEvent) → AreNumbered 0 ss → length ss ≤ MOST_DRAWN → i < length ss → number_of (marks_from name 0 ss) (mark_at i) ≡ Some i
 number_is name i ss numbered few within =
     let at : position_or_len (λ (mark : Mark). mark.name == mark_at i) (marks_from name 0 ss) ≡ i =
     omega (arith, find_mark name 0 0 i ss numbered (omega arith) (omega arith) (omega arith)) in
@@ -67,56 +67,56 @@ number_is name i ss numbered few within =
 
 -- ---- pins and the order on lanes
 
-abbrev numbered_lane : (EventId → Name) → ℕ → Stand → Numbered
+abbrev numbered_lane : (EventId → Name) → ℕ → DrawnEvent → NumberedLane
 numbered_lane name k s = record { number = k; lane = text_lane name s; first = k; count = 1 }
 
-abbrev numbers_from : (EventId → Name) → ℕ → List Stand → List Numbered
+abbrev numbers_from : (EventId → Name) → ℕ → List DrawnEvent → List NumberedLane
 numbers_from name k [] = []
 numbers_from name k (s ∷ ss) = numbered_lane name k s ∷ numbers_from name (k + 1) ss
 
-abbrev numbered_by : (EventId → Name) → ℕ → Stand → List Stand → ℕ → List Numbered
+abbrev numbered_by : (EventId → Name) → ℕ → DrawnEvent → List DrawnEvent → ℕ → List NumberedLane
 numbered_by name k s ss n = record { number = k; lane = text_lane name s; first = k; count = n } ∷ numbered_from (k + 1) (k + n) (map (text_lane name) ss)
 
-numbers_are : (name : EventId → Name) (k : ℕ) (ss : List Stand) → Every IsFew ss → numbered_from k k (map (text_lane name) ss) ≡ numbers_from name k ss
+numbers_are : (name : EventId → Name) (k : ℕ) (ss : List DrawnEvent) → Every IsFew ss → numbered_from k k (map (text_lane name) ss) ≡ numbers_from name k ss
 numbers_are name k [] h = refl
 numbers_are name k (s ∷ ss) h =
     ap (λ marks. numbered_by name k s ss (length marks)) (lane_mark name k s h.0) ∙ ap (λ l. numbered_lane name k s ∷ l) (numbers_are name (k + 1) ss h.1)
 
-abbrev pub pins_from : (EventId → Name) → ℕ → List Stand → List Pin
+abbrev pub pins_from : (EventId → Name) → ℕ → List DrawnEvent → List Pin
 pins_from name k [] = []
 pins_from name k (s ∷ ss) = record { lane = k; name = name_word (name s.event); first = k; count = 1 } ∷ pins_from name (k + 1) ss
 
-pins_named : (name : EventId → Name) (k : ℕ) (ss : List Stand) → filter_map pin_of (numbers_from name k ss) ≡ pins_from name k ss
+pins_named : (name : EventId → Name) (k : ℕ) (ss : List DrawnEvent) → filter_map pin_of (numbers_from name k ss) ≡ pins_from name k ss
 pins_named name k [] = refl
 pins_named name k (s ∷ ss) = ap (λ l. record { lane = k; name = name_word (name s.event); first = k; count = 1 } ∷ l) (pins_named name (k + 1) ss)
 
 -- the names of the lanes
-abbrev pub lane_names : (EventId → Name) → List Stand → List (List ℕ)
-lane_names name ss = map (λ (s : Stand). name_word (name s.event)) ss
+abbrev pub lane_names : (EventId → Name) → List DrawnEvent → List (List ℕ)
+lane_names name ss = map (λ (s : DrawnEvent). name_word (name s.event)) ss
 
 none_too : {X Y : Type 0} (t : Bool) (x : X) (y : Y) (a : Option X) (b : Option Y) → (if t then Some x else a) ≡ None → (a ≡ None → b ≡ None) → (if t then Some y else b) ≡ None
 none_too true x y a b h next = absurd (cc h)
 none_too false x y a b h next = next h
 
-pins_unrepeated : (name : EventId → Name) (k : ℕ) (before : List (List ℕ)) (ss : List Stand) → first_repeated bytes_eq (λ (text : List ℕ). text) before (lane_names name ss) ≡ None
+pins_unrepeated : (name : EventId → Name) (k : ℕ) (before : List (List ℕ)) (ss : List DrawnEvent) → first_repeated bytes_eq (λ (text : List ℕ). text) before (lane_names name ss) ≡ None
     → first_repeated bytes_eq (λ (pin : Pin). pin.name) before (pins_from name k ss) ≡ None
 pins_unrepeated name k before [] h = refl
 pins_unrepeated name k before (s ∷ ss) h =
     none_too (list_any (bytes_eq (name_word (name s.event))) before) _ _ _ _ h (pins_unrepeated name (k + 1) (before ++ name_word (name s.event) ∷ []) ss)
 
-pub pins_read : (name : EventId → Name) (ss : List Stand) → Every IsFew ss → first_repeated bytes_eq (λ (text : List ℕ). text) [] (lane_names name ss) ≡ None
+pub pins_read : (name : EventId → Name) (ss : List DrawnEvent) → Every IsFew ss → first_repeated bytes_eq (λ (text : List ℕ). text) [] (lane_names name ss) ≡ None
     → read_pins (map (text_lane name) ss) ≡ Ok (pins_from name 0 ss)
 unfolding read_pins
 pins_read name ss h distinct = rw (numbers_are name 0 ss h, pins_named name 0 ss, pins_unrepeated name 0 [] ss distinct) refl
 
 -- each lane's mark is to come no earlier than in the cycle before
-abbrev pub orders_from : ℕ → List Stand → List SheetRule
+abbrev pub orders_from : ℕ → List DrawnEvent → List SheetRule
 orders_from k [] = []
 orders_from k (s ∷ ss) = follows_rule (Lane k) ((k + 1) - 1) k 1 ∷ orders_from (k + 1) ss
 
-orders_named : (name : EventId → Name) (k : ℕ) (ss : List Stand) → flat_map lane_order (numbers_from name k ss) ≡ orders_from k ss
+orders_named : (name : EventId → Name) (k : ℕ) (ss : List DrawnEvent) → flat_map lane_order (numbers_from name k ss) ≡ orders_from k ss
 orders_named name k [] = refl
 orders_named name k (s ∷ ss) = ap (λ l. follows_rule (Lane k) ((k + 1) - 1) k 1 ∷ l) (orders_named name (k + 1) ss)
 
-pub orders_are : (name : EventId → Name) (ss : List Stand) → Every IsFew ss → order_rules (map (text_lane name) ss) ≡ orders_from 0 ss
+pub orders_are : (name : EventId → Name) (ss : List DrawnEvent) → Every IsFew ss → order_rules (map (text_lane name) ss) ≡ orders_from 0 ss
 orders_are name ss h = ap (flat_map lane_order) (numbers_are name 0 ss h) ∙ orders_named name 0 ss

@@ -5,11 +5,11 @@ use Rattle.itv_base.specs.Range.{Ends}
 use Rattle.itv_base.specs.declared.names.EventId.{EventId}
 use Rattle.itv_base.specs.declared.row_kind.RowKind.TheVariants as asked
 use Rattle.origin.specs.declared.origin.Origin.TheVariants.{Edge}
-use Rattle.sheet.specs.Contents.{Contents}
+use Rattle.sheet.specs.Contents.{SheetContents}
 use Rattle.sheet.specs.Lanes.{first_repeated}
 use Rattle.sheet.specs.Links.{plain}
 use Rattle.sheet.specs.Sheet.{sheet_of}
-use Rattle.redraw.specs.declared.stand.Stand.{Stand}
+use Rattle.redraw.specs.declared.stand.DrawnEvent.{DrawnEvent}
 use Rattle.redraw.specs.declared.stand.TheConstants.{MOST_DRAWN}
 use Rattle.redraw.specs.Drawing.{lane_of, number_in, sketch_of}
 use Rattle.redraw_read.proofs.Linked.{IsSound, demand_link, edges_linked, edges_read, lin_rule, links_by, read_from, rows_linked, rules_linked}
@@ -18,7 +18,7 @@ use Rattle.redraw.proofs.Ordered.{AreNumbered, Every}
 use Rattle.redraw_read.proofs.Read.{lane_names, marks_read, orders_are, orders_from, pins_from, pins_read}
 use Rattle.redraw_read.proofs.Tree.{drawn_lane, near_drawn}
 
-abbrev pub sheet_drawn : (EventId → Name) → EventId → EventId → Ends → List Stand → Contents
+abbrev pub sheet_drawn : (EventId → Name) → EventId → EventId → Ends → List DrawnEvent → SheetContents
 sheet_drawn name from to ends ss = record {
   marks = marks_from name 0 ss;
   pins = pins_from name 0 ss;
@@ -29,7 +29,7 @@ sheet_drawn name from to ends ss = record {
 }
 
 -- what holds of where drawn events stand, for their drawing to be read
-pub record IsDrawable (name : EventId → Name) (from to : EventId) (ends : Ends) (ss : List Stand) : Type 0 where
+pub record IsDrawable (name : EventId → Name) (from to : EventId) (ends : Ends) (ss : List DrawnEvent) : Type 0 where
   pub some : 1 ≤ length ss
   pub few : length ss ≤ MOST_DRAWN
   pub numbers : AreNumbered 0 ss
@@ -37,11 +37,11 @@ pub record IsDrawable (name : EventId → Name) (from to : EventId) (ends : Ends
   pub names : first_repeated bytes_eq (λ (text : List ℕ). text) [] (lane_names name ss) ≡ None
   pub links : Every (IsSound (marks_from name 0 ss)) (links_by ss ++ demand_link ss from to ends ∷ [])
 
-lanes_same : (name : EventId → Name) (ss : List Stand) → map drawn_lane (map (lane_of name) ss) ≡ map (text_lane name) ss
+lanes_same : (name : EventId → Name) (ss : List DrawnEvent) → map drawn_lane (map (lane_of name) ss) ≡ map (text_lane name) ss
 lanes_same name [] = refl
 lanes_same name (s ∷ ss) = ap (λ l. text_lane name s ∷ l) (lanes_same name ss)
 
-pub sheet_is : (name : EventId → Name) (from to : EventId) (ends : Ends) (ss : List Stand) → IsDrawable name from to ends ss
+pub sheet_is : (name : EventId → Name) (from to : EventId) (ends : Ends) (ss : List DrawnEvent) → IsDrawable name from to ends ss
     → sheet_of plain (record { lanes = map drawn_lane (sketch_of name from to ends ss).lanes; edges = (sketch_of name from to ends ss).edges; near = near_drawn (sketch_of name from to ends ss) }) ≡ Ok (sheet_drawn name from to ends ss)
 unfolding sheet_of
 sheet_is name from to ends ss h =

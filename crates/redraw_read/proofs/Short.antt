@@ -16,7 +16,7 @@ use Rattle.label_grammar.specs.declared.label.Kind.TheVariants.{Lin, Late, Early
 use Rattle.label_grammar.specs.Label.{ends_text, spelling, version_1}
 use Rattle.slack_report.specs.Entry.{IsName}
 use Rattle.slack_report.specs.Text.{name_word}
-use Rattle.redraw.specs.declared.stand.Stand.{Stand}
+use Rattle.redraw.specs.declared.stand.DrawnEvent.{DrawnEvent}
 use Rattle.redraw.specs.declared.stand.TheConstants.{MOST_DRAWN}
 use Rattle.redraw.specs.Narrowing.{widest_gap}
 use Rattle.redraw.specs.Drawing.{demand_edge, edge_text, exactly, lane_of, mark_at, number_in, range_label, sketch_of, step_edges, steps_of}
@@ -102,7 +102,7 @@ lane_long : (n w d : List ℕ) → length n ≤ 46 → length w ≤ 190 → leng
 lane_long n w d h g f =
     omega (arith, length-append n (codes ",\"wave\":" ++ (w ++ (codes ",\"node\":" ++ (d ++ codes "}")))), length-append w (codes ",\"node\":" ++ (d ++ codes "}")), length-append d (codes "}"))
 
-lane_short : (name : EventId → Name) (n : ℕ) (s : Stand) → IsName (name s.event) → IsStand n s → length (lane_text (lane_of name s)) ≤ 451
+lane_short : (name : EventId → Name) (n : ℕ) (s : DrawnEvent) → IsName (name s.event) → IsStand n s → length (lane_text (lane_of name s)) ≤ 451
 lane_short name n s named stand =
     let place : s.place ≤ 93 = stand.most in
     let wave : length (codes "0" ++ (stops (s.place - 1) ++ codes "1")) ≤ 94 = omega (arith, stops_long (s.place - 1), length-append (stops (s.place - 1)) (codes "1")) in
@@ -124,7 +124,7 @@ commas_short n (text ∷ texts) h =
     let more : suc (length texts) * (n + 1) ≡ (n + 1) + length texts * (n + 1) = grind arith in
     rw more (omega (arith, h.0, after_short n texts h.1, length-append text (after_commas texts)))
 
-lanes_short : (name : EventId → Name) (n : ℕ) (ss : List Stand) → Every (λ (s : Stand). IsName (name s.event)) ss → Every (IsStand n) ss
+lanes_short : (name : EventId → Name) (n : ℕ) (ss : List DrawnEvent) → Every (λ (s : DrawnEvent). IsName (name s.event)) ss → Every (IsStand n) ss
     → Every (λ (text : List ℕ). length text ≤ 451) (map lane_text (map (lane_of name) ss))
 lanes_short name n [] named stand = tt
 lanes_short name n (s ∷ ss) named stand = (lane_short name n s named.0 stand.0, lanes_short name n ss named.1 stand.1)
@@ -132,17 +132,17 @@ lanes_short name n (s ∷ ss) named stand = (lane_short name n s named.0 stand.0
 exact_end : (d : ℤ) → pos 0 ≤ℤ d → d ≤ℤ pos widest_gap → IsEnd (Some d)
 exact_end d low high = (omega (arith, ints), high)
 
-steps_short : (before : Stand) (ss : List Stand) → AreNear before ss → Every (λ (text : List ℕ). length text ≤ 45) (step_edges before ss)
+steps_short : (before : DrawnEvent) (ss : List DrawnEvent) → AreNear before ss → Every (λ (text : List ℕ). length text ≤ 45) (step_edges before ss)
 steps_short before [] near = tt
 steps_short before (s ∷ ss) near =
     let end = exact_end (s.time -ℤ before.time) near.0 near.1 in
     (edge_short (mark_at before.number) (mark_at s.number) Lin (exactly (s.time -ℤ before.time)) end end, steps_short s ss near.2)
 
-all_steps_short : (ss : List Stand) → StandNear ss → Every (λ (text : List ℕ). length text ≤ 45) (steps_of ss)
+all_steps_short : (ss : List DrawnEvent) → StandNear ss → Every (λ (text : List ℕ). length text ≤ 45) (steps_of ss)
 all_steps_short [] near = tt
 all_steps_short (s ∷ ss) near = steps_short s ss near
 
-edges_short : (ss : List Stand) (from to : EventId) (ends : Ends) → StandNear ss → IsRange ends → Every (λ (text : List ℕ). length text ≤ 45) (steps_of ss ++ demand_edge ss from to ends ∷ [])
+edges_short : (ss : List DrawnEvent) (from to : EventId) (ends : Ends) → StandNear ss → IsRange ends → Every (λ (text : List ℕ). length text ≤ 45) (steps_of ss ++ demand_edge ss from to ends ∷ [])
 edges_short ss from to ends near range =
     every_append (λ (text : List ℕ). length text ≤ 45) (steps_of ss) (demand_edge ss from to ends ∷ []) (all_steps_short ss near) (edge_short (mark_at (number_in ss from)) (mark_at (number_in ss to)) Req ends range.0 range.1, tt)
 
@@ -150,11 +150,11 @@ quoted_all : (edges : List (List ℕ)) → Every (λ (text : List ℕ). length t
 quoted_all [] h = tt
 quoted_all (e ∷ es) h = (quoted_short e 45 h.0, quoted_all es h.1)
 
-length-steps : (before : Stand) (ss : List Stand) → length (step_edges before ss) ≡ length ss
+length-steps : (before : DrawnEvent) (ss : List DrawnEvent) → length (step_edges before ss) ≡ length ss
 length-steps before [] = refl
 length-steps before (s ∷ ss) = ap suc (length-steps s ss)
 
-steps_few : (ss : List Stand) → length (steps_of ss) ≤ length ss
+steps_few : (ss : List DrawnEvent) → length (steps_of ss) ≤ length ss
 steps_few [] = omega arith
 steps_few (s ∷ ss) = omega (arith, length-steps s ss)
 
@@ -162,7 +162,7 @@ whole_short : (lanes edges : List ℕ) → length lanes ≤ 93 * 452 → length 
     → length (codes "{\"signal\":[" ++ (lanes ++ (codes "],\"edge\":[" ++ (edges ++ codes "]}\n")))) ≤ FILE_LIMIT
 whole_short lanes edges h g = omega (arith, length-append lanes (codes "],\"edge\":[" ++ (edges ++ codes "]}\n")), length-append edges (codes "]}\n"))
 
-pub sketch_short : (name : EventId → Name) (from to : EventId) (ends : Ends) (n : ℕ) (ss : List Stand) → length ss ≤ MOST_DRAWN → Every (λ (s : Stand). IsName (name s.event)) ss
+pub sketch_short : (name : EventId → Name) (from to : EventId) (ends : Ends) (n : ℕ) (ss : List DrawnEvent) → length ss ≤ MOST_DRAWN → Every (λ (s : DrawnEvent). IsName (name s.event)) ss
     → Every (IsStand n) ss → StandNear ss → IsRange ends → length (sketch_text (sketch_of name from to ends ss)) ≤ FILE_LIMIT
 sketch_short name from to ends n ss few named stand near range =
     let lanes = commas_short 451 (map lane_text (map (lane_of name) ss)) (lanes_short name n ss named stand) in

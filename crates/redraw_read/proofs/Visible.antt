@@ -17,7 +17,7 @@ use Rattle.label_grammar.specs.declared.label.Kind.TheVariants.{Lin, Late, Early
 use Rattle.label_grammar.specs.Label.{ends_text, spelling, version_1}
 use Rattle.slack_report.specs.Entry.{IsName}
 use Rattle.slack_report.specs.Text.{name_word}
-use Rattle.redraw.specs.declared.stand.Stand.{Stand}
+use Rattle.redraw.specs.declared.stand.DrawnEvent.{DrawnEvent}
 use Rattle.redraw.specs.declared.stand.TheConstants.{MOST_DRAWN}
 use Rattle.redraw.specs.Drawing.{Lane, Sketch, demand_edge, edge_text, exactly, lane_of, mark_at, number_in, range_label, sketch_of, step_edges, steps_of}
 use Rattle.redraw.specs.Text.{after_commas, escaped, escaped_byte, lane_text, quoted, sketch_text, with_commas}
@@ -121,7 +121,7 @@ pub record IsVisible (sketch : Sketch) : Type 0 where
   pub lanes : Every IsVisibleLane sketch.lanes
   pub edges : Every AreVisible sketch.edges
 
-lane_visible : (name : EventId → Name) (s : Stand) → IsName (name s.event) → s.number < MOST_DRAWN → IsVisibleLane (lane_of name s)
+lane_visible : (name : EventId → Name) (s : DrawnEvent) → IsName (name s.event) → s.number < MOST_DRAWN → IsVisibleLane (lane_of name s)
 lane_visible name s named few = record {
   name = word_visible (name s.event) named;
   wave = all_joined is_visible (replicate (s.place - 1) full_stop) (codes "1") (stops_visible (s.place - 1)) refl;
@@ -129,19 +129,19 @@ lane_visible name s named few = record {
       (and_from (is_visible (mark_at s.number)) true (mark_visible (mark_at s.number) (is_mark_at s.number few)) refl);
 }
 
-lanes_visible : (name : EventId → Name) (ss : List Stand) → Every (λ (s : Stand). IsName (name s.event)) ss → Every IsFew ss → Every IsVisibleLane (map (lane_of name) ss)
+lanes_visible : (name : EventId → Name) (ss : List DrawnEvent) → Every (λ (s : DrawnEvent). IsName (name s.event)) ss → Every IsFew ss → Every IsVisibleLane (map (lane_of name) ss)
 lanes_visible name [] named few = tt
 lanes_visible name (s ∷ ss) named few = (lane_visible name s named.0 few.0, lanes_visible name ss named.1 few.1)
 
-steps_visible : (before : Stand) (ss : List Stand) → before.number < MOST_DRAWN → Every IsFew ss → Every AreVisible (step_edges before ss)
+steps_visible : (before : DrawnEvent) (ss : List DrawnEvent) → before.number < MOST_DRAWN → Every IsFew ss → Every AreVisible (step_edges before ss)
 steps_visible before [] few h = tt
 steps_visible before (s ∷ ss) few h = (edge_visible before.number s.number Lin (exactly (s.time -ℤ before.time)) few h.0, steps_visible s ss h.0 h.1)
 
-all_steps_visible : (ss : List Stand) → Every IsFew ss → Every AreVisible (steps_of ss)
+all_steps_visible : (ss : List DrawnEvent) → Every IsFew ss → Every AreVisible (steps_of ss)
 all_steps_visible [] h = tt
 all_steps_visible (s ∷ ss) h = steps_visible s ss h.0 h.1
 
-pub sketch_visible : (name : EventId → Name) (from to : EventId) (ends : Ends) (ss : List Stand) → Every (λ (s : Stand). IsName (name s.event)) ss → Every IsFew ss
+pub sketch_visible : (name : EventId → Name) (from to : EventId) (ends : Ends) (ss : List DrawnEvent) → Every (λ (s : DrawnEvent). IsName (name s.event)) ss → Every IsFew ss
     → number_in ss from < MOST_DRAWN → number_in ss to < MOST_DRAWN → IsVisible (sketch_of name from to ends ss)
 sketch_visible name from to ends ss named few in_from in_to = record {
   lanes = lanes_visible name ss named few;

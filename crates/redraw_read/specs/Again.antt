@@ -9,20 +9,20 @@ use Rattle.itv_base.specs.declared.names.EventId.{EventId}
 use Rattle.itv_base.specs.declared.row_kind.RowKind.TheVariants.{Req}
 use Rattle.origin.specs.declared.origin.Origin.TheVariants.{Edge}
 use Rattle.wavejson.specs.Drawing.{Drawing, diagram_of}
-use Rattle.sheet.specs.Contents.{Contents}
+use Rattle.sheet.specs.Contents.{SheetContents}
 use Rattle.sheet.specs.Links.{plain}
 use Rattle.sheet.specs.Sheet.{sheet_of}
 use Rattle.drawn.specs.declared.row.Row.{Row}
 use Rattle.drawn.specs.Drawn.{Drawn, IsRowOf}
 use Rattle.slack_report.specs.Entry.{IsName}
-use Rattle.redraw.specs.declared.stand.Stand.{Stand}
+use Rattle.redraw.specs.declared.stand.DrawnEvent.{DrawnEvent}
 use Rattle.redraw.specs.Drawing.{number_in, stands_drawn}
 use Rattle.redraw.specs.Laws.{NamesDiffer}
 use Rattle.redraw.specs.Text.{redrawn}
 
 -- A text of a file that is not too long reads as a tree without the key of a netlist. The tree draws a sheet with a mark for each
 -- event that stands, and with one row, which demands the range of the pair. The last edge draws it.
-pub record IsSheetText (text : List ℕ) (stands : List Stand) (from to : EventId) (ends : Ends) : Type 0 where
+pub record IsSheetText (text : List ℕ) (stands : List DrawnEvent) (from to : EventId) (ends : Ends) : Type 0 where
   pub utf8 : IsUtf8 text
   pub short : length text ≤ FILE_LIMIT
   pub tree : Data
@@ -30,7 +30,7 @@ pub record IsSheetText (text : List ℕ) (stands : List Stand) (from to : EventI
   pub lone : get (codes "itv") tree ≡ None
   pub drawing : Drawing
   pub draws : diagram_of tree ≡ Ok drawing
-  pub sheet : Contents
+  pub sheet : SheetContents
   pub is_sheet : sheet_of plain drawing ≡ Ok sheet
   pub marks : length sheet.marks ≡ length stands
   pub rows : sheet.rows ≡ (record { kind = Req ends; from = number_in stands from; to = number_in stands to; shift = 0; origin = Edge (length stands - 1) }) ∷ []

@@ -18,14 +18,14 @@ use Rattle.slack_report.specs.declared.words.FindingWord.TheVariants as findings
 use Rattle.slack_report.specs.Entry.{Entry, heading, budget, events, event, proof, finding, times, rows, row, bound, raise, verdict, slack, ending}
 use Rattle.drawn.specs.Drawn.{AreTimes, Drawn, name_of}
 use Rattle.drawn.specs.declared.row.Row.{Row}
-use Rattle.right_report.specs.Right.At.{At, Course, Side, Telling, at_heading, at_budget, at_events, at_event, at_finding, at_known, at_rows, at_row, at_bound, at_times, at_raise, at_verdict, at_past, at_slack, at_end, at_last, behind_bound, behind_finding, behind_past, behind_times, behind_verdict, bounded, course_of, end_word, greatest, is_fail, judged, least_by, undecided_or_pass, which_of}
-use Rattle.right_report.specs.Right.Facts.{Breaks}
-use Rattle.right_report.specs.Right.Following.{Facts, MayBound, MayFind, MayFollow, Reads}
+use Rattle.right_report.specs.Right.At.{ReportState, ReportTally, NextBound, CurrentRow, at_heading, at_budget, at_events, at_event, at_finding, at_known, at_rows, at_row, at_bound, at_times, at_raise, at_verdict, at_past, at_slack, at_end, at_last, behind_bound, behind_finding, behind_past, behind_times, behind_verdict, bounded, course_of, end_word, greatest, is_fail, judged, least_by, undecided_or_pass, which_of}
+use Rattle.right_report.specs.Right.Facts.{BreaksEnd}
+use Rattle.right_report.specs.Right.Following.{LineClaims, MayBound, MayFind, MayFollow, LinesLead}
 use Rattle.right_report.specs.Told.{end_in}
 use Rattle.bounds_report.specs.Reports.{IsWrittenReport}
 use Rattle.bounds_report.specs.Written.{written}
 use Rattle.bounds_report.proofs.Printed.{times_printed}
-use Rattle.redraw_report.specs.Failed.{Failed, IsBroken, Scan, found_by, scan_start, scanned, side_of, with_line}
+use Rattle.redraw_report.specs.Failed.{Failed, IsBroken, Scan, found_by, scan_start, scanned, failed_verdict, with_line}
 use Rattle.redraw_report.specs.Laws.{FailIsTold}
 
 -- ---- what a scan has seen
@@ -38,7 +38,7 @@ abbrev Matches : Drawn → Bool → Scan → Type 0
 Matches drawn fails scan = ((fails ≡ false) × (scan.found ≡ None)) ⊎ ((fails ≡ true) × Found drawn scan)
 
 -- the row that is told is the one that the scan is at
-record IsAtRow (drawn : Drawn) (told : Telling) (scan : Scan) : Type 0 where
+record IsAtRow (drawn : Drawn) (told : CurrentRow) (scan : Scan) : Type 0 where
   rest : drop told.number drawn.rows ≡ told.row ∷ told.later
   row : scan.row ≡ told.number
   matches : Matches drawn told.course.fails scan
@@ -47,7 +47,7 @@ abbrev HasNothing : Scan → Type 0
 HasNothing scan = (scan.side ≡ None) × (scan.found ≡ None)
 
 -- at each place of a report
-abbrev HasSeen : Drawn → At → Scan → Type 0
+abbrev HasSeen : Drawn → ReportState → Scan → Type 0
 HasSeen drawn at_heading scan = HasNothing scan
 HasSeen drawn at_budget scan = HasNothing scan
 HasSeen drawn at_events scan = HasNothing scan
@@ -68,7 +68,7 @@ HasSeen drawn at_last scan = Unit {0}
 
 -- ---- small steps
 
-moved : (drawn : Drawn) (scan : Scan) (line x : Entry) (next y : At) → line ≡ x → next ≡ y → HasSeen drawn y (with_line scan x) → HasSeen drawn next (with_line scan line)
+moved : (drawn : Drawn) (scan : Scan) (line x : Entry) (next y : ReportState) → line ≡ x → next ≡ y → HasSeen drawn y (with_line scan x) → HasSeen drawn next (with_line scan line)
 moved drawn scan line x next y e f h = subst (λ l. HasSeen drawn next (with_line scan l)) (sym e) (subst (λ n. HasSeen drawn n (with_line scan x)) (sym f) h)
 
 found_stays : (number : ℕ) (list : List ℤ) (found : Option Failed) → found_by number None list found ≡ found
@@ -80,7 +80,7 @@ times_pass : (scan : Scan) (list : List ℤ) → scan.side ≡ None → with_lin
 times_pass scan list e =
     ap (λ (o : Option Failed). record scan { found = o }) (ap (λ side. found_by scan.row side list scan.found) e ∙ found_stays scan.row list scan.found)
 
-pass_times : (drawn : Drawn) (at : At) (scan : Scan) (list : List ℤ) → scan.side ≡ None → HasSeen drawn at scan → HasSeen drawn at (with_line scan (times list))
+pass_times : (drawn : Drawn) (at : ReportState) (scan : Scan) (list : List ℤ) → scan.side ≡ None → HasSeen drawn at scan → HasSeen drawn at (with_line scan (times list))
 pass_times drawn at scan list e h = subst (HasSeen drawn at) (sym (times_pass scan list e)) h
 
 first_is : {X : Type 0} (xs ys : List X) (x : X) (n : ℕ) → drop n xs ≡ x ∷ ys → slice_get xs n ≡ Some x
@@ -111,28 +111,28 @@ same_matches drawn a b scan e h = subst (λ c. Matches drawn c scan) (sym e) h
 
 -- ---- a row
 
-judged_seen : (drawn : Drawn) (told : Telling) (kind : RowKind) (least most : Bound) (scan : Scan) → told.row.kind ≡ kind → IsAtRow drawn told scan → scan.side ≡ None
+judged_seen : (drawn : Drawn) (told : CurrentRow) (kind : RowKind) (least most : Bound) (scan : Scan) → told.row.kind ≡ kind → IsAtRow drawn told scan → scan.side ≡ None
     → HasSeen drawn (judged kind told least most) scan
 judged_seen drawn told kinds.Ask least most scan is h none = (rest_is drawn.rows told.later told.row told.number h.rest, h.matches)
 judged_seen drawn told (kinds.Req range) least most scan is h none = (h, none, is)
 
-bounded_seen : (drawn : Drawn) (told : Telling) (side : Side) (value : Bound) (scan : Scan) → IsAtRow drawn told scan → scan.side ≡ None → HasSeen drawn (bounded told side value) scan
+bounded_seen : (drawn : Drawn) (told : CurrentRow) (side : NextBound) (value : Bound) (scan : Scan) → IsAtRow drawn told scan → scan.side ≡ None → HasSeen drawn (bounded told side value) scan
 bounded_seen drawn told greatest value scan h none = (h, none)
 bounded_seen drawn told (least_by most) value scan h none = judged_seen drawn told told.row.kind value most scan refl h none
 
-bound_seen : (drawn : Drawn) (told : Telling) (side : Side) (value : Bound) (scan : Scan) → IsAtRow drawn told scan → scan.side ≡ None → HasSeen drawn (behind_bound told side value) scan
+bound_seen : (drawn : Drawn) (told : CurrentRow) (side : NextBound) (value : Bound) (scan : Scan) → IsAtRow drawn told scan → scan.side ≡ None → HasSeen drawn (behind_bound told side value) scan
 bound_seen drawn told side (bounds.Closed value) scan h none = (h, none)
 bound_seen drawn told side bounds.Unbounded scan h none = (h, none)
 bound_seen drawn told side (bounds.Within limit None) scan h none = bounded_seen drawn told side (bounds.Within limit None) scan h none
 bound_seen drawn told side (bounds.Within limit (Some found)) scan h none = (h, none)
 
-behind_seen : (drawn : Drawn) (told : Telling) (side : Side) (value : Bound) (list : List ℤ) (scan : Scan) → IsAtRow drawn told scan → scan.side ≡ None
+behind_seen : (drawn : Drawn) (told : CurrentRow) (side : NextBound) (value : Bound) (list : List ℤ) (scan : Scan) → IsAtRow drawn told scan → scan.side ≡ None
     → HasSeen drawn (behind_times told side value list) scan
 behind_seen drawn told side (bounds.Closed value) list scan h none = bounded_seen drawn told side (bounds.Closed value) scan h none
 behind_seen drawn told side bounds.Unbounded list scan h none = (h, none)
 behind_seen drawn told side (bounds.Within limit attained) list scan h none = bounded_seen drawn told side (bounds.Within limit attained) scan h none
 
-verdict_seen : (drawn : Drawn) (told : Telling) (range : Ends) (least most : Bound) (word : Verdict) (scan : Scan) → verdict_of range least most ≡ word → IsAtRow drawn told scan
+verdict_seen : (drawn : Drawn) (told : CurrentRow) (range : Ends) (least most : Bound) (word : Verdict) (scan : Scan) → verdict_of range least most ≡ word → IsAtRow drawn told scan
     → told.row.kind ≡ kinds.Req range → HasSeen drawn (behind_verdict told range least most word) (with_line scan (verdict word))
 verdict_seen drawn told range least most verdicts.Pass scan is h kind =
     (rest_is drawn.rows told.later told.row told.number h.rest, same_matches drawn (told.course.fails || false) told.course.fails scan (or_false told.course.fails) h.matches)
@@ -144,8 +144,8 @@ verdict_seen drawn told range least most verdicts.FailLow scan is h kind =
     (record { rest = h.rest; row = h.row; matches = h.matches }, ap (λ w. Some w) (sym is), kind, ap is_fail is)
 
 -- the times behind a fail are those of the row, unless one was found before
-past_found : (drawn : Drawn) (told : Telling) (range : Ends) (word : Verdict) (list : List ℤ) (scan : Scan) → IsAtRow drawn told scan → scan.side ≡ Some word → told.row.kind ≡ kinds.Req range
-    → All IsTime list → AreTimes drawn.net told.row list → Breaks told.row range word list → Found drawn (with_line scan (times list))
+past_found : (drawn : Drawn) (told : CurrentRow) (range : Ends) (word : Verdict) (list : List ℤ) (scan : Scan) → IsAtRow drawn told scan → scan.side ≡ Some word → told.row.kind ≡ kinds.Req range
+    → All IsTime list → AreTimes drawn.net told.row list → BreaksEnd told.row range word list → Found drawn (with_line scan (times list))
 past_found drawn told range word list scan h side kind small satisfied broken = by_match h.matches where
   is_here : IsBroken drawn (record { row = told.number; side = word; times = list })
   is_here = record {
@@ -166,8 +166,8 @@ past_found drawn told range word list scan h side kind small satisfied broken = 
   )
   by_match (inr m) = (m.1.0, ap (λ o. found_by scan.row scan.side list o) m.1.1, m.1.2)
 
-past_seen : (drawn : Drawn) (told : Telling) (range : Ends) (word : Verdict) (list : List ℤ) (scan : Scan) → IsAtRow drawn told scan → scan.side ≡ Some word → told.row.kind ≡ kinds.Req range
-    → is_fail word ≡ true → All IsTime list → AreTimes drawn.net told.row list → Breaks told.row range word list → Matches drawn (told.course.fails || is_fail word) (with_line scan (times list))
+past_seen : (drawn : Drawn) (told : CurrentRow) (range : Ends) (word : Verdict) (list : List ℤ) (scan : Scan) → IsAtRow drawn told scan → scan.side ≡ Some word → told.row.kind ≡ kinds.Req range
+    → is_fail word ≡ true → All IsTime list → AreTimes drawn.net told.row list → BreaksEnd told.row range word list → Matches drawn (told.course.fails || is_fail word) (with_line scan (times list))
 past_seen drawn told range word list scan h side kind fails small satisfied broken =
     inr (ap (λ b. told.course.fails || b) fails ∙ or_true told.course.fails, past_found drawn told range word list scan h side kind small satisfied broken)
 
@@ -178,18 +178,18 @@ finding_seen drawn findings.Consistent scan h = h
 finding_seen drawn findings.Inconsistent scan h = λ e. absurd (cc e)
 finding_seen drawn findings.Unsettled scan h = h
 
-find_seen : (drawn : Drawn) (most : ℕ) (known : List ℤ) (lines : List ProofLine) (line : Entry) (next : At) (scan : Scan) → MayFind (written drawn.net most false known) lines line next → HasNothing scan
+find_seen : (drawn : Drawn) (most : ℕ) (known : List ℤ) (lines : List ProofLine) (line : Entry) (next : ReportState) (scan : Scan) → MayFind (written drawn.net most false known) lines line next → HasNothing scan
     → HasSeen drawn next (with_line scan line)
 find_seen drawn most known lines line next scan (inl m) h = moved drawn scan line (proof m.0) next (at_finding (lines ++ m.0 ∷ [])) m.1 m.2 h
 find_seen drawn most known lines line next scan (inr m) h = moved drawn scan line (finding m.0) next (behind_finding m.0) m.1 m.3 (finding_seen drawn m.0 scan h)
 
-bound_next : (drawn : Drawn) (most : ℕ) (known : List ℤ) (told : Telling) (side : Side) (lines : List ProofLine) (line : Entry) (next : At) (scan : Scan)
+bound_next : (drawn : Drawn) (most : ℕ) (known : List ℤ) (told : CurrentRow) (side : NextBound) (lines : List ProofLine) (line : Entry) (next : ReportState) (scan : Scan)
     → MayBound (written drawn.net most false known) told side lines line next → IsAtRow drawn told scan × (scan.side ≡ None) → HasSeen drawn next (with_line scan line)
 bound_next drawn most known told side lines line next scan (inl m) h = moved drawn scan line (proof m.0) next (at_bound told side (lines ++ m.0 ∷ [])) m.1 m.2 h
 bound_next drawn most known told side lines line next scan (inr m) h =
     moved drawn scan line (bound (which_of side) m.0) next (behind_bound told side m.0) m.1 m.3 (bound_seen drawn told side m.0 scan h.0 h.1)
 
-step : (drawn : Drawn) (most : ℕ) (known : List ℤ) (here : At) (line : Entry) (next : At) (scan : Scan) → MayFollow (written drawn.net most false known) drawn here line next → HasSeen drawn here scan
+step : (drawn : Drawn) (most : ℕ) (known : List ℤ) (here : ReportState) (line : Entry) (next : ReportState) (scan : Scan) → MayFollow (written drawn.net most false known) drawn here line next → HasSeen drawn here scan
     → HasSeen drawn next (with_line scan line)
 step drawn most known at_heading line next scan m h = moved drawn scan line heading next at_budget m.0 m.1 h
 step drawn most known at_budget line next scan m h = moved drawn scan line (budget m.0) next at_events m.1 m.2 h
@@ -242,15 +242,15 @@ found_of drawn fails scan e (inr m) = m.1
 same_word : (a b : EndWord) → ending a ≡ ending b → a ≡ b
 same_word a b e = cc e
 
-no_finding : (facts : Facts) (lines : List ProofLine) (word : EndWord) (next : At) → MayFind facts lines (ending word) next → ⊥
+no_finding : (facts : LineClaims) (lines : List ProofLine) (word : EndWord) (next : ReportState) → MayFind facts lines (ending word) next → ⊥
 no_finding facts lines word next (inl m) = cc m.1
 no_finding facts lines word next (inr m) = cc m.1
 
-no_bound : (facts : Facts) (told : Telling) (side : Side) (lines : List ProofLine) (word : EndWord) (next : At) → MayBound facts told side lines (ending word) next → ⊥
+no_bound : (facts : LineClaims) (told : CurrentRow) (side : NextBound) (lines : List ProofLine) (word : EndWord) (next : ReportState) → MayBound facts told side lines (ending word) next → ⊥
 no_bound facts told side lines word next (inl m) = cc m.1
 no_bound facts told side lines word next (inr m) = cc m.1
 
-ended : (drawn : Drawn) (most : ℕ) (known : List ℤ) (here : At) (word : EndWord) (next : At) (scan : Scan) → MayFollow (written drawn.net most false known) drawn here (ending word) next → HasSeen drawn here scan
+ended : (drawn : Drawn) (most : ℕ) (known : List ℤ) (here : ReportState) (word : EndWord) (next : ReportState) (scan : Scan) → MayFollow (written drawn.net most false known) drawn here (ending word) next → HasSeen drawn here scan
     → word ≡ endings.Fail → (next ≡ at_last) × Found drawn scan
 ended drawn most known at_heading word next scan m h e = absurd (cc m.0)
 ended drawn most known at_budget word next scan m h e = absurd (cc m.1)
@@ -272,19 +272,19 @@ ended drawn most known (at_slack course number later range least most_bound) wor
 ended drawn most known (at_end other) word next scan m h e = absurd (h (sym (same_word word other m.0) ∙ e))
 ended drawn most known at_last word next scan m h e = absurd m
 
-nothing_behind : (facts : Facts) (drawn : Drawn) (lines : List Entry) (scan : Scan) → Reads facts drawn at_last lines at_last → scanned scan lines ≡ scan
+nothing_behind : (facts : LineClaims) (drawn : Drawn) (lines : List Entry) (scan : Scan) → LinesLead facts drawn at_last lines at_last → scanned scan lines ≡ scan
 nothing_behind facts drawn [] scan h = refl
 nothing_behind facts drawn (line ∷ lines) scan h = absurd h.1
 
-found_behind : (drawn : Drawn) (most : ℕ) (known : List ℤ) (lines : List Entry) (next : At) (scan : Scan) → (next ≡ at_last) × Found drawn scan → Reads (written drawn.net most false known) drawn next lines at_last
+found_behind : (drawn : Drawn) (most : ℕ) (known : List ℤ) (lines : List Entry) (next : ReportState) (scan : Scan) → (next ≡ at_last) × Found drawn scan → LinesLead (written drawn.net most false known) drawn next lines at_last
     → Found drawn (scanned scan lines)
 found_behind drawn most known lines next scan h reads =
-    subst (Found drawn) (sym (nothing_behind (written drawn.net most false known) drawn lines scan (subst (λ at. Reads (written drawn.net most false known) drawn at lines at_last) h.0 reads))) h.1
+    subst (Found drawn) (sym (nothing_behind (written drawn.net most false known) drawn lines scan (subst (λ at. LinesLead (written drawn.net most false known) drawn at lines at_last) h.0 reads))) h.1
 
 some_word : (a b : EndWord) → Some a ≡ Some b → a ≡ b
 some_word a b e = cc e
 
-finds : (drawn : Drawn) (most : ℕ) (known : List ℤ) (here : At) (lines : List Entry) (scan : Scan) → Reads (written drawn.net most false known) drawn here lines at_last → HasSeen drawn here scan
+finds : (drawn : Drawn) (most : ℕ) (known : List ℤ) (here : ReportState) (lines : List Entry) (scan : Scan) → LinesLead (written drawn.net most false known) drawn here lines at_last → HasSeen drawn here scan
     → end_in lines ≡ Some endings.Fail → Found drawn (scanned scan lines)
 finds drawn most known here [] scan reads h e = absurd (cc e)
 finds drawn most known here (heading ∷ lines) scan reads h e = finds drawn most known reads.0 lines (with_line scan heading) reads.2 (step drawn most known here heading reads.0 scan reads.1 h) e

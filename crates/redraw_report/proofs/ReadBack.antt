@@ -11,13 +11,13 @@ use Rattle.drawn.specs.Drawn.{Drawn}
 use Rattle.right_report.specs.Told.{end_in}
 use Rattle.right_report.proofs.Ordering.{right_is_report}
 use Rattle.right_report.proofs.Showing.{bare_is_right}
-use Rattle.bounds_report.specs.Reports.{HasRanges, IsWrittenReport}
+use Rattle.bounds_report.specs.Reports.{HasRowRanges, IsWrittenReport}
 use Rattle.bounds_report.proofs.WrittenLaws.{written_is_bare}
-use Rattle.redraw_report.specs.Step.{IsSearched, IsTextOf}
-use Rattle.redraw_report.specs.declared.search.Search.{Search}
+use Rattle.redraw_report.specs.Step.{IsReportKept, IsTextOf}
+use Rattle.redraw_report.specs.declared.search.KeptReport.{KeptReport}
 use Rattle.redraw_report.specs.declared.search.Written.{Written}
 
-written_is_report : (drawn : Drawn) (most : ℕ) (lines : List Entry) → IsWrittenReport drawn most false lines → All IsName drawn.names → HasRanges drawn → IsReport lines
+written_is_report : (drawn : Drawn) (most : ℕ) (lines : List Entry) → IsWrittenReport drawn most false lines → All IsName drawn.names → HasRowRanges drawn → IsReport lines
 written_is_report drawn most lines w names ranges =
     (right_is_report drawn lines (bare_is_right drawn most lines (written_is_bare drawn most lines w)) (w.texts names ranges)).0
 
@@ -25,7 +25,7 @@ same_text : (o : Option (List ℕ)) (text bytes : List ℕ) → o ≡ Some text 
 same_text o text bytes e f = cc (e, f)
 
 module _ (drawn : Drawn) (most : ℕ) (found : Written) (bytes : List ℕ) (result : Result (List Entry) ReportFault) (is : IsTextOf drawn most found) (kept : found.tape.written ≡ Some bytes)
-    (names : All IsName drawn.names) (ranges : HasRanges drawn) (only : (entries : List Entry) → IsReport entries → bytes ≡ report_text entries → IsRead result entries) where
+    (names : All IsName drawn.names) (ranges : HasRowRanges drawn) (only : (entries : List Entry) → IsReport entries → bytes ≡ report_text entries → IsRead result entries) where
   -- the lines that were written are read
   read_lines : IsRead result is.lines
   read_lines = only is.lines (written_is_report drawn most is.lines is.is_written names ranges) (same_text found.tape.written (report_text is.lines) bytes is.text kept)

@@ -9,7 +9,7 @@ use Rattle.requirements.specs.declared.verdict.Verdict.TheVariants.{Pass, FailHi
 use Rattle.slack_report.specs.Entry.{Entry, heading, budget, events, event, proof, finding, times, rows, row, bound, raise, verdict, slack, ending}
 use Rattle.drawn.specs.Drawn.{AreTimes, Drawn}
 use Rattle.drawn.specs.declared.row.Row.{Row}
-use Rattle.right_report.specs.Right.Facts.{Breaks}
+use Rattle.right_report.specs.Right.Facts.{BreaksEnd}
 
 -- a row that fails on a side, and times that break its requirement there
 pub record Failed : Type 0 where
@@ -30,11 +30,11 @@ abbrev pub scan_start : Scan
 scan_start = record { row = 0; side = None; found = None }
 
 -- behind a verdict that is a fail times come
-abbrev pub side_of : Verdict → Option Verdict
-side_of Pass = None
-side_of FailHigh = Some FailHigh
-side_of FailLow = Some FailLow
-side_of Undecided = None
+abbrev pub failed_verdict : Verdict → Option Verdict
+failed_verdict Pass = None
+failed_verdict FailHigh = Some FailHigh
+failed_verdict FailLow = Some FailLow
+failed_verdict Undecided = None
 
 -- times behind a fail are those of its row, which is the first that failed unless another was found before
 abbrev pub found_by : ℕ → Option Verdict → List ℤ → Option Failed → Option Failed
@@ -57,7 +57,7 @@ with_line scan (rows number) = scan
 with_line scan (row number kind from to) = record scan { row = number; side = None }
 with_line scan (bound which value) = scan
 with_line scan (raise set) = scan
-with_line scan (verdict word) = record scan { side = side_of word }
+with_line scan (verdict word) = record scan { side = failed_verdict word }
 with_line scan (slack value) = record scan { side = None }
 with_line scan (ending word) = scan
 
@@ -79,7 +79,7 @@ pub record IsBroken (drawn : Drawn) (failed : Failed) : Type 0 where
   pub demands : asked.kind ≡ Req range
   pub small : All IsTime failed.times
   pub satisfied : AreTimes drawn.net asked failed.times
-  pub broken : Breaks asked range failed.side failed.times
+  pub broken : BreaksEnd asked range failed.side failed.times
 
 -- ---- ends that no drawing can be past
 

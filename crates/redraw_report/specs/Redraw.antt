@@ -8,7 +8,7 @@ use Rattle.slack_report.specs.Entry.{Entry}
 use Rattle.drawn.specs.Drawn.{Drawn, IsRowOf}
 use Rattle.right_report.specs.Told.{end_in}
 use Rattle.bounds_report.specs.Reports.{IsWrittenReport}
-use Rattle.reading.specs.declared.place.Place.TheVariants.{Design}
+use Rattle.reading.specs.declared.place.RefusalPlace.TheVariants.{Design}
 use Rattle.reading.specs.declared.refusal.Refusal.TheVariants.{Wide}
 use Rattle.reading.specs.Refusal.{refusal_text}
 use Rattle.redraw.specs.Drawing.{demand_of, row_at}
@@ -38,11 +38,11 @@ pub record Draws (drawn : Drawn) (lines : List Entry) (answer : Answer) (text : 
   pub is_text : text ≡ failed_text drawn failed
 
 -- what is answered and written for a report by the word at its end
-abbrev pub Says : Drawn → List Entry → EndWord → Answer → List ℕ → Type 0
-Says drawn lines endings.Pass answer text = (answer ≡ AllPass) × (text ≡ codes "nothing failed\n")
-Says drawn lines endings.Fail answer text = Draws drawn lines answer text
-Says drawn lines endings.Inconsistent answer text = (answer ≡ Inconsistent) × (text ≡ codes "finding inconsistent\n")
-Says drawn lines endings.Undecided answer text = (answer ≡ Undecided) × (text ≡ codes "nothing failed\n")
+abbrev pub AnswersEndWord : Drawn → List Entry → EndWord → Answer → List ℕ → Type 0
+AnswersEndWord drawn lines endings.Pass answer text = (answer ≡ AllPass) × (text ≡ codes "nothing failed\n")
+AnswersEndWord drawn lines endings.Fail answer text = Draws drawn lines answer text
+AnswersEndWord drawn lines endings.Inconsistent answer text = (answer ≡ Inconsistent) × (text ≡ codes "finding inconsistent\n")
+AnswersEndWord drawn lines endings.Undecided answer text = (answer ≡ Undecided) × (text ≡ codes "nothing failed\n")
 
 -- there is a report of the budget, as job bounds writes it, for which this is answered and written
 pub record AnswersRedraw (drawn : Drawn) (most : ℕ) (answer : Answer) (text : List ℕ) : Type 0 where
@@ -50,7 +50,7 @@ pub record AnswersRedraw (drawn : Drawn) (most : ℕ) (answer : Answer) (text : 
   pub word : EndWord
   pub is_written : IsWrittenReport drawn most false lines
   pub ends : end_in lines ≡ Some word
-  pub says : Says drawn lines word answer text
+  pub says : AnswersEndWord drawn lines word answer text
 
 -- what the job may have begun to write: what it writes with some answer
 abbrev pub BeginsRedraw : Drawn → ℕ → List ℕ → Type 0

@@ -1,6 +1,6 @@
 -- Words of contracts within this crate.
 use Rattle.std.specs.Prelude.{◌≡◌, ℕ, false, List, Option, Some, option_map}
-use Rattle.itv_base.specs.Outside.{SinkTold}
+use Rattle.itv_base.specs.Outside.{SinkView}
 use Rattle.slack_report.specs.Entry.{Entry}
 use Rattle.slack_report.specs.Text.{report_text}
 use Rattle.drawn.specs.Drawn.{Drawn}
@@ -8,7 +8,7 @@ use Rattle.right_report.specs.Told.{end_in}
 use Rattle.bounds_report.specs.Reports.{IsWrittenReport}
 use Rattle.redraw_report.specs.declared.scan.Fail.{Fail}
 use Rattle.redraw_report.specs.declared.scan.Seen.{Seen}
-use Rattle.redraw_report.specs.declared.search.Search.{Search}
+use Rattle.redraw_report.specs.declared.search.KeptReport.{KeptReport}
 use Rattle.redraw_report.specs.declared.search.Written.{Written}
 use Rattle.redraw_report.specs.Failed.{Failed, IsBroken, Scan, first_failed}
 
@@ -27,7 +27,7 @@ pub record IsTextOf (drawn : Drawn) (most : ℕ) (written : Written) : Type 0 wh
   pub text : written.tape.written ≡ Some (report_text lines)
 
 -- the lines of a report are kept, with the word at its end
-pub record IsSearched (drawn : Drawn) (most : ℕ) (search : Search) : Type 0 where
+pub record IsReportKept (drawn : Drawn) (most : ℕ) (search : KeptReport) : Type 0 where
   pub is_written : IsWrittenReport drawn most false search.report
   pub ends : end_in search.report ≡ Some search.end
 

@@ -2,7 +2,7 @@
 
 ghost use Rattle.std.specs.Prelude.{◌≡◌, option_map};
 ghost use Rattle.slack_report.specs.Items.{item_view};
-ghost use Rattle.redraw_report.specs.Failed.{first_failed, side_of, with_line, with_times};
+ghost use Rattle.redraw_report.specs.Failed.{first_failed, failed_verdict, with_line, with_times};
 ghost use Rattle.redraw_report.specs.Step.{fail_view, seen_view};
 
 use requirements::Verdict;
@@ -53,7 +53,7 @@ fn after<'a>(seen: Seen<'a>, item: &Item<'a>) -> Seen<'a>
         },
         Item::Verdict(word) => Seen {
             row: seen.row,
-            side: side_of(*word),
+            side: failed_verdict(*word),
             found: seen.found,
         },
         Item::Times(times) => with_times(seen, times),
@@ -76,8 +76,8 @@ fn after<'a>(seen: Seen<'a>, item: &Item<'a>) -> Seen<'a>
 }
 
 // The side of a verdict that is a fail.
-fn side_of(word: Verdict) -> Option<Verdict>
-    ensures { result ≡ side_of word }
+fn failed_verdict(word: Verdict) -> Option<Verdict>
+    ensures { result ≡ failed_verdict word }
 {
     match word {
         Verdict::FailHigh | Verdict::FailLow => Some(word),

@@ -3,8 +3,8 @@
 ghost use Rattle.std.specs.Prelude.{◌≡◌, ◌≤◌, All, IfOk};
 ghost use Rattle.itv_base.specs.declared.limits.TheConstants.{MAX_BUDGET};
 ghost use Rattle.slack_report.specs.Entry.{IsName};
-ghost use Rattle.bounds_report.specs.Reports.{HasRanges};
-ghost use Rattle.redraw_report.specs.Step.{IsSearched, IsTextOf};
+ghost use Rattle.bounds_report.specs.Reports.{HasRowRanges};
+ghost use Rattle.redraw_report.specs.Step.{IsReportKept, IsTextOf};
 
 use crate::tape::Tape;
 use bounds_report::write_bounds;
@@ -16,7 +16,7 @@ use std::alloc::Global;
 
 /// The lines of a report, and the word at its end.
 #[derive(Debug, Drop)]
-pub struct Search {
+pub struct KeptReport {
     pub report: Report,
     pub end: EndWord,
 }
@@ -30,16 +30,16 @@ pub struct Written {
 
 /// The report of a drawn network as job bounds writes it, without the lines of proofs. Each search closes at most `budget` cases.
 /// It is written into memory and read back, so that no search is written twice.
-pub fn searched(alloc: Global, drawn: &DrawnNetwork, budget: u64) -> Result<Search, NoMemory>
+pub fn searched(alloc: Global, drawn: &DrawnNetwork, budget: u64) -> Result<KeptReport, NoMemory>
     requires least { 1 ≤ budget }
     requires most { budget ≤ MAX_BUDGET }
     requires names { All IsName drawn.now.names }
-    requires ranges { HasRanges drawn.now }
-    ensures searched { IfOk result (IsSearched drawn.now budget) }
+    requires ranges { HasRowRanges drawn.now }
+    ensures searched { IfOk result (IsReportKept drawn.now budget) }
 {
     let written = write_report(alloc, drawn, budget)?;
     match read_report(alloc, written.tape.bytes()) {
-        Ok(report) => Ok(Search {
+        Ok(report) => Ok(KeptReport {
             report,
             end: written.end,
         }),

@@ -15,9 +15,9 @@ pub struct Tape {
 
 impl Model for Tape {
     ghost use Rattle.std.specs.Prelude.{Some};
-    ghost use Rattle.itv_base.specs.Outside.{SinkTold};
+    ghost use Rattle.itv_base.specs.Outside.{SinkView};
 
-    ghost Value = { SinkTold };
+    ghost Value = { SinkView };
 
     ghost view = { λ t. record { written = Some t.bytes.items; faults = t.faults } };
 }

@@ -4,21 +4,21 @@ ghost use Rattle.std.specs.Prelude.{◌≡◌, ◌≤◌, ℕ, List, All, IfOk, 
 ghost use Rattle.itv_base.specs.declared.limits.TheConstants.{MAX_BUDGET};
 ghost use Rattle.itv_base.specs.Outside.{CutShort, grown};
 ghost use Rattle.slack_report.specs.Entry.{IsName};
-ghost use Rattle.bounds_report.specs.Reports.{HasRanges};
-ghost use Rattle.jobs.specs.Works.{Works};
+ghost use Rattle.bounds_report.specs.Reports.{HasRowRanges};
+ghost use Rattle.jobs.specs.Works.{JobWrote};
 ghost use Rattle.reading.specs.Refusal.{refusal_text};
 ghost use Rattle.redraw.specs.Drawing.{demand_of};
 ghost use Rattle.redraw.specs.Text.{redrawn};
-ghost use Rattle.redraw_report.specs.Redraw.{AnswersRedraw, BeginsRedraw, Draws, Says};
+ghost use Rattle.redraw_report.specs.Redraw.{AnswersRedraw, BeginsRedraw, Draws, AnswersEndWord};
 ghost use Rattle.redraw_report.specs.Failed.{IsBroken, is_end_at, is_wide_on};
-ghost use Rattle.redraw_report.specs.Step.{IsSearched, TellsFail, fail_view};
+ghost use Rattle.redraw_report.specs.Step.{IsReportKept, TellsFail, fail_view};
 
 use crate::scan::{Fail, first_failed};
-use crate::search::{Search, searched};
+use crate::search::{KeptReport, searched};
 use drawn::DrawnNetwork;
 use itv_base::{END_LIMIT, PutFailed, Range, RowKind, Sink};
 use jobs::{Answer, Unanswered, row_at};
-use reading::{Place, Refusal, put_refusal};
+use reading::{Refusal, RefusalPlace, put_refusal};
 use redraw::{DrawSpace, draw};
 use requirements::Verdict;
 use slack_report::{EndWord, Items};
@@ -37,8 +37,8 @@ pub fn write_redraw<K: Sink>(
     requires least { 1 ≤ budget }
     requires most { budget ≤ MAX_BUDGET }
     requires names { All IsName drawn.now.names }
-    requires ranges { HasRanges drawn.now }
-    ensures works { Works (AnswersRedraw drawn.now budget) (BeginsRedraw drawn.now budget)
+    requires ranges { HasRowRanges drawn.now }
+    ensures works { JobWrote (AnswersRedraw drawn.now budget) (BeginsRedraw drawn.now budget)
         (K.told sink.old) (K.told sink.new) result }
 {
     let mut work = DrawSpace::new(alloc)?;
@@ -49,14 +49,14 @@ pub fn write_redraw<K: Sink>(
 // Puts what a search comes to.
 fn put_answer<K: Sink>(
     drawn: &DrawnNetwork,
-    search: &Search,
+    search: &KeptReport,
     work: &mut DrawSpace,
     sink: &mut K,
 ) -> Result<Answer, PutFailed>
     requires fail { search.now.end ≡ EndWord.Fail → TellsFail drawn.now search.now.report }
-    ensures answers { IfOk result (λ answer. (text : List ℕ) × Says drawn.now search.now.report search.now.end answer text
+    ensures answers { IfOk result (λ answer. (text : List ℕ) × AnswersEndWord drawn.now search.now.report search.now.end answer text
         × (K.told sink.new ≡ grown (K.told sink.old) text)) }
-    ensures begins { OnErr result ((answer : Answer) × (text : List ℕ) × Says drawn.now search.now.report search.now.end answer text
+    ensures begins { OnErr result ((answer : Answer) × (text : List ℕ) × AnswersEndWord drawn.now search.now.report search.now.end answer text
         × CutShort (K.told sink.old) (K.told sink.new) text) }
 {
     match search.end {
@@ -105,10 +105,10 @@ fn put_first<K: Sink>(
 // Refuses a row.
 fn put_wide<K: Sink>(row: u32, sink: &mut K) -> Result<Answer, PutFailed>
     ensures answer { IfOk result (λ answer. (answer ≡ Answer.DesignRefused)
-        × (K.told sink.new ≡ grown (K.told sink.old) (refusal_text Place.Design (Refusal.Wide row)))) }
-    ensures cut { OnErr result (CutShort (K.told sink.old) (K.told sink.new) (refusal_text Place.Design (Refusal.Wide row))) }
+        × (K.told sink.new ≡ grown (K.told sink.old) (refusal_text RefusalPlace.Design (Refusal.Wide row)))) }
+    ensures cut { OnErr result (CutShort (K.told sink.old) (K.told sink.new) (refusal_text RefusalPlace.Design (Refusal.Wide row))) }
 {
-    put_refusal(Place::Design, Refusal::Wide(row), sink)?;
+    put_refusal(RefusalPlace::Design, Refusal::Wide(row), sink)?;
     Ok(Answer::DesignRefused)
 }
 

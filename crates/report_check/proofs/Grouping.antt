@@ -7,23 +7,23 @@ use Rattle.event_graph.specs.Proof as proofs
 use Rattle.requirements.specs.declared.bound.Bound.TheVariants as bounds
 use Rattle.slack_report.specs.declared.words.FindingWord.TheVariants as findings
 use Rattle.slack_report.specs.Entry.{Entry, bound, finding, proof}
-use Rattle.right_report.specs.Right.At.{At, at_last}
+use Rattle.right_report.specs.Right.At.{ReportState, at_last}
 use Rattle.drawn.specs.Drawn.{Drawn}
-use Rattle.right_report.specs.Right.Following.{MayFollow, Reads}
+use Rattle.right_report.specs.Right.Following.{MayFollow, LinesLead}
 use Rattle.right_report.specs.Checked.{checked}
-use Rattle.right_report.specs.Wrong.{IsFine, IsFirstWrong, IsRefused, Takes, goal_ahead, goal_by, proof_so_far}
-use Rattle.report_check.specs.declared.group.Group.{Group}
-use Rattle.report_check.specs.declared.group.Group.TheVariants as groups
+use Rattle.right_report.specs.Wrong.{IsFine, IsFirstWrong, IsLineRefused, Takes, goal_ahead, goal_by, proof_so_far}
+use Rattle.report_check.specs.declared.group.ProofGroup.{ProofGroup}
+use Rattle.report_check.specs.declared.group.ProofGroup.TheVariants as groups
 use Rattle.report_check.specs.declared.stage.Stage.{Stage}
 use Rattle.report_check.specs.Step.Groups.{ChecksFor, IsToldOf, behind_lines, proof_front}
 use Rattle.report_check.specs.Step.Stages.{Decides, at_of, is_proof}
-use Rattle.report_check.specs.Step.Walks.{IsWrongFrom, Leads, StepsOn}
+use Rattle.report_check.specs.Step.Walks.{IsWrongFrom, CheckLeads, StepsOn}
 use Rattle.report_check.proofs.Leading.{end_wrong, leads_then, line_leads, line_wrong}
 
 -- ---- reading lines of a proof
 
-pub reads_front : (net : Net) (goal : ProofGoal) (lines more : List ProofLine) (cases left : List Case) → proofs.Reads net goal cases (lines ++ more) left
-    → (mid : List Case) × proofs.Reads net goal cases lines mid
+pub reads_front : (net : Net) (goal : ProofGoal) (lines more : List ProofLine) (cases left : List Case) → proofs.ProofLeaves net goal cases (lines ++ more) left
+    → (mid : List Case) × proofs.ProofLeaves net goal cases lines mid
 reads_front net goal [] more cases left h = (cases, refl)
 reads_front net goal (line ∷ lines) more [] left h = absurd h
 reads_front net goal (Split number ∷ lines) more (chosen ∷ cases) left h = let r = reads_front net goal lines more (cases_of net chosen number ++ cases) left h.1 in (r.0, (h.0, r.1))
@@ -31,7 +31,7 @@ reads_front net goal (Path names ∷ lines) more (chosen ∷ cases) left h = let
 reads_front net goal (Loop names ∷ lines) more (chosen ∷ cases) left h = let r = reads_front net goal lines more cases left h.1 in (r.0, (h.0, r.1))
 
 -- they lead to one list of open cases
-pub reads_same : (net : Net) (goal : ProofGoal) (lines : List ProofLine) (cases a b : List Case) → proofs.Reads net goal cases lines a → proofs.Reads net goal cases lines b → a ≡ b
+pub reads_same : (net : Net) (goal : ProofGoal) (lines : List ProofLine) (cases a b : List Case) → proofs.ProofLeaves net goal cases lines a → proofs.ProofLeaves net goal cases lines b → a ≡ b
 reads_same net goal [] cases a b x y = sym x ∙ y
 reads_same net goal (line ∷ lines) [] a b x y = absurd x
 reads_same net goal (Split number ∷ lines) (chosen ∷ cases) a b x y = reads_same net goal lines (cases_of net chosen number ++ cases) a b x.1 y.1
@@ -53,16 +53,16 @@ same_goal None g h a b = absurd (cc)
 same_goal (Some x) g h a b = cc
 
 -- lines of a proof before others leave the goal as it is
-ahead_past : (here : At) (more : List ProofLine) (rest : List Entry) → goal_ahead here (map proof more ++ rest) ≡ goal_ahead here rest
+ahead_past : (here : ReportState) (more : List ProofLine) (rest : List Entry) → goal_ahead here (map proof more ++ rest) ≡ goal_ahead here rest
 ahead_past here [] rest = refl
 ahead_past here (line ∷ more) rest = ahead_past here more rest
 
-pub ahead_other : (here : At) (line : Entry) (rest : List Entry) → is_proof line ≡ false → goal_ahead here (line ∷ rest) ≡ goal_by here line
+pub ahead_other : (here : ReportState) (line : Entry) (rest : List Entry) → is_proof line ≡ false → goal_ahead here (line ∷ rest) ≡ goal_by here line
 ahead_other here (proof line) rest other = absurd (cc other)
 ahead_other here line rest other = refl
 
 -- the goal does not hang on the lines before
-by_same : (drawn : Drawn) (group : Group) (lines : List ProofLine) (line : Entry) → goal_by (behind_lines drawn group lines) line ≡ goal_by (behind_lines drawn group []) line
+by_same : (drawn : Drawn) (group : ProofGroup) (lines : List ProofLine) (line : Entry) → goal_by (behind_lines drawn group lines) line ≡ goal_by (behind_lines drawn group []) line
 by_same drawn (groups.Finding number) [] line = refl
 by_same drawn (groups.Finding number) (first ∷ lines) (finding findings.Consistent) = refl
 by_same drawn (groups.Finding number) (first ∷ lines) (finding findings.Inconsistent) = refl
@@ -73,25 +73,25 @@ by_same drawn (groups.Bound told side) lines (bound word bounds.Unbounded) = ref
 by_same drawn (groups.Bound told side) lines (bound word (bounds.Within limit attained)) = refl
 by_same drawn (groups.Bound told side) lines line = refl
 
-ahead_same : (drawn : Drawn) (group : Group) (lines : List ProofLine) (rest : List Entry) → goal_ahead (behind_lines drawn group lines) rest ≡ goal_ahead (behind_lines drawn group []) rest
+ahead_same : (drawn : Drawn) (group : ProofGroup) (lines : List ProofLine) (rest : List Entry) → goal_ahead (behind_lines drawn group lines) rest ≡ goal_ahead (behind_lines drawn group []) rest
 ahead_same drawn group lines [] = refl
 ahead_same drawn group lines (proof line ∷ rest) = ahead_same drawn group lines rest
 ahead_same drawn group lines (line ∷ rest) = by_same drawn group lines line
 
 -- ---- the places among lines of a proof
 
-so_far : (drawn : Drawn) (group : Group) (lines : List ProofLine) → proof_so_far (behind_lines drawn group lines) ≡ lines
+so_far : (drawn : Drawn) (group : ProofGroup) (lines : List ProofLine) → proof_so_far (behind_lines drawn group lines) ≡ lines
 so_far drawn (groups.Finding number) [] = refl
 so_far drawn (groups.Finding number) (line ∷ lines) = refl
 so_far drawn (groups.Bound told side) lines = refl
 
-follows : (drawn : Drawn) (group : Group) (lines : List ProofLine) (line : ProofLine)
+follows : (drawn : Drawn) (group : ProofGroup) (lines : List ProofLine) (line : ProofLine)
     → MayFollow (checked drawn.net) drawn (behind_lines drawn group lines) (proof line) (behind_lines drawn group (lines ++ line ∷ []))
 follows drawn (groups.Finding number) [] line = inl (line, refl, refl)
 follows drawn (groups.Finding number) (first ∷ lines) line = inl (line, refl, refl)
 follows drawn (groups.Bound told side) lines line = inl (line, refl, refl)
 
-pub not_last : (drawn : Drawn) (group : Group) (lines : List ProofLine) → behind_lines drawn group lines ≡ at_last → ⊥
+pub not_last : (drawn : Drawn) (group : ProofGroup) (lines : List ProofLine) → behind_lines drawn group lines ≡ at_last → ⊥
 not_last drawn (groups.Finding number) [] is = absurd (cc is)
 not_last drawn (groups.Finding number) (first ∷ lines) is = absurd (cc is)
 not_last drawn (groups.Bound told side) lines is = absurd (cc is)
@@ -102,11 +102,11 @@ append_nothing : (xs : List ProofLine) → xs ≡ [] ++ xs
 append_nothing xs = refl
 
 -- some lines, that many, lead to others
-record Passes (drawn : Drawn) (here : At) (lines : List Entry) (next : At) (behind : List Entry) (count : ℕ) : Type 0 where
-  reads : Reads (checked drawn.net) drawn next behind at_last → Reads (checked drawn.net) drawn here lines at_last
+record Passes (drawn : Drawn) (here : ReportState) (lines : List Entry) (next : ReportState) (behind : List Entry) (count : ℕ) : Type 0 where
+  reads : LinesLead (checked drawn.net) drawn next behind at_last → LinesLead (checked drawn.net) drawn here lines at_last
   wrong : (number : ℕ) → IsFirstWrong drawn next behind number → IsFirstWrong drawn here lines (number + count)
 
-module _ (drawn : Drawn) (group : Group) where
+module _ (drawn : Drawn) (group : ProofGroup) where
   line_fine : (before ls all : List ProofLine) (line : ProofLine) (rest : List Entry) → all ≡ before ++ line ∷ ls
       → ((g : ProofGoal) → goal_ahead (behind_lines drawn group []) rest ≡ Some g → Takes drawn.net g all)
       → IsFine drawn (behind_lines drawn group before) (proof line) (map proof ls ++ rest) (behind_lines drawn group (before ++ line ∷ []))
@@ -116,7 +116,7 @@ module _ (drawn : Drawn) (group : Group) where
         let g = some_goal (goal_ahead (behind_lines drawn group before) (map proof ls ++ rest)) (λ goal. Takes drawn.net goal (proof_so_far (behind_lines drawn group before) ++ line ∷ []) → ⊥) refused in
         let whole = taken g.0 (sym (ahead_same drawn group before rest) ∙ (sym (ahead_past (behind_lines drawn group before) ls rest) ∙ g.1)) in
         let parts : all ≡ (before ++ line ∷ []) ++ ls = is ∙ sym (append_assoc before (line ∷ []) ls) in
-        let front = reads_front drawn.net g.0 (before ++ line ∷ []) ls ([] ∷ []) whole.0 (subst (λ xs. proofs.Reads drawn.net g.0 ([] ∷ []) xs whole.0) parts whole.1) in
+        let front = reads_front drawn.net g.0 (before ++ line ∷ []) ls ([] ∷ []) whole.0 (subst (λ xs. proofs.ProofLeaves drawn.net g.0 ([] ∷ []) xs whole.0) parts whole.1) in
         g.2 (subst (λ xs. Takes drawn.net g.0 (xs ++ line ∷ [])) (sym (so_far drawn group before)) front),
   )
 
@@ -150,7 +150,7 @@ module _ (drawn : Drawn) (group : Group) where
       let passes =
       group_passes [] before before (proof line ∷ (map proof more ++ rest)) (append_nothing before)
       (λ h e. subst (λ x. Takes drawn.net x before) (same_goal (goal_ahead (behind_lines drawn group []) rest) g h is (sym (ahead_past (behind_lines drawn group []) more rest) ∙ e)) taken) in
-      let refused : IsRefused drawn.net (behind_lines drawn group before) (proof line) (map proof more ++ rest) =
+      let refused : IsLineRefused drawn.net (behind_lines drawn group before) (proof line) (map proof more ++ rest) =
       goal_some (goal_ahead (behind_lines drawn group before) (map proof more ++ rest)) (λ goal. Takes drawn.net goal (proof_so_far (behind_lines drawn group before) ++ line ∷ []) → ⊥) g
       (ahead_past (behind_lines drawn group before) more rest ∙ (ahead_same drawn group before rest ∙ is))
       (λ takes. fails (subst (λ xs. Takes drawn.net g (xs ++ line ∷ [])) (so_far drawn group before) takes)) in
@@ -187,7 +187,7 @@ map-append : (xs ys : List ProofLine) → map proof (xs ++ ys) ≡ map proof xs 
 map-append [] ys = refl
 map-append (x ∷ xs) ys = ap (λ l. proof x ∷ l) (map-append xs ys)
 
-module _ (drawn : Drawn) (group : Group) (lines : List Entry) (start end : ℕ) (is_end : end ≡ start + length (proof_front (drop start lines))) where
+module _ (drawn : Drawn) (group : ProofGroup) (lines : List Entry) (start end : ℕ) (is_end : end ≡ start + length (proof_front (drop start lines))) where
   parts : drop start lines ≡ map proof (proof_front (drop start lines)) ++ drop end lines
   parts =
       front_parts (drop start lines)
@@ -195,11 +195,11 @@ module _ (drawn : Drawn) (group : Group) (lines : List Entry) (start end : ℕ) 
 
   -- lines that are taken, where something is to be shown, lead to the line behind them
   pub group_leads : ((g : ProofGoal) → goal_ahead (behind_lines drawn group []) (drop end lines) ≡ Some g → Takes drawn.net g (proof_front (drop start lines)))
-      → Leads drawn lines (behind_lines drawn group []) start (behind_lines drawn group (proof_front (drop start lines))) end
+      → CheckLeads drawn lines (behind_lines drawn group []) start (behind_lines drawn group (proof_front (drop start lines))) end
   group_leads taken =
       let passes = group_passes drawn group [] (proof_front (drop start lines)) (proof_front (drop start lines)) (drop end lines) (append_nothing (proof_front (drop start lines))) taken in
       record {
-        reads = λ r. subst (λ xs. Reads (checked drawn.net) drawn (behind_lines drawn group []) xs at_last) (sym parts) (passes.reads r);
+        reads = λ r. subst (λ xs. LinesLead (checked drawn.net) drawn (behind_lines drawn group []) xs at_last) (sym parts) (passes.reads r);
         wrong = λ number w. (
           w.0 + length (proof_front (drop start lines)),
           subst (λ xs. IsFirstWrong drawn (behind_lines drawn group []) xs (w.0 + length (proof_front (drop start lines)))) (sym parts) (passes.wrong w.0 w.1),
@@ -241,19 +241,19 @@ module _ (drawn : Drawn) (group : Group) (lines : List Entry) (start end : ℕ) 
         → IsToldOf drawn.net wanted (proof_front (drop start lines)) whole
     told_of None whole checks = tt
     told_of (Some g) whole checks = (
-      λ is. subst (proofs.Reads drawn.net g ([] ∷ []) (proof_front (drop start lines))) (checks.is_whole.0 is) checks.reads,
+      λ is. subst (proofs.ProofLeaves drawn.net g ([] ∷ []) (proof_front (drop start lines))) (checks.is_whole.0 is) checks.reads,
       λ proves. checks.is_whole.1 (reads_same drawn.net g (proof_front (drop start lines)) ([] ∷ []) checks.cases [] checks.reads proves),
     )
 
     fine_leads : (wanted : Option ProofGoal) (whole : Bool) → goal_by (behind_lines drawn group []) line ≡ wanted → ChecksFor drawn.net wanted (proof_front (drop start lines)) start (Ok whole)
-        → Leads drawn lines (behind_lines drawn group []) start (behind_lines drawn group (proof_front (drop start lines))) end
+        → CheckLeads drawn lines (behind_lines drawn group []) start (behind_lines drawn group (proof_front (drop start lines))) end
     fine_leads wanted whole is checks = group_leads (λ g e. takes_for wanted whole checks g (sym is ∙ (sym ahead_is ∙ e)))
 
     pub passed_step : (whole : Bool) (stage : Stage) → ChecksFor drawn.net (goal_by (behind_lines drawn group []) line) (proof_front (drop start lines)) start (Ok whole)
         → Decides drawn (behind_lines drawn group (proof_front (drop start lines))) line (Some stage) → end < length lines
         → StepsOn drawn lines (behind_lines drawn group []) start stage (end + 1)
     passed_step whole stage checks decided within =
-        let here : At = behind_lines drawn group (proof_front (drop start lines)) in
+        let here : ReportState = behind_lines drawn group (proof_front (drop start lines)) in
         record {
           leads =
               leads_then drawn lines (behind_lines drawn group []) here (at_of drawn stage) start end (end + 1) (fine_leads (goal_by (behind_lines drawn group []) line) whole refl checks)

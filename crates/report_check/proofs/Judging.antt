@@ -9,7 +9,7 @@ use Rattle.slack_report.specs.declared.words.FindingWord.TheVariants as findings
 use Rattle.slack_report.specs.declared.words.Which.{Which}
 use Rattle.slack_report.specs.Entry.{Entry, bound, finding, proof}
 use Rattle.right_report.specs.Right.At as places
-use Rattle.right_report.specs.Right.At.{At, at_bound, at_event, behind_bound, behind_finding, which_of}
+use Rattle.right_report.specs.Right.At.{ReportState, at_bound, at_event, behind_bound, behind_finding, which_of}
 use Rattle.drawn.specs.Drawn.{Drawn}
 use Rattle.right_report.specs.Right.Following.{MayFind, MayFollow}
 use Rattle.right_report.specs.Checked.{IsWithinTimes, ProvesBound, ProvesFinding, checked}
@@ -21,12 +21,12 @@ use Rattle.report_check.specs.Step.Stages.{Decides, Fits, at_of, is_proof}
 
 -- ---- the finding
 
-find_follows : (drawn : Drawn) (number : ℕ) (lines : List ProofLine) (line : Entry) (next : At) → MayFind (checked drawn.net) lines line next
+find_follows : (drawn : Drawn) (number : ℕ) (lines : List ProofLine) (line : Entry) (next : ReportState) → MayFind (checked drawn.net) lines line next
     → MayFollow (checked drawn.net) drawn (found_behind number lines) line next
 find_follows drawn number [] line next h = h
 find_follows drawn number (first ∷ lines) line next h = h
 
-follows_find : (drawn : Drawn) (number : ℕ) (lines : List ProofLine) (line : Entry) (next : At) → MayFollow (checked drawn.net) drawn (found_behind number lines) line next
+follows_find : (drawn : Drawn) (number : ℕ) (lines : List ProofLine) (line : Entry) (next : ReportState) → MayFollow (checked drawn.net) drawn (found_behind number lines) line next
     → MayFind (checked drawn.net) lines line next
 follows_find drawn number [] line next h = h
 follows_find drawn number (first ∷ lines) line next h = h
@@ -58,7 +58,7 @@ module _ (drawn : Drawn) (net : Net) (number : ℕ) (lines : List ProofLine) (li
   pub finding_none : test ≡ false → Decides drawn (found_behind number lines) line None
   finding_none fails = λ next h. refused next (follows_find drawn number lines line next h)
     where
-      refused : (next : At) → MayFind (checked drawn.net) lines line next → ⊥
+      refused : (next : ReportState) → MayFind (checked drawn.net) lines line next → ⊥
       refused next (inl h) = let clash : finding word ≡ proof h.0 = sym is ∙ h.1 in absurd (cc clash)
       refused next (inr h) =
           let same : h.0 ≡ word = same_finding h.0 word (sym h.1 ∙ is) in
@@ -67,12 +67,12 @@ module _ (drawn : Drawn) (net : Net) (number : ℕ) (lines : List ProofLine) (li
 
 -- ---- a bound
 
-goal_is : (told : places.Telling) (side : places.Side) (which : Which) (value : Bound) → goal_by (at_bound told side []) (bound which value) ≡ goal_for told.row side value
+goal_is : (told : places.CurrentRow) (side : places.NextBound) (which : Which) (value : Bound) → goal_by (at_bound told side []) (bound which value) ≡ goal_for told.row side value
 goal_is told side which (bounds.Closed value) = refl
 goal_is told side which bounds.Unbounded = refl
 goal_is told side which (bounds.Within limit attained) = refl
 
-module _ (drawn : Drawn) (net : Net) (told : places.Telling) (side : places.Side) (lines : List ProofLine) (line : Entry) (which : Which) (value : Bound) (whole test : Bool)
+module _ (drawn : Drawn) (net : Net) (told : places.CurrentRow) (side : places.NextBound) (lines : List ProofLine) (line : Entry) (which : Which) (value : Bound) (whole test : Bool)
     (on : net ≡ drawn.net) (is : line ≡ bound which value)
     (proves : IsToldOf net (goal_for told.row side value) lines whole → (IsTrue test ↔ (IsWithinTimes value × ProvesBound net told.course.found told.row side lines value)))
     (tells_whole : IsToldOf drawn.net (goal_by (at_bound told side []) line) lines whole) where

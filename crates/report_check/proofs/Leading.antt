@@ -5,36 +5,36 @@ use Rattle.std.proofs.lemmas.Option.{slice_get_within}
 use Rattle.event_graph.specs.Network.{Net}
 use Rattle.itv_base.proofs.Lists.{drop-read}
 use Rattle.slack_report.specs.Entry.{Entry, proof}
-use Rattle.right_report.specs.Right.At.{At, at_heading, at_last}
+use Rattle.right_report.specs.Right.At.{ReportState, at_heading, at_last}
 use Rattle.drawn.specs.Drawn.{Drawn}
-use Rattle.right_report.specs.Right.Following.{Reads}
+use Rattle.right_report.specs.Right.Following.{LinesLead}
 use Rattle.right_report.specs.Checked.{checked}
-use Rattle.right_report.specs.Wrong.{IsFirstWrong, IsRefused}
-use Rattle.branch.specs.Work.{IsMadeFor, View}
+use Rattle.right_report.specs.Wrong.{IsFirstWrong, IsLineRefused}
+use Rattle.branch.specs.Work.{IsMadeFor, WorkView}
 use Rattle.cert_checker.specs.Checking.{Checking}
 use Rattle.report_check.specs.declared.stage.Stage.{Stage}
 use Rattle.report_check.specs.Step.Stages.{Decides, Fits, at_of, is_proof}
-use Rattle.report_check.specs.Step.Walks.{IsWrongFrom, Leads, StepsOn}
+use Rattle.report_check.specs.Step.Walks.{IsWrongFrom, CheckLeads, StepsOn}
 
 -- a line that is none of a proof is not refused as one
-pub not_refused : (net : Net) (here : At) (line : Entry) (rest : List Entry) → is_proof line ≡ false → IsRefused net here line rest → ⊥
+pub not_refused : (net : Net) (here : ReportState) (line : Entry) (rest : List Entry) → is_proof line ≡ false → IsLineRefused net here line rest → ⊥
 not_refused net here (proof line) rest other refused = absurd (cc other)
 not_refused net here line rest other refused = refused
 
 module _ (drawn : Drawn) (lines : List Entry) where
-  pub leads_none : (here : At) (start : ℕ) → Leads drawn lines here start here start
+  pub leads_none : (here : ReportState) (start : ℕ) → CheckLeads drawn lines here start here start
   leads_none here start = record { reads = λ r. r; wrong = λ number w. w }
 
-  pub leads_then : (here mid next : At) (start now behind : ℕ) → Leads drawn lines here start mid now → Leads drawn lines mid now next behind → Leads drawn lines here start next behind
+  pub leads_then : (here mid next : ReportState) (start now behind : ℕ) → CheckLeads drawn lines here start mid now → CheckLeads drawn lines mid now next behind → CheckLeads drawn lines here start next behind
   leads_then here mid next start now behind a b = record { reads = λ r. a.reads (b.reads r); wrong = λ number w. a.wrong number (b.wrong number w) }
 
-  module _ (here : At) (start : ℕ) (line : Entry) (is : slice_get lines start ≡ Some line) where
+  module _ (here : ReportState) (start : ℕ) (line : Entry) (is : slice_get lines start ≡ Some line) where
     -- a line leads on
-    pub line_leads : (stage : Stage) → Decides drawn here line (Some stage) → Leads drawn lines here start (at_of drawn stage) (start + 1)
+    pub line_leads : (stage : Stage) → Decides drawn here line (Some stage) → CheckLeads drawn lines here start (at_of drawn stage) (start + 1)
     line_leads stage fine =
         let parts : drop start lines ≡ line ∷ drop (start + 1) lines = drop-read lines start line is in
         record {
-          reads = λ r. subst (λ xs. Reads (checked drawn.net) drawn here xs at_last) (sym parts) (at_of drawn stage, fine.0, r);
+          reads = λ r. subst (λ xs. LinesLead (checked drawn.net) drawn here xs at_last) (sym parts) (at_of drawn stage, fine.0, r);
           wrong = λ number w. (
             w.0 + 1,
             subst (λ xs. IsFirstWrong drawn here xs (w.0 + 1)) (sym parts)
@@ -59,22 +59,22 @@ module _ (drawn : Drawn) (lines : List Entry) where
 
   -- ---- the ends of a walk
 
-  pub walk_wrong : (here : At) (number : ℕ) → IsWrongFrom drawn lines here 0 number → IsFirstWrong drawn here lines number
+  pub walk_wrong : (here : ReportState) (number : ℕ) → IsWrongFrom drawn lines here 0 number → IsFirstWrong drawn here lines number
   walk_wrong here number w = let sum : number ≡ 0 + w.0 = w.2 in let same : w.0 ≡ number = omega arith in subst (IsFirstWrong drawn here lines) same w.1
 
   -- where the lines end too early the one that is wanting is wrong
-  pub end_wrong : (here : At) (start : ℕ) → length lines ≤ start → (here ≡ at_last → ⊥) → IsWrongFrom drawn lines here start start
+  pub end_wrong : (here : ReportState) (start : ℕ) → length lines ≤ start → (here ≡ at_last → ⊥) → IsWrongFrom drawn lines here start start
   end_wrong here start past other =
       let none : drop start lines ≡ [] = drop_of_length-le lines past in
       (0, subst (λ xs. IsFirstWrong drawn here xs 0) (sym none) (other, refl), omega arith)
 
-  pub end_reads : (here last : At) (start : ℕ) → length lines ≤ start → last ≡ at_last → Leads drawn lines here 0 last start → Reads (checked drawn.net) drawn here lines at_last
+  pub end_reads : (here last : ReportState) (start : ℕ) → length lines ≤ start → last ≡ at_last → CheckLeads drawn lines here 0 last start → LinesLead (checked drawn.net) drawn here lines at_last
   end_reads here last start past is leads =
       let none : drop start lines ≡ [] = drop_of_length-le lines past in
-      leads.reads (subst (λ xs. Reads (checked drawn.net) drawn last xs at_last) (sym none) is)
+      leads.reads (subst (λ xs. LinesLead (checked drawn.net) drawn last xs at_last) (sym none) is)
 
 -- the first wrong line is one of the lines, or the one behind them
-pub wrong_within : (drawn : Drawn) (here : At) (lines : List Entry) (number : ℕ) → IsFirstWrong drawn here lines number → number ≤ length lines
+pub wrong_within : (drawn : Drawn) (here : ReportState) (lines : List Entry) (number : ℕ) → IsFirstWrong drawn here lines number → number ≤ length lines
 wrong_within drawn here [] number w = let e : number ≡ 0 = w.1 in omega arith
 wrong_within drawn here (line ∷ lines) number (inl w) = let e : number ≡ 0 = w.1 in omega arith
 wrong_within drawn here (line ∷ lines) number (inr w) =
@@ -85,14 +85,14 @@ wrong_within drawn here (line ∷ lines) number (inr w) =
 -- ---- a whole walk
 
 -- the lines so far lead from the heading to a stage
-pub record IsWalking (drawn : Drawn) (lines : List Entry) (stage : Stage) (start : ℕ) (checker : Checking) (work : View) : Type 0 where
-  pub leads : Leads drawn lines at_heading 0 (at_of drawn stage) start
+pub record IsWalking (drawn : Drawn) (lines : List Entry) (stage : Stage) (start : ℕ) (checker : Checking) (work : WorkView) : Type 0 where
+  pub leads : CheckLeads drawn lines at_heading 0 (at_of drawn stage) start
   pub fits : Fits drawn stage
   pub within : start ≤ length lines
   pub room : checker.room ≡ length drawn.net.constraints
   pub made : IsMadeFor drawn.net work
 
-pub walking_more : (drawn : Drawn) (lines : List Entry) (stage next : Stage) (start behind : ℕ) (checker now : Checking) (work later : View)
+pub walking_more : (drawn : Drawn) (lines : List Entry) (stage next : Stage) (start behind : ℕ) (checker now : Checking) (work later : WorkView)
     → IsWalking drawn lines stage start checker work → StepsOn drawn lines (at_of drawn stage) start next behind → now.room ≡ checker.room → IsMadeFor drawn.net later
     → IsWalking drawn lines next behind now later
 walking_more drawn lines stage next start behind checker now work later w step room made = record {

@@ -8,8 +8,8 @@ use Rattle.drawn.specs.declared.row.Row.{Row}
 use Rattle.slack_report.specs.Entry as lines
 use Rattle.slack_report.specs.Entry.{Entry}
 use Rattle.right_report.specs.Right.At.{at_end, at_row, end_word}
-use Rattle.report_check.specs.declared.stage.Course.{Course}
-use Rattle.report_check.specs.declared.stage.Side.TheVariants.{Greatest}
+use Rattle.report_check.specs.declared.stage.ReportTally.{ReportTally}
+use Rattle.report_check.specs.declared.stage.NextBound.TheVariants.{Greatest}
 use Rattle.report_check.specs.declared.stage.Stage.{Stage}
 use Rattle.report_check.specs.declared.stage.Stage.TheVariants as stages
 use Rattle.report_check.specs.Step.Stages.{Decides, at_of, course_told, is_proof}
@@ -49,14 +49,14 @@ module _ (drawn : Drawn) (number : ℕ) (name : Name) (line : Entry) (test : Boo
   event_none fails = rw (names_from drawn.names number name there is) (λ next h. let clash : true ≡ false = sym (tells.1 h.0) ∙ fails in absurd (cc clash))
 
 -- behind all rows the end comes
-pub end_decides : (drawn : Drawn) (course : Course) (number : ℕ) (left : List Row) (line : Entry) (o : Option Stage) → left ≡ []
+pub end_decides : (drawn : Drawn) (course : ReportTally) (number : ℕ) (left : List Row) (line : Entry) (o : Option Stage) → left ≡ []
     → Decides drawn (at_end (end_word (course_told course))) line o → Decides drawn (at_row (course_told course) number left) line o
 end_decides drawn course number left line None none d = subst (λ xs. Decides drawn (at_row (course_told course) number xs) line None) (sym none) d
 end_decides drawn course number left line (Some stage) none d = subst (λ xs. Decides drawn (at_row (course_told course) number xs) line (Some stage)) (sym none) d
 
 -- ---- rows
 
-module _ (drawn : Drawn) (course : Course) (number : ℕ) (row : Row) (line : Entry) (test : Bool) (there : slice_get drawn.rows number ≡ Some row)
+module _ (drawn : Drawn) (course : ReportTally) (number : ℕ) (row : Row) (line : Entry) (test : Bool) (there : slice_get drawn.rows number ≡ Some row)
     (tells : IsTrue test ↔ (line ≡ lines.row number row.kind (name_of drawn row.from) (name_of drawn row.to))) where
   pub row_some : test ≡ true → IsRowOf drawn.net row → number < 2 ^ 32
       → Decides drawn (at_of drawn (stages.Row course number)) line (Some (stages.Bound (record { course = course; number = number; row = row }) Greatest))

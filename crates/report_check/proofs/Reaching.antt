@@ -16,8 +16,8 @@ use Rattle.event_graph.specs.Proof.{Bound, Case, ClosesByPath, Loop, Path, Proof
 use Rattle.event_graph.specs.Proof as proofs
 use Rattle.right_report.specs.Shown.{goal_of}
 use Rattle.drawn.specs.declared.row.Row.{Row}
-use Rattle.report_check.specs.declared.stage.Side.{Side}
-use Rattle.report_check.specs.declared.stage.Side.TheVariants as sides
+use Rattle.report_check.specs.declared.stage.NextBound.{NextBound}
+use Rattle.report_check.specs.declared.stage.NextBound.TheVariants as sides
 use Rattle.requirements.specs.declared.bound.Bound as given
 use Rattle.report_check.specs.Step.Groups.{ReadsAlike}
 use Rattle.report_check.specs.Step.Stages.{side_told}
@@ -69,7 +69,7 @@ module _ (net : Net) (is : IsNet net) (from to : EventId) (value other : ℤ) (a
       let sum : path_sum net names ≤ℤ pos (weight_limit * length names) = sum_within net is.ends names in
       (h.0, h.1, alike (path_sum net names) (omega (arith, ints)) h.2, h.3)
 
-  reads_on : (lines : List ProofLine) (cases left : List Case) → proofs.Reads net (Bound from to value) cases lines left → proofs.Reads net (Bound from to other) cases lines left
+  reads_on : (lines : List ProofLine) (cases left : List Case) → proofs.ProofLeaves net (Bound from to value) cases lines left → proofs.ProofLeaves net (Bound from to other) cases lines left
   reads_on [] cases left h = h
   reads_on (line ∷ lines) [] left h = absurd h
   reads_on (Split number ∷ lines) (chosen ∷ cases) left h = (h.0, reads_on lines (cases_of net chosen number ++ cases) left h.1)
@@ -97,7 +97,7 @@ pub same_alike : (net : Net) (goal : ProofGoal) → ReadsAlike net goal goal
 same_alike net goal cases left lines = (λ h. h, λ h. h)
 
 -- what lines before a least bound are to show
-pub least_goal : (net : Net) → IsNet net → (row : Row) (side : Side) (most : given.Bound) (value minus : ℤ) → side ≡ sides.LeastBy most
+pub least_goal : (net : Net) → IsNet net → (row : Row) (side : NextBound) (most : given.Bound) (value minus : ℤ) → side ≡ sides.LeastBy most
     → minus ≡ int_min (neg_ℤ value) (pos (2 ^ 63 - 1)) → ReadsAlike net (goal_of row (side_told side) value) (Bound row.to row.from minus)
 least_goal net is row sides.Greatest most value minus on same = absurd (cc on)
 least_goal net is row (sides.LeastBy other) most value minus on same =

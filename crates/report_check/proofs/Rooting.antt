@@ -16,8 +16,8 @@ use Rattle.branch.specs.declared.answer.Root.TheVariants as roots
 use Rattle.requirements.specs.declared.bound.Bound.{Bound}
 use Rattle.drawn.specs.declared.row.Row.{Row}
 use Rattle.right_report.specs.Right.Facts.{IsLimit}
-use Rattle.report_check.specs.declared.stage.Side.{Side}
-use Rattle.report_check.specs.declared.stage.Side.TheVariants.{Greatest, LeastBy}
+use Rattle.report_check.specs.declared.stage.NextBound.{NextBound}
+use Rattle.report_check.specs.declared.stage.NextBound.TheVariants.{Greatest, LeastBy}
 use Rattle.report_check.specs.Step.Bounds.{SomeMeet, reversed_root}
 use Rattle.report_check.specs.Step.Stages.{side_told}
 
@@ -103,14 +103,14 @@ reversed_is (roots.Bound upper) limit = (
 
 -- ---- limits
 
-pub limit_greatest : (net : Net) (r : Row) (side : Side) (root : Root) (limit : Option ℤ) (test : Bool) → side ≡ Greatest → IsRoot net r.from r.to root
+pub limit_greatest : (net : Net) (r : Row) (side : NextBound) (root : Root) (limit : Option ℤ) (test : Bool) → side ≡ Greatest → IsRoot net r.from r.to root
     → (IsTrue test ↔ (root ≡ roots.Bound limit)) → (IsTrue test ↔ IsLimit net r (side_told side) limit)
 limit_greatest net r Greatest root limit test is rooted tells =
     let bounded = root_is net r.from r.to root limit rooted in
     (λ t. bounded.0 (tells.0 t), λ h. tells.1 (bounded.1 h))
 limit_greatest net r (LeastBy most) root limit test is rooted tells = absurd (cc is)
 
-pub limit_least : (net : Net) (r : Row) (side : Side) (most : Bound) (root : Root) (limit : Option ℤ) (test : Bool) → side ≡ LeastBy most → IsRoot net r.to r.from root
+pub limit_least : (net : Net) (r : Row) (side : NextBound) (most : Bound) (root : Root) (limit : Option ℤ) (test : Bool) → side ≡ LeastBy most → IsRoot net r.to r.from root
     → (IsTrue test ↔ (reversed_root root ≡ roots.Bound limit)) → (IsTrue test ↔ IsLimit net r (side_told side) limit)
 limit_least net r Greatest most root limit test is rooted tells = absurd (cc is)
 limit_least net r (LeastBy other) most root limit test is rooted tells =

@@ -10,7 +10,7 @@ use Rattle.slack_report.specs.declared.item.Item.TheVariants as given
 use Rattle.event_graph.specs.Network.{Net}
 use Rattle.event_graph.specs.Proof.{Case, ProofGoal, ProofLine}
 use Rattle.event_graph.specs.Proof as proofs
-use Rattle.cert_checker.specs.Checking.{Checking, StandsFor, Tells, open_cases}
+use Rattle.cert_checker.specs.Checking.{Checking, IsProofCheckerFor, AnswersFault, open_cases}
 use Rattle.cert_checker.specs.declared.check_fault.CheckFault.{CheckFault}
 use Rattle.cert_checker.specs.Faults.{behind_line, fault_of_line}
 use Rattle.cert_checker.proofs.Reading.{no_fault_is_read}
@@ -40,12 +40,12 @@ pub record IsTaking (net : Net) (goal : ProofGoal) (lines : List Entry) (start n
   pub before : List ProofLine
   pub parts : proof_front (drop start lines) ≡ before ++ proof_front (drop number lines)
   pub count : number ≡ start + length before
-  pub reads : proofs.Reads net goal ([] ∷ []) before (open_cases net checker)
-  pub stands : StandsFor net checker
+  pub reads : proofs.ProofLeaves net goal ([] ∷ []) before (open_cases net checker)
+  pub stands : IsProofCheckerFor net checker
   pub same_goal : checker.goal ≡ goal
   pub same_room : checker.room ≡ room
 
-pub taking_none : (net : Net) (goal : ProofGoal) (lines : List Entry) (start room : ℕ) (checker : Checking) → open_cases net checker ≡ [] ∷ [] → StandsFor net checker → checker.goal ≡ goal
+pub taking_none : (net : Net) (goal : ProofGoal) (lines : List Entry) (start room : ℕ) (checker : Checking) → open_cases net checker ≡ [] ∷ [] → IsProofCheckerFor net checker → checker.goal ≡ goal
     → room ≡ length net.constraints → IsTaking net goal lines start start room checker
 taking_none net goal lines start room checker opened stands is_goal is_room = record {
   before = [];
@@ -75,7 +75,7 @@ module _ (net : Net) (goal : ProofGoal) (lines : List Entry) (start number room 
   at_goal line o is = subst (λ g. fault_of_line net g (open_cases net checker) line ≡ o) t.same_goal is
 
   pub taking_more : (line : ProofLine) (new : Checking) → slice_get lines number ≡ Some (proof line) → fault_of_line net checker.goal (open_cases net checker) line ≡ None
-      → open_cases net new ≡ behind_line net (open_cases net checker) line → StandsFor net new → new.goal ≡ checker.goal → IsTaking net goal lines start (number + 1) room new
+      → open_cases net new ≡ behind_line net (open_cases net checker) line → IsProofCheckerFor net new → new.goal ≡ checker.goal → IsTaking net goal lines start (number + 1) room new
   taking_more line new is fine behind stands is_goal = record {
     before = t.before ++ line ∷ [];
     parts = t.parts ∙ (ap (λ xs. t.before ++ xs) (front_proof lines number line is) ∙ sym (append_assoc t.before (line ∷ []) (proof_front (drop (number + 1) lines))));
@@ -106,17 +106,17 @@ module _ (net : Net) (goal : ProofGoal) (lines : List Entry) (start number room 
       let all : t.before ≡ proof_front (drop start lines) = sym (t.parts ∙ (ap (λ xs. t.before ++ xs) none ∙ append-nil t.before)) in
       record {
         cases = open_cases net checker;
-        reads = subst (λ xs. proofs.Reads net goal ([] ∷ []) xs (open_cases net checker)) all t.reads;
+        reads = subst (λ xs. proofs.ProofLeaves net goal ([] ∷ []) xs (open_cases net checker)) all t.reads;
         is_whole = is_whole;
       }
 
 -- ---- what a call of the checker told
 
-pub tells_none : (r : Result ⊤ CheckFault) (fault : Option CheckFault) → is_err r ≡ false → Tells r fault → fault ≡ None
+pub tells_none : (r : Result ⊤ CheckFault) (fault : Option CheckFault) → is_err r ≡ false → AnswersFault r fault → fault ≡ None
 tells_none (Ok x) fault is told = told
 tells_none (Err e) fault is told = absurd (cc is)
 
-pub tells_some : (r : Result ⊤ CheckFault) (fault : Option CheckFault) → is_err r ≡ true → Tells r fault → (e : CheckFault) × (fault ≡ Some e)
+pub tells_some : (r : Result ⊤ CheckFault) (fault : Option CheckFault) → is_err r ≡ true → AnswersFault r fault → (e : CheckFault) × (fault ≡ Some e)
 tells_some (Ok x) fault is told = absurd (cc is)
 tells_some (Err e) fault is told = (e, told)
 

@@ -2,7 +2,7 @@
 
 ghost use Rattle.std.specs.Prelude.{ℕ, List};
 ghost use Rattle.itv_base.specs.Outside.{Puts};
-ghost use Rattle.jobs.specs.Works.{Works};
+ghost use Rattle.jobs.specs.Works.{JobWrote};
 ghost use Rattle.drawn.specs.Drawn.{Drawn};
 ghost use Rattle.report_check.specs.Check.{AnswersCheck, BeginsCheck, IsCheckOf, refused_text};
 ghost use Rattle.report_check.specs.Step.Texts.{checked_text};
@@ -22,7 +22,7 @@ pub fn answer_check<K: Sink>(
     bytes: &[u8],
     sink: &mut K,
 ) -> Result<Answer, Unanswered>
-    ensures works { Works (AnswersCheck drawn.now bytes.now) (BeginsCheck drawn.now bytes.now)
+    ensures works { JobWrote (AnswersCheck drawn.now bytes.now) (BeginsCheck drawn.now bytes.now)
         (K.told sink.old) (K.told sink.new) result }
 {
     match check_report(alloc, drawn, bytes) {
@@ -33,7 +33,7 @@ pub fn answer_check<K: Sink>(
 
 fn tell<K: Sink>(checked: Checked, sink: &mut K) -> Result<Answer, Unanswered>
     ensures works { (drawn : Drawn) (bytes : List ℕ) → IsCheckOf drawn bytes checked
-        → Works (AnswersCheck drawn bytes) (BeginsCheck drawn bytes) (K.told sink.old) (K.told sink.new) result }
+        → JobWrote (AnswersCheck drawn bytes) (BeginsCheck drawn bytes) (K.told sink.old) (K.told sink.new) result }
 {
     match put_checked(checked, sink) {
         Ok(()) => Ok(answer_of(checked)),

@@ -13,7 +13,7 @@ ghost use Rattle.report_check.specs.Step.Bounds.{IsBetween, SomeMeet, goal_for, 
 ghost use Rattle.report_check.specs.Step.Groups.{IsToldOf};
 ghost use Rattle.report_check.specs.Step.Stages.{side_told};
 
-use crate::stage::Side;
+use crate::stage::NextBound;
 use crate::times::is_time;
 use branch::{Root, Work, root_bound};
 use drawn::Row;
@@ -65,7 +65,7 @@ pub fn proves_bound(
     work: &mut Work,
     found: FindingWord,
     row: &Row,
-    side: Side,
+    side: NextBound,
     value: Bound,
     whole: bool,
 ) -> bool
@@ -99,7 +99,7 @@ fn has_attained(found: FindingWord, attained: Option<i64>) -> bool
 }
 
 // Whether a limit is the root bound of a row on a side.
-fn is_limit(net: &Network, work: &mut Work, row: &Row, side: Side, limit: Option<i64>) -> bool
+fn is_limit(net: &Network, work: &mut Work, row: &Row, side: NextBound, limit: Option<i64>) -> bool
     requires made { IsMadeFor net.now work.old }
     requires between { IsBetween net.now row.now }
     ensures limit { IsTrue result ↔ IsLimit net.now row.now (side_told side) limit }
@@ -107,8 +107,8 @@ fn is_limit(net: &Network, work: &mut Work, row: &Row, side: Side, limit: Option
     ensures made { IsMadeFor net.now work.new }
 {
     let root = match side {
-        Side::Greatest => root_bound(work, net, row.from, row.to),
-        Side::LeastBy(_) => reversed_root(root_bound(work, net, row.to, row.from)),
+        NextBound::Greatest => root_bound(work, net, row.from, row.to),
+        NextBound::LeastBy(_) => reversed_root(root_bound(work, net, row.to, row.from)),
     };
     is_root(root, limit)
 }

@@ -12,10 +12,10 @@ ghost use Rattle.right_report.specs.Shown.{goal_of};
 ghost use Rattle.right_report.specs.Wrong.{goal_by};
 ghost use Rattle.report_check.specs.Step.Groups.{ChecksFor, ChecksLines, IsGroup, IsToldOf, ReadsAlike, StandsForGoal, behind_lines, found_behind, proof_front};
 ghost use Rattle.report_check.specs.Step.Stages.{Decides, IsSide, IsTelling, is_proof, side_told, telling_of};
-ghost use Rattle.report_check.specs.Step.Walks.{Steps};
+ghost use Rattle.report_check.specs.Step.Walks.{CheckSteps};
 
 use crate::bounds::{proves_bound, proves_finding};
-use crate::stage::{Side, Stage, Telling, behind_bound, behind_finding};
+use crate::stage::{CurrentRow, NextBound, Stage, behind_bound, behind_finding};
 use branch::Work;
 use cert_checker::{Checker, Goal};
 use drawn::{DrawnNetwork, Row};
@@ -25,11 +25,11 @@ use slack_report::{FindingWord, Item, Items, Which};
 
 /// What lines of a proof stand before.
 #[derive(Clone, Copy, Debug)]
-pub enum Group {
+pub enum ProofGroup {
     /// Before the finding, behind so many events.
     Finding(u32),
     /// Before a bound of a row.
-    Bound { told: Telling, side: Side },
+    Bound { told: CurrentRow, side: NextBound },
 }
 
 /// A step over lines of a proof from a line on, and over the finding or the bound behind them: the stage behind it with the number of
@@ -40,13 +40,13 @@ pub fn step_group(
     work: &mut Work,
     items: &Items,
     start: u64,
-    group: &Group,
+    group: &ProofGroup,
 ) -> Result<(Stage<'static>, u64), u64>
     requires start { start ≤ length items.now }
     requires group { IsGroup drawn.now group.now }
     requires room { checker.old.room ≡ length drawn.now.net.constraints }
     requires made { IsMadeFor drawn.now.net work.old }
-    ensures steps { Steps drawn.now items.now (behind_lines drawn.now group.now []) start result }
+    ensures steps { CheckSteps drawn.now items.now (behind_lines drawn.now group.now []) start result }
     ensures room { checker.new.room ≡ checker.old.room }
     ensures made { IsMadeFor drawn.now.net work.new }
 {
@@ -91,13 +91,13 @@ fn is_proof(item: &Item<'_>) -> bool
 }
 
 // What lines are to show by the line behind them, if something is.
-fn goal_by(net: &Network, group: &Group, item: &Item<'_>) -> Option<Goal>
+fn goal_by(net: &Network, group: &ProofGroup, item: &Item<'_>) -> Option<Goal>
     ensures goal { (drawn : Drawn) → StandsForGoal net.now (goal_by (behind_lines drawn group.now []) (item_view item.now)) result }
 {
     match (group, item) {
-        (Group::Finding(_), Item::Finding(FindingWord::Inconsistent)) => Some(Goal::Nothing),
+        (ProofGroup::Finding(_), Item::Finding(FindingWord::Inconsistent)) => Some(Goal::Nothing),
         (
-            Group::Bound { told, side },
+            ProofGroup::Bound { told, side },
             Item::Bound {
                 bound: Bound::Closed(value),
                 ..
@@ -108,18 +108,18 @@ fn goal_by(net: &Network, group: &Group, item: &Item<'_>) -> Option<Goal>
 }
 
 // What lines before a closed bound are to show.
-fn goal_of(net: &Network, row: &Row, side: Side, value: i64) -> Goal
+fn goal_of(net: &Network, row: &Row, side: NextBound, value: i64) -> Goal
     ensures goal { ReadsAlike net.now (goal_of row.now (side_told side) value) (goal_view result) }
 {
     // The network is within its limits, and so are the sums of its paths.
     let _events = net.events();
     match side {
-        Side::Greatest => Goal::Bound {
+        NextBound::Greatest => Goal::Bound {
             from: row.from,
             to: row.to,
             value,
         },
-        Side::LeastBy(_) => Goal::Bound {
+        NextBound::LeastBy(_) => Goal::Bound {
             from: row.to,
             to: row.from,
             value: minus(value),
@@ -189,7 +189,7 @@ fn check_lines(
 fn judge_behind(
     drawn: &DrawnNetwork,
     work: &mut Work,
-    group: &Group,
+    group: &ProofGroup,
     whole: bool,
     item: &Item<'_>,
 ) -> Option<Stage<'static>>
@@ -202,8 +202,8 @@ fn judge_behind(
     ensures made { IsMadeFor drawn.now.net work.new }
 {
     match group {
-        Group::Finding(number) => judge_finding(drawn, work, *number, whole, item),
-        Group::Bound { told, side } => judge_bound(drawn, work, told, *side, whole, item),
+        ProofGroup::Finding(number) => judge_finding(drawn, work, *number, whole, item),
+        ProofGroup::Bound { told, side } => judge_bound(drawn, work, told, *side, whole, item),
     }
 }
 
@@ -234,8 +234,8 @@ fn judge_finding(
 fn judge_bound(
     drawn: &DrawnNetwork,
     work: &mut Work,
-    told: &Telling,
-    side: Side,
+    told: &CurrentRow,
+    side: NextBound,
     whole: bool,
     item: &Item<'_>,
 ) -> Option<Stage<'static>>
@@ -260,7 +260,7 @@ fn judge_bound(
 }
 
 // Whether a bound is that of a side.
-fn is_which(which: Which, side: Side) -> bool
+fn is_which(which: Which, side: NextBound) -> bool
     ensures which { IsTrue result ↔ (which ≡ which_of (side_told side)) }
 {
     which == side.which()

@@ -11,7 +11,9 @@ ghost use Rattle.drawn.specs.Drawn.{Drawn, IsRowOf, name_of};
 ghost use Rattle.report_check.specs.Step.Stages.{AreBounded, Decides, Fits, IsLineStage, IsSide, IsTelling, at_of, side_told, telling_of};
 
 use crate::names::{same_kind, same_name};
-use crate::stage::{Course, Side, Stage, Telling, behind_past, behind_verdict, bounded};
+use crate::stage::{
+    CurrentRow, NextBound, ReportTally, Stage, behind_past, behind_verdict, bounded,
+};
 use crate::times::{are_known, are_times, attains, breaks, can_rise};
 use drawn::{DrawnNetwork, Row};
 use itv_base::{EventId, EventName, Range};
@@ -117,7 +119,7 @@ fn judge_rows(drawn: &DrawnNetwork, word: FindingWord, item: &Item<'_>) -> Optio
 {
     match item {
         Item::Rows { count } if u64::from(*count) == drawn.rows().len() => Some(Stage::Row {
-            course: Course::new(word),
+            course: ReportTally::new(word),
             number: 0,
         }),
         _ => None,
@@ -126,7 +128,7 @@ fn judge_rows(drawn: &DrawnNetwork, word: FindingWord, item: &Item<'_>) -> Optio
 
 fn judge_row(
     drawn: &DrawnNetwork,
-    course: Course,
+    course: ReportTally,
     number: u64,
     item: &Item<'_>,
 ) -> Option<Stage<'static>>
@@ -142,7 +144,7 @@ fn judge_row(
 
 fn judge_row_line(
     drawn: &DrawnNetwork,
-    course: Course,
+    course: ReportTally,
     number: u64,
     row: &Row,
     item: &Item<'_>,
@@ -153,12 +155,12 @@ fn judge_row_line(
 {
     if is_row(item, number, drawn, row) {
         return Some(Stage::Bound {
-            told: Telling {
+            told: CurrentRow {
                 course,
                 number,
                 row: *row,
             },
-            side: Side::Greatest,
+            side: NextBound::Greatest,
         });
     }
     None
@@ -198,8 +200,8 @@ fn judge_end(drawn: &DrawnNetwork, word: EndWord, item: &Item<'_>) -> Option<Sta
 
 fn judge_times<'a>(
     drawn: &DrawnNetwork,
-    told: &Telling,
-    side: Side,
+    told: &CurrentRow,
+    side: NextBound,
     value: Bound,
     item: &Item<'a>,
 ) -> Option<Stage<'a>>
@@ -218,7 +220,7 @@ fn judge_times<'a>(
 }
 
 // Behind the times of a bound.
-fn behind_times<'a>(told: &Telling, side: Side, value: Bound, times: &'a [i64]) -> Stage<'a>
+fn behind_times<'a>(told: &CurrentRow, side: NextBound, value: Bound, times: &'a [i64]) -> Stage<'a>
     requires number { told.now.number < 2 ^ 32 }
     ensures stage { (drawn : Drawn) → at_of drawn result ≡ behind_times (telling_of drawn told.now) (side_told side) value times.now }
     ensures fits { (drawn : Drawn) → IsTelling drawn told.now → IsSide side → HasTimes value → All IsTime times.now
@@ -236,8 +238,8 @@ fn behind_times<'a>(told: &Telling, side: Side, value: Bound, times: &'a [i64]) 
 
 fn judge_raise(
     drawn: &DrawnNetwork,
-    told: &Telling,
-    side: Side,
+    told: &CurrentRow,
+    side: NextBound,
     times: &[i64],
     item: &Item<'_>,
 ) -> Option<Stage<'static>>
@@ -257,7 +259,7 @@ fn judge_raise(
 
 fn judge_verdict(
     drawn: &DrawnNetwork,
-    told: &Telling,
+    told: &CurrentRow,
     range: Range,
     both: &BothBounds,
     item: &Item<'_>,
@@ -276,7 +278,7 @@ fn judge_verdict(
 
 fn judge_past(
     drawn: &DrawnNetwork,
-    told: &Telling,
+    told: &CurrentRow,
     range: Range,
     both: &BothBounds,
     item: &Item<'_>,
@@ -298,7 +300,7 @@ fn judge_past(
 
 fn judge_slack(
     drawn: &DrawnNetwork,
-    course: Course,
+    course: ReportTally,
     number: u64,
     range: Range,
     both: &BothBounds,

@@ -14,7 +14,7 @@ use slack_report::{EndWord, FindingWord, Which};
 
 /// What the word at the end goes by: the finding, whether some verdict was a fail, and whether some bound was left open.
 #[derive(Clone, Copy, Debug, PartialEq, Eq)]
-pub struct Course {
+pub struct ReportTally {
     pub found: FindingWord,
     pub fails: bool,
     pub within: bool,
@@ -22,15 +22,15 @@ pub struct Course {
 
 /// Which bound of a row comes: the greatest, or the least behind the greatest.
 #[derive(Clone, Copy, Debug, PartialEq, Eq)]
-pub enum Side {
+pub enum NextBound {
     Greatest,
     LeastBy(Bound),
 }
 
 /// A row that is being told, with its number from 0, behind what came before.
 #[derive(Clone, Copy, Debug, PartialEq, Eq)]
-pub struct Telling {
-    pub course: Course,
+pub struct CurrentRow {
+    pub course: ReportTally,
     pub number: u64,
     pub row: Row,
 }
@@ -49,39 +49,39 @@ pub enum Stage<'a> {
     Rows(FindingWord),
     /// Before the row of a number from 0; behind all rows before the end.
     Row {
-        course: Course,
+        course: ReportTally,
         number: u64,
     },
     Bound {
-        told: Telling,
-        side: Side,
+        told: CurrentRow,
+        side: NextBound,
     },
     /// Before the times of a bound.
     Times {
-        told: Telling,
-        side: Side,
+        told: CurrentRow,
+        side: NextBound,
         value: Bound,
     },
     /// Before the set of events that can be raised from these times.
     Raise {
-        told: Telling,
-        side: Side,
+        told: CurrentRow,
+        side: NextBound,
         times: &'a [i64],
     },
     Verdict {
-        told: Telling,
+        told: CurrentRow,
         range: Range,
         both: BothBounds,
     },
     /// Before the times that break a requirement.
     Past {
-        told: Telling,
+        told: CurrentRow,
         range: Range,
         both: BothBounds,
     },
     /// Before the slack of a row, behind which the row of a number comes.
     Slack {
-        course: Course,
+        course: ReportTally,
         number: u64,
         range: Range,
         both: BothBounds,
@@ -91,29 +91,29 @@ pub enum Stage<'a> {
     Done,
 }
 
-impl Course {
+impl ReportTally {
     /// Behind a finding.
-    pub fn new(found: FindingWord) -> Course
+    pub fn new(found: FindingWord) -> ReportTally
         ensures course { course_told result ≡ course_of found }
     {
-        Course {
+        ReportTally {
             found,
             fails: false,
             within: false,
         }
     }
 
-    fn with_bounds(self, both: &BothBounds) -> Course
+    fn with_bounds(self, both: &BothBounds) -> ReportTally
         ensures course { course_told result ≡ with_bounds (course_told self) both.now.least both.now.greatest }
     {
         let within = self.within || is_within(both.least) || is_within(both.greatest);
-        Course { within, ..self }
+        ReportTally { within, ..self }
     }
 
-    fn with_verdict(self, word: Verdict) -> Course
+    fn with_verdict(self, word: Verdict) -> ReportTally
         ensures course { course_told result ≡ with_verdict (course_told self) word }
     {
-        Course {
+        ReportTally {
             fails: self.fails || is_fail(word),
             ..self
         }
@@ -135,14 +135,14 @@ impl Course {
     }
 }
 
-impl Side {
+impl NextBound {
     /// Which bound it is.
     pub fn which(self) -> Which
         ensures which { result ≡ which_of (side_told self) }
     {
         match self {
-            Side::Greatest => Which::Max,
-            Side::LeastBy(_) => Which::Min,
+            NextBound::Greatest => Which::Max,
+            NextBound::LeastBy(_) => Which::Min,
         }
     }
 }
@@ -160,9 +160,9 @@ pub fn behind_finding(word: FindingWord) -> Stage<'static>
 }
 
 // Behind both bounds of a row.
-fn behind_both(told: &Telling, both: &BothBounds) -> Stage<'static>
+fn behind_both(told: &CurrentRow, both: &BothBounds) -> Stage<'static>
     requires number { told.now.number < 2 ^ 32 }
-    ensures stage { (drawn : Drawn) → at_of drawn result ≡ bounded (telling_of drawn told.now) (side_told (Side.LeastBy both.now.greatest)) both.now.least }
+    ensures stage { (drawn : Drawn) → at_of drawn result ≡ bounded (telling_of drawn told.now) (side_told (NextBound.LeastBy both.now.greatest)) both.now.least }
     ensures fits { (drawn : Drawn) → IsTelling drawn told.now → AreBounded both.now → Fits drawn result }
 {
     match &told.row.kind {
@@ -179,17 +179,17 @@ fn behind_both(told: &Telling, both: &BothBounds) -> Stage<'static>
 }
 
 /// Behind a bound and its lines.
-pub fn bounded(told: &Telling, side: Side, value: Bound) -> Stage<'static>
+pub fn bounded(told: &CurrentRow, side: NextBound, value: Bound) -> Stage<'static>
     requires number { told.now.number < 2 ^ 32 }
     ensures stage { (drawn : Drawn) → at_of drawn result ≡ bounded (telling_of drawn told.now) (side_told side) value }
     ensures fits { (drawn : Drawn) → IsTelling drawn told.now → IsSide side → HasTimes value → Fits drawn result }
 {
     match side {
-        Side::Greatest => Stage::Bound {
+        NextBound::Greatest => Stage::Bound {
             told: *told,
-            side: Side::LeastBy(value),
+            side: NextBound::LeastBy(value),
         },
-        Side::LeastBy(greatest) => behind_both(
+        NextBound::LeastBy(greatest) => behind_both(
             told,
             &BothBounds {
                 least: value,
@@ -200,7 +200,7 @@ pub fn bounded(told: &Telling, side: Side, value: Bound) -> Stage<'static>
 }
 
 /// Behind the line of a bound.
-pub fn behind_bound(told: &Telling, side: Side, value: Bound) -> Stage<'static>
+pub fn behind_bound(told: &CurrentRow, side: NextBound, value: Bound) -> Stage<'static>
     requires number { told.now.number < 2 ^ 32 }
     ensures stage { (drawn : Drawn) → at_of drawn result ≡ behind_bound (telling_of drawn told.now) (side_told side) value }
     ensures fits { (drawn : Drawn) → IsTelling drawn told.now → IsSide side → HasTimes value → Fits drawn result }
@@ -216,7 +216,12 @@ pub fn behind_bound(told: &Telling, side: Side, value: Bound) -> Stage<'static>
 }
 
 /// Behind a verdict and the times that break the requirement.
-pub fn behind_past(told: &Telling, range: Range, both: &BothBounds, word: Verdict) -> Stage<'static>
+pub fn behind_past(
+    told: &CurrentRow,
+    range: Range,
+    both: &BothBounds,
+    word: Verdict,
+) -> Stage<'static>
     requires number { told.now.number < 2 ^ 32 }
     ensures stage { (drawn : Drawn) → at_of drawn result ≡ behind_past (telling_of drawn told.now) range both.now.least both.now.greatest word }
     ensures fits { (drawn : Drawn) → IsTelling drawn told.now → AreBounded both.now → Fits drawn result }
@@ -231,7 +236,7 @@ pub fn behind_past(told: &Telling, range: Range, both: &BothBounds, word: Verdic
 
 /// Behind a verdict.
 pub fn behind_verdict(
-    told: &Telling,
+    told: &CurrentRow,
     range: Range,
     both: &BothBounds,
     word: Verdict,

@@ -4,11 +4,11 @@ ghost use Rattle.std.specs.Prelude.{◌≡◌, ◌<◌, ◌↔◌, ◌-ℤ◌, I
 ghost use Rattle.event_graph.specs.Satisfying.{Satisfies};
 ghost use Rattle.event_graph.specs.Times.{IsTime, separation};
 ghost use Rattle.drawn.specs.Drawn.{AreTimes};
-ghost use Rattle.right_report.specs.Right.Facts.{Attains, Breaks, CanRise};
+ghost use Rattle.right_report.specs.Right.Facts.{Attains, BreaksEnd, CanRise};
 ghost use Rattle.right_report.specs.Checked.{checked};
 ghost use Rattle.report_check.specs.Step.Stages.{side_told};
 
-use crate::stage::Side;
+use crate::stage::NextBound;
 use cert_checker::check_ray;
 use drawn::Row;
 use event_graph::{Network, time_of};
@@ -81,7 +81,7 @@ pub fn attains(row: &Row, value: Bound, times: &[i64]) -> bool
 /// Whether times break the end of a range that a verdict names.
 pub fn breaks(row: &Row, range: Range, word: Verdict, times: &[i64]) -> bool
     requires times { All IsTime times.now }
-    ensures breaks { IsTrue result ↔ Breaks row.now range word times.now }
+    ensures breaks { IsTrue result ↔ BreaksEnd row.now range word times.now }
 {
     let told = separation(times, row.from, row.to);
     match word {
@@ -93,7 +93,7 @@ pub fn breaks(row: &Row, range: Range, word: Verdict, times: &[i64]) -> bool
 
 /// Whether a set of events can be raised from times without end, and a separation of a row with it: the greatest with the
 /// to-event, and the least with the from-event.
-pub fn can_rise(net: &Network, row: &Row, side: Side, times: &[i64], set: &[bool]) -> bool
+pub fn can_rise(net: &Network, row: &Row, side: NextBound, times: &[i64], set: &[bool]) -> bool
     requires times { All IsTime times.now }
     requires count { length times.now ≡ net.now.events }
     requires from { row.now.from.0 < net.now.events }
@@ -104,7 +104,7 @@ pub fn can_rise(net: &Network, row: &Row, side: Side, times: &[i64], set: &[bool
         return false;
     }
     match side {
-        Side::Greatest => check_ray(net, times, set, row.from, row.to),
-        Side::LeastBy(_) => check_ray(net, times, set, row.to, row.from),
+        NextBound::Greatest => check_ray(net, times, set, row.from, row.to),
+        NextBound::LeastBy(_) => check_ray(net, times, set, row.to, row.from),
     }
 }

@@ -6,9 +6,9 @@ ghost use Rattle.right_report.specs.Right.At.{at_heading, at_last};
 ghost use Rattle.drawn.specs.Drawn.{Drawn};
 ghost use Rattle.report_check.specs.Step.Stages.{Fits, IsLineStage, at_of};
 ghost use Rattle.report_check.specs.Step.Groups.{IsGroup, behind_lines};
-ghost use Rattle.report_check.specs.Step.Walks.{Steps, Walks};
+ghost use Rattle.report_check.specs.Step.Walks.{CheckSteps, CheckWalks};
 
-use crate::group::{Group, step_group};
+use crate::group::{ProofGroup, step_group};
 use crate::judge::judge;
 use crate::stage::Stage;
 use branch::Work;
@@ -25,7 +25,7 @@ pub fn walk(
 ) -> Result<(), u64>
     requires room { checker.old.room ≡ length drawn.now.net.constraints }
     requires made { IsMadeFor drawn.now.net work.old }
-    ensures walks { Walks drawn.now items.now at_heading result }
+    ensures walks { CheckWalks drawn.now items.now at_heading result }
     ensures within { IfErr result (λ number. number ≤ length items.now) }
 {
     let mut stage = Stage::Heading;
@@ -52,7 +52,7 @@ fn step<'a>(
     requires fits { Fits drawn.now stage.now }
     requires room { checker.old.room ≡ length drawn.now.net.constraints }
     requires made { IsMadeFor drawn.now.net work.old }
-    ensures steps { Steps drawn.now items.now (at_of drawn.now stage.now) start result }
+    ensures steps { CheckSteps drawn.now items.now (at_of drawn.now stage.now) start result }
     ensures room { checker.new.room ≡ checker.old.room }
     ensures made { IsMadeFor drawn.now.net work.new }
 {
@@ -63,17 +63,17 @@ fn step<'a>(
 }
 
 // What lines of a proof stand before at a stage, if some may.
-fn group_of(drawn: &DrawnNetwork, stage: &Stage<'_>) -> Option<Group>
+fn group_of(drawn: &DrawnNetwork, stage: &Stage<'_>) -> Option<ProofGroup>
     requires fits { Fits drawn.now stage.now }
     ensures group { IfSome result (λ group. IsGroup drawn.now group
         × (behind_lines drawn.now group [] ≡ at_of drawn.now stage.now)) }
     ensures line { IsNone result → IsLineStage drawn.now stage.now }
 {
     match stage {
-        Stage::Event(number) if *number == drawn.network().events() => Some(Group::Finding(
+        Stage::Event(number) if *number == drawn.network().events() => Some(ProofGroup::Finding(
             *number,
         )),
-        Stage::Bound { told, side } => Some(Group::Bound {
+        Stage::Bound { told, side } => Some(ProofGroup::Bound {
             told: *told,
             side: *side,
         }),
@@ -91,7 +91,7 @@ fn step_line<'a>(
     requires start { start < length items.now }
     requires fits { Fits drawn.now stage.now }
     requires line { IsLineStage drawn.now stage.now }
-    ensures steps { Steps drawn.now items.now (at_of drawn.now stage.now) start result }
+    ensures steps { CheckSteps drawn.now items.now (at_of drawn.now stage.now) start result }
 {
     let (item, _) = items.get(start);
     match judge(drawn, stage, &item) {

@@ -21,9 +21,9 @@ use Rattle.slack_report.specs.declared.words.FindingWord.TheVariants.{Consistent
 use Rattle.slack_report.specs.Entry.{Entry, ending}
 use Rattle.drawn.specs.Drawn.{Drawn}
 use Rattle.drawn.specs.declared.row.Row.{Row}
-use Rattle.right_report.specs.Right.At.{At, Course, Side, Telling, at_heading, at_budget, at_events, at_event, at_finding, at_known, at_rows, at_row, at_bound, at_times, at_raise, at_verdict, at_past, at_slack, at_end, at_last, behind_bound, behind_finding, behind_times, behind_verdict, bounded, end_word, greatest, is_fail, is_within, judged, least_by, undecided_or_pass, with_bounds, with_verdict}
+use Rattle.right_report.specs.Right.At.{ReportState, ReportTally, NextBound, CurrentRow, at_heading, at_budget, at_events, at_event, at_finding, at_known, at_rows, at_row, at_bound, at_times, at_raise, at_verdict, at_past, at_slack, at_end, at_last, behind_bound, behind_finding, behind_times, behind_verdict, bounded, end_word, greatest, is_fail, is_within, judged, least_by, undecided_or_pass, with_bounds, with_verdict}
 use Rattle.right_report.specs.Right.Facts.{IsFinding, right}
-use Rattle.right_report.specs.Right.Following.{MayBound, MayFind, MayFollow, Reads}
+use Rattle.right_report.specs.Right.Following.{MayBound, MayFind, MayFollow, LinesLead}
 use Rattle.right_report.specs.Laws.{AllMet, FailEndIsSo, InconsistentEndIsSo, PassEndIsSo, SomeBroken, SomeSatisfy}
 use Rattle.right_report.specs.Told.{end_in}
 use Rattle.right_report.proofs.Standing.{IsTold, Stands, stands}
@@ -43,13 +43,13 @@ or_some false b e = inr e
 -- ---- what the rows so far say
 
 -- what a report says of the rows before a number
-pub record Tallies (drawn : Drawn) (course : Course) (number : ℕ) : Type 0 where
+pub record Tallies (drawn : Drawn) (course : ReportTally) (number : ℕ) : Type 0 where
   pub met : course.fails ≡ false → course.within ≡ false → (k : ℕ) (r : Row) (range : Ends) → k < number → slice_get drawn.rows k ≡ Some r → r.kind ≡ Req range → IsMet drawn.net r.from r.to range
   pub broken : course.fails ≡ true → SomeBroken drawn
   pub satisfied : course.found ≡ Consistent → SomeSatisfy drawn.net
   pub settled : course.found ≡ Inconsistent → ⊥
 
-abbrev Counts : Drawn → At → Type 0
+abbrev Counts : Drawn → ReportState → Type 0
 Counts drawn (at_rows word) = (word ≡ Consistent → SomeSatisfy drawn.net) × (word ≡ Inconsistent → ⊥)
 Counts drawn (at_row course number later) = Tallies drawn course number
 Counts drawn (at_bound told side lines) = Tallies drawn told.course told.number
@@ -68,9 +68,9 @@ within_is (Closed value) w e = w
 within_is Unbounded w e = w
 within_is (Within limit attained) w e = cc
 
-module _ (drawn : Drawn) (told : Telling) (is_row : slice_get drawn.rows told.number ≡ Some told.row) (c : Tallies drawn told.course told.number) where
+module _ (drawn : Drawn) (told : CurrentRow) (is_row : slice_get drawn.rows told.number ≡ Some told.row) (c : Tallies drawn told.course told.number) where
   -- a row more
-  tallies_more : (new : Course) → (new.fails ≡ false → told.course.fails ≡ false) → (new.within ≡ false → told.course.within ≡ false)
+  tallies_more : (new : ReportTally) → (new.fails ≡ false → told.course.fails ≡ false) → (new.within ≡ false → told.course.within ≡ false)
       → (new.fails ≡ false → new.within ≡ false → (range : Ends) → told.row.kind ≡ Req range → IsMet drawn.net told.row.from told.row.to range)
       → (new.fails ≡ true → SomeBroken drawn) → new.found ≡ told.course.found → Tallies drawn new (told.number + 1)
   tallies_more new old_fails old_within here broken found = record {
@@ -154,17 +154,17 @@ module _ (drawn : Drawn) (told : Telling) (is_row : slice_get drawn.rows told.nu
   counts_judged least most Ask e = tallies_ask least most e
   counts_judged least most (Req range) e = c
 
-  counts_bounded : (side : Side) (value : Bound) → Counts drawn (bounded told side value)
+  counts_bounded : (side : NextBound) (value : Bound) → Counts drawn (bounded told side value)
   counts_bounded greatest value = c
   counts_bounded (least_by most) value = counts_judged value most told.row.kind refl
 
-  counts_bound : (side : Side) (value : Bound) → Counts drawn (behind_bound told side value)
+  counts_bound : (side : NextBound) (value : Bound) → Counts drawn (behind_bound told side value)
   counts_bound side (Closed value) = c
   counts_bound side Unbounded = c
   counts_bound side (Within limit (Some found)) = c
   counts_bound side (Within limit None) = counts_bounded side (Within limit None)
 
-  counts_times : (side : Side) (value : Bound) (list : List ℤ) → Counts drawn (behind_times told side value list)
+  counts_times : (side : NextBound) (value : Bound) (list : List ℤ) → Counts drawn (behind_times told side value list)
   counts_times side (Closed value) list = counts_bounded side (Closed value)
   counts_times side Unbounded list = c
   counts_times side (Within limit attained) list = counts_bounded side (Within limit attained)
@@ -177,11 +177,11 @@ module _ (drawn : Drawn) where
   counts_finding Inconsistent h = (refl, h)
   counts_finding Unsettled h = ((λ e. absurd (cc e)), (λ e. cc))
 
-  counts_find : (lines : List ProofLine) (line : Entry) (next : At) → MayFind (right drawn.net) lines line next → Counts drawn next
+  counts_find : (lines : List ProofLine) (line : Entry) (next : ReportState) → MayFind (right drawn.net) lines line next → Counts drawn next
   counts_find lines line next (inl h) = subst (Counts drawn) (sym h.2) tt
   counts_find lines line next (inr h) = subst (Counts drawn) (sym h.3) (counts_finding h.0 h.2)
 
-  counts_bind : (told : Telling) (side : Side) (lines : List ProofLine) (line : Entry) (next : At) → IsTold drawn told → Tallies drawn told.course told.number → MayBound (right drawn.net) told side lines line next
+  counts_bind : (told : CurrentRow) (side : NextBound) (lines : List ProofLine) (line : Entry) (next : ReportState) → IsTold drawn told → Tallies drawn told.course told.number → MayBound (right drawn.net) told side lines line next
       → Counts drawn next
   counts_bind told side lines line next t c (inl h) = subst (Counts drawn) (sym h.2) c
   counts_bind told side lines line next t c (inr h) = subst (Counts drawn) (sym h.3) (counts_bound drawn told t.is_row c side h.0)
@@ -194,7 +194,7 @@ module _ (drawn : Drawn) where
     settled = settled;
   }
 
-  counts : (here : At) (line : Entry) (next : At) → Stands drawn here → Counts drawn here → MayFollow (right drawn.net) drawn here line next → Counts drawn next
+  counts : (here : ReportState) (line : Entry) (next : ReportState) → Stands drawn here → Counts drawn here → MayFollow (right drawn.net) drawn here line next → Counts drawn next
   counts at_heading line next s c h = subst (Counts drawn) (sym h.1) tt
   counts at_budget line next s c h = subst (Counts drawn) (sym h.2) tt
   counts at_events line next s c h = subst (Counts drawn) (sym h.1) tt
@@ -235,7 +235,7 @@ module _ (drawn : Drawn) where
       let within : k < length drawn.rows = slice_get_within drawn.rows k r get in
       omega arith
 
-  word_says : (course : Course) (number : ℕ) → [] ≡ drop number drawn.rows → Tallies drawn course number → (fails : Bool) (found : FindingWord) (within : Bool)
+  word_says : (course : ReportTally) (number : ℕ) → [] ≡ drop number drawn.rows → Tallies drawn course number → (fails : Bool) (found : FindingWord) (within : Bool)
       → course.fails ≡ fails → course.found ≡ found → course.within ≡ within → EndSays drawn (if fails then endings.Fail else undecided_or_pass found within)
   word_says course number none c true found within f e w = c.broken f
   word_says course number none c false Consistent true f e w = tt
@@ -243,7 +243,7 @@ module _ (drawn : Drawn) where
   word_says course number none c false Inconsistent within f e w = absurd (c.settled e)
   word_says course number none c false Unsettled within f e w = tt
 
-  ending_says : (here : At) (word : EndWord) (next : At) → Stands drawn here → Counts drawn here → MayFollow (right drawn.net) drawn here (ending word) next → EndSays drawn word
+  ending_says : (here : ReportState) (word : EndWord) (next : ReportState) → Stands drawn here → Counts drawn here → MayFollow (right drawn.net) drawn here (ending word) next → EndSays drawn word
   ending_says at_heading word next s c h = absurd (cc h.0)
   ending_says at_budget word next s c h = absurd (cc h.1)
   ending_says at_events word next s c h = absurd (cc h.0)
@@ -267,7 +267,7 @@ module _ (drawn : Drawn) where
   ending_says (at_end other) word next s c h = subst (EndSays drawn) (sym (same_ending word other h.0 ∙ c.0)) c.1
   ending_says at_last word next s c h = absurd h
 
-  end_says : (word : EndWord) (lines : List Entry) (here last : At) → Stands drawn here → Counts drawn here → Reads (right drawn.net) drawn here lines last → end_in lines ≡ Some word → EndSays drawn word
+  end_says : (word : EndWord) (lines : List Entry) (here last : ReportState) → Stands drawn here → Counts drawn here → LinesLead (right drawn.net) drawn here lines last → end_in lines ≡ Some word → EndSays drawn word
   end_says word [] here last s c h is = absurd (cc)
   end_says word (ending other ∷ lines) here last s c h is = subst (EndSays drawn) (same_Some other word is) (ending_says here other h.0 s c h.1)
   end_says word (line ∷ lines) here last s c h is = end_says word lines h.0 last (stands drawn here line h.0 s h.1) (counts drawn here line h.0 s c h.1) h.2 is

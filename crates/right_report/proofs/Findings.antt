@@ -7,14 +7,14 @@ use Rattle.slack_report.specs.declared.words.FindingWord.{FindingWord}
 use Rattle.slack_report.specs.declared.words.FindingWord.TheVariants.{Consistent, Inconsistent}
 use Rattle.slack_report.specs.Entry.{Entry, finding}
 use Rattle.drawn.specs.Drawn.{Drawn}
-use Rattle.right_report.specs.Right.At.{At, at_heading, at_budget, at_events, at_event, at_finding, at_known, at_rows, at_row, at_bound, at_times, at_raise, at_verdict, at_past, at_slack, at_end, at_last, behind_finding}
+use Rattle.right_report.specs.Right.At.{ReportState, at_heading, at_budget, at_events, at_event, at_finding, at_known, at_rows, at_row, at_bound, at_times, at_raise, at_verdict, at_past, at_slack, at_end, at_last, behind_finding}
 use Rattle.right_report.specs.Right.Facts.{IsFinding, right}
-use Rattle.right_report.specs.Right.Following.{Facts, MayFind, MayFollow, Reads}
+use Rattle.right_report.specs.Right.Following.{LineClaims, MayFind, MayFollow, LinesLead}
 use Rattle.right_report.specs.Laws.{ConsistentIsSo, InconsistentIsSo}
 use Rattle.right_report.specs.Told.{finding_in}
 
 -- a line of a finding, with the lines of a proof before it
-pub record Finds (facts : Facts) (word : FindingWord) (next : At) : Type 0 where
+pub record Finds (facts : LineClaims) (word : FindingWord) (next : ReportState) : Type 0 where
   pub lines : List ProofLine
   pub holds : facts.finding lines word
   pub leads : next ≡ behind_finding word
@@ -22,14 +22,14 @@ pub record Finds (facts : Facts) (word : FindingWord) (next : At) : Type 0 where
 same_finding : (a b : FindingWord) → finding a ≡ finding b → a ≡ b
 same_finding a b e = cc
 
-module _ (facts : Facts) (drawn : Drawn) (word : FindingWord) (next : At) where
+module _ (facts : LineClaims) (drawn : Drawn) (word : FindingWord) (next : ReportState) where
   find_finds : (lines : List ProofLine) → MayFind facts lines (finding word) next → Finds facts word next
   find_finds lines (inl h) = absurd (cc h.1)
   find_finds lines (inr h) =
       let same : h.0 ≡ word = sym (same_finding word h.0 h.1) in
       record { lines = lines; holds = subst (facts.finding lines) same h.2; leads = h.3 ∙ ap behind_finding same }
 
-  finds : (here : At) → MayFollow facts drawn here (finding word) next → Finds facts word next
+  finds : (here : ReportState) → MayFollow facts drawn here (finding word) next → Finds facts word next
   finds at_heading h = absurd (cc h.0)
   finds at_budget h = absurd (cc h.1)
   finds at_events h = absurd (cc h.0)
@@ -51,23 +51,23 @@ module _ (facts : Facts) (drawn : Drawn) (word : FindingWord) (next : At) where
   finds at_last h = absurd h
 
 -- the finding that lines tell is right, and the lines behind it lead on
-pub record Tells (drawn : Drawn) (word : FindingWord) (last : At) : Type 0 where
+pub record Tells (drawn : Drawn) (word : FindingWord) (last : ReportState) : Type 0 where
   pub holds : IsFinding drawn.net word
   pub lines : List Entry
-  pub reads : Reads (right drawn.net) drawn (behind_finding word) lines last
+  pub reads : LinesLead (right drawn.net) drawn (behind_finding word) lines last
 
-tells : (drawn : Drawn) (word : FindingWord) (lines : List Entry) (here last : At) → Reads (right drawn.net) drawn here lines last → finding_in lines ≡ Some word → Tells drawn word last
+tells : (drawn : Drawn) (word : FindingWord) (lines : List Entry) (here last : ReportState) → LinesLead (right drawn.net) drawn here lines last → finding_in lines ≡ Some word → Tells drawn word last
 tells drawn word [] here last h is = absurd (cc)
 tells drawn word (finding other ∷ lines) here last h is =
     let same : other ≡ word = same_Some other word is in
     let f : Finds (right drawn.net) word h.0 = finds (right drawn.net) drawn word h.0 here (subst (λ w. MayFollow (right drawn.net) drawn here (finding w) h.0) same h.1) in
-    record { holds = f.holds; lines = lines; reads = subst (λ x. Reads (right drawn.net) drawn x lines last) f.leads h.2 }
+    record { holds = f.holds; lines = lines; reads = subst (λ x. LinesLead (right drawn.net) drawn x lines last) f.leads h.2 }
 tells drawn word (line ∷ lines) here last h is = tells drawn word lines h.0 last h.2 is
 
 pub inconsistent_is_so : InconsistentIsSo
 inconsistent_is_so drawn lines h is = (tells drawn Inconsistent lines at_heading h.0 h.1 is).holds
 
-known_times : (drawn : Drawn) (lines : List Entry) → Reads (right drawn.net) drawn at_known lines at_last → (list : List ℤ) × Satisfies list drawn.net
+known_times : (drawn : Drawn) (lines : List Entry) → LinesLead (right drawn.net) drawn at_known lines at_last → (list : List ℤ) × Satisfies list drawn.net
 known_times drawn [] h = absurd (cc)
 known_times drawn (line ∷ lines) h = let m = h.1 in (m.0, m.2.0)
 

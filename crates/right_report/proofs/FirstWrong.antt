@@ -10,12 +10,12 @@ use Rattle.slack_report.specs.declared.words.FindingWord.TheVariants.{Consistent
 use Rattle.slack_report.specs.declared.words.Which.{Which}
 use Rattle.slack_report.specs.Entry.{Entry, bound, budget, finding, heading, proof, times}
 use Rattle.drawn.specs.Drawn.{Drawn}
-use Rattle.right_report.specs.Right.At.{At, Side, Telling, at_heading, at_budget, at_events, at_event, at_finding, at_known, at_rows, at_row, at_bound, at_times, at_raise, at_verdict, at_past, at_slack, at_end, at_last, behind_bound, behind_finding, behind_times, which_of}
-use Rattle.right_report.specs.Right.Following.{Facts, MayBound, MayFind, MayFollow, Reads}
+use Rattle.right_report.specs.Right.At.{ReportState, NextBound, CurrentRow, at_heading, at_budget, at_events, at_event, at_finding, at_known, at_rows, at_row, at_bound, at_times, at_raise, at_verdict, at_past, at_slack, at_end, at_last, behind_bound, behind_finding, behind_times, which_of}
+use Rattle.right_report.specs.Right.Following.{LineClaims, MayBound, MayFind, MayFollow, LinesLead}
 use Rattle.right_report.specs.Checked.{checked}
 use Rattle.right_report.specs.Laws.{CheckedHasNoWrong, OneFirstWrong}
 use Rattle.right_report.specs.Shown.{goal_of}
-use Rattle.right_report.specs.Wrong.{IsFine, IsFirstWrong, IsRefused, IsWrong, Takes, goal_ahead}
+use Rattle.right_report.specs.Wrong.{IsFine, IsFirstWrong, IsLineRefused, IsWrong, Takes, goal_ahead}
 
 -- ---- a line leads to one place
 
@@ -31,20 +31,20 @@ same_proof a b e = cc
 same_bound : (which : Which) (a b : Bound) → bound which a ≡ bound which b → a ≡ b
 same_bound which a b e = cc
 
-module _ (facts : Facts) (drawn : Drawn) (line : Entry) (next other : At) where
+module _ (facts : LineClaims) (drawn : Drawn) (line : Entry) (next other : ReportState) where
   find_one : (lines : List ProofLine) → MayFind facts lines line next → MayFind facts lines line other → next ≡ other
   find_one lines (inl a) (inl b) = a.2 ∙ ap (λ more. at_finding (lines ++ more ∷ [])) (same_proof a.0 b.0 (sym a.1 ∙ b.1)) ∙ sym b.2
   find_one lines (inl a) (inr b) = let e : proof a.0 ≡ finding b.0 = sym a.1 ∙ b.1 in absurd (cc)
   find_one lines (inr a) (inl b) = let e : finding a.0 ≡ proof b.0 = sym a.1 ∙ b.1 in absurd (cc)
   find_one lines (inr a) (inr b) = a.3 ∙ ap behind_finding (same_finding a.0 b.0 (sym a.1 ∙ b.1)) ∙ sym b.3
 
-  bind_one : (told : Telling) (side : Side) (lines : List ProofLine) → MayBound facts told side lines line next → MayBound facts told side lines line other → next ≡ other
+  bind_one : (told : CurrentRow) (side : NextBound) (lines : List ProofLine) → MayBound facts told side lines line next → MayBound facts told side lines line other → next ≡ other
   bind_one told side lines (inl a) (inl b) = a.2 ∙ ap (λ more. at_bound told side (lines ++ more ∷ [])) (same_proof a.0 b.0 (sym a.1 ∙ b.1)) ∙ sym b.2
   bind_one told side lines (inl a) (inr b) = let e : proof a.0 ≡ bound (which_of side) b.0 = sym a.1 ∙ b.1 in absurd (cc)
   bind_one told side lines (inr a) (inl b) = let e : bound (which_of side) a.0 ≡ proof b.0 = sym a.1 ∙ b.1 in absurd (cc)
   bind_one told side lines (inr a) (inr b) = a.3 ∙ ap (behind_bound told side) (same_bound (which_of side) a.0 b.0 (sym a.1 ∙ b.1)) ∙ sym b.3
 
-  pub follow_one : (here : At) → MayFollow facts drawn here line next → MayFollow facts drawn here line other → next ≡ other
+  pub follow_one : (here : ReportState) → MayFollow facts drawn here line next → MayFollow facts drawn here line other → next ≡ other
   follow_one at_heading a b = a.1 ∙ sym b.1
   follow_one at_budget a b = a.2 ∙ sym b.2
   follow_one at_events a b = a.1 ∙ sym b.1
@@ -66,11 +66,11 @@ module _ (facts : Facts) (drawn : Drawn) (line : Entry) (next other : At) where
 
 -- ---- there is one first wrong line
 
-wrong_not_fine : (drawn : Drawn) (here next : At) (line : Entry) (rest : List Entry) → IsWrong drawn here line rest → IsFine drawn here line rest next → ⊥
+wrong_not_fine : (drawn : Drawn) (here next : ReportState) (line : Entry) (rest : List Entry) → IsWrong drawn here line rest → IsFine drawn here line rest next → ⊥
 wrong_not_fine drawn here next line rest (inl bars) fine = bars next fine.0
 wrong_not_fine drawn here next line rest (inr refused) fine = fine.1 refused
 
-one_from : (drawn : Drawn) (lines : List Entry) (here : At) (m n : ℕ) → IsFirstWrong drawn here lines m → IsFirstWrong drawn here lines n → m ≡ n
+one_from : (drawn : Drawn) (lines : List Entry) (here : ReportState) (m n : ℕ) → IsFirstWrong drawn here lines m → IsFirstWrong drawn here lines n → m ≡ n
 one_from drawn [] here m n a b = a.1 ∙ sym b.1
 one_from drawn (line ∷ lines) here m n (inl a) (inl b) = a.1 ∙ sym b.1
 one_from drawn (line ∷ lines) here m n (inl a) (inr b) = absurd (wrong_not_fine drawn here b.0 line lines a.0 b.2)
@@ -85,8 +85,8 @@ one_first_wrong drawn lines m n a b = one_from drawn lines at_heading m n a b
 
 -- ---- a front of a proof is taken
 
-reads_front : (net : Net) (goal : ProofGoal) (lines more : List ProofLine) (cases left : List Case) → proofs.Reads net goal cases (lines ++ more) left
-    → (mid : List Case) × proofs.Reads net goal cases lines mid
+reads_front : (net : Net) (goal : ProofGoal) (lines more : List ProofLine) (cases left : List Case) → proofs.ProofLeaves net goal cases (lines ++ more) left
+    → (mid : List Case) × proofs.ProofLeaves net goal cases lines mid
 reads_front net goal [] more cases left h = (cases, refl)
 reads_front net goal (line ∷ lines) more [] left h = absurd h
 reads_front net goal (Split number ∷ lines) more (chosen ∷ cases) left h = let r = reads_front net goal lines more (cases_of net chosen number ++ cases) left h.1 in (r.0, (h.0, r.1))
@@ -109,14 +109,14 @@ complete_later : (net : Net) (goal : ProofGoal) (lines : List ProofLine) (line :
 complete_later net goal lines line h = (line ∷ h.0, subst (IsProof net goal) (append_assoc lines (line ∷ []) h.0) h.1)
 
 module _ (drawn : Drawn) (goal : ProofGoal) where
-  found_now : (lines : List ProofLine) (next : At) → Some Nothing ≡ Some goal → MayFind (checked drawn.net) lines (finding Inconsistent) next → IsProof drawn.net goal lines
+  found_now : (lines : List ProofLine) (next : ReportState) → Some Nothing ≡ Some goal → MayFind (checked drawn.net) lines (finding Inconsistent) next → IsProof drawn.net goal lines
   found_now lines next e (inl h) = let clash : finding Inconsistent ≡ proof h.0 = h.1 in absurd (cc)
   found_now lines next e (inr h) =
       let word : h.0 ≡ Inconsistent = sym (same_finding Inconsistent h.0 h.1) in
       let same : Nothing ≡ goal = cc in
       subst (λ g. IsProof drawn.net g lines) same (subst (λ w. (checked drawn.net).finding lines w) word h.2)
 
-  bound_now : (told : Telling) (side : Side) (lines : List ProofLine) (next : At) (which : Which) (value : ℤ) → Some (goal_of told.row side value) ≡ Some goal
+  bound_now : (told : CurrentRow) (side : NextBound) (lines : List ProofLine) (next : ReportState) (which : Which) (value : ℤ) → Some (goal_of told.row side value) ≡ Some goal
       → MayBound (checked drawn.net) told side lines (bound which (Closed value)) next → IsProof drawn.net goal lines
   bound_now told side lines next which value e (inl h) = let clash : bound which (Closed value) ≡ proof h.0 = h.1 in absurd (cc)
   bound_now told side lines next which value e (inr h) =
@@ -126,27 +126,27 @@ module _ (drawn : Drawn) (goal : ProofGoal) where
       let facts = subst (λ v. (checked drawn.net).bound told.course.found told.row side lines v) same_value h.2 in
       subst (λ g. IsProof drawn.net g lines) same facts.1.1
 
-  by_find : (rest : List Entry) (line : ProofLine) (lines : List ProofLine) (next : At) → MayFind (checked drawn.net) lines (proof line) next → Reads (checked drawn.net) drawn next rest at_last
-      → ((more : ProofLine) → Reads (checked drawn.net) drawn (at_finding (lines ++ more ∷ [])) rest at_last → Completes drawn.net goal (lines ++ more ∷ [])) → Completes drawn.net goal lines
-  by_find rest line lines next (inl m) h later = complete_later drawn.net goal lines m.0 (later m.0 (subst (λ x. Reads (checked drawn.net) drawn x rest at_last) m.2 h))
+  by_find : (rest : List Entry) (line : ProofLine) (lines : List ProofLine) (next : ReportState) → MayFind (checked drawn.net) lines (proof line) next → LinesLead (checked drawn.net) drawn next rest at_last
+      → ((more : ProofLine) → LinesLead (checked drawn.net) drawn (at_finding (lines ++ more ∷ [])) rest at_last → Completes drawn.net goal (lines ++ more ∷ [])) → Completes drawn.net goal lines
+  by_find rest line lines next (inl m) h later = complete_later drawn.net goal lines m.0 (later m.0 (subst (λ x. LinesLead (checked drawn.net) drawn x rest at_last) m.2 h))
   by_find rest line lines next (inr m) h later = let clash : proof line ≡ finding m.0 = m.1 in absurd (cc)
 
   -- behind lines of a proof that the check accepts stand others that make them whole, where something is to be shown
-  ahead_find : (rest : List Entry) (front lines : List ProofLine) → goal_ahead (at_finding front) rest ≡ Some goal → Reads (checked drawn.net) drawn (at_finding lines) rest at_last
+  ahead_find : (rest : List Entry) (front lines : List ProofLine) → goal_ahead (at_finding front) rest ≡ Some goal → LinesLead (checked drawn.net) drawn (at_finding lines) rest at_last
       → Completes drawn.net goal lines
   ahead_find [] front lines is h = absurd (cc)
   ahead_find (proof line ∷ rest) front lines is h = by_find rest line lines h.0 h.1 h.2 (λ more read. ahead_find rest front (lines ++ more ∷ []) is read)
   ahead_find (finding Inconsistent ∷ rest) front lines is h = complete_now drawn.net goal lines (found_now lines h.0 is h.1)
   ahead_find (line ∷ rest) front lines is h = absurd (cc)
 
-  by_bound : (rest : List Entry) (told : Telling) (side : Side) (line : ProofLine) (lines : List ProofLine) (next : At) → MayBound (checked drawn.net) told side lines (proof line) next
-      → Reads (checked drawn.net) drawn next rest at_last
-      → ((more : ProofLine) → Reads (checked drawn.net) drawn (at_bound told side (lines ++ more ∷ [])) rest at_last → Completes drawn.net goal (lines ++ more ∷ [])) → Completes drawn.net goal lines
-  by_bound rest told side line lines next (inl m) h later = complete_later drawn.net goal lines m.0 (later m.0 (subst (λ x. Reads (checked drawn.net) drawn x rest at_last) m.2 h))
+  by_bound : (rest : List Entry) (told : CurrentRow) (side : NextBound) (line : ProofLine) (lines : List ProofLine) (next : ReportState) → MayBound (checked drawn.net) told side lines (proof line) next
+      → LinesLead (checked drawn.net) drawn next rest at_last
+      → ((more : ProofLine) → LinesLead (checked drawn.net) drawn (at_bound told side (lines ++ more ∷ [])) rest at_last → Completes drawn.net goal (lines ++ more ∷ [])) → Completes drawn.net goal lines
+  by_bound rest told side line lines next (inl m) h later = complete_later drawn.net goal lines m.0 (later m.0 (subst (λ x. LinesLead (checked drawn.net) drawn x rest at_last) m.2 h))
   by_bound rest told side line lines next (inr m) h later = let clash : proof line ≡ bound (which_of side) m.0 = m.1 in absurd (cc)
 
-  ahead_bound : (rest : List Entry) (told : Telling) (side : Side) (front lines : List ProofLine) → goal_ahead (at_bound told side front) rest ≡ Some goal
-      → Reads (checked drawn.net) drawn (at_bound told side lines) rest at_last → Completes drawn.net goal lines
+  ahead_bound : (rest : List Entry) (told : CurrentRow) (side : NextBound) (front lines : List ProofLine) → goal_ahead (at_bound told side front) rest ≡ Some goal
+      → LinesLead (checked drawn.net) drawn (at_bound told side lines) rest at_last → Completes drawn.net goal lines
   ahead_bound [] told side front lines is h = absurd (cc)
   ahead_bound (proof line ∷ rest) told side front lines is h = by_bound rest told side line lines h.0 h.1 h.2 (λ more read. ahead_bound rest told side front (lines ++ more ∷ []) is read)
   ahead_bound (bound which (Closed value) ∷ rest) told side front lines is h = complete_now drawn.net goal lines (bound_now told side lines h.0 which value is h.1)
@@ -165,28 +165,28 @@ some_goal None P h = absurd h
 some_goal (Some g) P h = (g, refl, h)
 
 -- no line of a proof before the finding
-refused_find : (drawn : Drawn) (front : List ProofLine) (line : ProofLine) (rest : List Entry) (next : At) → MayFind (checked drawn.net) front (proof line) next
-    → Reads (checked drawn.net) drawn next rest at_last → IsSomeAnd (goal_ahead (at_finding front) rest) (λ goal. Takes drawn.net goal (front ++ line ∷ []) → ⊥) → ⊥
+refused_find : (drawn : Drawn) (front : List ProofLine) (line : ProofLine) (rest : List Entry) (next : ReportState) → MayFind (checked drawn.net) front (proof line) next
+    → LinesLead (checked drawn.net) drawn next rest at_last → IsSomeAnd (goal_ahead (at_finding front) rest) (λ goal. Takes drawn.net goal (front ++ line ∷ []) → ⊥) → ⊥
 refused_find drawn front line rest next (inr m) more refused = let clash : proof line ≡ finding m.0 = m.1 in absurd (cc)
 refused_find drawn front line rest next (inl m) more refused =
     let g = some_goal (goal_ahead (at_finding front) rest) (λ goal. Takes drawn.net goal (front ++ line ∷ []) → ⊥) refused in
-    let read = subst (λ x. Reads (checked drawn.net) drawn x rest at_last) m.2 more in
+    let read = subst (λ x. LinesLead (checked drawn.net) drawn x rest at_last) m.2 more in
     let whole = ahead_find drawn g.0 rest front (front ++ m.0 ∷ []) g.1 read in
     g.2 (subst (λ l. Takes drawn.net g.0 (front ++ l ∷ [])) (sym (same_proof line m.0 m.1)) (taken drawn.net g.0 (front ++ m.0 ∷ []) whole.0 whole.1))
 
 -- nor one before a bound
-refused_bound : (drawn : Drawn) (told : Telling) (side : Side) (front : List ProofLine) (line : ProofLine) (rest : List Entry) (next : At)
-    → MayBound (checked drawn.net) told side front (proof line) next → Reads (checked drawn.net) drawn next rest at_last
+refused_bound : (drawn : Drawn) (told : CurrentRow) (side : NextBound) (front : List ProofLine) (line : ProofLine) (rest : List Entry) (next : ReportState)
+    → MayBound (checked drawn.net) told side front (proof line) next → LinesLead (checked drawn.net) drawn next rest at_last
     → IsSomeAnd (goal_ahead (at_bound told side front) rest) (λ goal. Takes drawn.net goal (front ++ line ∷ []) → ⊥) → ⊥
 refused_bound drawn told side front line rest next (inr m) more refused = let clash : proof line ≡ bound (which_of side) m.0 = m.1 in absurd (cc)
 refused_bound drawn told side front line rest next (inl m) more refused =
     let g = some_goal (goal_ahead (at_bound told side front) rest) (λ goal. Takes drawn.net goal (front ++ line ∷ []) → ⊥) refused in
-    let read = subst (λ x. Reads (checked drawn.net) drawn x rest at_last) m.2 more in
+    let read = subst (λ x. LinesLead (checked drawn.net) drawn x rest at_last) m.2 more in
     let whole = ahead_bound drawn g.0 rest told side front (front ++ m.0 ∷ []) g.1 read in
     g.2 (subst (λ l. Takes drawn.net g.0 (front ++ l ∷ [])) (sym (same_proof line m.0 m.1)) (taken drawn.net g.0 (front ++ m.0 ∷ []) whole.0 whole.1))
 
-proof_not_refused : (drawn : Drawn) (here : At) (line : ProofLine) (rest : List Entry) (next : At) → MayFollow (checked drawn.net) drawn here (proof line) next
-    → Reads (checked drawn.net) drawn next rest at_last → IsRefused drawn.net here (proof line) rest → ⊥
+proof_not_refused : (drawn : Drawn) (here : ReportState) (line : ProofLine) (rest : List Entry) (next : ReportState) → MayFollow (checked drawn.net) drawn here (proof line) next
+    → LinesLead (checked drawn.net) drawn next rest at_last → IsLineRefused drawn.net here (proof line) rest → ⊥
 proof_not_refused drawn at_heading line rest next h more refused = let clash : proof line ≡ heading = h.0 in absurd (cc)
 proof_not_refused drawn at_budget line rest next h more refused = let clash : proof line ≡ budget h.0 = h.1 in absurd (cc)
 proof_not_refused drawn at_events line rest next h more refused = absurd (cc h.0)
@@ -207,17 +207,17 @@ proof_not_refused drawn (at_slack course number later range least most) line res
 proof_not_refused drawn (at_end word) line rest next h more refused = absurd (cc h.0)
 proof_not_refused drawn at_last line rest next h more refused = h
 
-not_refused : (drawn : Drawn) (here : At) (line : Entry) (rest : List Entry) (next : At) → MayFollow (checked drawn.net) drawn here line next → Reads (checked drawn.net) drawn next rest at_last
-    → IsRefused drawn.net here line rest → ⊥
+not_refused : (drawn : Drawn) (here : ReportState) (line : Entry) (rest : List Entry) (next : ReportState) → MayFollow (checked drawn.net) drawn here line next → LinesLead (checked drawn.net) drawn next rest at_last
+    → IsLineRefused drawn.net here line rest → ⊥
 not_refused drawn here (proof line) rest next h more refused = proof_not_refused drawn here line rest next h more refused
 not_refused drawn here line rest next h more refused = refused
 
-none_from : (drawn : Drawn) (lines : List Entry) (here : At) (number : ℕ) → Reads (checked drawn.net) drawn here lines at_last → IsFirstWrong drawn here lines number → ⊥
+none_from : (drawn : Drawn) (lines : List Entry) (here : ReportState) (number : ℕ) → LinesLead (checked drawn.net) drawn here lines at_last → IsFirstWrong drawn here lines number → ⊥
 none_from drawn [] here number h w = w.0 h
 none_from drawn (line ∷ lines) here number h (inl w) = wrong_not_fine drawn here h.0 line lines w.0 (h.1, not_refused drawn here line lines h.0 h.1 h.2)
 none_from drawn (line ∷ lines) here number h (inr w) =
     let same : h.0 ≡ w.0 = follow_one (checked drawn.net) drawn line h.0 w.0 here h.1 w.2.0 in
-    none_from drawn lines w.0 w.1 (subst (λ x. Reads (checked drawn.net) drawn x lines at_last) same h.2) w.3
+    none_from drawn lines w.0 w.1 (subst (λ x. LinesLead (checked drawn.net) drawn x lines at_last) same h.2) w.3
 
 pub checked_has_no_wrong : CheckedHasNoWrong
 checked_has_no_wrong drawn lines number h w = none_from drawn lines at_heading number h w

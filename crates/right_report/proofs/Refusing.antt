@@ -9,8 +9,8 @@ use Rattle.drawn.specs.Drawn.{Drawn}
 use Rattle.slack_report.proofs.Judging.{first_same, report_err, report_ok, texts_differ}
 use Rattle.right_report.specs.Checked.{checked}
 use Rattle.right_report.specs.Laws.{AcceptedTextIsNotRefused, AcceptedTextIsRight, OneRefusedLine, UnrefusedTextIsRight}
-use Rattle.right_report.specs.Right.At.{At, at_heading, at_last}
-use Rattle.right_report.specs.Right.Following.{Reads}
+use Rattle.right_report.specs.Right.At.{ReportState, at_heading, at_last}
+use Rattle.right_report.specs.Right.Following.{LinesLead}
 use Rattle.right_report.specs.Texts.{HasFirstWrong, IsRefusedText, IsRightText}
 use Rattle.right_report.specs.Wrong.{IsFirstWrong, IsFirstWrongIn, IsWrong}
 use Rattle.right_report.proofs.Checking.{checked_is_right}
@@ -49,7 +49,7 @@ accepted_text_is_not_refused drawn bytes line a (inr wrong) =
 -- ---- a text without a wrong line
 
 -- lines of which none is the first wrong one can't fail to lead to the end of a report
-unrefused_from : (drawn : Drawn) (lines : List Entry) (here : At) → ((number : ℕ) → IsFirstWrong drawn here lines number → ⊥) → (Reads (checked drawn.net) drawn here lines at_last → ⊥) → ⊥
+unrefused_from : (drawn : Drawn) (lines : List Entry) (here : ReportState) → ((number : ℕ) → IsFirstWrong drawn here lines number → ⊥) → (LinesLead (checked drawn.net) drawn here lines at_last → ⊥) → ⊥
 unrefused_from drawn [] here none bars = none 0 (bars, refl)
 unrefused_from drawn (line ∷ lines) here none bars =
     let fine : IsWrong drawn here line lines → ⊥ = λ wrong. none 0 (inl (wrong, refl)) in

@@ -20,14 +20,14 @@ use Rattle.slack_report.specs.Entry.{Entry, heading, budget, events, event, proo
 use Rattle.slack_report.specs.Order.{after_bound, after_finding, after_times, after_verdict, before_row, in_bound, is_required, is_which, next}
 use Rattle.drawn.specs.Drawn.{Drawn}
 use Rattle.drawn.specs.declared.row.Row.{Row}
-use Rattle.right_report.specs.Right.At.{At, Side, Telling, at_heading, at_budget, at_events, at_event, at_finding, at_known, at_rows, at_row, at_bound, at_times, at_raise, at_verdict, at_past, at_slack, at_end, at_last, behind_bound, behind_finding, behind_times, behind_verdict, bounded, greatest, judged, least_by, which_of}
+use Rattle.right_report.specs.Right.At.{ReportState, NextBound, CurrentRow, at_heading, at_budget, at_events, at_event, at_finding, at_known, at_rows, at_row, at_bound, at_times, at_raise, at_verdict, at_past, at_slack, at_end, at_last, behind_bound, behind_finding, behind_times, behind_verdict, bounded, greatest, judged, least_by, which_of}
 use Rattle.right_report.specs.Right.Facts.{right}
-use Rattle.right_report.specs.Right.Following.{Facts, Implies, MayBound, MayFind, MayFollow, Reads}
+use Rattle.right_report.specs.Right.Following.{LineClaims, Implies, MayBound, MayFind, MayFollow, LinesLead}
 use Rattle.right_report.specs.Right.Order.{RightLinesKeepOrder, is_unbounded, place_of, spot_behind, spot_of}
 
 -- ---- one reader and another
 
-follows_weaker : (facts other : Facts) (drawn : Drawn) (here : At) (line : Entry) (behind : At) → Implies facts other → MayFollow facts drawn here line behind → MayFollow other drawn here line behind
+follows_weaker : (facts other : LineClaims) (drawn : Drawn) (here : ReportState) (line : Entry) (behind : ReportState) → Implies facts other → MayFollow facts drawn here line behind → MayFollow other drawn here line behind
 follows_weaker facts other drawn at_heading line behind i h = h
 follows_weaker facts other drawn at_budget line behind i h = h
 follows_weaker facts other drawn at_events line behind i h = h
@@ -51,13 +51,13 @@ follows_weaker facts other drawn (at_end word) line behind i h = h
 follows_weaker facts other drawn at_last line behind i h = h
 
 -- what one reader takes another takes that asks less
-pub reads_weaker : (facts other : Facts) (drawn : Drawn) (lines : List Entry) (here last : At) → Implies facts other → Reads facts drawn here lines last → Reads other drawn here lines last
+pub reads_weaker : (facts other : LineClaims) (drawn : Drawn) (lines : List Entry) (here last : ReportState) → Implies facts other → LinesLead facts drawn here lines last → LinesLead other drawn here lines last
 reads_weaker facts other drawn [] here last i h = h
 reads_weaker facts other drawn (line ∷ lines) here last i h = (h.0, follows_weaker facts other drawn here line h.0 i h.1, reads_weaker facts other drawn lines h.0 last i h.2)
 
 -- lines, and then more of them
-pub reads-append : (facts : Facts) (drawn : Drawn) (lines more : List Entry) (here mid last : At) → Reads facts drawn here lines mid → Reads facts drawn mid more last → Reads facts drawn here (lines ++ more) last
-reads-append facts drawn [] more here mid last p q = subst (λ x. Reads facts drawn x more last) (sym p) q
+pub reads-append : (facts : LineClaims) (drawn : Drawn) (lines more : List Entry) (here mid last : ReportState) → LinesLead facts drawn here lines mid → LinesLead facts drawn mid more last → LinesLead facts drawn here (lines ++ more) last
+reads-append facts drawn [] more here mid last p q = subst (λ x. LinesLead facts drawn x more last) (sym p) q
 reads-append facts drawn (line ∷ lines) more here mid last p q = (p.0, p.1, reads-append facts drawn lines more p.0 mid last p.2 q)
 
 -- ---- the order
@@ -68,27 +68,27 @@ module _ (drawn : Drawn) where
   find_place findings.Inconsistent = refl
   find_place findings.Unsettled = refl
 
-  judged_place : (kind : RowKind) (told : Telling) (least most : Bound)
+  judged_place : (kind : RowKind) (told : CurrentRow) (least most : Bound)
       → cond (is_required kind) (at.Verdict (spot_behind drawn (told.number + 1) told.later (is_required kind))) (before_row (length drawn.names) (told.number + 1) (length told.later)) ≡ place_of drawn (judged kind told least most)
   judged_place kinds.Ask told least most = refl
   judged_place (kinds.Req range) told least most = refl
 
-  bounded_place : (told : Telling) (side : Side) (value : Bound) → after_bound (spot_of drawn told) (which_of side) ≡ place_of drawn (bounded told side value)
+  bounded_place : (told : CurrentRow) (side : NextBound) (value : Bound) → after_bound (spot_of drawn told) (which_of side) ≡ place_of drawn (bounded told side value)
   bounded_place told greatest value = refl
   bounded_place told (least_by most) value = judged_place told.row.kind told value most
 
-  bound_place : (told : Telling) (side : Side) (value : Bound) → in_bound (spot_of drawn told) (which_of side) value ≡ place_of drawn (behind_bound told side value)
+  bound_place : (told : CurrentRow) (side : NextBound) (value : Bound) → in_bound (spot_of drawn told) (which_of side) value ≡ place_of drawn (behind_bound told side value)
   bound_place told side (bounds.Closed value) = refl
   bound_place told side bounds.Unbounded = refl
   bound_place told side (bounds.Within limit None) = bounded_place told side (bounds.Within limit None)
   bound_place told side (bounds.Within limit (Some found)) = refl
 
-  times_place : (told : Telling) (side : Side) (value : Bound) (list : List ℤ) → after_times (spot_of drawn told) (which_of side) (is_unbounded value) ≡ place_of drawn (behind_times told side value list)
+  times_place : (told : CurrentRow) (side : NextBound) (value : Bound) (list : List ℤ) → after_times (spot_of drawn told) (which_of side) (is_unbounded value) ≡ place_of drawn (behind_times told side value list)
   times_place told side (bounds.Closed value) list = bounded_place told side (bounds.Closed value)
   times_place told side bounds.Unbounded list = refl
   times_place told side (bounds.Within limit attained) list = bounded_place told side (bounds.Within limit attained)
 
-  verdict_place : (told : Telling) (range : Ends) (least most : Bound) (word : Verdict) → after_verdict (spot_behind drawn (told.number + 1) told.later true) word ≡ place_of drawn (behind_verdict told range least most word)
+  verdict_place : (told : CurrentRow) (range : Ends) (least most : Bound) (word : Verdict) → after_verdict (spot_behind drawn (told.number + 1) told.later true) word ≡ place_of drawn (behind_verdict told range least most word)
   verdict_place told range least most verdicts.Pass = refl
   verdict_place told range least most verdicts.FailHigh = refl
   verdict_place told range least most verdicts.FailLow = refl
@@ -98,16 +98,16 @@ module _ (drawn : Drawn) where
   same_which sorts.Max = refl
   same_which sorts.Min = refl
 
-  find_order : (facts : Facts) (lines : List ProofLine) (line : Entry) (behind : At) → MayFind facts lines line behind → next (at.Finding (length drawn.names)) line ≡ Some (place_of drawn behind)
+  find_order : (facts : LineClaims) (lines : List ProofLine) (line : Entry) (behind : ReportState) → MayFind facts lines line behind → next (at.Finding (length drawn.names)) line ≡ Some (place_of drawn behind)
   find_order facts lines line behind (inl h) = rw (h.1, h.2) refl
   find_order facts lines line behind (inr h) = rw (h.1, h.3) (ap (λ x. Some x) (find_place h.0))
 
-  bound_order : (facts : Facts) (told : Telling) (side : Side) (lines : List ProofLine) (line : Entry) (behind : At) → MayBound facts told side lines line behind
+  bound_order : (facts : LineClaims) (told : CurrentRow) (side : NextBound) (lines : List ProofLine) (line : Entry) (behind : ReportState) → MayBound facts told side lines line behind
       → next (at.Bound (spot_of drawn told) (which_of side)) line ≡ Some (place_of drawn behind)
   bound_order facts told side lines line behind (inl h) = rw (h.1, h.2) refl
   bound_order facts told side lines line behind (inr h) = rw (h.1, h.3) (rw (same_which (which_of side)) (ap (λ x. Some x) (bound_place told side h.0)))
 
-  pub keeps_order : (facts : Facts) (here : At) (line : Entry) (behind : At) → MayFollow facts drawn here line behind → next (place_of drawn here) line ≡ Some (place_of drawn behind)
+  pub keeps_order : (facts : LineClaims) (here : ReportState) (line : Entry) (behind : ReportState) → MayFollow facts drawn here line behind → next (place_of drawn here) line ≡ Some (place_of drawn behind)
   keeps_order facts at_heading line behind h = rw (h.0, h.1) refl
   keeps_order facts at_budget line behind h = rw (h.1, h.2) refl
   keeps_order facts at_events line behind h = rw (h.0, h.1) refl

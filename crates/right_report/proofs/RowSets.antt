@@ -14,9 +14,9 @@ use Rattle.slack_report.specs.declared.words.Which.TheVariants.{Max, Min}
 use Rattle.slack_report.specs.Entry.{Entry, bound, ending, proof, raise, slack, times, verdict}
 use Rattle.drawn.specs.Drawn.{Drawn}
 use Rattle.drawn.specs.declared.row.Row.{Row}
-use Rattle.right_report.specs.Right.At.{At, Side, Telling, at_heading, at_row, at_bound, at_times, at_raise, at_verdict, at_past, at_slack, at_last, behind_bound, behind_past, behind_times, behind_verdict, bounded, end_word, greatest, judged, least_by, which_of}
+use Rattle.right_report.specs.Right.At.{ReportState, NextBound, CurrentRow, at_heading, at_row, at_bound, at_times, at_raise, at_verdict, at_past, at_slack, at_last, behind_bound, behind_past, behind_times, behind_verdict, bounded, end_word, greatest, judged, least_by, which_of}
 use Rattle.right_report.specs.Right.Facts.{right}
-use Rattle.right_report.specs.Right.Following.{MayFollow, Reads}
+use Rattle.right_report.specs.Right.Following.{MayFollow, LinesLead}
 use Rattle.right_report.specs.Laws.{SetShowsAbove, SetShowsBelow}
 use Rattle.right_report.specs.Told.{first_set, set_behind}
 use Rattle.right_report.proofs.RowBounds.{IsBeforeMax, IsBeforeMin, before_min_bound, before_min_times}
@@ -26,7 +26,7 @@ use Rattle.right_report.proofs.Standing.{IsRightBound, on_row, rise_is_right}
 
 module _ (drawn : Drawn) (P : Type 0) where
   -- a place behind a bound, before the next set or with none before the next bound or row
-  abbrev Waits : At → Type 0
+  abbrev Waits : ReportState → Type 0
   Waits (at_times told side value) = IsRightBound drawn.net told.row side Unbounded → P
   Waits (at_raise told side list) = IsRightBound drawn.net told.row side Unbounded → P
   Waits (at_bound told side lines) = Unit {0}
@@ -37,40 +37,40 @@ module _ (drawn : Drawn) (P : Type 0) where
   Waits at_last = Unit {0}
   Waits other = ⊥
 
-  waits_judged : (told : Telling) (least most : Bound) (kind : RowKind) → Waits (judged kind told least most)
+  waits_judged : (told : CurrentRow) (least most : Bound) (kind : RowKind) → Waits (judged kind told least most)
   waits_judged told least most Ask = tt
   waits_judged told least most (Req range) = tt
 
-  waits_bounded : (told : Telling) (side : Side) (value : Bound) → Waits (bounded told side value)
+  waits_bounded : (told : CurrentRow) (side : NextBound) (value : Bound) → Waits (bounded told side value)
   waits_bounded told greatest value = tt
   waits_bounded told (least_by most) value = waits_judged told value most told.row.kind
 
-  waits_bound : (told : Telling) (side : Side) (value : Bound) → (IsRightBound drawn.net told.row side Unbounded → P) → Waits (behind_bound told side value)
+  waits_bound : (told : CurrentRow) (side : NextBound) (value : Bound) → (IsRightBound drawn.net told.row side Unbounded → P) → Waits (behind_bound told side value)
   waits_bound told side (Closed value) w = w
   waits_bound told side Unbounded w = w
   waits_bound told side (Within limit (Some found)) w = w
   waits_bound told side (Within limit None) w = waits_bounded told side (Within limit None)
 
-  waits_times : (told : Telling) (side : Side) (value : Bound) (list : List ℤ) → (IsRightBound drawn.net told.row side Unbounded → P) → Waits (behind_times told side value list)
+  waits_times : (told : CurrentRow) (side : NextBound) (value : Bound) (list : List ℤ) → (IsRightBound drawn.net told.row side Unbounded → P) → Waits (behind_times told side value list)
   waits_times told side (Closed value) list w = waits_bounded told side (Closed value)
   waits_times told side Unbounded list w = w
   waits_times told side (Within limit attained) list w = waits_bounded told side (Within limit attained)
 
-  waits_verdict : (told : Telling) (range : Ends) (least most : Bound) (word : Verdict) → Waits (behind_verdict told range least most word)
+  waits_verdict : (told : CurrentRow) (range : Ends) (least most : Bound) (word : Verdict) → Waits (behind_verdict told range least most word)
   waits_verdict told range least most verdicts.Pass = tt
   waits_verdict told range least most verdicts.FailHigh = tt
   waits_verdict told range least most verdicts.FailLow = tt
   waits_verdict told range least most verdicts.Undecided = tt
 
   module _ (set : List Bool) (lines : List Entry) where
-    goes_on : (line known : Entry) (next there : At) → set_behind (line ∷ lines) ≡ Some set → line ≡ known → (set_behind (known ∷ lines) ≡ Some set → set_behind lines ≡ Some set) → next ≡ there → Waits there
+    goes_on : (line known : Entry) (next there : ReportState) → set_behind (line ∷ lines) ≡ Some set → line ≡ known → (set_behind (known ∷ lines) ≡ Some set → set_behind lines ≡ Some set) → next ≡ there → Waits there
         → (Waits next × (set_behind lines ≡ Some set)) ⊎ P
     goes_on line known next there is same skip leads waits = inl (subst Waits (sym leads) waits, skip (subst (λ l. set_behind (l ∷ lines) ≡ Some set) same is))
 
     ends_here : (line known : Entry) → set_behind (line ∷ lines) ≡ Some set → line ≡ known → set_behind (known ∷ lines) ≡ None → ⊥
     ends_here line known is same none = let clash : None ≡ Some set = sym none ∙ subst (λ l. set_behind (l ∷ lines) ≡ Some set) same is in cc
 
-    waits_step : (here : At) (line : Entry) (next : At) → Waits here → MayFollow (right drawn.net) drawn here line next → set_behind (line ∷ lines) ≡ Some set → (Waits next × (set_behind lines ≡ Some set)) ⊎ P
+    waits_step : (here : ReportState) (line : Entry) (next : ReportState) → Waits here → MayFollow (right drawn.net) drawn here line next → set_behind (line ∷ lines) ≡ Some set → (Waits next × (set_behind lines ≡ Some set)) ⊎ P
     waits_step (at_times told side value) line next w h is = goes_on line (times h.0) next (behind_times told side value h.0) is h.1 (λ x. x) h.3 (waits_times told side value h.0 w)
     waits_step (at_raise told side list) line next w h is = inr (w (rise_is_right drawn.net told.row side list h.0 h.2))
     waits_step (at_bound told side before) line next w (inl h) is = goes_on line (proof h.0) next (at_bound told side (before ++ h.0 ∷ [])) is h.1 (λ x. x) h.2 tt
@@ -84,7 +84,7 @@ module _ (drawn : Drawn) (P : Type 0) where
     waits_step at_last line next w h is = absurd h
     waits_step here line next w h is = absurd w
 
-  waits_lines : (set : List Bool) (lines : List Entry) (here last : At) → Waits here → Reads (right drawn.net) drawn here lines last → set_behind lines ≡ Some set → P
+  waits_lines : (set : List Bool) (lines : List Entry) (here last : ReportState) → Waits here → LinesLead (right drawn.net) drawn here lines last → set_behind lines ≡ Some set → P
   waits_lines set [] here last w h is = absurd (cc)
   waits_lines set (line ∷ lines) here last w h is =
       elim (waits_step set lines here line h.0 w h.1 is) [
@@ -94,22 +94,22 @@ module _ (drawn : Drawn) (P : Type 0) where
 
 -- ---- the bounds of a row
 
-module _ (drawn : Drawn) (last : At) (r : Row) (set : List Bool) where
-  at_max : (told : Telling) (other : Bound) (line : Entry) (next : At) (lines : List Entry) → told.row ≡ r → line ≡ bound Max other → next ≡ behind_bound told greatest other → Reads (right drawn.net) drawn next lines last
+module _ (drawn : Drawn) (last : ReportState) (r : Row) (set : List Bool) where
+  at_max : (told : CurrentRow) (other : Bound) (line : Entry) (next : ReportState) (lines : List Entry) → told.row ≡ r → line ≡ bound Max other → next ≡ behind_bound told greatest other → LinesLead (right drawn.net) drawn next lines last
       → first_set Max (line ∷ lines) ≡ Some set → IsUnbounded drawn.net r.from r.to
   at_max told other line next lines inside same leads h is =
       waits_lines drawn (IsUnbounded drawn.net r.from r.to) set lines (behind_bound told greatest other) last
       (waits_bound drawn (IsUnbounded drawn.net r.from r.to) told greatest other (λ w. subst (λ (x : Row). IsUnbounded drawn.net x.from x.to) inside w))
-      (subst (λ x. Reads (right drawn.net) drawn x lines last) leads h) (subst (λ l. first_set Max (l ∷ lines) ≡ Some set) same is)
+      (subst (λ x. LinesLead (right drawn.net) drawn x lines last) leads h) (subst (λ l. first_set Max (l ∷ lines) ≡ Some set) same is)
 
-  max_step : (here : At) (line : Entry) (next : At) (lines : List Entry) → IsBeforeMax r here → MayFollow (right drawn.net) drawn here line next → Reads (right drawn.net) drawn next lines last
+  max_step : (here : ReportState) (line : Entry) (next : ReportState) (lines : List Entry) → IsBeforeMax r here → MayFollow (right drawn.net) drawn here line next → LinesLead (right drawn.net) drawn next lines last
       → first_set Max (line ∷ lines) ≡ Some set → (IsBeforeMax r next × (first_set Max lines ≡ Some set)) ⊎ IsUnbounded drawn.net r.from r.to
   max_step (at_bound told greatest before) line next lines inside (inl h) more is =
       inl (subst (IsBeforeMax r) (sym h.2) inside, subst (λ l. first_set Max (l ∷ lines) ≡ Some set) h.1 is)
   max_step (at_bound told greatest before) line next lines inside (inr h) more is = inr (at_max told h.0 line next lines inside h.1 h.3 more is)
   max_step here line next lines inside h more is = absurd inside
 
-  max_lines : (lines : List Entry) (here : At) → IsBeforeMax r here → Reads (right drawn.net) drawn here lines last → first_set Max lines ≡ Some set → IsUnbounded drawn.net r.from r.to
+  max_lines : (lines : List Entry) (here : ReportState) → IsBeforeMax r here → LinesLead (right drawn.net) drawn here lines last → first_set Max lines ≡ Some set → IsUnbounded drawn.net r.from r.to
   max_lines [] here inside h is = absurd (cc)
   max_lines (line ∷ lines) here inside h is =
       elim (max_step here line h.0 lines inside h.1 h.2 is) [
@@ -117,18 +117,18 @@ module _ (drawn : Drawn) (last : At) (r : Row) (set : List Bool) where
         | inr found ↦ found
       ]
 
-  at_min : (told : Telling) (most other : Bound) (line : Entry) (next : At) (lines : List Entry) → told.row ≡ r → line ≡ bound Min other → next ≡ behind_bound told (least_by most) other → Reads (right drawn.net) drawn next lines last
+  at_min : (told : CurrentRow) (most other : Bound) (line : Entry) (next : ReportState) (lines : List Entry) → told.row ≡ r → line ≡ bound Min other → next ≡ behind_bound told (least_by most) other → LinesLead (right drawn.net) drawn next lines last
       → first_set Min (line ∷ lines) ≡ Some set → IsUnbounded drawn.net r.to r.from
   at_min told most other line next lines inside same leads h is =
       waits_lines drawn (IsUnbounded drawn.net r.to r.from) set lines (behind_bound told (least_by most) other) last
       (waits_bound drawn (IsUnbounded drawn.net r.to r.from) told (least_by most) other (λ w. subst (λ (x : Row). IsUnbounded drawn.net x.to x.from) inside w))
-      (subst (λ x. Reads (right drawn.net) drawn x lines last) leads h) (subst (λ l. first_set Min (l ∷ lines) ≡ Some set) same is)
+      (subst (λ x. LinesLead (right drawn.net) drawn x lines last) leads h) (subst (λ l. first_set Min (l ∷ lines) ≡ Some set) same is)
 
-  goes_by : (line known : Entry) (next there : At) (lines : List Entry) → first_set Min (line ∷ lines) ≡ Some set → line ≡ known → (first_set Min (known ∷ lines) ≡ Some set → first_set Min lines ≡ Some set) → next ≡ there
+  goes_by : (line known : Entry) (next there : ReportState) (lines : List Entry) → first_set Min (line ∷ lines) ≡ Some set → line ≡ known → (first_set Min (known ∷ lines) ≡ Some set → first_set Min lines ≡ Some set) → next ≡ there
       → IsBeforeMin r there → (IsBeforeMin r next × (first_set Min lines ≡ Some set)) ⊎ IsUnbounded drawn.net r.to r.from
   goes_by line known next there lines is same skip leads inside = inl (subst (IsBeforeMin r) (sym leads) inside, skip (subst (λ l. first_set Min (l ∷ lines) ≡ Some set) same is))
 
-  min_step : (here : At) (line : Entry) (next : At) (lines : List Entry) → IsBeforeMin r here → MayFollow (right drawn.net) drawn here line next → Reads (right drawn.net) drawn next lines last
+  min_step : (here : ReportState) (line : Entry) (next : ReportState) (lines : List Entry) → IsBeforeMin r here → MayFollow (right drawn.net) drawn here line next → LinesLead (right drawn.net) drawn next lines last
       → first_set Min (line ∷ lines) ≡ Some set → (IsBeforeMin r next × (first_set Min lines ≡ Some set)) ⊎ IsUnbounded drawn.net r.to r.from
   min_step (at_bound told side before) line next lines inside (inl h) more is = goes_by line (proof h.0) next (at_bound told side (before ++ h.0 ∷ [])) lines is h.1 (λ x. x) h.2 inside
   min_step (at_bound told greatest before) line next lines inside (inr h) more is = goes_by line (bound Max h.0) next (behind_bound told greatest h.0) lines is h.1 (λ x. x) h.3 (before_min_bound r told h.0 inside)
@@ -137,7 +137,7 @@ module _ (drawn : Drawn) (last : At) (r : Row) (set : List Bool) where
   min_step (at_raise told greatest list) line next lines inside h more is = goes_by line (raise h.0) next (bounded told greatest Unbounded) lines is h.1 (λ x. x) h.3 inside
   min_step here line next lines inside h more is = absurd inside
 
-  min_lines : (lines : List Entry) (here : At) → IsBeforeMin r here → Reads (right drawn.net) drawn here lines last → first_set Min lines ≡ Some set → IsUnbounded drawn.net r.to r.from
+  min_lines : (lines : List Entry) (here : ReportState) → IsBeforeMin r here → LinesLead (right drawn.net) drawn here lines last → first_set Min lines ≡ Some set → IsUnbounded drawn.net r.to r.from
   min_lines [] here inside h is = absurd (cc)
   min_lines (line ∷ lines) here inside h is =
       elim (min_step here line h.0 lines inside h.1 h.2 is) [

@@ -14,10 +14,10 @@ use Rattle.itv_base.specs.declared.row_kind.RowKind.TheVariants.{Ask, Req}
 use Rattle.slack_report.specs.Entry.{Entry, bound, ending, proof, raise, times, verdict}
 use Rattle.drawn.specs.Drawn.{Drawn}
 use Rattle.drawn.specs.declared.row.Row.{Row}
-use Rattle.right_report.specs.Right.At.{At, Side, Telling, at_heading, at_row, at_bound, at_times, at_raise, at_verdict, at_last, behind_bound, behind_times, bounded, end_word, greatest, judged, least_by, which_of}
+use Rattle.right_report.specs.Right.At.{ReportState, NextBound, CurrentRow, at_heading, at_row, at_bound, at_times, at_raise, at_verdict, at_last, behind_bound, behind_times, bounded, end_word, greatest, judged, least_by, which_of}
 use Rattle.right_report.specs.Right.Facts.{BeginsRightReport, right}
-use Rattle.right_report.specs.Right.Following.{MayFollow, Reads}
-use Rattle.right_report.specs.Laws.{FailHighIsBroken, FailLowIsBroken, PassIsMet}
+use Rattle.right_report.specs.Right.Following.{MayFollow, LinesLead}
+use Rattle.right_report.specs.Laws.{ReportFailHighIsBroken, ReportFailLowIsBroken, ReportPassIsMet}
 use Rattle.right_report.specs.Told.{first_verdict, verdict_on}
 use Rattle.right_report.proofs.Standing.{Stands, on_row, stands}
 
@@ -31,7 +31,7 @@ pub record IsJudged (drawn : Drawn) (r : Row) (word : Verdict) : Type 0 where
   pub is_verdict : verdict_of range least most ≡ word
 
 -- a place at which the verdict on a row is yet to come, or the row is over without one
-abbrev IsIn : Row → At → Type 0
+abbrev IsIn : Row → ReportState → Type 0
 IsIn r (at_bound told side lines) = told.row ≡ r
 IsIn r (at_times told side value) = told.row ≡ r
 IsIn r (at_raise told side list) = told.row ≡ r
@@ -40,32 +40,32 @@ IsIn r (at_row course number later) = Unit {0}
 IsIn r at_last = Unit {0}
 IsIn r other = ⊥
 
-in_judged : (r : Row) (kind : RowKind) (told : Telling) (least most : Bound) → told.row ≡ r → IsIn r (judged kind told least most)
+in_judged : (r : Row) (kind : RowKind) (told : CurrentRow) (least most : Bound) → told.row ≡ r → IsIn r (judged kind told least most)
 in_judged r Ask told least most is = tt
 in_judged r (Req range) told least most is = is
 
-in_bounded : (r : Row) (told : Telling) (side : Side) (value : Bound) → told.row ≡ r → IsIn r (bounded told side value)
+in_bounded : (r : Row) (told : CurrentRow) (side : NextBound) (value : Bound) → told.row ≡ r → IsIn r (bounded told side value)
 in_bounded r told greatest value is = is
 in_bounded r told (least_by most) value is = in_judged r told.row.kind told value most is
 
-in_bound : (r : Row) (told : Telling) (side : Side) (value : Bound) → told.row ≡ r → IsIn r (behind_bound told side value)
+in_bound : (r : Row) (told : CurrentRow) (side : NextBound) (value : Bound) → told.row ≡ r → IsIn r (behind_bound told side value)
 in_bound r told side (Closed value) is = is
 in_bound r told side Unbounded is = is
 in_bound r told side (Within limit (Some found)) is = is
 in_bound r told side (Within limit None) is = in_bounded r told side (Within limit None) is
 
-in_times : (r : Row) (told : Telling) (side : Side) (value : Bound) (list : List ℤ) → told.row ≡ r → IsIn r (behind_times told side value list)
+in_times : (r : Row) (told : CurrentRow) (side : NextBound) (value : Bound) (list : List ℤ) → told.row ≡ r → IsIn r (behind_times told side value list)
 in_times r told side (Closed value) list is = in_bounded r told side (Closed value) is
 in_times r told side Unbounded list is = is
 in_times r told side (Within limit attained) list is = in_bounded r told side (Within limit attained) is
 
 module _ (drawn : Drawn) (r : Row) (word : Verdict) (lines : List Entry) where
   -- the line isn't the verdict
-  passes : (line known : Entry) (next there : At) → first_verdict (line ∷ lines) ≡ Some word → line ≡ known → (first_verdict (known ∷ lines) ≡ Some word → first_verdict lines ≡ Some word) → next ≡ there → IsIn r there
+  passes : (line known : Entry) (next there : ReportState) → first_verdict (line ∷ lines) ≡ Some word → line ≡ known → (first_verdict (known ∷ lines) ≡ Some word → first_verdict lines ≡ Some word) → next ≡ there → IsIn r there
       → (IsIn r next × (first_verdict lines ≡ Some word)) ⊎ IsJudged drawn r word
   passes line known next there is same skip leads inside = inl (subst (IsIn r) (sym leads) inside, skip (subst (λ l. first_verdict (l ∷ lines) ≡ Some word) same is))
 
-  judged_here : (told : Telling) (range : Ends) (least most : Bound) (line : Entry) → Stands drawn (at_verdict told range least most) → told.row ≡ r → line ≡ verdict (verdict_of range least most)
+  judged_here : (told : CurrentRow) (range : Ends) (least most : Bound) (line : Entry) → Stands drawn (at_verdict told range least most) → told.row ≡ r → line ≡ verdict (verdict_of range least most)
       → first_verdict (line ∷ lines) ≡ Some word → IsJudged drawn r word
   judged_here told range least most line s inside same is = subst (λ x. IsJudged drawn x word) inside (record {
     range = range;
@@ -76,7 +76,7 @@ module _ (drawn : Drawn) (r : Row) (word : Verdict) (lines : List Entry) where
     is_verdict = same_Some (verdict_of range least most) word (subst (λ l. first_verdict (l ∷ lines) ≡ Some word) same is);
   })
 
-  in_step : (here : At) (line : Entry) (next : At) → Stands drawn here → IsIn r here → MayFollow (right drawn.net) drawn here line next → first_verdict (line ∷ lines) ≡ Some word
+  in_step : (here : ReportState) (line : Entry) (next : ReportState) → Stands drawn here → IsIn r here → MayFollow (right drawn.net) drawn here line next → first_verdict (line ∷ lines) ≡ Some word
       → (IsIn r next × (first_verdict lines ≡ Some word)) ⊎ IsJudged drawn r word
   in_step (at_bound told side before) line next s inside (inl h) is = passes line (proof h.0) next (at_bound told side (before ++ h.0 ∷ [])) is h.1 (λ x. x) h.2 inside
   in_step (at_bound told side before) line next s inside (inr h) is = passes line (bound (which_of side) h.0) next (behind_bound told side h.0) is h.1 (λ x. x) h.3 (in_bound r told side h.0 inside)
@@ -89,7 +89,7 @@ module _ (drawn : Drawn) (r : Row) (word : Verdict) (lines : List Entry) where
   in_step at_last line next s inside h is = absurd h
   in_step here line next s inside h is = absurd inside
 
-in_lines : (drawn : Drawn) (last : At) (r : Row) (word : Verdict) (lines : List Entry) (here : At) → Stands drawn here → IsIn r here → Reads (right drawn.net) drawn here lines last
+in_lines : (drawn : Drawn) (last : ReportState) (r : Row) (word : Verdict) (lines : List Entry) (here : ReportState) → Stands drawn here → IsIn r here → LinesLead (right drawn.net) drawn here lines last
     → first_verdict lines ≡ Some word → IsJudged drawn r word
 in_lines drawn last r word [] here s inside h is = absurd (cc)
 in_lines drawn last r word (line ∷ lines) here s inside h is =
@@ -103,17 +103,17 @@ is_judged : (drawn : Drawn) (lines : List Entry) (number : ℕ) (r : Row) (word 
 is_judged drawn lines number r word h get is =
     on_row drawn h.0 first_verdict (IsJudged drawn) refl (λ told more x t reads first. in_lines drawn h.0 told.row x more (at_bound told greatest []) (t, tt) refl reads first) lines at_heading number r word tt h.1 get is
 
-pub pass_is_met : PassIsMet
+pub pass_is_met : ReportPassIsMet
 pass_is_met drawn lines number r h get is =
     let j : IsJudged drawn r Pass = is_judged drawn lines number r Pass h get is in
     (j.range, j.is_kind, requirement.pass_is_met drawn.net r.from r.to j.range j.least j.most j.are_bounds j.is_verdict)
 
-pub fail_high_is_broken : FailHighIsBroken
+pub fail_high_is_broken : ReportFailHighIsBroken
 fail_high_is_broken drawn lines number r h get is =
     let j : IsJudged drawn r FailHigh = is_judged drawn lines number r FailHigh h get is in
     (j.range, j.is_kind, requirement.fail_high_is_broken drawn.net r.from r.to j.range j.least j.most j.are_bounds j.is_verdict)
 
-pub fail_low_is_broken : FailLowIsBroken
+pub fail_low_is_broken : ReportFailLowIsBroken
 fail_low_is_broken drawn lines number r h get is =
     let j : IsJudged drawn r FailLow = is_judged drawn lines number r FailLow h get is in
     (j.range, j.is_kind, requirement.fail_low_is_broken drawn.net r.from r.to j.range j.least j.most j.are_bounds j.is_verdict)

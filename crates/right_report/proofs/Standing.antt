@@ -21,9 +21,9 @@ use Rattle.slack_report.specs.declared.words.FindingWord.TheVariants as findings
 use Rattle.slack_report.specs.Entry.{Entry, row}
 use Rattle.drawn.specs.Drawn.{Drawn, name_of, AreTimes}
 use Rattle.drawn.specs.declared.row.Row.{Row}
-use Rattle.right_report.specs.Right.At.{At, Side, Telling, at_heading, at_budget, at_events, at_event, at_finding, at_known, at_rows, at_row, at_bound, at_times, at_raise, at_verdict, at_past, at_slack, at_end, at_last, behind_bound, behind_finding, behind_times, behind_verdict, bounded, greatest, judged, least_by}
+use Rattle.right_report.specs.Right.At.{ReportState, NextBound, CurrentRow, at_heading, at_budget, at_events, at_event, at_finding, at_known, at_rows, at_row, at_bound, at_times, at_raise, at_verdict, at_past, at_slack, at_end, at_last, behind_bound, behind_finding, behind_times, behind_verdict, bounded, greatest, judged, least_by}
 use Rattle.right_report.specs.Right.Facts.{Attains, CanRise, IsBoundOf, right}
-use Rattle.right_report.specs.Right.Following.{Facts, MayBound, MayFind, MayFollow, Reads}
+use Rattle.right_report.specs.Right.Following.{LineClaims, MayBound, MayFind, MayFollow, LinesLead}
 use Rattle.right_report.specs.Told.{behind_row}
 
 -- ---- rows that are left
@@ -42,21 +42,21 @@ next_row rows later number r is =
 -- ---- places
 
 -- a row that is told is one of the design's, and the later rows are those behind it
-pub record IsTold (drawn : Drawn) (told : Telling) : Type 0 where
+pub record IsTold (drawn : Drawn) (told : CurrentRow) : Type 0 where
   pub is_row : slice_get drawn.rows told.number ≡ Some told.row
   pub are_later : told.later ≡ drop (told.number + 1) drawn.rows
 
 -- the greatest bound is known where the least comes
-abbrev pub IsSide : Net → Row → Side → Type 0
+abbrev pub IsSide : Net → Row → NextBound → Type 0
 IsSide net r greatest = Unit {0}
 IsSide net r (least_by most) = IsGreatestBound net r.from r.to most
 
 -- a bound of a side is right
-abbrev pub IsRightBound : Net → Row → Side → Bound → Type 0
+abbrev pub IsRightBound : Net → Row → NextBound → Bound → Type 0
 IsRightBound net r greatest value = IsGreatestBound net r.from r.to value
 IsRightBound net r (least_by most) value = IsLeastBound net r.from r.to value
 
-abbrev pub Stands : Drawn → At → Type 0
+abbrev pub Stands : Drawn → ReportState → Type 0
 Stands drawn at_heading = Unit {0}
 Stands drawn at_budget = Unit {0}
 Stands drawn at_events = Unit {0}
@@ -76,19 +76,19 @@ Stands drawn at_last = Unit {0}
 
 -- ---- when a bound is right
 
-pub closed_is_right : (net : Net) (found : FindingWord) (r : Row) (side : Side) (value : ℤ) → IsBoundOf net found r side (Closed value) → IsRightBound net r side (Closed value)
+pub closed_is_right : (net : Net) (found : FindingWord) (r : Row) (side : NextBound) (value : ℤ) → IsBoundOf net found r side (Closed value) → IsRightBound net r side (Closed value)
 closed_is_right net found r greatest value h = h.1
 closed_is_right net found r (least_by most) value h = h.1
 
-pub rise_is_right : (net : Net) (r : Row) (side : Side) (list : List ℤ) (set : List Bool) → CanRise net r side list set → IsRightBound net r side Unbounded
+pub rise_is_right : (net : Net) (r : Row) (side : NextBound) (list : List ℤ) (set : List Bool) → CanRise net r side list set → IsRightBound net r side Unbounded
 rise_is_right net r greatest list set h = ray_is_unbounded net r.from r.to list set h
 rise_is_right net r (least_by most) list set h = ray_is_unbounded net r.to r.from list set h
 
-pub none_is_right : (net : Net) (found : FindingWord) (r : Row) (side : Side) (limit : Option ℤ) → IsBoundOf net found r side (Within limit None) → IsRightBound net r side (Within limit None)
+pub none_is_right : (net : Net) (found : FindingWord) (r : Row) (side : NextBound) (limit : Option ℤ) → IsBoundOf net found r side (Within limit None) → IsRightBound net r side (Within limit None)
 none_is_right net found r greatest limit h = (h.0, tt)
 none_is_right net found r (least_by most) limit h = (h.0, tt)
 
-pub attained_is_right : (net : Net) (found : FindingWord) (r : Row) (side : Side) (limit : Option ℤ) (value : ℤ) (list : List ℤ) → IsBoundOf net found r side (Within limit (Some value)) → AreTimes net r list
+pub attained_is_right : (net : Net) (found : FindingWord) (r : Row) (side : NextBound) (limit : Option ℤ) (value : ℤ) (list : List ℤ) → IsBoundOf net found r side (Within limit (Some value)) → AreTimes net r list
     → Attains r (Within limit (Some value)) list → IsRightBound net r side (Within limit (Some value))
 attained_is_right net found r greatest limit value list h t e = (h.0, (list, t.satisfied, e))
 attained_is_right net found r (least_by most) limit value list h t e = (h.0, (list, t.satisfied, e))
@@ -96,23 +96,23 @@ attained_is_right net found r (least_by most) limit value list h t e = (h.0, (li
 -- ---- a right line keeps what is known
 
 module _ (drawn : Drawn) where
-  stands_judged : (told : Telling) (least most : Bound) (kind : RowKind) → told.row.kind ≡ kind → IsTold drawn told → AreBounds drawn.net told.row.from told.row.to least most
+  stands_judged : (told : CurrentRow) (least most : Bound) (kind : RowKind) → told.row.kind ≡ kind → IsTold drawn told → AreBounds drawn.net told.row.from told.row.to least most
       → Stands drawn (judged kind told least most)
   stands_judged told least most Ask e t b = t.are_later
   stands_judged told least most (Req range) e t b = (t, e, b)
 
-  stands_bounded : (told : Telling) (side : Side) (value : Bound) → IsTold drawn told → IsSide drawn.net told.row side → IsRightBound drawn.net told.row side value → Stands drawn (bounded told side value)
+  stands_bounded : (told : CurrentRow) (side : NextBound) (value : Bound) → IsTold drawn told → IsSide drawn.net told.row side → IsRightBound drawn.net told.row side value → Stands drawn (bounded told side value)
   stands_bounded told greatest value t s b = (t, b)
   stands_bounded told (least_by most) value t s b = stands_judged told value most told.row.kind refl t (record { is_least = b; is_greatest = s })
 
-  stands_bound : (told : Telling) (side : Side) (value : Bound) → IsTold drawn told → IsSide drawn.net told.row side → IsBoundOf drawn.net told.course.found told.row side value
+  stands_bound : (told : CurrentRow) (side : NextBound) (value : Bound) → IsTold drawn told → IsSide drawn.net told.row side → IsBoundOf drawn.net told.course.found told.row side value
       → Stands drawn (behind_bound told side value)
   stands_bound told side (Closed value) t s b = (t, s, b)
   stands_bound told side Unbounded t s b = (t, s, b)
   stands_bound told side (Within limit (Some value)) t s b = (t, s, b)
   stands_bound told side (Within limit None) t s b = stands_bounded told side (Within limit None) t s (none_is_right drawn.net told.course.found told.row side limit b)
 
-  stands_times : (told : Telling) (side : Side) (value : Bound) (list : List ℤ) → Stands drawn (at_times told side value) → AreTimes drawn.net told.row list → Attains told.row value list
+  stands_times : (told : CurrentRow) (side : NextBound) (value : Bound) (list : List ℤ) → Stands drawn (at_times told side value) → AreTimes drawn.net told.row list → Attains told.row value list
       → Stands drawn (behind_times told side value list)
   stands_times told side (Closed value) list h t a = stands_bounded told side (Closed value) h.0 h.1 (closed_is_right drawn.net told.course.found told.row side value h.2)
   stands_times told side Unbounded list h t a = (h.0, h.1)
@@ -120,7 +120,7 @@ module _ (drawn : Drawn) where
       stands_bounded told side (Within limit (Some value)) h.0 h.1 (attained_is_right drawn.net told.course.found told.row side limit value list h.2 t a)
   stands_times told side (Within limit None) list h t a = stands_bounded told side (Within limit None) h.0 h.1 (none_is_right drawn.net told.course.found told.row side limit h.2)
 
-  stands_verdict : (told : Telling) (range : Ends) (least most : Bound) (word : Verdict) → Stands drawn (at_verdict told range least most) → Stands drawn (behind_verdict told range least most word)
+  stands_verdict : (told : CurrentRow) (range : Ends) (least most : Bound) (word : Verdict) → Stands drawn (at_verdict told range least most) → Stands drawn (behind_verdict told range least most word)
   stands_verdict told range least most verdicts.Pass s = s.0.are_later
   stands_verdict told range least most verdicts.FailHigh s = s
   stands_verdict told range least most verdicts.FailLow s = s
@@ -131,16 +131,16 @@ module _ (drawn : Drawn) where
   stands_finding findings.Inconsistent = tt
   stands_finding findings.Unsettled = tt
 
-  stands_find : (lines : List ProofLine) (line : Entry) (next : At) → MayFind (right drawn.net) lines line next → Stands drawn next
+  stands_find : (lines : List ProofLine) (line : Entry) (next : ReportState) → MayFind (right drawn.net) lines line next → Stands drawn next
   stands_find lines line next (inl h) = subst (Stands drawn) (sym h.2) tt
   stands_find lines line next (inr h) = subst (Stands drawn) (sym h.3) (stands_finding h.0)
 
-  stands_bind : (told : Telling) (side : Side) (lines : List ProofLine) (line : Entry) (next : At) → IsTold drawn told → IsSide drawn.net told.row side → MayBound (right drawn.net) told side lines line next
+  stands_bind : (told : CurrentRow) (side : NextBound) (lines : List ProofLine) (line : Entry) (next : ReportState) → IsTold drawn told → IsSide drawn.net told.row side → MayBound (right drawn.net) told side lines line next
       → Stands drawn next
   stands_bind told side lines line next t s (inl h) = subst (Stands drawn) (sym h.2) (t, s)
   stands_bind told side lines line next t s (inr h) = subst (Stands drawn) (sym h.3) (stands_bound told side h.0 t s h.2)
 
-  pub stands : (here : At) (line : Entry) (next : At) → Stands drawn here → MayFollow (right drawn.net) drawn here line next → Stands drawn next
+  pub stands : (here : ReportState) (line : Entry) (next : ReportState) → Stands drawn here → MayFollow (right drawn.net) drawn here line next → Stands drawn next
   stands at_heading line next s h = subst (Stands drawn) (sym h.1) tt
   stands at_budget line next s h = subst (Stands drawn) (sym h.2) tt
   stands at_events line next s h = subst (Stands drawn) (sym h.1) tt
@@ -166,16 +166,16 @@ module _ (drawn : Drawn) where
 -- ---- the lines of a row
 
 -- a line that begins a row leads to its greatest bound
-pub record Begins (drawn : Drawn) (number : ℕ) (next : At) : Type 0 where
-  pub told : Telling
+pub record Begins (drawn : Drawn) (number : ℕ) (next : ReportState) : Type 0 where
+  pub told : CurrentRow
   pub is_number : number ≡ told.number
   pub leads : next ≡ at_bound told greatest []
 
 same_number : (n m : ℕ) (kind other : RowKind) (a b c d : Name) → row n kind a b ≡ row m other c d → n ≡ m
 same_number n m kind other a b c d e = cc
 
-module _ (facts : Facts) (drawn : Drawn) (number : ℕ) (kind : RowKind) (from to : Name) (next : At) where
-  pub begins : (here : At) → MayFollow facts drawn here (row number kind from to) next → Begins drawn number next
+module _ (facts : LineClaims) (drawn : Drawn) (number : ℕ) (kind : RowKind) (from to : Name) (next : ReportState) where
+  pub begins : (here : ReportState) → MayFollow facts drawn here (row number kind from to) next → Begins drawn number next
   begins at_heading h = absurd (cc h.0)
   begins at_budget h = absurd (cc h.1)
   begins at_events h = absurd (cc h.0)
@@ -203,20 +203,20 @@ module _ (facts : Facts) (drawn : Drawn) (number : ℕ) (kind : RowKind) (from t
   begins at_last h = absurd h
 
 -- what the first lines of a row tell is claimed of the row, wherever the row stands
-module _ {X : Type 0} (drawn : Drawn) (last : At) (first : List Entry → Option X) (Claim : Row → X → Type 0)
+module _ {X : Type 0} (drawn : Drawn) (last : ReportState) (first : List Entry → Option X) (Claim : Row → X → Type 0)
     (empty : first [] ≡ None)
-    (in_row : (told : Telling) (lines : List Entry) (x : X) → IsTold drawn told → Reads (right drawn.net) drawn (at_bound told greatest []) lines last → first lines ≡ Some x → Claim told.row x) where
-  here_or_later : (number other : ℕ) (r : Row) (x : X) (lines : List Entry) (next : At) (same : Bool) → (other == number) ≡ same → Begins drawn other next → Stands drawn next
-      → Reads (right drawn.net) drawn next lines last → slice_get drawn.rows number ≡ Some r → first (if same then lines else behind_row number lines) ≡ Some x
+    (in_row : (told : CurrentRow) (lines : List Entry) (x : X) → IsTold drawn told → LinesLead (right drawn.net) drawn (at_bound told greatest []) lines last → first lines ≡ Some x → Claim told.row x) where
+  here_or_later : (number other : ℕ) (r : Row) (x : X) (lines : List Entry) (next : ReportState) (same : Bool) → (other == number) ≡ same → Begins drawn other next → Stands drawn next
+      → LinesLead (right drawn.net) drawn next lines last → slice_get drawn.rows number ≡ Some r → first (if same then lines else behind_row number lines) ≡ Some x
       → (first (behind_row number lines) ≡ Some x → Claim r x) → Claim r x
   here_or_later number other r x lines next true e b s h get is later =
       let there : Stands drawn (at_bound b.told greatest []) = subst (Stands drawn) b.leads s in
       let number_is : b.told.number ≡ number = sym b.is_number ∙ eqb-true other number e in
       let same : b.told.row ≡ r = same_Some b.told.row r (sym there.0.is_row ∙ ap (slice_get drawn.rows) number_is ∙ get) in
-      subst (λ y. Claim y x) same (in_row b.told lines x there.0 (subst (λ y. Reads (right drawn.net) drawn y lines last) b.leads h) is)
+      subst (λ y. Claim y x) same (in_row b.told lines x there.0 (subst (λ y. LinesLead (right drawn.net) drawn y lines last) b.leads h) is)
   here_or_later number other r x lines next false e b s h get is later = later is
 
-  pub on_row : (lines : List Entry) (here : At) (number : ℕ) (r : Row) (x : X) → Stands drawn here → Reads (right drawn.net) drawn here lines last → slice_get drawn.rows number ≡ Some r
+  pub on_row : (lines : List Entry) (here : ReportState) (number : ℕ) (r : Row) (x : X) → Stands drawn here → LinesLead (right drawn.net) drawn here lines last → slice_get drawn.rows number ≡ Some r
       → first (behind_row number lines) ≡ Some x → Claim r x
   on_row [] here number r x s h get is = let clash : None ≡ Some x = sym empty ∙ is in absurd (cc)
   on_row (row other kind from to ∷ lines) here number r x s h get is =

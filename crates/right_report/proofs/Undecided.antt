@@ -20,9 +20,9 @@ use Rattle.slack_report.specs.declared.words.FindingWord.TheVariants.{Consistent
 use Rattle.slack_report.specs.Entry.{Entry, ending}
 use Rattle.drawn.specs.Drawn.{Drawn}
 use Rattle.drawn.specs.declared.row.Row.{Row}
-use Rattle.right_report.specs.Right.At.{At, Course, Side, Telling, at_heading, at_budget, at_events, at_event, at_finding, at_known, at_rows, at_row, at_bound, at_times, at_raise, at_verdict, at_past, at_slack, at_end, at_last, behind_bound, behind_finding, behind_past, behind_times, behind_verdict, bounded, end_word, greatest, is_within, judged, least_by, undecided_or_pass}
+use Rattle.right_report.specs.Right.At.{ReportState, ReportTally, NextBound, CurrentRow, at_heading, at_budget, at_events, at_event, at_finding, at_known, at_rows, at_row, at_bound, at_times, at_raise, at_verdict, at_past, at_slack, at_end, at_last, behind_bound, behind_finding, behind_past, behind_times, behind_verdict, bounded, end_word, greatest, is_within, judged, least_by, undecided_or_pass}
 use Rattle.right_report.specs.Right.Facts.{HasAttained, IsBoundOf}
-use Rattle.right_report.specs.Right.Following.{Facts, MayBound, MayFind, MayFollow, Reads}
+use Rattle.right_report.specs.Right.Following.{LineClaims, MayBound, MayFind, MayFollow, LinesLead}
 use Rattle.right_report.specs.Laws.{BareUndecidedIsBelow, ShownUndecidedIsBelow}
 use Rattle.right_report.specs.Shown.{ShowsBound, bare, goal_of, shown}
 use Rattle.right_report.specs.Told.{end_in}
@@ -32,19 +32,19 @@ or_by P true b f g e = f refl
 or_by P false b f g e = g e
 
 -- What an unsettled finding and a bound that was left open give, a report that ends undecided gives.
-module _ (facts : Facts) (drawn : Drawn) (P : Type 0)
+module _ (facts : LineClaims) (drawn : Drawn) (P : Type 0)
     (by_finding : (lines : List ProofLine) → facts.finding lines Unsettled → P)
-    (by_bound : (found : FindingWord) (r : Row) (side : Side) (lines : List ProofLine) (value : Bound) → facts.bound found r side lines value → (found ≡ Unsettled → P) → is_within value ≡ true → P) where
+    (by_bound : (found : FindingWord) (r : Row) (side : NextBound) (lines : List ProofLine) (value : Bound) → facts.bound found r side lines value → (found ≡ Unsettled → P) → is_within value ≡ true → P) where
   -- ---- what is known at a place
 
-  abbrev Settles : Course → Type 0
+  abbrev Settles : ReportTally → Type 0
   Settles course = (course.found ≡ Unsettled → P) × (course.within ≡ true → P)
 
-  abbrev SettlesSide : Side → Type 0
+  abbrev SettlesSide : NextBound → Type 0
   SettlesSide greatest = Unit {0}
   SettlesSide (least_by most) = is_within most ≡ true → P
 
-  abbrev Settled : At → Type 0
+  abbrev Settled : ReportState → Type 0
   Settled (at_rows word) = word ≡ Unsettled → P
   Settled (at_row course number later) = Settles course
   Settled (at_bound told side lines) = Settles told.course × SettlesSide side
@@ -58,29 +58,29 @@ module _ (facts : Facts) (drawn : Drawn) (P : Type 0)
 
   -- ---- behind a bound and a verdict
 
-  settled_judged : (told : Telling) (least most : Bound) (kind : RowKind) → Settles told.course → ((is_within least || is_within most) ≡ true → P) → Settled (judged kind told least most)
+  settled_judged : (told : CurrentRow) (least most : Bound) (kind : RowKind) → Settles told.course → ((is_within least || is_within most) ≡ true → P) → Settled (judged kind told least most)
   settled_judged told least most Ask s both = (s.0, or_by P told.course.within (is_within least || is_within most) s.1 both)
   settled_judged told least most (Req range) s both = (s, both)
 
-  settled_bounded : (told : Telling) (side : Side) (value : Bound) → Settles told.course → SettlesSide side → (is_within value ≡ true → P) → Settled (bounded told side value)
+  settled_bounded : (told : CurrentRow) (side : NextBound) (value : Bound) → Settles told.course → SettlesSide side → (is_within value ≡ true → P) → Settled (bounded told side value)
   settled_bounded told greatest value s t v = (s, v)
   settled_bounded told (least_by most) value s t v = settled_judged told value most told.row.kind s (or_by P (is_within value) (is_within most) v t)
 
-  settled_bound : (told : Telling) (side : Side) (value : Bound) → Settles told.course → SettlesSide side → (is_within value ≡ true → P) → Settled (behind_bound told side value)
+  settled_bound : (told : CurrentRow) (side : NextBound) (value : Bound) → Settles told.course → SettlesSide side → (is_within value ≡ true → P) → Settled (behind_bound told side value)
   settled_bound told side (Closed value) s t v = (s, t, v)
   settled_bound told side Unbounded s t v = (s, t, v)
   settled_bound told side (Within limit (Some found)) s t v = (s, t, v)
   settled_bound told side (Within limit None) s t v = settled_bounded told side (Within limit None) s t v
 
-  settled_times : (told : Telling) (side : Side) (value : Bound) (list : List ℤ) → Settled (at_times told side value) → Settled (behind_times told side value list)
+  settled_times : (told : CurrentRow) (side : NextBound) (value : Bound) (list : List ℤ) → Settled (at_times told side value) → Settled (behind_times told side value list)
   settled_times told side (Closed value) list s = settled_bounded told side (Closed value) s.0 s.1 s.2
   settled_times told side Unbounded list s = (s.0, s.1)
   settled_times told side (Within limit attained) list s = settled_bounded told side (Within limit attained) s.0 s.1 s.2
 
-  settled_past : (told : Telling) (range : Ends) (least most : Bound) (word : Verdict) → Settled (at_verdict told range least most) → Settled (behind_past told range least most word)
+  settled_past : (told : CurrentRow) (range : Ends) (least most : Bound) (word : Verdict) → Settled (at_verdict told range least most) → Settled (behind_past told range least most word)
   settled_past told range least most word s = (s.0.0, or_by P told.course.within (is_within least || is_within most) s.0.1 s.1)
 
-  settled_verdict : (told : Telling) (range : Ends) (least most : Bound) (word : Verdict) → Settled (at_verdict told range least most) → Settled (behind_verdict told range least most word)
+  settled_verdict : (told : CurrentRow) (range : Ends) (least most : Bound) (word : Verdict) → Settled (at_verdict told range least most) → Settled (behind_verdict told range least most word)
   settled_verdict told range least most verdicts.Pass s = settled_past told range least most verdicts.Pass s
   settled_verdict told range least most verdicts.FailHigh s = s
   settled_verdict told range least most verdicts.FailLow s = s
@@ -93,15 +93,15 @@ module _ (facts : Facts) (drawn : Drawn) (P : Type 0)
   settled_finding lines Inconsistent h = λ e. absurd (cc e)
   settled_finding lines Unsettled h = λ e. by_finding lines h
 
-  settled_find : (lines : List ProofLine) (line : Entry) (next : At) → MayFind facts lines line next → Settled next
+  settled_find : (lines : List ProofLine) (line : Entry) (next : ReportState) → MayFind facts lines line next → Settled next
   settled_find lines line next (inl h) = subst Settled (sym h.2) tt
   settled_find lines line next (inr h) = subst Settled (sym h.3) (settled_finding lines h.0 h.2)
 
-  settled_bind : (told : Telling) (side : Side) (lines : List ProofLine) (line : Entry) (next : At) → Settles told.course → SettlesSide side → MayBound facts told side lines line next → Settled next
+  settled_bind : (told : CurrentRow) (side : NextBound) (lines : List ProofLine) (line : Entry) (next : ReportState) → Settles told.course → SettlesSide side → MayBound facts told side lines line next → Settled next
   settled_bind told side lines line next s t (inl h) = subst Settled (sym h.2) (s, t)
   settled_bind told side lines line next s t (inr h) = subst Settled (sym h.3) (settled_bound told side h.0 s t (by_bound told.course.found told.row side lines h.0 h.2 s.0))
 
-  settled : (here : At) (line : Entry) (next : At) → Settled here → MayFollow facts drawn here line next → Settled next
+  settled : (here : ReportState) (line : Entry) (next : ReportState) → Settled here → MayFollow facts drawn here line next → Settled next
   settled at_heading line next s h = subst Settled (sym h.1) tt
   settled at_budget line next s h = subst Settled (sym h.2) tt
   settled at_events line next s h = subst Settled (sym h.1) tt
@@ -123,7 +123,7 @@ module _ (facts : Facts) (drawn : Drawn) (P : Type 0)
 
   -- ---- the end
 
-  by_word : (course : Course) → Settles course → (fails : Bool) (found : FindingWord) (within : Bool) → course.found ≡ found → course.within ≡ within
+  by_word : (course : ReportTally) → Settles course → (fails : Bool) (found : FindingWord) (within : Bool) → course.found ≡ found → course.within ≡ within
       → (if fails then endings.Fail else undecided_or_pass found within) ≡ endings.Undecided → P
   by_word course s true found within e w is = absurd (cc)
   by_word course s false Consistent true e w is = s.1 w
@@ -134,7 +134,7 @@ module _ (facts : Facts) (drawn : Drawn) (P : Type 0)
   same_ending : (a b : EndWord) → ending a ≡ ending b → a ≡ b
   same_ending a b e = cc
 
-  by_ending : (here : At) (next : At) → Settled here → MayFollow facts drawn here (ending endings.Undecided) next → P
+  by_ending : (here : ReportState) (next : ReportState) → Settled here → MayFollow facts drawn here (ending endings.Undecided) next → P
   by_ending at_heading next s h = absurd (cc h.0)
   by_ending at_budget next s h = absurd (cc h.1)
   by_ending at_events next s h = absurd (cc h.0)
@@ -158,7 +158,7 @@ module _ (facts : Facts) (drawn : Drawn) (P : Type 0)
   by_ending (at_end other) next s h = s (sym (same_ending endings.Undecided other h.0))
   by_ending at_last next s h = absurd h
 
-  by_end : (lines : List Entry) (here last : At) → Settled here → Reads facts drawn here lines last → end_in lines ≡ Some endings.Undecided → P
+  by_end : (lines : List Entry) (here last : ReportState) → Settled here → LinesLead facts drawn here lines last → end_in lines ≡ Some endings.Undecided → P
   by_end [] here last s h is = absurd (cc)
   by_end (ending word ∷ lines) here last s h is =
       by_ending here h.0 s (subst (λ w. MayFollow facts drawn here (ending w) h.0) (same_Some word endings.Undecided is) h.1)
@@ -169,7 +169,7 @@ module _ (facts : Facts) (drawn : Drawn) (P : Type 0)
 abbrev IsBelow : Net → ℕ → Type 0
 IsBelow net most = most < cause_choices net.constraints
 
-below_by_bound : (net : Net) (most : ℕ) (found : FindingWord) (r : Row) (side : Side) (lines : List ProofLine) (value : Bound) → IsNet net → IsBoundOf net found r side value → ShowsBound net most lines r side value
+below_by_bound : (net : Net) (most : ℕ) (found : FindingWord) (r : Row) (side : NextBound) (lines : List ProofLine) (value : Bound) → IsNet net → IsBoundOf net found r side value → ShowsBound net most lines r side value
     → (found ≡ Unsettled → IsBelow net most) → is_within value ≡ true → IsBelow net most
 below_by_bound net most found r side lines (Closed value) is_net b h unsettled e = absurd (cc)
 below_by_bound net most found r side lines Unbounded is_net b h unsettled e = absurd (cc)

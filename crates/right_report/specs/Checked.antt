@@ -11,9 +11,9 @@ use Rattle.slack_report.specs.declared.words.FindingWord.TheVariants as findings
 use Rattle.slack_report.specs.Entry.{Entry}
 use Rattle.drawn.specs.Drawn.{Drawn}
 use Rattle.drawn.specs.declared.row.Row.{Row}
-use Rattle.right_report.specs.Right.At.{Side, at_heading, at_last}
+use Rattle.right_report.specs.Right.At.{NextBound, at_heading, at_last}
 use Rattle.right_report.specs.Right.Facts.{HasAttained, IsLimit, right}
-use Rattle.right_report.specs.Right.Following.{Facts, Reads}
+use Rattle.right_report.specs.Right.Following.{LineClaims, LinesLead}
 use Rattle.right_report.specs.Shown.{goal_of}
 
 -- an inconsistent finding is proved by the lines before it
@@ -23,7 +23,7 @@ ProvesFinding net lines findings.Inconsistent = IsProof net Nothing lines
 ProvesFinding net lines findings.Unsettled = (list : List ℤ) × MeetsAlways list net
 
 -- a closed bound is proved by the lines before it; the times behind it show that it is attained
-abbrev pub ProvesBound : Net → FindingWord → Row → Side → List ProofLine → Bound → Type 0
+abbrev pub ProvesBound : Net → FindingWord → Row → NextBound → List ProofLine → Bound → Type 0
 ProvesBound net found r side lines (bounds.Closed value) = (found ≡ findings.Consistent) × IsProof net (goal_of r side value) lines
 ProvesBound net found r side lines bounds.Unbounded = found ≡ findings.Consistent
 ProvesBound net found r side lines (bounds.Within limit attained) = IsLimit net r side limit × HasAttained found attained
@@ -35,7 +35,7 @@ IsWithinTimes bounds.Unbounded = Unit {0}
 IsWithinTimes (bounds.Within limit attained) = IfSome attained IsTime
 
 -- what a check asks
-abbrev pub checked : Net → Facts
+abbrev pub checked : Net → LineClaims
 checked net = record {
   finding = λ lines word. ProvesFinding net lines word;
   known = λ list. All IsTime list × (right net).known list;
@@ -47,4 +47,4 @@ checked net = record {
 
 -- a whole report in which each line meets the check
 abbrev pub IsChecked : Drawn → List Entry → Type 0
-IsChecked drawn lines = Reads (checked drawn.net) drawn at_heading lines at_last
+IsChecked drawn lines = LinesLead (checked drawn.net) drawn at_heading lines at_last

@@ -14,7 +14,7 @@ use Rattle.itv_base.specs.declared.row_kind.RowKind.TheVariants as kinds
 use Rattle.slack_report.specs.declared.words.EndWord.TheVariants as endings
 use Rattle.slack_report.specs.declared.words.FindingWord.TheVariants as findings
 use Rattle.slack_report.specs.declared.words.Which.TheVariants as sorts
-use Rattle.slack_report.specs.Entry.{Entry, IsEntry}
+use Rattle.slack_report.specs.Entry.{Entry, IsReportEntry}
 use Rattle.slack_report.specs.Order.{IsReport}
 use Rattle.slack_report.specs.Report.{IsReportText}
 use Rattle.slack_report.specs.Text.{report_text}
@@ -96,18 +96,18 @@ SetShowsBelow = (drawn : Drawn) (lines : List Entry) (number : ℕ) (r : Row) (s
     → set_on lines number sorts.Min ≡ Some set → IsUnbounded drawn.net r.to r.from
 
 -- a verdict `pass` says that all satisfying times meet the requirement of the row
-abbrev pub PassIsMet : Type 0
-PassIsMet = (drawn : Drawn) (lines : List Entry) (number : ℕ) (r : Row) → BeginsRightReport drawn lines → slice_get drawn.rows number ≡ Some r
+abbrev pub ReportPassIsMet : Type 0
+ReportPassIsMet = (drawn : Drawn) (lines : List Entry) (number : ℕ) (r : Row) → BeginsRightReport drawn lines → slice_get drawn.rows number ≡ Some r
     → verdict_on lines number ≡ Some verdicts.Pass → (range : Ends) × (r.kind ≡ kinds.Req range) × IsMet drawn.net r.from r.to range
 
 -- `fail high` says that some satisfying times are past its high end
-abbrev pub FailHighIsBroken : Type 0
-FailHighIsBroken = (drawn : Drawn) (lines : List Entry) (number : ℕ) (r : Row) → BeginsRightReport drawn lines → slice_get drawn.rows number ≡ Some r
+abbrev pub ReportFailHighIsBroken : Type 0
+ReportFailHighIsBroken = (drawn : Drawn) (lines : List Entry) (number : ℕ) (r : Row) → BeginsRightReport drawn lines → slice_get drawn.rows number ≡ Some r
     → verdict_on lines number ≡ Some verdicts.FailHigh → (range : Ends) × (r.kind ≡ kinds.Req range) × IsBrokenHigh drawn.net r.from r.to range
 
 -- and `fail low` that some are past its low end
-abbrev pub FailLowIsBroken : Type 0
-FailLowIsBroken = (drawn : Drawn) (lines : List Entry) (number : ℕ) (r : Row) → BeginsRightReport drawn lines → slice_get drawn.rows number ≡ Some r
+abbrev pub ReportFailLowIsBroken : Type 0
+ReportFailLowIsBroken = (drawn : Drawn) (lines : List Entry) (number : ℕ) (r : Row) → BeginsRightReport drawn lines → slice_get drawn.rows number ≡ Some r
     → verdict_on lines number ≡ Some verdicts.FailLow → (range : Ends) × (r.kind ≡ kinds.Req range) × IsBrokenLow drawn.net r.from r.to range
 
 -- ---- what its end says
@@ -151,7 +151,7 @@ BareUndecidedIsBelow = (drawn : Drawn) (most : ℕ) (lines : List Entry) → IsN
 
 -- a right report whose lines have texts is a report, and its text that of a report
 abbrev pub RightIsReport : Type 0
-RightIsReport = (drawn : Drawn) (lines : List Entry) → IsRightReport drawn lines → All (IsEntry (length drawn.names)) lines → IsReport lines × IsReportText (report_text lines)
+RightIsReport = (drawn : Drawn) (lines : List Entry) → IsRightReport drawn lines → All (IsReportEntry (length drawn.names)) lines → IsReport lines × IsReportText (report_text lines)
 
 -- a text that the check accepts is the text of a right report, whoever wrote it
 abbrev pub AcceptedTextIsRight : Type 0

@@ -10,13 +10,13 @@ use Rattle.slack_report.specs.declared.words.FindingWord.TheVariants as findings
 use Rattle.slack_report.specs.Entry.{Entry, budget}
 use Rattle.drawn.specs.Drawn.{Drawn}
 use Rattle.drawn.specs.declared.row.Row.{Row}
-use Rattle.right_report.specs.Right.At.{Side, at_heading, at_last, greatest, least_by}
+use Rattle.right_report.specs.Right.At.{NextBound, at_heading, at_last, greatest, least_by}
 use Rattle.right_report.specs.Right.Facts.{right}
-use Rattle.right_report.specs.Right.Following.{Facts, Reads}
+use Rattle.right_report.specs.Right.Following.{LineClaims, LinesLead}
 
 -- What is to be shown for a number as a bound of a row: that no separation of the pair exceeds it, and for a least separation that none
 -- of the reversed pair exceeds its negative.
-abbrev pub goal_of : Row → Side → ℤ → ProofGoal
+abbrev pub goal_of : Row → NextBound → ℤ → ProofGoal
 goal_of r greatest value = BoundGoal r.from r.to value
 goal_of r (least_by most) value = BoundGoal r.to r.from (neg_ℤ value)
 
@@ -37,21 +37,21 @@ ShowsFinding net most lines findings.Unsettled = IsStoppedProof net Nothing line
 
 -- A closed bound has its proof, and an unbounded one a stopped proof, both within the budget. A bound that was left open has a stopped
 -- proof of the separation that was found, which used it up, and no lines where nothing was found.
-abbrev pub ShowsBound : Net → ℕ → List ProofLine → Row → Side → Bound → Type 0
+abbrev pub ShowsBound : Net → ℕ → List ProofLine → Row → NextBound → Bound → Type 0
 ShowsBound net most lines r side (bounds.Closed value) = IsProofWithin net (goal_of r side value) most lines
 ShowsBound net most lines r side bounds.Unbounded = (value : ℤ) × IsStoppedWithin net (goal_of r side value) most lines
 ShowsBound net most lines r side (bounds.Within limit None) = lines ≡ []
 ShowsBound net most lines r side (bounds.Within limit (Some found)) = IsStoppedProof net (goal_of r side found) lines most
 
 -- what is asked of a right report that prints these lines
-abbrev pub shown : Net → ℕ → Facts
+abbrev pub shown : Net → ℕ → LineClaims
 shown net most = record (right net) {
   finding = λ lines word. (right net).finding lines word × ShowsFinding net most lines word;
   bound = λ found r side lines value. (right net).bound found r side lines value × ShowsBound net most lines r side value;
 }
 
 -- what is asked of a right report that prints none of them: there are such lines all the same
-abbrev pub bare : Net → ℕ → Facts
+abbrev pub bare : Net → ℕ → LineClaims
 bare net most = record (right net) {
   finding = λ lines word. (right net).finding lines word × (lines ≡ []) × ((hidden : List ProofLine) × ShowsFinding net most hidden word);
   bound = λ found r side lines value. (right net).bound found r side lines value × (lines ≡ []) × ((hidden : List ProofLine) × ShowsBound net most hidden r side value);
@@ -63,10 +63,10 @@ TellsBudget most lines = slice_get lines 1 ≡ Some (budget most)
 
 -- a whole right report of a budget with its proofs
 pub record IsShownReport (drawn : Drawn) (most : ℕ) (lines : List Entry) : Type 0 where
-  pub reads : Reads (shown drawn.net most) drawn at_heading lines at_last
+  pub reads : LinesLead (shown drawn.net most) drawn at_heading lines at_last
   pub tells : TellsBudget most lines
 
 -- a whole right report of a budget without them
 pub record IsBareReport (drawn : Drawn) (most : ℕ) (lines : List Entry) : Type 0 where
-  pub reads : Reads (bare drawn.net most) drawn at_heading lines at_last
+  pub reads : LinesLead (bare drawn.net most) drawn at_heading lines at_last
   pub tells : TellsBudget most lines

@@ -1,7 +1,7 @@
 //! Laws of right reports. The functions do nothing; what they ensure holds of all networks and all reports.
 
 ghost use Rattle.right_report.specs.Right.Order.{RightLinesKeepOrder};
-ghost use Rattle.right_report.specs.Laws.{AcceptedTextIsNotRefused, AcceptedTextIsRight, BareIsRight, BareUndecidedIsBelow, CheckedHasNoWrong, CheckedIsRight, ConsistentIsSo, FailEndIsSo, FailHighIsBroken, FailLowIsBroken, GreatestIsRight, InconsistentEndIsSo, InconsistentIsSo, LeastIsRight, OneFirstWrong, OneRefusedLine, PassEndIsSo, PassIsMet, RightIsReport, SetShowsAbove, SetShowsBelow, ShownIsRight, ShownUndecidedIsBelow, UnboundedAbove, UnboundedBelow, UnrefusedTextIsRight};
+ghost use Rattle.right_report.specs.Laws.{AcceptedTextIsNotRefused, AcceptedTextIsRight, BareIsRight, BareUndecidedIsBelow, CheckedHasNoWrong, CheckedIsRight, ConsistentIsSo, FailEndIsSo, ReportFailHighIsBroken, ReportFailLowIsBroken, GreatestIsRight, InconsistentEndIsSo, InconsistentIsSo, LeastIsRight, OneFirstWrong, OneRefusedLine, PassEndIsSo, ReportPassIsMet, RightIsReport, SetShowsAbove, SetShowsBelow, ShownIsRight, ShownUndecidedIsBelow, UnboundedAbove, UnboundedBelow, UnrefusedTextIsRight};
 
 /// A report that shows its numbers by the lines before them is right.
 pub fn shown_is_right()
@@ -63,18 +63,18 @@ pub fn set_shows_unbounded()
 {}
 
 /// Where a right report says `pass`, every satisfying separation lies in the range of the row.
-pub fn pass_is_met()
-    ensures { PassIsMet }
+pub fn report_pass_is_met()
+    ensures { ReportPassIsMet }
 {}
 
 /// Where a right report says `fail high`, some satisfying separation is past the high end of the row.
-pub fn fail_high_is_broken()
-    ensures { FailHighIsBroken }
+pub fn report_fail_high_is_broken()
+    ensures { ReportFailHighIsBroken }
 {}
 
 /// Where a right report says `fail low`, some satisfying separation is past the low end of the row.
-pub fn fail_low_is_broken()
-    ensures { FailLowIsBroken }
+pub fn report_fail_low_is_broken()
+    ensures { ReportFailLowIsBroken }
 {}
 
 /// A right report that ends with `pass` says that some times satisfy the network, and that all that do meet every requirement.

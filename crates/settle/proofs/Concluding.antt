@@ -11,15 +11,15 @@ use Rattle.falling.specs.Kinds.{negated}
 use Rattle.falling.proofs.Bounding.{some_and}
 use Rattle.clauses.specs.Lines.{Goal, IsOver, IsClauseProof}
 use Rattle.clauses.proofs.Proving.{clause_proof_bounds, clause_proof_of_nothing, negated_proof_bounds, negated_proof_of_nothing}
-use Rattle.settle.specs.declared.found.Found.{Found}
+use Rattle.settle.specs.declared.found.ShownAnswer.{ShownAnswer}
 use Rattle.settle.specs.declared.found.Settled.{Settled}
 use Rattle.settle.specs.declared.found.Settled.TheVariants.{Closed, Unbounded, Inconsistent}
-use Rattle.settle.specs.declared.line.ProofLine.{ProofLine}
-use Rattle.settle.specs.declared.race.Ending.TheVariants.{Closed as ClosedBy, Unbounded as UnboundedBy, Inconsistent as InconsistentBy}
+use Rattle.settle.specs.declared.line.StoredLine.{StoredLine}
+use Rattle.settle.specs.declared.race.RaceEnd.TheVariants.{Closed as ClosedBy, Unbounded as UnboundedBy, Inconsistent as InconsistentBy}
 use Rattle.settle.specs.declared.race.Race.{Race}
 use Rattle.settle.specs.Found.{IsFound, IsSettledAt, IsSettledInconsistent, IsSettledUnbounded}
 use Rattle.settle.specs.Proofs.{IsProofAs, IsProving, Proving, lines_of}
-use Rattle.settle.specs.Step.Racing.{AreTimes, IsEnding, IsOverAs, IsRacing, line_count, lines_as}
+use Rattle.settle.specs.Step.Racing.{AreRaceTimes, IsEnding, IsOverAs, IsRacing, line_count, lines_as}
 
 -- the lines of a search that is over are a proof of its goal
 pub proof_of : (net : Net) (goal : Goal) (proving : Proving) → IsProving net proving → proving.check.goal ≡ goal → IsOver net proving.check.goal proving.check.state
@@ -27,8 +27,8 @@ pub proof_of : (net : Net) (goal : Goal) (proving : Proving) → IsProving net p
 proof_of net goal proving is same over = subst (λ (g : Goal). IsClauseProof net g (lines_of proving.lines)) same (proving.check.state, is.lines, over)
 
 -- a proof and times that attain its claim settle a pair
-pub settled_at : (net : Net) (from to : EventId) (claim : ℤ) (view : View) (lines : List ProofLine) (times : List ℤ) → IsNet net → from.0 < net.events → to.0 < net.events
-    → claim <ℤ pos (far_line net) → IsProofAs view net from to claim lines → AreTimes net from to claim times → IsSettledAt net from to claim view lines times
+pub settled_at : (net : Net) (from to : EventId) (claim : ℤ) (view : View) (lines : List StoredLine) (times : List ℤ) → IsNet net → from.0 < net.events → to.0 < net.events
+    → claim <ℤ pos (far_line net) → IsProofAs view net from to claim lines → AreRaceTimes net from to claim times → IsSettledAt net from to claim view lines times
 settled_at net from to claim Plain lines times is_net in_from in_to below proof are = record {
   greatest = record {
     attained = (times, are.satisfies, are.attained);
@@ -51,7 +51,7 @@ settled_at net from to claim Negated lines times is_net in_from in_to below proo
 }
 
 -- a proof of a claim below minus the far line shows that no times satisfy
-pub settled_inconsistent : (net : Net) (from to : EventId) (claim : ℤ) (view : View) (lines : List ProofLine) → IsNet net → from.0 < net.events → to.0 < net.events
+pub settled_inconsistent : (net : Net) (from to : EventId) (claim : ℤ) (view : View) (lines : List StoredLine) → IsNet net → from.0 < net.events → to.0 < net.events
     → claim <ℤ neg_ℤ (pos (far_line net)) → IsProofAs view net from to claim lines → IsSettledInconsistent net from to claim view lines
 settled_inconsistent net from to claim Plain lines is_net in_from in_to low proof = record {
   none = clause_proof_of_nothing net (record { from = from; to = to; claim = claim }) (lines_of lines) is_net in_from in_to low proof;
@@ -77,48 +77,48 @@ some_of None h = absurd (not_true h) where
 some_of (Some x) h = (x, refl)
 
 -- the lines of the search of a view that is over are a proof of the claim
-proof_as : (net : Net) (race : Race) (view : View) (lines : List ProofLine) → IsRacing net race → IsOverAs view net race → lines ≡ lines_as view race
+proof_as : (net : Net) (race : Race) (view : View) (lines : List StoredLine) → IsRacing net race → IsOverAs view net race → lines ≡ lines_as view race
     → IsProofAs view net race.from race.to race.best.claim.value lines
 proof_as net race Plain lines racing over is =
-    subst (λ (ls : List ProofLine). IsProofAs Plain net race.from race.to race.best.claim.value ls) (sym is)
+    subst (λ (ls : List StoredLine). IsProofAs Plain net race.from race.to race.best.claim.value ls) (sym is)
     (proof_of net (record { from = race.from; to = race.to; claim = race.best.claim.value }) race.plain racing.plain racing.plain_goal over)
 proof_as net race Negated lines racing over is =
-    subst (λ (ls : List ProofLine). IsProofAs Negated net race.from race.to race.best.claim.value ls) (sym is)
+    subst (λ (ls : List StoredLine). IsProofAs Negated net race.from race.to race.best.claim.value ls) (sym is)
     (proof_of (negated net) (record { from = race.to; to = race.from; claim = race.best.claim.value }) race.turned racing.turned racing.turned_goal over)
 
-few_lines : (race : Race) (view : View) (lines : List ProofLine) (turns : ℕ) → lines ≡ lines_as view race → line_count race ≤ turns → length lines ≤ turns
+few_lines : (race : Race) (view : View) (lines : List StoredLine) (turns : ℕ) → lines ≡ lines_as view race → line_count race ≤ turns → length lines ≤ turns
 few_lines race Plain lines turns is few = rw is (omega arith)
 few_lines race Negated lines turns is few = rw is (omega arith)
 
 -- the lines that are handed out
-pub handed : (race : Race) (view : View) (lines : List ProofLine) → (view ≡ Plain → lines ≡ race.plain.lines) → (view ≡ Negated → lines ≡ race.turned.lines)
+pub handed : (race : Race) (view : View) (lines : List StoredLine) → (view ≡ Plain → lines ≡ race.plain.lines) → (view ≡ Negated → lines ≡ race.turned.lines)
     → lines ≡ lines_as view race
 handed race Plain lines plain negated = plain refl
 handed race Negated lines plain negated = negated refl
 
 -- what is found of a pair is found of the same pair
-pub of_pair : (net : Net) (race : Race) (from to : EventId) (most : ℕ) (found : Found) → race.from ≡ from → race.to ≡ to → IsFound net race.from race.to most found
+pub of_pair : (net : Net) (race : Race) (from to : EventId) (most : ℕ) (found : ShownAnswer) → race.from ≡ from → race.to ≡ to → IsFound net race.from race.to most found
     → IsFound net from to most found
 of_pair net race from to most found same_from same_to is =
     subst (λ (e : EventId). IsFound net from e most found) same_to (subst (λ (e : EventId). IsFound net e race.to most found) same_from is)
 
-pub found_closed : (net : Net) (race : Race) (view : View) (turns budget : ℕ) (answer : Settled) (times : Vec ℤ) (ray : Vec Bool) (lines : Vec ProofLine) → IsNet net
+pub found_closed : (net : Net) (race : Race) (view : View) (turns budget : ℕ) (answer : Settled) (times : Vec ℤ) (ray : Vec Bool) (lines : Vec StoredLine) → IsNet net
     → IsRacing net race → IsEnding net race (ClosedBy view) → line_count race ≤ turns → answer ≡ Closed race.best.claim.value
     → ((ts : Vec ℤ) → race.best.times ≡ Some ts → times ≡ ts) → lines.items ≡ lines_as view race
     → turns ≤ budget → IsFound net race.from race.to budget (record { answer = answer; times = times; ray = ray; claim = race.best.claim; view = view; lines = lines; turns = turns })
 found_closed net race view turns budget answer times ray lines is_net racing (over, some, below) few is_answer at_times at_lines within =
     let (ts, is) = some_of race.best.times some in
-    let are : AreTimes net race.from race.to race.best.claim.value ts.items =
-    subst (λ (o : Option (Vec ℤ)). IfSome o (λ times. AreTimes net race.from race.to race.best.claim.value times.items)) is racing.best.found in
+    let are : AreRaceTimes net race.from race.to race.best.claim.value ts.items =
+    subst (λ (o : Option (Vec ℤ)). IfSome o (λ times. AreRaceTimes net race.from race.to race.best.claim.value times.items)) is racing.best.found in
     let same : times ≡ ts = at_times ts is in
     let settled : IsSettledAt net race.from race.to race.best.claim.value view lines.items times.items =
     settled_at net race.from race.to race.best.claim.value view lines.items times.items is_net racing.from racing.to below
     (proof_as net race view lines.items racing over at_lines)
-    (subst (λ (t : Vec ℤ). AreTimes net race.from race.to race.best.claim.value t.items) (sym same) are) in
+    (subst (λ (t : Vec ℤ). AreRaceTimes net race.from race.to race.best.claim.value t.items) (sym same) are) in
     subst (λ (a : Settled). IsFound net race.from race.to budget (record { answer = a; times = times; ray = ray; claim = race.best.claim; view = view; lines = lines; turns = turns })) (sym is_answer)
     (record { answer = (settled, refl); most = within; lines = few_lines race view lines.items turns at_lines few })
 
-pub found_inconsistent : (net : Net) (race : Race) (view : View) (turns budget : ℕ) (times : Vec ℤ) (ray : Vec Bool) (lines : Vec ProofLine) → IsNet net → IsRacing net race
+pub found_inconsistent : (net : Net) (race : Race) (view : View) (turns budget : ℕ) (times : Vec ℤ) (ray : Vec Bool) (lines : Vec StoredLine) → IsNet net → IsRacing net race
     → IsEnding net race (InconsistentBy view) → line_count race ≤ turns → lines.items ≡ lines_as view race
     → turns ≤ budget → IsFound net race.from race.to budget (record { answer = Inconsistent; times = times; ray = ray; claim = race.best.claim; view = view; lines = lines; turns = turns })
 found_inconsistent net race view turns budget times ray lines is_net racing (over, none) few at_lines within =
@@ -131,13 +131,13 @@ found_inconsistent net race view turns budget times ray lines is_net racing (ove
       lines = few_lines race view lines.items turns at_lines few;
     }
 
-pub found_unbounded : (net : Net) (race : Race) (turns budget : ℕ) (times : Vec ℤ) (ray : Vec Bool) (view : View) (lines : Vec ProofLine) → IsRacing net race
+pub found_unbounded : (net : Net) (race : Race) (turns budget : ℕ) (times : Vec ℤ) (ray : Vec Bool) (view : View) (lines : Vec StoredLine) → IsRacing net race
     → IsEnding net race (UnboundedBy ray) → ((ts : Vec ℤ) → race.best.times ≡ Some ts → times ≡ ts) → lines.items ≡ []
     → turns ≤ budget → IsFound net race.from race.to budget (record { answer = Unbounded; times = times; ray = ray; claim = race.best.claim; view = view; lines = lines; turns = turns })
 found_unbounded net race turns budget times ray view lines racing ending at_times none within =
     let (ts, is, raised) = some_and race.best.times _ ending in
-    let are : AreTimes net race.from race.to race.best.claim.value ts.items =
-    subst (λ (o : Option (Vec ℤ)). IfSome o (λ times. AreTimes net race.from race.to race.best.claim.value times.items)) is racing.best.found in
+    let are : AreRaceTimes net race.from race.to race.best.claim.value ts.items =
+    subst (λ (o : Option (Vec ℤ)). IfSome o (λ times. AreRaceTimes net race.from race.to race.best.claim.value times.items)) is racing.best.found in
     let settled : IsSettledUnbounded net race.from race.to ts.items ray.items = record { satisfies = are.satisfies; near = are.near; raised = raised } in
     record {
       answer = subst (λ (t : Vec ℤ). IsSettledUnbounded net race.from race.to t.items ray.items) (sym (at_times ts is)) settled;

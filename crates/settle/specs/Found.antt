@@ -9,15 +9,15 @@ use Rattle.falling.specs.declared.view.View.{View}
 use Rattle.falling.specs.Cap.{IsNearValue, far_line}
 use Rattle.falling.specs.Course.{AreLimits}
 use Rattle.falling.specs.Kinds.{negated}
-use Rattle.settle.specs.declared.found.Found.{Found}
+use Rattle.settle.specs.declared.found.ShownAnswer.{ShownAnswer}
 use Rattle.settle.specs.declared.found.Settled.{Settled}
 use Rattle.settle.specs.declared.found.Settled.TheVariants.{Closed, Unbounded, Inconsistent, Spent}
-use Rattle.settle.specs.declared.line.ProofLine.{ProofLine}
+use Rattle.settle.specs.declared.line.StoredLine.{StoredLine}
 use Rattle.settle.specs.declared.settler.Settler.{Settler}
 use Rattle.settle.specs.Proofs.{IsProofAs}
 
 -- the value is the greatest separation, times within the greatest cap satisfy and attain it, and the lines prove that none exceeds it
-pub record IsSettledAt (net : Net) (from to : EventId) (value : ℤ) (view : View) (lines : List ProofLine) (times : List ℤ) : Type 0 where
+pub record IsSettledAt (net : Net) (from to : EventId) (value : ℤ) (view : View) (lines : List StoredLine) (times : List ℤ) : Type 0 where
   pub greatest : IsGreatest net from to value
   pub satisfies : Satisfies times net
   pub attained : separation times from to ≡ value
@@ -31,17 +31,17 @@ pub record IsSettledUnbounded (net : Net) (from to : EventId) (times : List ℤ)
   pub raised : IsRay net from to times ray
 
 -- no times satisfy, and the lines prove it: they prove a claim below minus the far line
-pub record IsSettledInconsistent (net : Net) (from to : EventId) (claim : ℤ) (view : View) (lines : List ProofLine) : Type 0 where
+pub record IsSettledInconsistent (net : Net) (from to : EventId) (claim : ℤ) (view : View) (lines : List StoredLine) : Type 0 where
   pub none : IsInconsistent net
   pub low : claim <ℤ neg_ℤ (pos (far_line net))
   pub proof : IsProofAs view net from to claim lines
 
 -- what an answer says of a pair, within so many turns
-abbrev pub Says : Net → EventId → EventId → ℕ → Found → Settled → Type 0
-Says net from to turns found (Closed value) = IsSettledAt net from to value found.view found.lines.items found.times.items × (found.claim.value ≡ value)
-Says net from to turns found Unbounded = IsSettledUnbounded net from to found.times.items found.ray.items
-Says net from to turns found Inconsistent = IsSettledInconsistent net from to found.claim.value found.view found.lines.items
-Says net from to turns found Spent = found.turns ≡ turns
+abbrev pub IsRightAnswer : Net → EventId → EventId → ℕ → ShownAnswer → Settled → Type 0
+IsRightAnswer net from to turns found (Closed value) = IsSettledAt net from to value found.view found.lines.items found.times.items × (found.claim.value ≡ value)
+IsRightAnswer net from to turns found Unbounded = IsSettledUnbounded net from to found.times.items found.ray.items
+IsRightAnswer net from to turns found Inconsistent = IsSettledInconsistent net from to found.claim.value found.view found.lines.items
+IsRightAnswer net from to turns found Spent = found.turns ≡ turns
 
 -- a settler made for a network
 pub record IsMadeFor (net : Net) (settler : Settler) : Type 0 where
@@ -49,7 +49,7 @@ pub record IsMadeFor (net : Net) (settler : Settler) : Type 0 where
   pub limits : AreLimits net settler.limits
 
 -- what was found within so many turns: its answer is right, and no more lines than turns were made
-pub record IsFound (net : Net) (from to : EventId) (turns : ℕ) (found : Found) : Type 0 where
-  pub answer : Says net from to turns found found.answer
+pub record IsFound (net : Net) (from to : EventId) (turns : ℕ) (found : ShownAnswer) : Type 0 where
+  pub answer : IsRightAnswer net from to turns found found.answer
   pub most : found.turns ≤ turns
   pub lines : length found.lines.items ≤ found.turns

@@ -6,33 +6,33 @@ use Rattle.falling.specs.declared.view.View.{View}
 use Rattle.falling.specs.declared.view.View.TheVariants.{Plain, Negated}
 use Rattle.falling.specs.Kinds.{negated}
 use Rattle.clauses.specs.Checking.{Checking, IsChecking}
-use Rattle.clauses.specs.Lines.{Assume, ClauseLine, Close, Fall, IsClauseProof, Know, Leads, Loop, starting}
-use Rattle.settle.specs.declared.line.ProofLine.{ProofLine}
-use Rattle.settle.specs.declared.line.ProofLine.TheVariants.{Fall as FallTo, Know as KnowBy, Loop as LoopBack, Assume as AssumeAll, Close as CloseBlock}
+use Rattle.clauses.specs.Lines.{Assume, ClauseLine, Close, Fall, IsClauseProof, Know, ProofLeads, Loop, starting}
+use Rattle.settle.specs.declared.line.StoredLine.{StoredLine}
+use Rattle.settle.specs.declared.line.StoredLine.TheVariants.{Fall as FallTo, Know as KnowBy, Loop as LoopBack, Assume as AssumeAll, Close as CloseBlock}
 
 -- the line that a stored one is
-abbrev pub line_of : ProofLine → ClauseLine
+abbrev pub line_of : StoredLine → ClauseLine
 line_of (FallTo fall) = Fall fall.event fall.value fall.basis
 line_of (KnowBy l basis) = Know l basis
 line_of (LoopBack event steps) = Loop event steps.items
 line_of (AssumeAll literals) = Assume literals.items
 line_of CloseBlock = Close
 
-abbrev pub lines_of : List ProofLine → List ClauseLine
+abbrev pub lines_of : List StoredLine → List ClauseLine
 lines_of lines = map line_of lines
 
 -- the lines are a proof that no satisfying separation of the pair exceeds the claim: in the network itself, or in its negation, where the pair is
 -- turned round
-abbrev pub IsProofAs : View → Net → EventId → EventId → ℤ → List ProofLine → Type 0
+abbrev pub IsProofAs : View → Net → EventId → EventId → ℤ → List StoredLine → Type 0
 IsProofAs Plain net from to claim lines = IsClauseProof net (record { from = from; to = to; claim = claim }) (lines_of lines)
 IsProofAs Negated net from to claim lines = IsClauseProof (negated net) (record { from = to; to = from; claim = claim }) (lines_of lines)
 
 -- a checker, and the lines that it has taken
 pub record Proving : Type 0 where
   pub check : Checking
-  pub lines : List ProofLine
+  pub lines : List StoredLine
 
 -- the lines lead to where the checker is
 pub record IsProving (net : Net) (proving : Proving) : Type 0 where
   pub checking : IsChecking net proving.check
-  pub lines : Leads net proving.check.goal (starting net proving.check.goal.from) (lines_of proving.lines) proving.check.state
+  pub lines : ProofLeads net proving.check.goal (starting net proving.check.goal.from) (lines_of proving.lines) proving.check.state

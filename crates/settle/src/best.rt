@@ -3,7 +3,7 @@
 ghost use Rattle.std.specs.Prelude.{◌≡◌, ◌↔◌, ◌<◌, ◌<ℤ◌, IsTrue, All, IfSome, length};
 ghost use Rattle.event_graph.specs.Satisfying.{Satisfies};
 ghost use Rattle.event_graph.specs.Times.{IsTime, separation};
-ghost use Rattle.settle.specs.Step.Racing.{AreTimes};
+ghost use Rattle.settle.specs.Step.Racing.{AreRaceTimes};
 ghost use Rattle.falling.specs.Cap.{IsNearValue};
 
 use clauses::Claim;
@@ -48,7 +48,7 @@ pub fn more_by(
     ensures count { IfSome result (λ _. length times.now.items ≡ net.now.events) }
     ensures near { IfSome result (λ _. All IsNearValue times.now.items) }
     ensures times { IfSome result (λ _. All IsTime times.now.items) }
-    ensures satisfies { IfSome result (λ more. AreTimes net.now from to more.value times.now.items) }
+    ensures satisfies { IfSome result (λ more. AreRaceTimes net.now from to more.value times.now.items) }
     ensures more { IfSome result (λ more. claim.value <ℤ more.value) }
 {
     if times.len() != net.events() as usize || !times.iter().all(|time| is_near(*time)) {

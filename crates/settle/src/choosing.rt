@@ -1,15 +1,15 @@
 //! Choices of sides.
 
 use crate::engine::{Engine, Proposal};
-use crate::numbered::Numbered;
+use crate::numbered::NumberedLiteral;
 use crate::places::at;
-use crate::rules::Rule;
+use crate::rules::StoredClause;
 use itv_base::NoMemory;
 
 // A side that may be chosen, and a value, in picoseconds: the least goes first.
 #[derive(Clone, Copy)]
 struct Candidate {
-    literal: Numbered,
+    literal: NumberedLiteral,
     need: u64,
     value: i64,
 }
@@ -51,7 +51,7 @@ impl Engine {
     }
 
     // How much the sides of a rule were needed lately.
-    fn need_of(&self, rule: Rule) -> u64 {
+    fn need_of(&self, rule: StoredClause) -> u64 {
         let mut most = 0;
         for number in 0..rule.literals.count {
             let side = self.rules.literal(rule, number).side;
@@ -61,7 +61,7 @@ impl Engine {
     }
 
     // The side of an earliest constraint that is broken least and may hold, if the values break all sides.
-    fn broken_side(&self, rule: Rule) -> Option<Numbered> {
+    fn broken_side(&self, rule: StoredClause) -> Option<NumberedLiteral> {
         let mut least: Option<Candidate> = None;
         for number in 0..rule.literals.count {
             let literal = self.rules.literal(rule, number);
@@ -87,7 +87,7 @@ impl Engine {
     }
 
     // By how much the values break the edge of a side: not at all where this is at most 0.
-    fn excess(&self, literal: Numbered) -> i64 {
+    fn excess(&self, literal: NumberedLiteral) -> i64 {
         let Some(place) = self.rules.of_side(literal.side) else {
             return 0;
         };

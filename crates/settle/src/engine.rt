@@ -4,9 +4,9 @@ ghost use Rattle.std.specs.Prelude.{All};
 ghost use Rattle.event_graph.specs.Network.{IsNet};
 ghost use Rattle.clauses.specs.Checking.{IsNearClause};
 
-use crate::labels::Labels;
-use crate::line::ProofLine;
-use crate::rules::Rules;
+use crate::labels::Assignment;
+use crate::line::StoredLine;
+use crate::rules::ClauseTable;
 use crate::sweep::Sweep;
 use clauses::{Basis, Clause};
 use event_graph::Network;
@@ -19,7 +19,7 @@ pub enum Proposal {
     /// The search goes on.
     Nothing,
     /// A line for the checker.
-    Line(ProofLine),
+    Line(StoredLine),
     /// The values are times that satisfy.
     Times,
     /// The lines that were proposed are a proof.
@@ -39,8 +39,8 @@ pub struct Need {
 #[derive(Debug, Drop)]
 pub struct Engine {
     pub alloc: Global,
-    pub rules: Rules,
-    pub labels: Labels,
+    pub rules: ClauseTable,
+    pub labels: Assignment,
     pub sweep: Sweep,
     pub from: EventId,
     pub to: EventId,
@@ -61,7 +61,7 @@ pub struct Engine {
     /// How many of the clauses that the checker keeps are rules.
     pub adopted: u32,
     /// Lines that are to be proposed, the last one first.
-    pub outbox: Vec<ProofLine>,
+    pub outbox: Vec<StoredLine>,
     /// How much each side was needed lately, and what the next need counts.
     pub activity: Vec<u64>,
     pub gain: u64,
@@ -79,10 +79,10 @@ impl Engine {
         to: EventId,
         cap: i64,
     ) -> Result<Engine, NoMemory> {
-        let rules = Rules::new(alloc, net)?;
+        let rules = ClauseTable::new(alloc, net)?;
         let events = net.events() as usize;
         let sides = rules.sides();
-        let labels = Labels::new(alloc, events, sides, from, cap)?;
+        let labels = Assignment::new(alloc, events, sides, from, cap)?;
         Ok(Engine {
             alloc,
             rules,

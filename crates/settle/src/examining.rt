@@ -1,11 +1,11 @@
 //! What a rule says of the values and literals at the moment.
 
 use crate::engine::Engine;
-use crate::labels::Change;
-use crate::line::ProofLine;
-use crate::numbered::Numbered;
+use crate::labels::TrailChange;
+use crate::line::StoredLine;
+use crate::numbered::NumberedLiteral;
 use crate::places::{at, put};
-use crate::rules::Rule;
+use crate::rules::StoredClause;
 use clauses::EventFall;
 use itv_base::{EventId, NoMemory};
 
@@ -15,7 +15,7 @@ enum Open {
     /// None may.
     None,
     /// This one alone may, and does not yet.
-    One(Numbered),
+    One(NumberedLiteral),
     /// Some one holds, or two or more may.
     More,
 }
@@ -43,7 +43,7 @@ impl Engine {
     }
 
     // Which literals of a rule may hold.
-    fn open_of(&self, rule: Rule) -> Open {
+    fn open_of(&self, rule: StoredClause) -> Open {
         let mut open = Open::None;
         for number in 0..rule.literals.count {
             let literal = self.rules.literal(rule, number);
@@ -61,7 +61,7 @@ impl Engine {
     }
 
     // The greatest value that a way of a rule gives, or the least value that a line may give.
-    fn most_of(&self, rule: Rule) -> i64 {
+    fn most_of(&self, rule: StoredClause) -> i64 {
         let mut most = self.least;
         for number in 0..rule.ways.count {
             let way = self.rules.way(rule, number);
@@ -88,7 +88,7 @@ impl Engine {
         }
         if self.labels.level() == 0 {
             let basis = self.rules.rule(rule).basis;
-            self.outbox.push(ProofLine::Fall(EventFall {
+            self.outbox.push(StoredLine::Fall(EventFall {
                 event,
                 value,
                 basis,
@@ -98,12 +98,12 @@ impl Engine {
     }
 
     // Lets a literal hold by a rule.
-    fn hold(&mut self, literal: Numbered, rule: usize) -> Result<(), NoMemory> {
+    fn hold(&mut self, literal: NumberedLiteral, rule: usize) -> Result<(), NoMemory> {
         self.labels.hold(literal, rule)?;
         if self.labels.level() == 0 {
             let basis = self.rules.rule(rule).basis;
             let named = self.rules.named(literal);
-            self.outbox.push(ProofLine::Know(named, basis))?;
+            self.outbox.push(StoredLine::Know(named, basis))?;
         }
         Ok(())
     }
@@ -112,7 +112,7 @@ impl Engine {
     pub fn hear(&mut self) {
         let entry = self.labels.entry(self.heard);
         self.heard = self.heard.saturating_add(1);
-        if let Change::Held(literal) = entry.change {
+        if let TrailChange::Held(literal) = entry.change {
             self.link = self.rules.of_literal(literal);
         }
     }

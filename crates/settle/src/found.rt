@@ -1,6 +1,6 @@
 //! What is found of a pair.
 
-use crate::line::ProofLine;
+use crate::line::StoredLine;
 use clauses::Claim;
 use falling::View;
 
@@ -19,7 +19,7 @@ pub enum Settled {
 
 /// An answer with what shows it.
 #[derive(Debug, Drop)]
-pub struct Found {
+pub struct ShownAnswer {
     pub answer: Settled,
     /// In picoseconds, one per event. After [`Settled::Closed`] they satisfy and attain it, after [`Settled::Unbounded`] they
     /// satisfy.
@@ -33,7 +33,7 @@ pub struct Found {
     pub view: View,
     /// After [`Settled::Closed`] a proof that no satisfying separation exceeds it, after [`Settled::Inconsistent`] one that no times
     /// satisfy.
-    pub lines: Vec<ProofLine>,
+    pub lines: Vec<StoredLine>,
     /// How many turns were taken.
     pub turns: u64,
 }

@@ -1,6 +1,6 @@
 //! What a search holds at the moment: values of events and literals that hold, each with the entry that made it so.
 
-use crate::numbered::Numbered;
+use crate::numbered::NumberedLiteral;
 use crate::places::{at, put};
 use itv_base::{EventId, NoMemory};
 use std::alloc::Global;
@@ -8,14 +8,14 @@ use std::alloc::Global;
 /// A change: an event fell from a value to a value, in picoseconds, where an entry before had made it fall to the first; or a
 /// literal came to hold.
 #[derive(Clone, Copy, Debug, PartialEq, Eq)]
-pub enum Change {
-    Fell(Fallen),
-    Held(Numbered),
+pub enum TrailChange {
+    Fell(ValueFall),
+    Held(NumberedLiteral),
 }
 
 /// The fall of an event.
 #[derive(Clone, Copy, Debug, PartialEq, Eq)]
-pub struct Fallen {
+pub struct ValueFall {
     pub event: EventId,
     pub old: i64,
     pub new: i64,
@@ -24,15 +24,15 @@ pub struct Fallen {
 
 /// An entry of the trail: a change, the rule that made it or none where it was chosen, and its level.
 #[derive(Clone, Copy, Debug, PartialEq, Eq)]
-pub struct Entry {
-    pub change: Change,
+pub struct TrailEntry {
+    pub change: TrailChange,
     pub rule: Option<usize>,
     pub level: usize,
 }
 
 // What is read where there is no entry.
-const NO_ENTRY: Entry = Entry {
-    change: Change::Held(Numbered {
+const NO_ENTRY: TrailEntry = TrailEntry {
+    change: TrailChange::Held(NumberedLiteral {
         side: 0,
         is_met: true,
     }),
@@ -42,15 +42,15 @@ const NO_ENTRY: Entry = Entry {
 
 /// The value of each event, in picoseconds, the literals that hold, and the trail of changes. A level begins with each choice.
 #[derive(Debug, Drop)]
-pub struct Labels {
+pub struct Assignment {
     values: Vec<i64>,
     last: Vec<Option<usize>>,
     places: Vec<Option<usize>>,
-    trail: Vec<Entry>,
+    trail: Vec<TrailEntry>,
     starts: Vec<usize>,
 }
 
-impl Labels {
+impl Assignment {
     /// The labels at the start, where the source is at 0 and the other events are at the cap.
     pub fn new(
         alloc: Global,
@@ -58,10 +58,10 @@ impl Labels {
         sides: usize,
         from: EventId,
         cap: i64,
-    ) -> Result<Labels, NoMemory> {
+    ) -> Result<Assignment, NoMemory> {
         let mut values = vec![in alloc; cap; events]?;
         put(&mut values, from.0 as usize, 0);
-        Ok(Labels {
+        Ok(Assignment {
             values,
             last: vec![in alloc; None; events]?,
             places: vec![in alloc; None; sides.saturating_mul(2)]?,
@@ -86,17 +86,17 @@ impl Labels {
     }
 
     /// The entry of a literal, if it holds.
-    pub fn place_of(&self, literal: Numbered) -> Option<usize> {
+    pub fn place_of(&self, literal: NumberedLiteral) -> Option<usize> {
         at(&self.places, literal.place(), None)
     }
 
     /// Whether a literal holds.
-    pub fn holds(&self, literal: Numbered) -> bool {
+    pub fn holds(&self, literal: NumberedLiteral) -> bool {
         self.place_of(literal).is_some()
     }
 
     /// The entry at a place.
-    pub fn entry(&self, place: usize) -> Entry {
+    pub fn entry(&self, place: usize) -> TrailEntry {
         at(&self.trail, place, NO_ENTRY)
     }
 
@@ -118,7 +118,7 @@ impl Labels {
     /// Lowers an event to a value by a rule.
     pub fn lower(&mut self, event: EventId, value: i64, rule: usize) -> Result<(), NoMemory> {
         let place = self.trail.len();
-        let change = Change::Fell(Fallen {
+        let change = TrailChange::Fell(ValueFall {
             event,
             old: self.value(event),
             new: value,
@@ -131,26 +131,26 @@ impl Labels {
     }
 
     /// Lets a literal hold by a rule.
-    pub fn hold(&mut self, literal: Numbered, rule: usize) -> Result<(), NoMemory> {
+    pub fn hold(&mut self, literal: NumberedLiteral, rule: usize) -> Result<(), NoMemory> {
         let place = self.trail.len();
-        self.push(Change::Held(literal), Some(rule))?;
+        self.push(TrailChange::Held(literal), Some(rule))?;
         put(&mut self.places, literal.place(), Some(place));
         Ok(())
     }
 
     /// Chooses a literal, with which a level begins.
-    pub fn choose(&mut self, literal: Numbered) -> Result<(), NoMemory> {
+    pub fn choose(&mut self, literal: NumberedLiteral) -> Result<(), NoMemory> {
         let place = self.trail.len();
         self.starts.push(place)?;
-        self.push(Change::Held(literal), None)?;
+        self.push(TrailChange::Held(literal), None)?;
         put(&mut self.places, literal.place(), Some(place));
         Ok(())
     }
 
     // Puts an entry behind the others.
-    fn push(&mut self, change: Change, rule: Option<usize>) -> Result<(), NoMemory> {
+    fn push(&mut self, change: TrailChange, rule: Option<usize>) -> Result<(), NoMemory> {
         let level = self.starts.len();
-        self.trail.push(Entry {
+        self.trail.push(TrailEntry {
             change,
             rule,
             level,
@@ -173,11 +173,11 @@ impl Labels {
             return;
         };
         match entry.change {
-            Change::Fell(fallen) => {
+            TrailChange::Fell(fallen) => {
                 put(&mut self.values, fallen.event.0 as usize, fallen.old);
                 put(&mut self.last, fallen.event.0 as usize, fallen.before);
             }
-            Change::Held(literal) => put(&mut self.places, literal.place(), None),
+            TrailChange::Held(literal) => put(&mut self.places, literal.place(), None),
         }
     }
 }

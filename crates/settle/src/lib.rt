@@ -23,7 +23,7 @@ mod settler;
 mod sweep;
 mod taking;
 
-pub use found::{Found, Settled};
-pub use line::ProofLine;
+pub use found::{Settled, ShownAnswer};
+pub use line::StoredLine;
 pub use settler::Settler;
 pub use taking::take_line;

@@ -1,17 +1,17 @@
 //! Lines of proofs.
 
-use clauses::{Basis, EventFall, Literal, Step};
+use clauses::{Basis, EventFall, Literal, WalkStep};
 use itv_base::EventId;
 
 /// A line of a proof by clauses.
 #[derive(Debug, Drop)]
-pub enum ProofLine {
+pub enum StoredLine {
     /// An event falls to a value.
     Fall(EventFall),
     /// A literal is known by the clause of a basis.
     Know(Literal, Basis),
     /// The clause of a loop of steps back from an event is kept.
-    Loop(EventId, Vec<Step>),
+    Loop(EventId, Vec<WalkStep>),
     /// A block opens that assumes literals.
     Assume(Vec<Literal>),
     /// The block closes, and it is kept that not all that it assumes holds.

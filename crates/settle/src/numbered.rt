@@ -2,15 +2,15 @@
 
 /// A literal of the search: the number of its side among the sides of the network, and whether it is met.
 #[derive(Clone, Copy, Debug, PartialEq, Eq)]
-pub struct Numbered {
+pub struct NumberedLiteral {
     pub side: usize,
     pub is_met: bool,
 }
 
-impl Numbered {
+impl NumberedLiteral {
     /// The literal that holds where this one does not.
-    pub fn opposite(self) -> Numbered {
-        Numbered {
+    pub fn opposite(self) -> NumberedLiteral {
+        NumberedLiteral {
             side: self.side,
             is_met: !self.is_met,
         }

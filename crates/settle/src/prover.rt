@@ -4,11 +4,11 @@ ghost use Rattle.std.specs.Prelude.{◌≡◌, ◌<◌, ◌≤◌, ◌+◌, ◌�
 ghost use Rattle.falling.specs.Course.{AreLimits};
 ghost use Rattle.clauses.specs.Laws.{claiming};
 ghost use Rattle.clauses.specs.Lines.{IsOver};
-ghost use Rattle.settle.specs.declared.prover.Told.TheVariants.{Over};
+ghost use Rattle.settle.specs.declared.prover.SearchState.TheVariants.{Over};
 ghost use Rattle.settle.specs.Proofs.{IsProving};
 
 use crate::engine::{Engine, Proposal};
-use crate::line::ProofLine;
+use crate::line::StoredLine;
 use crate::taking::take_line;
 use clauses::{Claim, ClauseChecker};
 use event_graph::Network;
@@ -19,7 +19,7 @@ use std::marker::Model;
 
 /// What a step has come to.
 #[derive(Clone, Copy, Debug, PartialEq, Eq)]
-pub enum Told {
+pub enum SearchState {
     /// The search goes on.
     GoesOn,
     /// The search says that its values are times that satisfy.
@@ -35,7 +35,7 @@ pub enum Told {
 pub struct Prover {
     checker: ClauseChecker,
     engine: Engine,
-    lines: Vec<ProofLine>,
+    lines: Vec<StoredLine>,
 }
 
 impl Model for Prover {
@@ -71,7 +71,7 @@ impl Prover {
     }
 
     /// A step of the search. The lines stay such that they lead to where the checker is.
-    pub fn step(&mut self, alloc: Global, net: &Network) -> Result<Told, NoMemory>
+    pub fn step(&mut self, alloc: Global, net: &Network) -> Result<SearchState, NoMemory>
         requires proving { IsProving net.now self.old }
         ensures proving { OnOk result (IsProving net.now self.new) }
         ensures goal { OnOk result (self.new.check.goal ≡ self.old.check.goal) }
@@ -81,16 +81,21 @@ impl Prover {
         let claim = self.checker.claim();
         let _events = net.events();
         match self.engine.step(net, self.checker.kept(), claim.value)? {
-            Proposal::Nothing => Ok(Told::GoesOn),
+            Proposal::Nothing => Ok(SearchState::GoesOn),
             Proposal::Line(line) => self.heed(alloc, net, line),
-            Proposal::Times => Ok(Told::Times),
+            Proposal::Times => Ok(SearchState::Times),
             Proposal::Over => Ok(self.told_over(net)),
-            Proposal::Rests => Ok(Told::Rests),
+            Proposal::Rests => Ok(SearchState::Rests),
         }
     }
 
     // Gives a line to the checker, and keeps it if it is taken. The search gives up where it is not.
-    fn heed(&mut self, alloc: Global, net: &Network, line: ProofLine) -> Result<Told, NoMemory>
+    fn heed(
+        &mut self,
+        alloc: Global,
+        net: &Network,
+        line: StoredLine,
+    ) -> Result<SearchState, NoMemory>
         requires proving { IsProving net.now self.old }
         ensures proving { OnOk result (IsProving net.now self.new) }
         ensures goal { OnOk result (self.new.check.goal ≡ self.old.check.goal) }
@@ -102,20 +107,20 @@ impl Prover {
         } else {
             self.engine.stop();
         }
-        Ok(Told::GoesOn)
+        Ok(SearchState::GoesOn)
     }
 
     // Whether the lines are a proof, as the search says. It gives up where they are not.
-    fn told_over(&mut self, net: &Network) -> Told
+    fn told_over(&mut self, net: &Network) -> SearchState
         requires proving { IsProving net.now self.old }
         ensures same { self.new ≡ self.old }
         ensures over { result ≡ Over → IsOver net.now self.new.check.goal self.new.check.state }
     {
         if self.checker.is_over(net) {
-            return Told::Over;
+            return SearchState::Over;
         }
         self.engine.stop();
-        Told::Rests
+        SearchState::Rests
     }
 
     /// Allows the search so many blocks more.
@@ -159,7 +164,7 @@ impl Prover {
     }
 
     /// The lines that were taken.
-    pub fn into_lines(self) -> Vec<ProofLine>
+    pub fn into_lines(self) -> Vec<StoredLine>
         ensures lines { result.items ≡ self.lines }
     {
         let Prover {

@@ -5,11 +5,11 @@ ghost use Rattle.event_graph.specs.Network.{Net};
 ghost use Rattle.event_graph.specs.Times.{IsTime};
 ghost use Rattle.falling.specs.Course.{AreLimits};
 ghost use Rattle.falling.specs.Kinds.{negated};
-ghost use Rattle.settle.specs.declared.prover.Told.TheVariants.{Over};
+ghost use Rattle.settle.specs.declared.prover.SearchState.TheVariants.{Over};
 ghost use Rattle.settle.specs.Step.Racing.{IsEnding, IsOverAs, IsRacing, IsRayEnding, line_count};
 
 use crate::best::{Best, more_by, times_of};
-use crate::prover::{Prover, Told};
+use crate::prover::{Prover, SearchState};
 use clauses::Claim;
 use event_graph::Network;
 use falling::{Limits, View, gap_level};
@@ -18,7 +18,7 @@ use std::alloc::Global;
 
 /// With what a race ends.
 #[derive(Debug, Drop)]
-pub enum Ending {
+pub enum RaceEnd {
     /// The lines of a view prove that nothing exceeds the best times.
     Closed(View),
     /// The best times and this ray show that every number is exceeded.
@@ -81,7 +81,7 @@ impl Race {
         alloc: Global,
         net: &Network,
         negation: &Network,
-    ) -> Result<Option<Ending>, NoMemory>
+    ) -> Result<Option<RaceEnd>, NoMemory>
         requires racing { IsRacing net.now self.old }
         requires negation { negation.now ≡ negated net.now }
         ensures racing { OnOk result (IsRacing net.now self.new) }
@@ -91,10 +91,10 @@ impl Race {
         ensures to { OnOk result (self.new.to ≡ self.old.to) }
     {
         match self.step(alloc, net, negation)? {
-            Told::GoesOn => Ok(None),
-            Told::Times => self.take_times(alloc, net, negation),
-            Told::Over => Ok(self.decide()),
-            Told::Rests => {
+            SearchState::GoesOn => Ok(None),
+            SearchState::Times => self.take_times(alloc, net, negation),
+            SearchState::Over => Ok(self.decide()),
+            SearchState::Rests => {
                 self.pass_on();
                 Ok(None)
             }
@@ -102,7 +102,12 @@ impl Race {
     }
 
     // A step of the search whose turn it is.
-    fn step(&mut self, alloc: Global, net: &Network, negation: &Network) -> Result<Told, NoMemory>
+    fn step(
+        &mut self,
+        alloc: Global,
+        net: &Network,
+        negation: &Network,
+    ) -> Result<SearchState, NoMemory>
         requires racing { IsRacing net.now self.old }
         requires negation { negation.now ≡ negated net.now }
         ensures racing { OnOk result (IsRacing net.now self.new) }
@@ -119,17 +124,17 @@ impl Race {
 
     // The ending, where the lines of the search whose turn it is are a proof that nothing exceeds the best times, or that no times
     // satisfy.
-    fn decide(&self) -> Option<Ending>
+    fn decide(&self) -> Option<RaceEnd>
         ensures ending { IfSome result (λ ending. (net : Net) → IsRacing net self.now
             → IsOverAs self.now.view net self.now → IsEnding net self.now ending) }
     {
         if self.best.times.is_none() {
-            return Some(Ending::Inconsistent(self.view));
+            return Some(RaceEnd::Inconsistent(self.view));
         }
         if is_far(self.best.claim, self.limits) {
             return None;
         }
-        Some(Ending::Closed(self.view))
+        Some(RaceEnd::Closed(self.view))
     }
 
     // Gives the turn to the other search, and allows it blocks.
@@ -161,7 +166,7 @@ impl Race {
         alloc: Global,
         net: &Network,
         negation: &Network,
-    ) -> Result<Option<Ending>, NoMemory>
+    ) -> Result<Option<RaceEnd>, NoMemory>
         requires racing { IsRacing net.now self.old }
         requires negation { negation.now ≡ negated net.now }
         ensures racing { OnOk result (IsRacing net.now self.new) }
@@ -235,7 +240,7 @@ fn ending_by(
     limits: Limits,
     claim: Claim,
     times: &Vec<i64>,
-) -> Result<Option<Ending>, NoMemory>
+) -> Result<Option<RaceEnd>, NoMemory>
     requires from { from.0 < net.now.events }
     requires to { to.0 < net.now.events }
     requires limits { AreLimits net.now limits }
@@ -248,7 +253,7 @@ fn ending_by(
     }
     let ray = ray_of(alloc, net, from, limits, times)?;
     if net.is_ray(times, &ray, from, to) {
-        return Ok(Some(Ending::Unbounded(ray)));
+        return Ok(Some(RaceEnd::Unbounded(ray)));
     }
     Ok(None)
 }

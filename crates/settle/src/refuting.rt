@@ -1,8 +1,8 @@
 //! What of the choices an end needs.
 
 use crate::engine::{Engine, Need};
-use crate::labels::{Change, Entry, Labels};
-use crate::line::ProofLine;
+use crate::labels::{Assignment, TrailChange, TrailEntry};
+use crate::line::StoredLine;
 use crate::places::{at, put};
 use clauses::{EventFall, Literal};
 use itv_base::{EventId, NoMemory};
@@ -36,7 +36,7 @@ impl Engine {
             back: 0,
         };
         self.want(&mut needs, need.event, need.value);
-        self.outbox.push(ProofLine::Close)?;
+        self.outbox.push(StoredLine::Close)?;
         for place in (first..self.labels.len()).rev() {
             if let Some(value) = needs.at(place) {
                 self.go_through(&mut needs, place, value)?;
@@ -47,7 +47,7 @@ impl Engine {
             self.halve();
         }
         let level = needs.back;
-        self.outbox.push(ProofLine::Assume(needs.used))?;
+        self.outbox.push(StoredLine::Assume(needs.used))?;
         self.go_back(level);
         Ok(())
     }
@@ -56,11 +56,11 @@ impl Engine {
     fn go_through(&mut self, needs: &mut Needs, place: usize, value: i64) -> Result<(), NoMemory> {
         let entry = self.labels.entry(place);
         needs.pass(entry);
-        if let Change::Held(literal) = entry.change {
+        if let TrailChange::Held(literal) = entry.change {
             self.count_need(literal.side);
         }
         match entry.change {
-            Change::Held(literal) if needs.ends_at(entry) => {
+            TrailChange::Held(literal) if needs.ends_at(entry) => {
                 needs.used.push(self.rules.named(literal))?;
                 if entry.level < needs.level {
                     needs.back = needs.back.max(entry.level);
@@ -93,35 +93,35 @@ impl Engine {
     fn put_line(
         &mut self,
         needs: &mut Needs,
-        entry: Entry,
+        entry: TrailEntry,
         rule: usize,
         value: i64,
     ) -> Result<(), NoMemory> {
         self.want_reason(needs, entry, rule, value);
         let basis = self.rules.rule(rule).basis;
         match entry.change {
-            Change::Fell(fallen) => {
+            TrailChange::Fell(fallen) => {
                 let event = fallen.event;
-                self.outbox.push(ProofLine::Fall(EventFall {
+                self.outbox.push(StoredLine::Fall(EventFall {
                     event,
                     value,
                     basis,
                 }))?;
             }
-            Change::Held(literal) => {
+            TrailChange::Held(literal) => {
                 let named = self.rules.named(literal);
-                self.outbox.push(ProofLine::Know(named, basis))?;
+                self.outbox.push(StoredLine::Know(named, basis))?;
             }
         }
         Ok(())
     }
 
     // Wants what a rule needs for an entry.
-    fn want_reason(&self, needs: &mut Needs, entry: Entry, rule: usize, value: i64) {
+    fn want_reason(&self, needs: &mut Needs, entry: TrailEntry, rule: usize, value: i64) {
         let rule = self.rules.rule(rule);
         for number in 0..rule.literals.count {
             let literal = self.rules.literal(rule, number);
-            if entry.change != Change::Held(literal) {
+            if entry.change != TrailChange::Held(literal) {
                 if let Some(place) = self.labels.place_of(literal.opposite()) {
                     needs.lower(&self.labels, place, 0);
                 }
@@ -142,11 +142,11 @@ impl Engine {
                 break;
             };
             match self.labels.entry(place).change {
-                Change::Fell(fallen) if fallen.old <= value => {
+                TrailChange::Fell(fallen) if fallen.old <= value => {
                     found = None;
                     next = fallen.before;
                 }
-                Change::Fell(fallen) if fallen.new <= value => {
+                TrailChange::Fell(fallen) if fallen.new <= value => {
                     found = Some(place);
                     next = None;
                 }
@@ -177,7 +177,7 @@ impl Needs {
     }
 
     // Goes through an entry that is needed.
-    fn pass(&mut self, entry: Entry) {
+    fn pass(&mut self, entry: TrailEntry) {
         if entry.level == self.level {
             self.open = self.open.saturating_sub(1);
         }
@@ -185,12 +185,12 @@ impl Needs {
 
     // Whether the literal of an entry is to be assumed: it was chosen, is of a level before the latest, or is what all of the latest
     // level comes from.
-    fn ends_at(&self, entry: Entry) -> bool {
+    fn ends_at(&self, entry: TrailEntry) -> bool {
         entry.rule.is_none() || entry.level < self.level || self.open == 0
     }
 
     // Needs an entry at a value, or at the lower one where it is needed already.
-    fn lower(&mut self, labels: &Labels, place: usize, value: i64) {
+    fn lower(&mut self, labels: &Assignment, place: usize, value: i64) {
         if place < self.first {
             return;
         }

@@ -1,17 +1,17 @@
 //! Loops among the reasons of values.
 
 use crate::engine::Engine;
-use crate::labels::Change;
-use crate::line::ProofLine;
+use crate::labels::TrailChange;
+use crate::line::StoredLine;
 use crate::places::{at, put};
-use crate::rules::Rule;
-use clauses::{Step, Way};
+use crate::rules::StoredClause;
+use clauses::{WalkStep, Way};
 use itv_base::{EventId, NoMemory};
 
 // The way that gives an event its value: the rule of the event's latest fall, and the number of its greatest way.
 #[derive(Clone, Copy)]
 struct Lead {
-    rule: Rule,
+    rule: StoredClause,
     through: u32,
     way: Way,
 }
@@ -23,7 +23,7 @@ const MOST: usize = 64;
 #[derive(Drop)]
 struct Round {
     event: EventId,
-    steps: Vec<Step>,
+    steps: Vec<WalkStep>,
     sum: i64,
     literals: usize,
     out: Vec<Way>,
@@ -117,7 +117,7 @@ impl Engine {
         }
         round.literals = round.literals.saturating_add(lead.rule.literals.count);
         round.sum = round.sum.saturating_add(lead.way.weight);
-        round.steps.push(Step {
+        round.steps.push(WalkStep {
             basis: lead.rule.basis,
             through: lead.through,
         })?;
@@ -130,7 +130,8 @@ impl Engine {
         if !lowers || MOST < round.literals || MOST < round.out.len() {
             return Ok(());
         }
-        self.outbox.push(ProofLine::Loop(round.event, round.steps))?;
+        self.outbox
+            .push(StoredLine::Loop(round.event, round.steps))?;
         Ok(())
     }
 

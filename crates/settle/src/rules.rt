@@ -4,7 +4,7 @@ ghost use Rattle.std.specs.Prelude.{◌<◌, All, length};
 ghost use Rattle.event_graph.specs.Network.{IsNet};
 ghost use Rattle.clauses.specs.Checking.{IsNearClause};
 
-use crate::numbered::Numbered;
+use crate::numbered::NumberedLiteral;
 use crate::places::{at, put};
 use clauses::{Basis, Clause, Literal, Way, literal_at, shape_of, way_at};
 use event_graph::Network;
@@ -13,38 +13,38 @@ use std::alloc::Global;
 
 /// A stretch of a list.
 #[derive(Clone, Copy, Debug, PartialEq, Eq)]
-pub struct Span {
+pub struct Stretch {
     pub first: usize,
     pub count: usize,
 }
 
 /// A clause: some of its literals holds, or its target comes within some of its ways. Both are stretches of the table's lists.
 #[derive(Clone, Copy, Debug, PartialEq, Eq)]
-pub struct Rule {
+pub struct StoredClause {
     pub basis: Basis,
     pub target: EventId,
-    pub literals: Span,
-    pub ways: Span,
+    pub literals: Stretch,
+    pub ways: Stretch,
 }
 
 /// A rule in a chain, and the place of the next link.
 #[derive(Clone, Copy, Debug, PartialEq, Eq)]
-pub struct Link {
+pub struct ChainLink {
     pub rule: usize,
     pub next: Option<usize>,
 }
 
 // No rule, literal, way or link: what is read where there is none.
-const NO_SPAN: Span = Span { first: 0, count: 0 };
+const NO_SPAN: Stretch = Stretch { first: 0, count: 0 };
 
-const NO_RULE: Rule = Rule {
+const NO_RULE: StoredClause = StoredClause {
     basis: Basis::ByKept(0),
     target: EventId(0),
     literals: NO_SPAN,
     ways: NO_SPAN,
 };
 
-const NO_LITERAL: Numbered = Numbered {
+const NO_LITERAL: NumberedLiteral = NumberedLiteral {
     side: 0,
     is_met: true,
 };
@@ -60,7 +60,7 @@ const NO_WAY: Way = Way {
     weight: 0,
 };
 
-const NO_LINK: Link = Link {
+const NO_LINK: ChainLink = ChainLink {
     rule: 0,
     next: None,
 };
@@ -70,11 +70,11 @@ const NO_LINK: Link = Link {
 /// A rule stands in the chain of each event that one of its ways is from, and in that of the opposite of each of its literals:
 /// there it may come to say more.
 #[derive(Debug, Drop)]
-pub struct Rules {
-    rules: Vec<Rule>,
-    literals: Vec<Numbered>,
+pub struct ClauseTable {
+    rules: Vec<StoredClause>,
+    literals: Vec<NumberedLiteral>,
     ways: Vec<Way>,
-    links: Vec<Link>,
+    links: Vec<ChainLink>,
     by_event: Vec<Option<usize>>,
     by_literal: Vec<Option<usize>>,
     sides: Vec<Literal>,
@@ -83,10 +83,10 @@ pub struct Rules {
     earliest: Vec<usize>,
 }
 
-impl Rules {
+impl ClauseTable {
     /// The rules of a network.
-    pub fn new(alloc: Global, net: &Network) -> Result<Rules, NoMemory> {
-        let mut rules = Rules {
+    pub fn new(alloc: Global, net: &Network) -> Result<ClauseTable, NoMemory> {
+        let mut rules = ClauseTable {
             rules: Vec::new(alloc),
             literals: Vec::new(alloc),
             ways: Vec::new(alloc),
@@ -228,14 +228,14 @@ impl Rules {
                 self.push_way(rule, way)?;
             }
         }
-        self.rules.push(Rule {
+        self.rules.push(StoredClause {
             basis,
             target: shape.target,
-            literals: Span {
+            literals: Stretch {
                 first: first_literal,
                 count: self.literals.len().saturating_sub(first_literal),
             },
-            ways: Span {
+            ways: Stretch {
                 first: first_way,
                 count: self.ways.len().saturating_sub(first_way),
             },
@@ -260,7 +260,7 @@ impl Rules {
         let head = numbered.opposite().place();
         let next = at(&self.by_literal, head, None);
         put(&mut self.by_literal, head, Some(self.links.len()));
-        self.links.push(Link { rule, next })?;
+        self.links.push(ChainLink { rule, next })?;
         Ok(())
     }
 
@@ -270,21 +270,21 @@ impl Rules {
         let head = way.from.0 as usize;
         let next = at(&self.by_event, head, None);
         put(&mut self.by_event, head, Some(self.links.len()));
-        self.links.push(Link { rule, next })?;
+        self.links.push(ChainLink { rule, next })?;
         Ok(())
     }
 
     // A literal by the number of its side.
-    fn number_of(&self, literal: Literal) -> Numbered {
+    fn number_of(&self, literal: Literal) -> NumberedLiteral {
         let first = at(&self.first_sides, literal.constraint as usize, 0);
-        Numbered {
+        NumberedLiteral {
             side: first.saturating_add(literal.cause as usize),
             is_met: literal.is_met,
         }
     }
 
     /// The literal of a number.
-    pub fn named(&self, numbered: Numbered) -> Literal {
+    pub fn named(&self, numbered: NumberedLiteral) -> Literal {
         let met = at(&self.sides, numbered.side, NO_NAME);
         Literal {
             constraint: met.constraint,
@@ -309,12 +309,12 @@ impl Rules {
     }
 
     /// The rule at a place.
-    pub fn rule(&self, place: usize) -> Rule {
+    pub fn rule(&self, place: usize) -> StoredClause {
         at(&self.rules, place, NO_RULE)
     }
 
     /// The literal of a number of a rule.
-    pub fn literal(&self, rule: Rule, number: usize) -> Numbered {
+    pub fn literal(&self, rule: StoredClause, number: usize) -> NumberedLiteral {
         at(
             &self.literals,
             rule.literals.first.saturating_add(number),
@@ -323,12 +323,12 @@ impl Rules {
     }
 
     /// The way of a number of a rule.
-    pub fn way(&self, rule: Rule, number: usize) -> Way {
+    pub fn way(&self, rule: StoredClause, number: usize) -> Way {
         at(&self.ways, rule.ways.first.saturating_add(number), NO_WAY)
     }
 
     /// The link at a place.
-    pub fn link(&self, place: usize) -> Link {
+    pub fn link(&self, place: usize) -> ChainLink {
         at(&self.links, place, NO_LINK)
     }
 
@@ -338,7 +338,7 @@ impl Rules {
     }
 
     /// The chain of rules with the opposite of a literal.
-    pub fn of_literal(&self, literal: Numbered) -> Option<usize> {
+    pub fn of_literal(&self, literal: NumberedLiteral) -> Option<usize> {
         at(&self.by_literal, literal.place(), None)
     }
 

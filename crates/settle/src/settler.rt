@@ -10,10 +10,10 @@ ghost use Rattle.settle.specs.Found.{IsFound, IsMadeFor};
 ghost use Rattle.settle.specs.Step.Racing.{IsEnding, IsRacing, line_count};
 
 use crate::best::Best;
-use crate::found::{Found, Settled};
-use crate::line::ProofLine;
+use crate::found::{Settled, ShownAnswer};
+use crate::line::StoredLine;
 use crate::prover::Prover;
-use crate::race::{Ending, Race};
+use crate::race::{Race, RaceEnd};
 use clauses::Claim;
 use event_graph::Network;
 use falling::{Limits, View, limits_of, negation_of};
@@ -50,7 +50,7 @@ impl Settler {
         from: EventId,
         to: EventId,
         turns: u64,
-    ) -> Result<Found, NoMemory>
+    ) -> Result<ShownAnswer, NoMemory>
         requires made { IsMadeFor net.now self.now }
         requires from { from.0 < net.now.events }
         requires to { to.0 < net.now.events }
@@ -73,9 +73,9 @@ fn found_by(
     from: EventId,
     to: EventId,
     race: Race,
-    ending: Ending,
+    ending: RaceEnd,
     turns: u64,
-) -> Found
+) -> ShownAnswer
     requires racing { IsRacing net.now race }
     requires from { race.from ≡ from }
     requires to { race.to ≡ to }
@@ -96,7 +96,7 @@ fn found_by(
     } = race;
     let claim = best.claim;
     match ending {
-        Ending::Closed(view) => Found {
+        RaceEnd::Closed(view) => ShownAnswer {
             answer: closed_at(claim),
             times: times_in(alloc, best),
             ray: Vec::new(alloc),
@@ -105,7 +105,7 @@ fn found_by(
             lines: lines_of(view, plain, turned),
             turns,
         },
-        Ending::Unbounded(ray) => Found {
+        RaceEnd::Unbounded(ray) => ShownAnswer {
             answer: Settled::Unbounded,
             times: times_in(alloc, best),
             ray,
@@ -114,7 +114,7 @@ fn found_by(
             lines: Vec::new(alloc),
             turns,
         },
-        Ending::Inconsistent(view) => Found {
+        RaceEnd::Inconsistent(view) => ShownAnswer {
             answer: Settled::Inconsistent,
             times: Vec::new(alloc),
             ray: Vec::new(alloc),
@@ -144,7 +144,7 @@ fn times_in(alloc: Global, best: Best) -> Vec<i64>
 }
 
 // The lines of the search of a view.
-fn lines_of(view: View, plain: Prover, turned: Prover) -> Vec<ProofLine>
+fn lines_of(view: View, plain: Prover, turned: Prover) -> Vec<StoredLine>
     ensures plain { view ≡ Plain → result.items ≡ plain.lines }
     ensures negated { view ≡ Negated → result.items ≡ turned.lines }
 {
@@ -155,10 +155,10 @@ fn lines_of(view: View, plain: Prover, turned: Prover) -> Vec<ProofLine>
 }
 
 // What is found where all turns were spent.
-fn spent(alloc: Global, turns: u64) -> Found
+fn spent(alloc: Global, turns: u64) -> ShownAnswer
     ensures found { (net : Net) (from to : EventId) → IsFound net from to turns result }
 {
-    Found {
+    ShownAnswer {
         answer: Settled::Spent,
         times: Vec::new(alloc),
         ray: Vec::new(alloc),

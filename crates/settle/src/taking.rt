@@ -5,9 +5,10 @@ ghost use Rattle.clauses.specs.Checking.{IsChecking, TakesLine};
 ghost use Rattle.clauses.specs.Lines.{Assume, Close, Fall, Know, Loop};
 ghost use Rattle.settle.specs.Proofs.{line_of};
 
-use crate::line::ProofLine;
+use crate::line::StoredLine;
 use clauses::{
-    AssumeFault, Basis, ClauseChecker, CloseFault, EventFall, KnowFault, Literal, LoopFault, Step,
+    AssumeFault, Basis, ClauseChecker, CloseFault, EventFall, KnowFault, Literal, LoopFault,
+    WalkStep,
 };
 use event_graph::Network;
 use itv_base::{EventId, NoMemory};
@@ -18,18 +19,18 @@ pub fn take_line(
     alloc: Global,
     net: &Network,
     checker: &mut ClauseChecker,
-    line: &ProofLine,
+    line: &StoredLine,
 ) -> Result<bool, NoMemory>
     requires checking { IsChecking net.now checker.old }
     ensures taken { IfOk result (λ taken. IsTrue taken → TakesLine net.now checker.old (line_of line.now) checker.new) }
     ensures unchanged { IfOk result (λ taken. IsFalse taken → checker.new ≡ checker.old) }
 {
     match line {
-        ProofLine::Fall(fall) => Ok(take_fall(net, checker, *fall)),
-        ProofLine::Know(literal, basis) => take_know(net, checker, *literal, *basis),
-        ProofLine::Loop(event, steps) => keep_loop(alloc, net, checker, *event, steps),
-        ProofLine::Assume(literals) => assume(alloc, net, checker, literals),
-        ProofLine::Close => close(alloc, net, checker),
+        StoredLine::Fall(fall) => Ok(take_fall(net, checker, *fall)),
+        StoredLine::Know(literal, basis) => take_know(net, checker, *literal, *basis),
+        StoredLine::Loop(event, steps) => keep_loop(alloc, net, checker, *event, steps),
+        StoredLine::Assume(literals) => assume(alloc, net, checker, literals),
+        StoredLine::Close => close(alloc, net, checker),
     }
 }
 
@@ -69,7 +70,7 @@ fn keep_loop(
     net: &Network,
     checker: &mut ClauseChecker,
     event: EventId,
-    steps: &Vec<Step>,
+    steps: &Vec<WalkStep>,
 ) -> Result<bool, NoMemory>
     requires checking { IsChecking net.now checker.old }
     ensures taken { IfOk result (λ taken. IsTrue taken → TakesLine net.now checker.old (Loop event steps.now.items) checker.new) }

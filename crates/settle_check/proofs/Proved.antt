@@ -10,7 +10,7 @@ use Rattle.falling.specs.declared.view.View.{View}
 use Rattle.falling.specs.declared.view.View.TheVariants.{Plain, Negated}
 use Rattle.falling.specs.Cap.{far_line}
 use Rattle.clauses.proofs.Proving.{clause_proof_bounds, clause_proof_of_nothing, negated_proof_bounds, negated_proof_of_nothing}
-use Rattle.settle.specs.declared.line.ProofLine.{ProofLine}
+use Rattle.settle.specs.declared.line.StoredLine.{StoredLine}
 use Rattle.settle.specs.Proofs.{IsProofAs, lines_of}
 use Rattle.slack_report.specs.declared.words.Which.{Which}
 use Rattle.slack_report.specs.declared.words.Which.TheVariants.{Max, Min}
@@ -21,7 +21,7 @@ use Rattle.settle_report.specs.Answers.{ArePrintedTimes, IsExtreme, IsNumber, Is
 use Rattle.settle_check.specs.Step.{claim_of, pair_of}
 
 -- no satisfying separation of the pair exceeds what the lines prove
-bounds : (view : View) (net : Net) (from to : EventId) (claim : ℤ) (lines : List ProofLine) → IsNet net → from.0 < net.events → to.0 < net.events → claim <ℤ pos (far_line net)
+bounds : (view : View) (net : Net) (from to : EventId) (claim : ℤ) (lines : List StoredLine) → IsNet net → from.0 < net.events → to.0 < net.events → claim <ℤ pos (far_line net)
     → IsProofAs view net from to claim lines → (times : List ℤ) → Satisfies times net → separation times from to ≤ℤ claim
 bounds Plain net from to claim lines is_net in_from in_to near proof times h =
     clause_proof_bounds net (record { from = from; to = to; claim = claim }) (lines_of lines) times is_net in_from in_to near proof h
@@ -62,7 +62,7 @@ is_number net which row value times proof is_net within printed attained claimed
       attained = attained;
     }
 
-nothing : (view : View) (net : Net) (event : EventId) (claim : ℤ) (lines : List ProofLine) → IsNet net → event.0 < net.events → claim <ℤ neg_ℤ (pos (far_line net))
+nothing : (view : View) (net : Net) (event : EventId) (claim : ℤ) (lines : List StoredLine) → IsNet net → event.0 < net.events → claim <ℤ neg_ℤ (pos (far_line net))
     → IsProofAs view net event event claim lines → IsInconsistent net
 nothing Plain net event claim lines is_net within low proof = clause_proof_of_nothing net (record { from = event; to = event; claim = claim }) (lines_of lines) is_net within within low proof
 nothing Negated net event claim lines is_net within low proof = negated_proof_of_nothing net (record { from = event; to = event; claim = claim }) (lines_of lines) is_net within within low proof

@@ -9,7 +9,7 @@ use Rattle.drawn.specs.declared.row.Row.{Row}
 use Rattle.settle_report.specs.declared.row.RowFound.{RowFound}
 use Rattle.settle_report.specs.Answers.{AreRowsFound, IsRowFound}
 use Rattle.settle_report.specs.Text.{row_text, rows_text}
-use Rattle.settle_check.specs.Step.{IsBehind}
+use Rattle.settle_check.specs.Step.{IsPieceAt}
 use Rattle.settle_check.proofs.Passing.{append_none, behind_then}
 
 rows_push : (net : Net) (rows : List Row) (found : List RowFound) (row : Row) (of_row : RowFound) → AreRowsFound true net rows found → IsRowFound true net row of_row
@@ -33,11 +33,11 @@ text_push drawn net number last (r ∷ rows) (f ∷ found) row of_row are is =
 -- the rows so far, and the place behind them
 pub record AreRead (drawn : Drawn) (text : List ℕ) (start number : ℕ) (found : List RowFound) (place : ℕ) : Type 0 where
   pub are_found : AreRowsFound true drawn.net (take number drawn.rows) found
-  pub behind : IsBehind text start (rows_text drawn true 0 (take number drawn.rows) found) place
+  pub behind : IsPieceAt text start (rows_text drawn true 0 (take number drawn.rows) found) place
 
 -- and one more
 pub read_next : (drawn : Drawn) (text : List ℕ) (start number : ℕ) (found : List RowFound) (place next : ℕ) (row : Row) (of_row : RowFound) → slice_get drawn.rows number ≡ Some row
-    → AreRead drawn text start number found place → IsRowFound true drawn.net row of_row → IsBehind text place (row_text drawn true number row of_row) next
+    → AreRead drawn text start number found place → IsRowFound true drawn.net row of_row → IsPieceAt text place (row_text drawn true number row of_row) next
     → AreRead drawn text start (number + 1) (found ++ of_row ∷ []) next
 read_next drawn text start number found place next row of_row at read is behind =
     let within : number < length drawn.rows = slice_get_within drawn.rows number row at in
@@ -46,8 +46,8 @@ read_next drawn text start number found place next row of_row at read is behind 
     let more : take (number + 1) drawn.rows ≡ take number drawn.rows ++ row ∷ [] = take_next drawn.rows number row at in record {
       are_found = subst (λ (rows : List Row). AreRowsFound true drawn.net rows (found ++ of_row ∷ [])) (sym more)
           (rows_push drawn.net (take number drawn.rows) found row of_row read.are_found is);
-      behind = subst (λ (rows : List Row). IsBehind text start (rows_text drawn true 0 rows (found ++ of_row ∷ [])) next) (sym more)
-          (subst (λ (piece : List ℕ). IsBehind text start piece next)
+      behind = subst (λ (rows : List Row). IsPieceAt text start (rows_text drawn true 0 rows (found ++ of_row ∷ [])) next) (sym more)
+          (subst (λ (piece : List ℕ). IsPieceAt text start piece next)
           (sym (text_push drawn drawn.net 0 number (take number drawn.rows) found row of_row read.are_found last))
           (behind_then text start place next (rows_text drawn true 0 (take number drawn.rows) found) (row_text drawn true number row of_row) read.behind behind));
     }
@@ -62,7 +62,7 @@ row_there rows k within = elim (slice_get_cases rows k).1 [
 pub read_row : (drawn : Drawn) (text : List ℕ) (start number : ℕ) (found after : List RowFound) (place next : ℕ) (of_row : RowFound) → number < length drawn.rows
     → AreRead drawn text start number found place
     → ((row : Row) → slice_get drawn.rows number ≡ Some row → IsRowFound true drawn.net row of_row)
-    → ((row : Row) → slice_get drawn.rows number ≡ Some row → IsBehind text place (row_text drawn true number row of_row) next)
+    → ((row : Row) → slice_get drawn.rows number ≡ Some row → IsPieceAt text place (row_text drawn true number row of_row) next)
     → after ≡ found ++ of_row ∷ [] → AreRead drawn text start (number + 1) after next
 read_row drawn text start number found after place next of_row within read is behind pushed =
     let (row, at) = row_there drawn.rows number within in

@@ -14,7 +14,7 @@ use Rattle.settle_report.specs.declared.row.RowFound.{RowFound}
 use Rattle.settle_report.specs.Answers.{AreFound, IsBound, IsFinding, IsPastOf, IsRowFound}
 use Rattle.settle_report.specs.Settle.{IsSettleText}
 use Rattle.settle_report.specs.Text.{behind_text, bound_text, ending_of, finding_text, front_text, judged_text, row_text}
-use Rattle.settle_check.specs.Step.{IsBehind}
+use Rattle.settle_check.specs.Step.{IsPieceAt}
 use Rattle.settle_check.proofs.Passing.{behind_then}
 
 -- the row of a number is the one that was found there
@@ -29,19 +29,19 @@ row_is_found net rows number at found is greatest least past row other =
 module _ (drawn : Drawn) (text : List ℕ) where
   -- the parts of a row stand one behind another
   pub behind_parts : (number place line_end max_end min_end behind : ℕ) (at : Row) (found : RowFound) → slice_get drawn.rows number ≡ Some at
-      → IsBehind text place (entry_text (line.row number at.kind (name_of drawn at.from) (name_of drawn at.to))) line_end
-      → IsBehind text line_end (bound_text true Max found.greatest) max_end → IsBehind text max_end (bound_text true Min found.least) min_end
-      → IsBehind text min_end (judged_text at.kind found) behind
-      → (row : Row) → slice_get drawn.rows number ≡ Some row → IsBehind text place (row_text drawn true number row found) behind
+      → IsPieceAt text place (entry_text (line.row number at.kind (name_of drawn at.from) (name_of drawn at.to))) line_end
+      → IsPieceAt text line_end (bound_text true Max found.greatest) max_end → IsPieceAt text max_end (bound_text true Min found.least) min_end
+      → IsPieceAt text min_end (judged_text at.kind found) behind
+      → (row : Row) → slice_get drawn.rows number ≡ Some row → IsPieceAt text place (row_text drawn true number row found) behind
   behind_parts number place line_end max_end min_end behind at found is a b c d row other =
-      subst (λ (r : Row). IsBehind text place (row_text drawn true number r found) behind) (row_same drawn.rows number at row is other)
+      subst (λ (r : Row). IsPieceAt text place (row_text drawn true number r found) behind) (row_same drawn.rows number at row is other)
       (behind_then text place line_end behind _ _ a (behind_then text line_end max_end behind _ _ b (behind_then text max_end min_end behind _ _ c d)))
 
   -- and so do those of a whole text
   pub settled_text : (finding : Finding) (found : List RowFound) (front_end finding_end rows_end behind : ℕ) → IsFinding true drawn.net finding
-      → AreFound true drawn.net drawn.rows finding found → IsBehind text 0 (front_text drawn) front_end → IsBehind text front_end (finding_text true finding) finding_end
-      → IsBehind text finding_end (behind_text drawn true finding found) rows_end
-      → IsBehind text rows_end (entry_text (line.ending (ending_of drawn.rows finding found))) behind → length text ≤ behind → IsSettleText drawn true text
+      → AreFound true drawn.net drawn.rows finding found → IsPieceAt text 0 (front_text drawn) front_end → IsPieceAt text front_end (finding_text true finding) finding_end
+      → IsPieceAt text finding_end (behind_text drawn true finding found) rows_end
+      → IsPieceAt text rows_end (entry_text (line.ending (ending_of drawn.rows finding found))) behind → length text ≤ behind → IsSettleText drawn true text
   settled_text finding found front_end finding_end rows_end behind is_finding are_found a b c d whole =
       let all = behind_then text 0 front_end behind _ _ a (behind_then text front_end finding_end behind _ _ b (behind_then text finding_end rows_end behind _ _ c d)) in (
         answer_of (ending_of drawn.rows finding found),

@@ -1,6 +1,6 @@
 -- What the steps of a check promise one another.
 use Rattle.std.specs.Prelude.{◌≡◌, ◌≤◌, ◌<◌, ◌++◌, ℕ, ℤ, neg_ℤ, List, All, Some, length, take}
-use Rattle.itv_base.specs.Outside.{SinkTold}
+use Rattle.itv_base.specs.Outside.{SinkView}
 use Rattle.event_graph.specs.Limits.{IsPrintedTime}
 use Rattle.event_graph.specs.Network.{Net}
 use Rattle.event_graph.specs.Satisfying.{Satisfies}
@@ -16,11 +16,11 @@ use Rattle.settle_check.specs.declared.views.Views.{Views}
 -- ---- the text that is compared
 
 -- what a draft tells as a sink
-abbrev pub draft_told : Draft → SinkTold
+abbrev pub draft_told : Draft → SinkView
 draft_told draft = record { written = Some draft.bytes.items; faults = draft.faults }
 
 -- a text has a piece at a place, and a place is that behind it
-pub record IsBehind (text : List ℕ) (place : ℕ) (piece : List ℕ) (behind : ℕ) : Type 0 where
+pub record IsPieceAt (text : List ℕ) (place : ℕ) (piece : List ℕ) (behind : ℕ) : Type 0 where
   pub within : behind ≤ length text
   pub same : take behind text ≡ take place text ++ piece
 
@@ -32,7 +32,7 @@ pub record AreViewsOf (net : Net) (views : Views) : Type 0 where
   pub limits_are : AreLimits net views.limits
 
 -- times that can be printed and satisfy
-pub record ArePrinted (net : Net) (times : List ℤ) : Type 0 where
+pub record AreShownTimes (net : Net) (times : List ℤ) : Type 0 where
   pub satisfied : Satisfies times net
   pub printed : All IsPrintedTime times
 

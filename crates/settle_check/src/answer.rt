@@ -1,14 +1,14 @@
 //! The line that tells what becomes of a text.
 
 ghost use Rattle.std.specs.Prelude.{◌≡◌, ◌≤◌, ℕ, List, true};
-ghost use Rattle.jobs.specs.Works.{Works};
+ghost use Rattle.jobs.specs.Works.{JobWrote};
 ghost use Rattle.drawn.specs.Drawn.{Drawn};
 ghost use Rattle.report_check.specs.Check.{accepted_text, refused_text};
 ghost use Rattle.settle_report.specs.Settle.{IsSettleText};
 ghost use Rattle.settle_check.specs.Confirm.{AnswersConfirm, BeginsConfirm};
 
 use crate::confirm::confirm_text;
-use crate::stop::Stop;
+use crate::stop::CheckStop;
 use drawn::DrawnNetwork;
 use itv_base::{PutFailed, Sink};
 use jobs::{Answer, Unanswered};
@@ -23,20 +23,20 @@ pub fn answer_confirm<K: Sink>(
     text: &[u8],
     sink: &mut K,
 ) -> Result<Answer, Unanswered>
-    ensures works { Works (AnswersConfirm drawn.now text.now) (BeginsConfirm drawn.now text.now)
+    ensures works { JobWrote (AnswersConfirm drawn.now text.now) (BeginsConfirm drawn.now text.now)
         (K.told sink.old) (K.told sink.new) result }
 {
     match confirm_text(alloc, drawn, text) {
         Ok(()) => accept(sink),
-        Err(Stop::Refused { left }) => refuse(line_at(text, left), sink),
-        Err(Stop::NoMemory) => Err(Unanswered::NoMemory),
+        Err(CheckStop::Refused { left }) => refuse(line_at(text, left), sink),
+        Err(CheckStop::NoMemory) => Err(Unanswered::NoMemory),
     }
 }
 
 // Writes that a text is accepted.
 fn accept<K: Sink>(sink: &mut K) -> Result<Answer, Unanswered>
     ensures works { (drawn : Drawn) (text : List ℕ) → IsSettleText drawn true text
-        → Works (AnswersConfirm drawn text) (BeginsConfirm drawn text) (K.told sink.old) (K.told sink.new) result }
+        → JobWrote (AnswersConfirm drawn text) (BeginsConfirm drawn text) (K.told sink.old) (K.told sink.new) result }
 {
     match sink.put(b"report accepted\n") {
         Ok(()) => Ok(Answer::AllPass),
@@ -48,7 +48,7 @@ fn accept<K: Sink>(sink: &mut K) -> Result<Answer, Unanswered>
 fn refuse<K: Sink>(line: u64, sink: &mut K) -> Result<Answer, Unanswered>
     requires line { 1 ≤ line }
     ensures works { (drawn : Drawn) (text : List ℕ)
-        → Works (AnswersConfirm drawn text) (BeginsConfirm drawn text) (K.told sink.old) (K.told sink.new) result }
+        → JobWrote (AnswersConfirm drawn text) (BeginsConfirm drawn text) (K.told sink.old) (K.told sink.new) result }
 {
     match put_refused(line, sink) {
         Ok(()) => Ok(Answer::CheckRefused),

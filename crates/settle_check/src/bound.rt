@@ -13,7 +13,7 @@ ghost use Rattle.settle_check.specs.Step.{AreViewsOf, claim_of, pair_of};
 use crate::pair::Pair;
 use crate::proof::proof_next;
 use crate::reader::Reader;
-use crate::stop::Stop;
+use crate::stop::CheckStop;
 use crate::times::{attain, can_rise, row_times_next};
 use crate::views::Views;
 use drawn::Row;
@@ -31,7 +31,7 @@ pub fn bound_next(
     net: &Network,
     views: &Views,
     reader: &mut Reader<'_>,
-) -> Result<SettledBound, Stop>
+) -> Result<SettledBound, CheckStop>
     requires views { AreViewsOf net.now views.now }
     requires row { IsRowOf net.now row.now }
     ensures bound { IfOk result (IsBound true net.now which row.now) }
@@ -67,7 +67,7 @@ fn endless_next(
     row: &Row,
     net: &Network,
     reader: &mut Reader<'_>,
-) -> Result<SettledBound, Stop>
+) -> Result<SettledBound, CheckStop>
     requires row { IsRowOf net.now row.now }
     ensures bound { IfOk result (IsBound true net.now which row.now) }
     ensures times { IfOk result (λ found. HasTimes (bound_of found)) }
@@ -90,7 +90,7 @@ fn number_next(
     net: &Network,
     views: &Views,
     reader: &mut Reader<'_>,
-) -> Result<SettledBound, Stop>
+) -> Result<SettledBound, CheckStop>
     requires views { AreViewsOf net.now views.now }
     requires row { IsRowOf net.now row.now }
     ensures bound { IfOk result (IsBound true net.now which row.now) }

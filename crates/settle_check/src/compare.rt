@@ -8,10 +8,10 @@ ghost use Rattle.slack_report.specs.Text.{entry_text};
 ghost use Rattle.drawn.specs.Drawn.{IsRowOf, name_of};
 ghost use Rattle.settle_report.specs.Answers.{AreFound, bound_of};
 ghost use Rattle.settle_report.specs.Text.{bound_text, ending_of, finding_text, front_text, judged_text};
-ghost use Rattle.settle_check.specs.Step.{IsBehind};
+ghost use Rattle.settle_check.specs.Step.{IsPieceAt};
 
 use crate::draft::Draft;
-use crate::stop::Stop;
+use crate::stop::CheckStop;
 use drawn::{DrawnNetwork, Row};
 use itv_base::{PutFailed, RowKind, Sink};
 use jobs::put_row;
@@ -28,8 +28,8 @@ pub fn behind_front(
     drawn: &DrawnNetwork,
     text: &[u8],
     buffer: &mut LineBuffer,
-) -> Result<usize, Stop>
-    ensures behind { IfOk result (IsBehind text.now 0 (front_text drawn.now)) }
+) -> Result<usize, CheckStop>
+    ensures behind { IfOk result (IsPieceAt text.now 0 (front_text drawn.now)) }
 {
     let mut draft = Draft::new(alloc);
     put_front(drawn, buffer, &mut draft)?;
@@ -43,9 +43,9 @@ pub fn behind_finding(
     text: &[u8],
     place: usize,
     buffer: &mut LineBuffer,
-) -> Result<usize, Stop>
+) -> Result<usize, CheckStop>
     requires place { place ≤ length text.now }
-    ensures behind { IfOk result (IsBehind text.now place (finding_text true finding.now)) }
+    ensures behind { IfOk result (IsPieceAt text.now place (finding_text true finding.now)) }
 {
     let mut draft = Draft::new(alloc);
     put_finding(true, finding, buffer, &mut draft)?;
@@ -59,9 +59,9 @@ pub fn behind_count(
     text: &[u8],
     place: usize,
     buffer: &mut LineBuffer,
-) -> Result<usize, Stop>
+) -> Result<usize, CheckStop>
     requires place { place ≤ length text.now }
-    ensures behind { IfOk result (IsBehind text.now place (entry_text (rows (length drawn.now.rows)))) }
+    ensures behind { IfOk result (IsPieceAt text.now place (entry_text (rows (length drawn.now.rows)))) }
 {
     let mut draft = Draft::new(alloc);
     put_count(drawn, buffer, &mut draft)?;
@@ -88,10 +88,10 @@ pub fn behind_row(
     text: &[u8],
     place: usize,
     buffer: &mut LineBuffer,
-) -> Result<usize, Stop>
+) -> Result<usize, CheckStop>
     requires place { place ≤ length text.now }
     requires row { IsRowOf drawn.now.net asked.now }
-    ensures behind { IfOk result (IsBehind text.now place
+    ensures behind { IfOk result (IsPieceAt text.now place
         (entry_text (row number asked.now.kind (name_of drawn.now asked.now.from) (name_of drawn.now asked.now.to)))) }
 {
     let mut draft = Draft::new(alloc);
@@ -107,9 +107,9 @@ pub fn behind_bound(
     text: &[u8],
     place: usize,
     buffer: &mut LineBuffer,
-) -> Result<usize, Stop>
+) -> Result<usize, CheckStop>
     requires place { place ≤ length text.now }
-    ensures behind { IfOk result (IsBehind text.now place (bound_text true which found.now)) }
+    ensures behind { IfOk result (IsPieceAt text.now place (bound_text true which found.now)) }
 {
     let mut draft = Draft::new(alloc);
     put_bound(true, which, found, buffer, &mut draft)?;
@@ -124,11 +124,11 @@ pub fn behind_judged(
     text: &[u8],
     place: usize,
     buffer: &mut LineBuffer,
-) -> Result<usize, Stop>
+) -> Result<usize, CheckStop>
     requires place { place ≤ length text.now }
     requires greatest { HasTimes (bound_of found.now.greatest) }
     requires least { HasTimes (bound_of found.now.least) }
-    ensures behind { IfOk result (IsBehind text.now place (judged_text kind found.now)) }
+    ensures behind { IfOk result (IsPieceAt text.now place (judged_text kind found.now)) }
 {
     let mut draft = Draft::new(alloc);
     put_judged(kind, found, buffer, &mut draft)?;
@@ -144,10 +144,10 @@ pub fn behind_ending(
     text: &[u8],
     place: usize,
     buffer: &mut LineBuffer,
-) -> Result<usize, Stop>
+) -> Result<usize, CheckStop>
     requires place { place ≤ length text.now }
     requires found { AreFound true drawn.now.net drawn.now.rows finding.now found.now }
-    ensures behind { IfOk result (IsBehind text.now place (entry_text (ending (ending_of drawn.now.rows finding.now found.now)))) }
+    ensures behind { IfOk result (IsPieceAt text.now place (entry_text (ending (ending_of drawn.now.rows finding.now found.now)))) }
 {
     let mut draft = Draft::new(alloc);
     put_ending(ending_of(drawn, finding, found), buffer, &mut draft)?;

@@ -7,7 +7,7 @@ use crate::compare::{behind_ending, behind_finding, behind_front};
 use crate::finding::finding_next;
 use crate::reader::Reader;
 use crate::rows::rows_behind;
-use crate::stop::Stop;
+use crate::stop::CheckStop;
 use crate::views::Views;
 use drawn::DrawnNetwork;
 use line_words::LineBuffer;
@@ -15,7 +15,7 @@ use slack_report::LINE_ROOM;
 use std::alloc::Global;
 
 /// Checks a text against a drawn network, part by part: what is told is read, checked, written again and compared.
-pub fn confirm_text(alloc: Global, drawn: &DrawnNetwork, text: &[u8]) -> Result<(), Stop>
+pub fn confirm_text(alloc: Global, drawn: &DrawnNetwork, text: &[u8]) -> Result<(), CheckStop>
     ensures confirmed { OnOk result (IsSettleText drawn.now true text.now) }
 {
     let net = drawn.network();
@@ -35,7 +35,7 @@ pub fn confirm_text(alloc: Global, drawn: &DrawnNetwork, text: &[u8]) -> Result<
         &mut buffer,
     )?;
     if place < text.len() {
-        return Err(Stop::Refused {
+        return Err(CheckStop::Refused {
             left: text.len() - place,
         });
     }

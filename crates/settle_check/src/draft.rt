@@ -2,9 +2,9 @@
 
 ghost use Rattle.std.specs.Prelude.{◌≡◌, ◌≤◌, [], Some, IfOk, length, take};
 ghost use Rattle.itv_base.specs.Outside.{Puts};
-ghost use Rattle.settle_check.specs.Step.{IsBehind, draft_told};
+ghost use Rattle.settle_check.specs.Step.{IsPieceAt, draft_told};
 
-use crate::stop::Stop;
+use crate::stop::CheckStop;
 use itv_base::{PutFailed, Sink};
 use std::alloc::Global;
 
@@ -28,13 +28,13 @@ impl Draft {
 
     /// The place behind what was gathered, where a text has it at a place. Where the text differs, the line of the first byte that
     /// does is refused.
-    pub fn place_behind(&self, text: &[u8], place: usize) -> Result<usize, Stop>
+    pub fn place_behind(&self, text: &[u8], place: usize) -> Result<usize, CheckStop>
         requires place { place ≤ length text.now }
-        ensures behind { IfOk result (IsBehind text.now place self.now.bytes.items) }
+        ensures behind { IfOk result (IsPieceAt text.now place self.now.bytes.items) }
     {
         let same = same_len(&text[place..], &self.bytes);
         if same < self.bytes.len() {
-            return Err(Stop::Refused {
+            return Err(CheckStop::Refused {
                 left: text.len() - place - same,
             });
         }

@@ -10,7 +10,7 @@ ghost use Rattle.settle_check.specs.Step.{AreViewsOf};
 use crate::pair::Pair;
 use crate::proof::proof_next;
 use crate::reader::Reader;
-use crate::stop::Stop;
+use crate::stop::CheckStop;
 use crate::times::are_printed;
 use crate::views::Views;
 use event_graph::{Network, time_of};
@@ -28,7 +28,7 @@ pub fn finding_next(
     net: &Network,
     views: &Views,
     reader: &mut Reader<'_>,
-) -> Result<Finding, Stop>
+) -> Result<Finding, CheckStop>
     requires views { AreViewsOf net.now views.now }
     ensures finding { IfOk result (IsFinding true net.now) }
 {
@@ -42,7 +42,11 @@ pub fn finding_next(
 }
 
 // Times that satisfy, with event 0 at 0.
-fn consistent_next(alloc: Global, net: &Network, reader: &mut Reader<'_>) -> Result<Finding, Stop>
+fn consistent_next(
+    alloc: Global,
+    net: &Network,
+    reader: &mut Reader<'_>,
+) -> Result<Finding, CheckStop>
     ensures finding { IfOk result (IsFinding true net.now) }
 {
     let times = reader.times(alloc)?;
@@ -66,7 +70,7 @@ fn refuted_next(
     net: &Network,
     views: &Views,
     reader: &mut Reader<'_>,
-) -> Result<Finding, Stop>
+) -> Result<Finding, CheckStop>
     requires views { AreViewsOf net.now views.now }
     ensures finding { IfOk result (IsFinding true net.now) }
 {

@@ -1,11 +1,11 @@
 //! Checking the times behind a verdict.
 
 ghost use Rattle.std.specs.Prelude.{◌≡◌, IfOk};
-ghost use Rattle.settle_report.specs.Answers.{IsPast, IsPastOf};
+ghost use Rattle.settle_report.specs.Answers.{IsViolation, IsPastOf};
 ghost use Rattle.settle_report.specs.declared.row.RowFound.{RowFound};
 
 use crate::reader::Reader;
-use crate::stop::Stop;
+use crate::stop::CheckStop;
 use crate::times::{break_end, row_times_next};
 use drawn::Row;
 use event_graph::Network;
@@ -24,7 +24,7 @@ pub fn past_next(
     greatest: &SettledBound,
     least: &SettledBound,
     reader: &mut Reader<'_>,
-) -> Result<Vec<i64>, Stop>
+) -> Result<Vec<i64>, CheckStop>
     ensures past { IfOk result (λ past. (of_row : RowFound) → of_row ≡ record { greatest = greatest.now; least = least.now; past = past } → IsPastOf net.now row.now row.now.kind of_row) }
 {
     match row.kind {
@@ -44,8 +44,8 @@ fn broken_next(
     range: Range,
     word: Verdict,
     reader: &mut Reader<'_>,
-) -> Result<Vec<i64>, Stop>
-    ensures past { IfOk result (λ past. IsPast net.now row.now range word past.items) }
+) -> Result<Vec<i64>, CheckStop>
+    ensures past { IfOk result (λ past. IsViolation net.now row.now range word past.items) }
 {
     if !is_fail(word) {
         return Ok(Vec::new(alloc));

@@ -7,12 +7,12 @@ ghost use Rattle.settle_check.specs.Step.{AreViewsOf, IsPairOf};
 
 use crate::pair::Pair;
 use crate::reader::Reader;
-use crate::stop::Stop;
+use crate::stop::CheckStop;
 use crate::views::Views;
 use clauses::{Claim, ClauseChecker};
 use event_graph::Network;
 use falling::View;
-use settle::{ProofLine, take_line};
+use settle::{StoredLine, take_line};
 use settle_report::Proof;
 use std::alloc::Global;
 
@@ -24,7 +24,7 @@ pub fn proof_next(
     views: &Views,
     pair: Pair,
     reader: &mut Reader<'_>,
-) -> Result<Proof, Stop>
+) -> Result<Proof, CheckStop>
     requires views { AreViewsOf net.now views.now }
     requires pair { IsPairOf net.now pair }
     ensures proof { IfOk result (λ proof. IsProofAs proof.view net.now pair.from pair.to proof.claim proof.lines.items) }
@@ -50,7 +50,7 @@ fn lines_as(
     pair: Pair,
     claim: Claim,
     reader: &mut Reader<'_>,
-) -> Result<Vec<ProofLine>, Stop>
+) -> Result<Vec<StoredLine>, CheckStop>
     requires views { AreViewsOf net.now views.now }
     requires pair { IsPairOf net.now pair }
     ensures proof { IfOk result (λ lines. IsProofAs view net.now pair.from pair.to claim.value lines.items) }
@@ -68,7 +68,7 @@ fn lines_next(
     pair: Pair,
     claim: Claim,
     reader: &mut Reader<'_>,
-) -> Result<Vec<ProofLine>, Stop>
+) -> Result<Vec<StoredLine>, CheckStop>
     requires pair { IsPairOf net.now pair }
     ensures proof { IfOk result (λ lines. IsClauseProof net.now (record { from = pair.from; to = pair.to; claim = claim.value })
         (lines_of lines.items)) }

@@ -1,12 +1,12 @@
 //! Reading the lines of a text, one after another.
 
-use crate::stop::Stop;
+use crate::stop::CheckStop;
 use certificate::LineFault;
 use clauses::Claim;
 use falling::View;
 use itv_base::NoMemory;
 use line_words::{behind_word, long_in, only_word, short_in, split_words};
-use settle::ProofLine;
+use settle::StoredLine;
 use settle_lines::{read_claim, read_clause_line, read_view};
 use slack_report::Which;
 use std::alloc::Global;
@@ -32,8 +32,8 @@ impl<'a> Reader<'a> {
     }
 
     /// The refusal of the line that stands next, or of the end where there is none.
-    pub fn refused(&self) -> Stop {
-        Stop::Refused { left: self.left() }
+    pub fn refused(&self) -> CheckStop {
+        CheckStop::Refused { left: self.left() }
     }
 
     /// Goes behind the line that stands next.
@@ -54,7 +54,7 @@ impl<'a> Reader<'a> {
     }
 
     /// The line that stands next as one of a proof, if it is one.
-    pub fn clause(&self, alloc: Global) -> Result<Option<ProofLine>, NoMemory> {
+    pub fn clause(&self, alloc: Global) -> Result<Option<StoredLine>, NoMemory> {
         match cut_line(self.rest) {
             Some((line, _)) => clause_in(alloc, line),
             None => Ok(None),
@@ -62,7 +62,7 @@ impl<'a> Reader<'a> {
     }
 
     /// The view of a proof.
-    pub fn view(&self) -> Result<View, Stop> {
+    pub fn view(&self) -> Result<View, CheckStop> {
         match view_in(self.rest) {
             Some(view) => Ok(view),
             None => Err(self.refused()),
@@ -70,7 +70,7 @@ impl<'a> Reader<'a> {
     }
 
     /// The claim of a proof, in picoseconds.
-    pub fn claim(&self) -> Result<Claim, Stop> {
+    pub fn claim(&self) -> Result<Claim, CheckStop> {
         match claim_in(self.rest) {
             Some(claim) => Ok(claim),
             None => Err(self.refused()),
@@ -78,7 +78,7 @@ impl<'a> Reader<'a> {
     }
 
     /// The number of a bound, in picoseconds.
-    pub fn number(&self, alloc: Global, which: Which) -> Result<i64, Stop> {
+    pub fn number(&self, alloc: Global, which: Which) -> Result<i64, CheckStop> {
         let words = self.words(alloc)?;
         match number_behind(&words, which_word(which)) {
             Some(value) => Ok(value),
@@ -87,7 +87,7 @@ impl<'a> Reader<'a> {
     }
 
     /// Times, in picoseconds.
-    pub fn times(&self, alloc: Global) -> Result<Vec<i64>, Stop> {
+    pub fn times(&self, alloc: Global) -> Result<Vec<i64>, CheckStop> {
         let words = self.words(alloc)?;
         match times_in(alloc, &words)? {
             Some(times) => Ok(times),
@@ -96,7 +96,7 @@ impl<'a> Reader<'a> {
     }
 
     /// For each of so many events whether it is of the set that can be raised.
-    pub fn raised(&self, alloc: Global, events: u32) -> Result<Vec<bool>, Stop> {
+    pub fn raised(&self, alloc: Global, events: u32) -> Result<Vec<bool>, CheckStop> {
         let words = self.words(alloc)?;
         match raised_in(alloc, events, &words)? {
             Some(set) => Ok(set),
@@ -105,7 +105,7 @@ impl<'a> Reader<'a> {
     }
 
     // The words of the line that stands next.
-    fn words(&self, alloc: Global) -> Result<Vec<&'a str>, Stop> {
+    fn words(&self, alloc: Global) -> Result<Vec<&'a str>, CheckStop> {
         match text_line(self.rest) {
             Some(line) => Ok(split_words(alloc, line)?),
             None => Err(self.refused()),
@@ -129,7 +129,7 @@ fn text_line(bytes: &[u8]) -> Option<&str> {
 }
 
 // The line of a proof that a text is, if it is one.
-fn clause_in(alloc: Global, line: &[u8]) -> Result<Option<ProofLine>, NoMemory> {
+fn clause_in(alloc: Global, line: &[u8]) -> Result<Option<StoredLine>, NoMemory> {
     match read_clause_line(alloc, line) {
         Ok(line) => Ok(Some(line)),
         Err(LineFault::BadLine) => Ok(None),

@@ -4,13 +4,13 @@ ghost use Rattle.std.specs.Prelude.{◌≡◌, ◌<◌, ◌≤◌, true, Some, I
 ghost use Rattle.drawn.specs.declared.row.Row.{Row as DrawnRow};
 ghost use Rattle.settle_report.specs.Answers.{AreFound, AreRowsFound, IsRowFound};
 ghost use Rattle.settle_report.specs.Text.{behind_text, row_text, rows_text};
-ghost use Rattle.settle_check.specs.Step.{AreViewsOf, IsBehind};
+ghost use Rattle.settle_check.specs.Step.{AreViewsOf, IsPieceAt};
 
 use crate::bound::bound_next;
 use crate::compare::{behind_bound, behind_count, behind_judged, behind_row};
 use crate::past::past_next;
 use crate::reader::Reader;
-use crate::stop::Stop;
+use crate::stop::CheckStop;
 use crate::views::Views;
 use drawn::DrawnNetwork;
 use jobs::row_at;
@@ -35,11 +35,11 @@ pub fn rows_behind(
     text: &[u8],
     place: usize,
     buffer: &mut LineBuffer,
-) -> Result<RowsRead, Stop>
+) -> Result<RowsRead, CheckStop>
     requires views { AreViewsOf drawn.now.net views.now }
     requires place { place ≤ length text.now }
     ensures found { IfOk result (λ read. AreFound true drawn.now.net drawn.now.rows finding.now read.found.items) }
-    ensures behind { IfOk result (λ read. IsBehind text.now place (behind_text drawn.now true finding.now read.found.items) read.place) }
+    ensures behind { IfOk result (λ read. IsPieceAt text.now place (behind_text drawn.now true finding.now read.found.items) read.place) }
 {
     match finding {
         Finding::Consistent(_) => {
@@ -61,11 +61,11 @@ fn all_rows(
     text: &[u8],
     start: usize,
     buffer: &mut LineBuffer,
-) -> Result<RowsRead, Stop>
+) -> Result<RowsRead, CheckStop>
     requires views { AreViewsOf drawn.now.net views.now }
     requires start { start ≤ length text.now }
     ensures found { IfOk result (λ read. AreRowsFound true drawn.now.net drawn.now.rows read.found.items) }
-    ensures behind { IfOk result (λ read. IsBehind text.now start (rows_text drawn.now true 0 drawn.now.rows read.found.items) read.place) }
+    ensures behind { IfOk result (λ read. IsPieceAt text.now start (rows_text drawn.now true 0 drawn.now.rows read.found.items) read.place) }
 {
     let mut found = Vec::new(alloc);
     let mut place = start;
@@ -93,13 +93,13 @@ fn row_next(
     text: &[u8],
     place: usize,
     buffer: &mut LineBuffer,
-) -> Result<RowRead, Stop>
+) -> Result<RowRead, CheckStop>
     requires views { AreViewsOf drawn.now.net views.now }
     requires number { number < length drawn.now.rows }
     requires place { place ≤ length text.now }
     ensures found { IfOk result (λ read. (row : DrawnRow) → slice_get drawn.now.rows number ≡ Some row → IsRowFound true drawn.now.net row read.found) }
     ensures behind { IfOk result (λ read. (row : DrawnRow) → slice_get drawn.now.rows number ≡ Some row
-        → IsBehind text.now place (row_text drawn.now true number row read.found) read.place) }
+        → IsPieceAt text.now place (row_text drawn.now true number row read.found) read.place) }
 {
     let row = row_at(drawn, number);
     let net = drawn.network();

@@ -1,41 +1,41 @@
 //! Why a check goes no further.
 
 ghost use Rattle.std.specs.Prelude.{◌≡◌};
-ghost use Rattle.settle_check.specs.declared.stop.Stop.TheVariants.{NoMemory as WantsMemory};
+ghost use Rattle.settle_check.specs.declared.stop.CheckStop.TheVariants.{NoMemory as WantsMemory};
 
 use itv_base::{NoMemory, PutFailed};
 use std::alloc::AllocFailed;
 
 /// Why a check goes no further.
 #[derive(Clone, Copy, Debug, PartialEq, Eq)]
-pub enum Stop {
+pub enum CheckStop {
     /// A line is refused. So many bytes are left of the text from it on, or from a byte of it on.
     Refused { left: usize },
     /// Memory was wanted and not found.
     NoMemory,
 }
 
-impl From<NoMemory> for Stop {
+impl From<NoMemory> for CheckStop {
     ghost from_gives = { λ _ e. e ≡ WantsMemory };
 
-    fn from(_: NoMemory) -> Stop {
-        Stop::NoMemory
+    fn from(_: NoMemory) -> CheckStop {
+        CheckStop::NoMemory
     }
 }
 
-impl<T: Drop> From<AllocFailed<T>> for Stop {
+impl<T: Drop> From<AllocFailed<T>> for CheckStop {
     ghost from_gives = { λ _ e. e ≡ WantsMemory };
 
-    fn from(_: AllocFailed<T>) -> Stop {
-        Stop::NoMemory
+    fn from(_: AllocFailed<T>) -> CheckStop {
+        CheckStop::NoMemory
     }
 }
 
 // A draft takes each piece that there is memory for.
-impl From<PutFailed> for Stop {
+impl From<PutFailed> for CheckStop {
     ghost from_gives = { λ _ e. e ≡ WantsMemory };
 
-    fn from(_: PutFailed) -> Stop {
-        Stop::NoMemory
+    fn from(_: PutFailed) -> CheckStop {
+        CheckStop::NoMemory
     }
 }

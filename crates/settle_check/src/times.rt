@@ -5,12 +5,12 @@ ghost use Rattle.event_graph.specs.Limits.{IsPrintedTime};
 ghost use Rattle.event_graph.specs.Satisfying.{Satisfies};
 ghost use Rattle.event_graph.specs.Times.{separation, time_of};
 ghost use Rattle.drawn.specs.Drawn.{IsRowOf};
-ghost use Rattle.right_report.specs.Right.Facts.{Breaks};
+ghost use Rattle.right_report.specs.Right.Facts.{BreaksEnd};
 ghost use Rattle.settle_report.specs.Answers.{ArePrintedTimes, CanRise};
-ghost use Rattle.settle_check.specs.Step.{ArePrinted};
+ghost use Rattle.settle_check.specs.Step.{AreShownTimes};
 
 use crate::reader::Reader;
-use crate::stop::Stop;
+use crate::stop::CheckStop;
 use drawn::Row;
 use event_graph::{Network, time_of};
 use itv_base::{END_LIMIT, EventId, MAX_EVENTS, Range};
@@ -27,7 +27,7 @@ pub fn row_times_next(
     net: &Network,
     row: &Row,
     reader: &Reader<'_>,
-) -> Result<Vec<i64>, Stop>
+) -> Result<Vec<i64>, CheckStop>
     ensures times { IfOk result (λ times. ArePrintedTimes net.now row.now.from times.items) }
 {
     let times = reader.times(alloc)?;
@@ -46,7 +46,7 @@ fn are_row_times(net: &Network, row: &Row, times: &[i64]) -> bool
 
 /// Whether times can be printed and satisfy a network.
 pub fn are_printed(net: &Network, times: &[i64]) -> bool
-    ensures printed { IsTrue result → ArePrinted net.now times.now }
+    ensures printed { IsTrue result → AreShownTimes net.now times.now }
 {
     times.len() == net.events() as usize && are_within(times) && satisfy(net, times)
 }
@@ -83,7 +83,7 @@ pub fn attain(row: &Row, value: i64, times: &[i64]) -> bool
 /// Whether times of a row break the end of a range that a verdict names.
 pub fn break_end(row: &Row, range: Range, word: Verdict, times: &[i64]) -> bool
     requires zero { time_of times.now row.now.from ≡ pos 0 }
-    ensures breaks { IsTrue result → Breaks row.now range word times.now }
+    ensures breaks { IsTrue result → BreaksEnd row.now range word times.now }
 {
     let told = separation(row, times);
     match word {

@@ -16,34 +16,34 @@ use Rattle.line_words.proofs.Plain.{ArePlain, line_is_text, map_plain, number_pl
 use Rattle.certificate.specs.declared.fault.LineFault.{LineFault}
 use Rattle.certificate.specs.declared.fault.LineFault.TheVariants.{BadLine, NoMemory}
 use Rattle.clauses.specs.declared.basis.Basis.{Basis}
-use Rattle.clauses.specs.declared.basis.Step.{Step}
+use Rattle.clauses.specs.declared.basis.WalkStep.{WalkStep}
 use Rattle.clauses.specs.Lines.{Assume, ClauseLine, Close, Fall, Know, Loop}
-use Rattle.settle.specs.declared.line.ProofLine.{ProofLine}
+use Rattle.settle.specs.declared.line.StoredLine.{StoredLine}
 use Rattle.settle.specs.Proofs.{line_of as stored_line_of}
 use Rattle.settle_lines.specs.Answer.{IsReadAs}
 use Rattle.settle_lines.specs.Step.Answer.{IsClauseRead}
-use Rattle.settle_lines.specs.Step.Reading.{assume_in, basis_in, clause_in, close_in, closing, fall_of, first_number, know_in, know_of, line_in, literal_in, loop_in, loop_of, numbered, short_in, step_in, steps_in}
+use Rattle.settle_lines.specs.Step.Reading.{assume_in, basis_in, clause_in, close_in, closing, fall_of, first_number, know_in, know_of, line_in, literal_in, loop_in, loop_of, number_then, short_in, step_in, steps_in}
 use Rattle.settle_lines.specs.Text.{IsBasisName, IsClauseLine, IsLiteralName, IsStepName, SpellsClause, basis_word, clause_words, literal_word, step_words}
 use Rattle.settle_lines.proofs.WordLaws.{basis_inverts, basis_plain, literal_inverts, literal_plain, one_of, short_inverts}
 
 -- ---- steps
 
-step_takes : (word way : Word) (step : Step) → step_in word way ≡ Some step → ((word ≡ basis_word step.basis) × (way ≡ number_text step.through)) × IsStepName step
+step_takes : (word way : Word) (step : WalkStep) → step_in word way ≡ Some step → ((word ≡ basis_word step.basis) × (way ≡ number_text step.through)) × IsStepName step
 step_takes word way step e =
     let a = bind_some (basis_in word) (λ basis. short_in way >>= λ through. Some (record { basis = basis; through = through })) step e in
     let b = bind_some (short_in way) (λ through. Some (record { basis = a.0; through = through })) step a.2 in
     let first = basis_inverts.takes word a.0 a.1 in
     let second = short_inverts.takes way b.0 b.1 in
-    subst (λ (s : Step). ((word ≡ basis_word s.basis) × (way ≡ number_text s.through)) × IsStepName s) (same_Some (record { basis = a.0; through = b.0 }) step b.2)
+    subst (λ (s : WalkStep). ((word ≡ basis_word s.basis) × (way ≡ number_text s.through)) × IsStepName s) (same_Some (record { basis = a.0; through = b.0 }) step b.2)
     ((first.0, second.0), (first.1, second.1))
 
-step_again : (step : Step) → IsStepName step → step_in (basis_word step.basis) (number_text step.through) ≡ Some step
+step_again : (step : WalkStep) → IsStepName step → step_in (basis_word step.basis) (number_text step.through) ≡ Some step
 step_again step form = rw (basis_inverts.again step.basis form.0) (rw (short_inverts.again step.through form.1) refl)
 
-abbrev AreSteps : List Word → List Step → Type 0
+abbrev AreSteps : List Word → List WalkStep → Type 0
 AreSteps words steps = (words ≡ step_words steps) × AllByRecursion IsStepName steps
 
-steps_takes : (words : List Word) (steps : List Step) → steps_in words ≡ Some steps → AreSteps words steps
+steps_takes : (words : List Word) (steps : List WalkStep) → steps_in words ≡ Some steps → AreSteps words steps
 steps_takes [] steps e = subst (AreSteps []) (same_Some [] steps e) (refl, tt)
 steps_takes (word ∷ []) steps e = absurd (cc)
 steps_takes (word ∷ way ∷ words) steps e =
@@ -55,7 +55,7 @@ steps_takes (word ∷ way ∷ words) steps e =
     ap (λ (w : Word). w ∷ way ∷ words) first.0.0 ∙ ap (λ (w : Word). basis_word a.0.basis ∷ w ∷ words) first.0.1 ∙ ap (λ (ws : List Word). basis_word a.0.basis ∷ number_text a.0.through ∷ ws) rest.0 in
     subst (AreSteps (word ∷ way ∷ words)) (same_Some (a.0 ∷ b.0) steps b.2) (whole, (first.1, rest.1))
 
-steps_again : (steps : List Step) → AllByRecursion IsStepName steps → steps_in (step_words steps) ≡ Some steps
+steps_again : (steps : List WalkStep) → AllByRecursion IsStepName steps → steps_in (step_words steps) ≡ Some steps
 steps_again [] form = refl
 steps_again (step ∷ steps) form = rw (step_again step form.0) (rw (steps_again steps form.1) refl)
 
@@ -75,7 +75,7 @@ first_is (word ∷ words) p e =
     subst (λ (q : ℕ × List Word). (word ∷ words ≡ number_text q.0 ∷ q.1) × (q.0 < 2 ^ 32)) (same_Some (b.0, words) p b.2) (ap (λ (w : Word). w ∷ words) t.0, t.1)
 
 numbered_inverts : {A : Type 0} (read : List Word → Option A) (spell : A → List Word) (Form : A → Type 0) → Inverts read spell Form
-    → Inverts (numbered read) (λ p. number_text p.0 ∷ spell p.1) (λ p. (p.0 < 2 ^ 32) × Form p.1)
+    → Inverts (number_then read) (λ p. number_text p.0 ∷ spell p.1) (λ p. (p.0 < 2 ^ 32) × Form p.1)
 numbered_inverts {A} read spell Form i = record {
   takes = λ words p e.
       let a = bind_some (first_number words) (λ q. read q.1 >>= λ x. Some (q.0, x)) p e in
@@ -95,9 +95,9 @@ LongAndBasis p = IsLong p.0 × IsBasisName p.1
 long_and_basis : Inverts (two long_in basis_in) (λ p. signed_text p.0 ∷ basis_word p.1 ∷ []) LongAndBasis
 long_and_basis = two_inverts long_in signed_text IsLong basis_in basis_word IsBasisName long_inverts basis_inverts
 
-fall_inverts : Inverts (keyed (codes "fall") (numbered (two long_in basis_in))) (λ p. codes "fall" ∷ number_text p.0 ∷ signed_text p.1.0 ∷ basis_word p.1.1 ∷ []) (λ p. (p.0 < 2 ^ 32) × LongAndBasis p.1)
+fall_inverts : Inverts (keyed (codes "fall") (number_then (two long_in basis_in))) (λ p. codes "fall" ∷ number_text p.0 ∷ signed_text p.1.0 ∷ basis_word p.1.1 ∷ []) (λ p. (p.0 < 2 ^ 32) × LongAndBasis p.1)
 fall_inverts =
-    keyed_inverts (codes "fall") (numbered (two long_in basis_in)) (λ p. number_text p.0 ∷ signed_text p.1.0 ∷ basis_word p.1.1 ∷ []) (λ p. (p.0 < 2 ^ 32) × LongAndBasis p.1)
+    keyed_inverts (codes "fall") (number_then (two long_in basis_in)) (λ p. number_text p.0 ∷ signed_text p.1.0 ∷ basis_word p.1.1 ∷ []) (λ p. (p.0 < 2 ^ 32) × LongAndBasis p.1)
     (numbered_inverts (two long_in basis_in) (λ p. signed_text p.0 ∷ basis_word p.1 ∷ []) LongAndBasis long_and_basis)
 
 know_inverts : Inverts (keyed (codes "know") (two literal_in basis_in)) (λ p. codes "know" ∷ literal_word p.0 ∷ basis_word p.1 ∷ []) (λ p. IsLiteralName p.0 × IsBasisName p.1)
@@ -105,9 +105,9 @@ know_inverts =
     keyed_inverts (codes "know") (two literal_in basis_in) (λ p. literal_word p.0 ∷ basis_word p.1 ∷ []) (λ p. IsLiteralName p.0 × IsBasisName p.1)
     (two_inverts literal_in literal_word IsLiteralName basis_in basis_word IsBasisName literal_inverts basis_inverts)
 
-loop_inverts : Inverts (keyed (codes "loop") (numbered steps_in)) (λ p. codes "loop" ∷ number_text p.0 ∷ step_words p.1) (λ p. (p.0 < 2 ^ 32) × All IsStepName p.1)
+loop_inverts : Inverts (keyed (codes "loop") (number_then steps_in)) (λ p. codes "loop" ∷ number_text p.0 ∷ step_words p.1) (λ p. (p.0 < 2 ^ 32) × All IsStepName p.1)
 loop_inverts =
-    keyed_inverts (codes "loop") (numbered steps_in) (λ p. number_text p.0 ∷ step_words p.1) (λ p. (p.0 < 2 ^ 32) × All IsStepName p.1)
+    keyed_inverts (codes "loop") (number_then steps_in) (λ p. number_text p.0 ∷ step_words p.1) (λ p. (p.0 < 2 ^ 32) × All IsStepName p.1)
     (numbered_inverts steps_in step_words (All IsStepName) steps_invert)
 
 assume_inverts : Inverts (keyed (codes "assume") (many literal_in)) (λ ls. codes "assume" ∷ map literal_word ls) (All IsLiteralName)
@@ -132,7 +132,7 @@ assume_takes words line e =
 
 loop_takes : (words : List Word) (line : ClauseLine) → or_else (loop_in words) (or_else (assume_in words) (close_in words)) ≡ Some line → Taken words line
 loop_takes words line e =
-    one_of loop_of (keyed (codes "loop") (numbered steps_in) words) (or_else (assume_in words) (close_in words)) line (Taken words) e
+    one_of loop_of (keyed (codes "loop") (number_then steps_in) words) (or_else (assume_in words) (close_in words)) line (Taken words) e
     (λ p h. loop_inverts.takes words p h) (assume_takes words line)
 
 know_takes : (words : List Word) (line : ClauseLine) → or_else (know_in words) (or_else (loop_in words) (or_else (assume_in words) (close_in words))) ≡ Some line → Taken words line
@@ -143,7 +143,7 @@ know_takes words line e =
 clause_takes : (words : List Word) (line : ClauseLine) → clause_in words ≡ Some line → Taken words line
 unfolding clause_in
 clause_takes words line e =
-    one_of fall_of (keyed (codes "fall") (numbered (two long_in basis_in)) words) (or_else (know_in words) (or_else (loop_in words) (or_else (assume_in words) (close_in words)))) line (Taken words) e
+    one_of fall_of (keyed (codes "fall") (number_then (two long_in basis_in)) words) (or_else (know_in words) (or_else (loop_in words) (or_else (assume_in words) (close_in words)))) line (Taken words) e
     (λ p h. let t = fall_inverts.takes words p h in (t.0, (t.1.0, t.1.1.0, t.1.1.1))) (know_takes words line)
 
 clause_again : (line : ClauseLine) → IsClauseLine line → clause_in (clause_words line) ≡ Some line
@@ -156,7 +156,7 @@ clause_again Close form = refl
 
 -- ---- texts
 
-steps_plain : (steps : List Step) → ArePlain (step_words steps)
+steps_plain : (steps : List WalkStep) → ArePlain (step_words steps)
 steps_plain [] = tt
 steps_plain (step ∷ steps) = (basis_plain step.basis, (number_plain step.through, steps_plain steps))
 
@@ -211,16 +211,16 @@ no_clause_line text other = none_at (line_in text) refl
 
 -- ---- what is answered
 
-pub tells_ok : (text : List ℕ) (r : Result ProofLine LineFault) → IsClauseRead r (line_in text) → IfOk r (λ line. SpellsClause text (stored_line_of line))
+pub tells_ok : (text : List ℕ) (r : Result StoredLine LineFault) → IsClauseRead r (line_in text) → IfOk r (λ line. SpellsClause text (stored_line_of line))
 tells_ok text (Ok line) read = text_is_line text (stored_line_of line) read
 tells_ok text (Err fault) read = tt
 
-pub tells_only : (text : List ℕ) (r : Result ProofLine LineFault) → IsClauseRead r (line_in text) → (line : ClauseLine) → SpellsClause text line → IsReadAs r line
+pub tells_only : (text : List ℕ) (r : Result StoredLine LineFault) → IsClauseRead r (line_in text) → (line : ClauseLine) → SpellsClause text line → IsReadAs r line
 tells_only text (Ok stored) read line spells = same_Some (stored_line_of stored) line (sym read ∙ line_is_read text line spells)
 tells_only text (Err BadLine) read line spells = none-some line (sym read ∙ line_is_read text line spells)
 tells_only text (Err NoMemory) read line spells = tt
 
-pub tells_bad : (text : List ℕ) (r : Result ProofLine LineFault) → IsClauseRead r (line_in text) → IsErrOf r BadLine → (line : ClauseLine) → SpellsClause text line → ⊥
+pub tells_bad : (text : List ℕ) (r : Result StoredLine LineFault) → IsClauseRead r (line_in text) → IsErrOf r BadLine → (line : ClauseLine) → SpellsClause text line → ⊥
 tells_bad text (Ok stored) read bad line spells = cc
 tells_bad text (Err BadLine) read bad line spells = none-some line (sym read ∙ line_is_read text line spells)
 tells_bad text (Err NoMemory) read bad line spells = absurd (cc)

@@ -3,7 +3,7 @@ use Rattle.std.proofs.Common.{◌≡◌, ℕ, suc, ◌+◌, ◌<◌, ℤ, List, 
 use Rattle.std.specs.List.{flat_map}
 use Rattle.std.specs.Bool.{⊤}
 use Rattle.itv_base.specs.Numerals.{number_text, signed_text}
-use Rattle.itv_base.specs.Outside.{CutShort, Puts, SinkTold, grown}
+use Rattle.itv_base.specs.Outside.{CutShort, Puts, SinkView, grown}
 use Rattle.itv_base.specs.declared.names.EventId.{EventId}
 use Rattle.itv_base.proofs.Written.{cut_more, cut_then, puts_same, puts_then}
 use Rattle.line_words.specs.Words.{Word}
@@ -11,10 +11,10 @@ use Rattle.line_words.specs.Lines.{ended, line_of, spaced}
 use Rattle.line_words.proofs.Printing.{join_spaced}
 use Rattle.falling.specs.declared.view.View.{View}
 use Rattle.clauses.specs.declared.basis.Basis.{Basis}
-use Rattle.clauses.specs.declared.basis.Step.{Step}
+use Rattle.clauses.specs.declared.basis.WalkStep.{WalkStep}
 use Rattle.clauses.specs.declared.literal.Literal.{Literal}
 use Rattle.clauses.specs.Lines.{ClauseLine, Fall, Know, Loop}
-use Rattle.settle.specs.declared.line.ProofLine.{ProofLine}
+use Rattle.settle.specs.declared.line.StoredLine.{StoredLine}
 use Rattle.settle.specs.Proofs.{lines_of, line_of as stored_line_of}
 use Rattle.settle_lines.specs.Text.{basis_word, claim_text, clause_line_text, literal_word, proof_text, step_words, view_text}
 
@@ -26,15 +26,15 @@ pub record Parts (a b c whole : List ℕ) : Type 0 where
 
 module _ {a b c whole : List ℕ} (parts : Parts a b c whole) where
   -- a front of the first piece is put
-  pub first_cut : (old new : SinkTold) → CutShort old new a → CutShort old new whole
+  pub first_cut : (old new : SinkView) → CutShort old new a → CutShort old new whole
   first_cut old new cut = subst (CutShort old new) parts.join (cut_more old new a (b ++ c) cut)
 
   -- the first piece is put, and a front of the second
-  pub second_cut : (old first_put new : SinkTold) → first_put ≡ grown old a → CutShort first_put new b → CutShort old new whole
+  pub second_cut : (old first_put new : SinkView) → first_put ≡ grown old a → CutShort first_put new b → CutShort old new whole
   second_cut old first_put new p cut = subst (CutShort old new) parts.join (cut_then old first_put new a (b ++ c) p (cut_more first_put new b c cut))
 
   -- two pieces are put, and the third or a front of it
-  pub third_puts : {E : Type 0} (old first_put second_put new : SinkTold) (r : Result ⊤ E) → first_put ≡ grown old a → second_put ≡ grown first_put b
+  pub third_puts : {E : Type 0} (old first_put second_put new : SinkView) (r : Result ⊤ E) → first_put ≡ grown old a → second_put ≡ grown first_put b
       → Puts second_put new c r → Puts old new whole r
   third_puts old first_put second_put new r p q last =
       puts_same old new (a ++ (b ++ c)) whole r parts.join (puts_then old first_put new a (b ++ c) r p (puts_then first_put second_put new b c r q last))
@@ -54,7 +54,7 @@ know_parts l basis = record { join = three_words (codes "know") (literal_word l)
     three_words : (a b c : Word) → a ++ (spaced b ++ ended (spaced c)) ≡ ended (line_of (a ∷ b ∷ c ∷ []))
     three_words a b c = simp append_assoc
 
-pub loop_parts : (event : EventId) (steps : List Step)
+pub loop_parts : (event : EventId) (steps : List WalkStep)
     → Parts (codes "loop" ++ spaced (number_text event.0)) (flat_map spaced (step_words steps)) (10 ∷ []) (clause_line_text (Loop event steps))
 loop_parts event steps = record { join = many_words (codes "loop") (number_text event.0) (step_words steps) }
   where
@@ -69,7 +69,7 @@ proof_parts view claim passed lines e = record { join = ap (λ z. view_text view
 -- ---- lists by their first element and the others
 
 -- the steps from one on
-pub steps_more : (steps : List Step) (i : ℕ) (d : Step) → i < length steps
+pub steps_more : (steps : List WalkStep) (i : ℕ) (d : WalkStep) → i < length steps
     → flat_map spaced (step_words (drop i steps))
     ≡ (spaced (basis_word (get_or steps i d).basis) ++ spaced (number_text (get_or steps i d).through)) ++ flat_map spaced (step_words (drop (i + 1) steps))
 steps_more steps i d h =
@@ -77,6 +77,6 @@ steps_more steps i d h =
     rw (add-one, drop-cons steps i d h) (sym (append_assoc (spaced (basis_word s.basis)) (spaced (number_text s.through)) (flat_map spaced (step_words (drop (suc i) steps)))))
 
 -- the lines from one on
-pub lines_more : (lines : List ProofLine) (i : ℕ) (d line : ProofLine) → i < length lines → line ≡ get_or lines i d
+pub lines_more : (lines : List StoredLine) (i : ℕ) (d line : StoredLine) → i < length lines → line ≡ get_or lines i d
     → flat_map clause_line_text (lines_of (drop i lines)) ≡ clause_line_text (stored_line_of line) ++ flat_map clause_line_text (lines_of (drop (i + 1) lines))
 lines_more lines i d line h e = rw (e, add-one, drop-cons lines i d h) refl

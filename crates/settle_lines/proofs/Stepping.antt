@@ -4,26 +4,26 @@ use Rattle.std.proofs.lemmas.List.{drop-drop, drop-map, length-map, take_all}
 use Rattle.line_words.specs.Words.{◌>>=◌, Word}
 use Rattle.line_words.specs.Views.{texts}
 use Rattle.line_words.proofs.Looping.{in_front, texts_none}
-use Rattle.clauses.specs.declared.basis.Step.{Step}
+use Rattle.clauses.specs.declared.basis.WalkStep.{WalkStep}
 use Rattle.settle_lines.specs.Step.Reading.{first_step, steps_in}
 
 -- the steps so far, and the words that are left
-pub record StepsSoFar (list : List Step) (rest : List Word) (total : Option (List Step)) : Type 0 where
+pub record StepsSoFar (list : List WalkStep) (rest : List Word) (total : Option (List WalkStep)) : Type 0 where
   pub so_far : in_front list (steps_in rest) ≡ total
 
-front_none : (o : Option (List Step)) → in_front [] o ≡ o
+front_none : (o : Option (List WalkStep)) → in_front [] o ≡ o
 front_none None = refl
 front_none (Some steps) = refl
 
 pub none_so_far : (words : List Word) → StepsSoFar [] words (steps_in words)
 none_so_far words = record { so_far = front_none (steps_in words) }
 
-front_step : (list : List Step) (step : Step) (o : Option (List Step)) → in_front list (o >>= λ steps. Some (step ∷ steps)) ≡ in_front (list ++ step ∷ []) o
+front_step : (list : List WalkStep) (step : WalkStep) (o : Option (List WalkStep)) → in_front list (o >>= λ steps. Some (step ∷ steps)) ≡ in_front (list ++ step ∷ []) o
 front_step list step None = refl
 front_step list step (Some steps) = ap (λ ys. Some ys) (sym (append_assoc list (step ∷ []) steps))
 
 -- the first step is read before those behind it
-steps_first : (words : List Word) (step : Step) → first_step words ≡ Some step → steps_in words ≡ (steps_in (drop 2 words) >>= λ steps. Some (step ∷ steps))
+steps_first : (words : List Word) (step : WalkStep) → first_step words ≡ Some step → steps_in words ≡ (steps_in (drop 2 words) >>= λ steps. Some (step ∷ steps))
 steps_first [] step e = absurd (cc)
 steps_first (word ∷ []) step e = absurd (cc)
 steps_first (word ∷ way ∷ words) step e = rw e refl
@@ -38,9 +38,9 @@ no_step (word ∷ way ∷ words) some e = rw e refl
 range_is : (words : List (Bor (List ℕ))) (i : ℕ) → texts (take (length words - i) (drop i words)) ≡ texts (drop i words)
 range_is words i = let count : length (drop i words) ≤ length words - i = omega (arith, length-drop i words) in ap texts (take_all (length words - i) (drop i words) count)
 
-module _ (words : List (Bor (List ℕ))) (i : ℕ) (list : List Step) (total : Option (List Step)) where
+module _ (words : List (Bor (List ℕ))) (i : ℕ) (list : List WalkStep) (total : Option (List WalkStep)) where
   -- one step more is read
-  pub step_goes : (step : Step) → first_step (texts (take (length words - i) (drop i words))) ≡ Some step → StepsSoFar list (texts (drop i words)) total
+  pub step_goes : (step : WalkStep) → first_step (texts (take (length words - i) (drop i words))) ≡ Some step → StepsSoFar list (texts (drop i words)) total
       → StepsSoFar (list ++ step ∷ []) (texts (drop (i + 2) words)) total
   step_goes step e s =
       let next : drop 2 (texts (drop i words)) ≡ texts (drop (i + 2) words) = drop-map (λ (w : Bor (List ℕ)). w.now) 2 (drop i words) ∙ ap texts (drop-drop 2 i words) in

@@ -3,11 +3,11 @@ use Rattle.std.specs.Prelude.{◌≡◌, Result, Ok, Err}
 use Rattle.certificate.specs.declared.fault.LineFault.{LineFault}
 use Rattle.certificate.specs.declared.fault.LineFault.TheVariants.{BadLine, NoMemory}
 use Rattle.clauses.specs.Lines.{ClauseLine}
-use Rattle.settle.specs.declared.line.ProofLine.{ProofLine}
+use Rattle.settle.specs.declared.line.StoredLine.{StoredLine}
 use Rattle.settle.specs.Proofs.{line_of}
 
 -- this line was read, unless memory ran out
-abbrev pub IsReadAs : Result ProofLine LineFault → ClauseLine → Type 0
+abbrev pub IsReadAs : Result StoredLine LineFault → ClauseLine → Type 0
 IsReadAs (Ok stored) line = line_of stored ≡ line
 IsReadAs (Err BadLine) line = ⊥
 IsReadAs (Err NoMemory) line = Unit {0}

@@ -10,7 +10,7 @@ use Rattle.falling.specs.declared.view.View.{View}
 use Rattle.falling.specs.declared.view.View.TheVariants.{Plain, Negated}
 use Rattle.clauses.specs.declared.basis.Basis.{Basis}
 use Rattle.clauses.specs.declared.basis.Basis.TheVariants.{ByEdge, BySide, ByLatest, ByEarliest, ByKept}
-use Rattle.clauses.specs.declared.basis.Step.{Step}
+use Rattle.clauses.specs.declared.basis.WalkStep.{WalkStep}
 use Rattle.clauses.specs.declared.literal.Literal.{Literal}
 use Rattle.clauses.specs.Lines.{Assume, ClauseLine, Close, Fall, Know, Loop}
 
@@ -28,7 +28,7 @@ IsBasisName (ByLatest constraint) = constraint < 2 ^ 32
 IsBasisName (ByEarliest constraint) = constraint < 2 ^ 32
 IsBasisName (ByKept clause) = clause < 2 ^ 32
 
-abbrev pub IsStepName : Step → Type 0
+abbrev pub IsStepName : WalkStep → Type 0
 IsStepName step = IsBasisName step.basis × (step.through < 2 ^ 32)
 
 -- each number of the line fits 32 bits, and a value 64
@@ -60,7 +60,7 @@ basis_word (ByEarliest constraint) = 69 ∷ number_text constraint
 basis_word (ByKept clause) = 75 ∷ number_text clause
 
 -- of each step its basis and the number of its way
-abbrev pub step_words : List Step → List Word
+abbrev pub step_words : List WalkStep → List Word
 step_words [] = []
 step_words (step ∷ steps) = basis_word step.basis ∷ number_text step.through ∷ step_words steps
 

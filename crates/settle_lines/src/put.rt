@@ -8,7 +8,7 @@ ghost use Rattle.line_words.specs.Lines.{ended, spaced};
 ghost use Rattle.settle_lines.specs.Text.{basis_word, literal_word, met_sign, step_words};
 
 use certificate::put_edge;
-use clauses::{Basis, EventFall, Literal, Step};
+use clauses::{Basis, EventFall, Literal, WalkStep};
 use itoa::Buffer;
 use itv_base::{EventId, PutFailed, Sink, number_text, put_all, signed_text};
 use line_words::put_spaced;
@@ -45,7 +45,7 @@ pub fn put_basis_end<K: Sink>(basis: Basis, sink: &mut K) -> Result<(), PutFaile
 }
 
 /// Two spaced words for each step: its basis and the number of its way.
-pub fn put_steps<K: Sink>(steps: &[Step], sink: &mut K) -> Result<(), PutFailed>
+pub fn put_steps<K: Sink>(steps: &[WalkStep], sink: &mut K) -> Result<(), PutFailed>
     ensures { Puts (K.told sink.old) (K.told sink.new) (flat_map spaced (step_words steps.now)) result }
 {
     for step in steps {
@@ -54,7 +54,7 @@ pub fn put_steps<K: Sink>(steps: &[Step], sink: &mut K) -> Result<(), PutFailed>
     Ok(())
 }
 
-fn put_step<K: Sink>(step: Step, sink: &mut K) -> Result<(), PutFailed>
+fn put_step<K: Sink>(step: WalkStep, sink: &mut K) -> Result<(), PutFailed>
     ensures { Puts (K.told sink.old) (K.told sink.new) (spaced (basis_word step.basis) ++ spaced (number_text step.through)) result }
 {
     put_basis(step.basis, sink)?;

@@ -12,14 +12,14 @@ ghost use Rattle.settle_lines.specs.Text.{SpellsClause};
 
 use crate::words::{basis_in, first_number, first_step, literal_in};
 use certificate::LineFault;
-use clauses::{EventFall, Literal, Step};
+use clauses::{EventFall, Literal, WalkStep};
 use itv_base::{EventId, NoMemory};
 use line_words::{behind_word, long_in, split_words, two_words};
-use settle::ProofLine;
+use settle::StoredLine;
 use std::alloc::Global;
 
 /// The line of a proof that a text is, without its line end. Memory is the only other fault.
-pub fn read_clause_line(alloc: Global, text: &[u8]) -> Result<ProofLine, LineFault>
+pub fn read_clause_line(alloc: Global, text: &[u8]) -> Result<StoredLine, LineFault>
     // What is read is a line of a proof, and the text is its text.
     ensures ok { IfOk result (λ line. SpellsClause text.now (line_of line)) }
     // The text of a line is read as that line, unless memory runs out.
@@ -31,7 +31,7 @@ pub fn read_clause_line(alloc: Global, text: &[u8]) -> Result<ProofLine, LineFau
 }
 
 // The line that the bytes are, which need be no text.
-fn read_bytes(alloc: Global, text: &[u8]) -> Result<ProofLine, LineFault>
+fn read_bytes(alloc: Global, text: &[u8]) -> Result<StoredLine, LineFault>
     ensures { IsClauseRead result (line_in text.now) }
 {
     match str::from_utf8(text) {
@@ -40,7 +40,7 @@ fn read_bytes(alloc: Global, text: &[u8]) -> Result<ProofLine, LineFault>
     }
 }
 
-fn read_words(alloc: Global, text: &str) -> Result<ProofLine, LineFault>
+fn read_words(alloc: Global, text: &str) -> Result<StoredLine, LineFault>
     ensures { IsClauseRead result (line_in text.now) }
 {
     let words = split_words(alloc, text)?;
@@ -52,7 +52,7 @@ fn read_words(alloc: Global, text: &str) -> Result<ProofLine, LineFault>
 
 // The line of a proof that has the words, if there is one.
 #[tactic(auto, unfolding(crate::specs::Step::Reading::clause_in))]
-fn clause_in(alloc: Global, words: &[&str]) -> Result<Option<ProofLine>, NoMemory>
+fn clause_in(alloc: Global, words: &[&str]) -> Result<Option<StoredLine>, NoMemory>
     ensures { IfOk result (λ o. option_map (λ l. line_of l) o ≡ clause_in (texts words.now)) }
 {
     if let Some(line) = fall_in(words) {
@@ -70,29 +70,29 @@ fn clause_in(alloc: Global, words: &[&str]) -> Result<Option<ProofLine>, NoMemor
     Ok(close_in(words))
 }
 
-fn fall_in(words: &[&str]) -> Option<ProofLine>
+fn fall_in(words: &[&str]) -> Option<StoredLine>
     ensures { option_map (λ l. line_of l) result ≡ fall_in (texts words.now) }
 {
     let (event, others) = first_number(behind_word(words, "fall")?)?;
     let (value, basis) = two_words(others)?;
     let value = long_in(value)?;
     let basis = basis_in(basis)?;
-    Some(ProofLine::Fall(EventFall {
+    Some(StoredLine::Fall(EventFall {
         event: EventId(event),
         value,
         basis,
     }))
 }
 
-fn know_in(words: &[&str]) -> Option<ProofLine>
+fn know_in(words: &[&str]) -> Option<StoredLine>
     ensures { option_map (λ l. line_of l) result ≡ know_in (texts words.now) }
 {
     let (literal, basis) = two_words(behind_word(words, "know")?)?;
     let literal = literal_in(literal)?;
-    Some(ProofLine::Know(literal, basis_in(basis)?))
+    Some(StoredLine::Know(literal, basis_in(basis)?))
 }
 
-fn loop_in(alloc: Global, words: &[&str]) -> Result<Option<ProofLine>, NoMemory>
+fn loop_in(alloc: Global, words: &[&str]) -> Result<Option<StoredLine>, NoMemory>
     ensures { IfOk result (λ o. option_map (λ l. line_of l) o ≡ loop_in (texts words.now)) }
 {
     let Some(rest) = behind_word(words, "loop") else {
@@ -103,12 +103,12 @@ fn loop_in(alloc: Global, words: &[&str]) -> Result<Option<ProofLine>, NoMemory>
     };
     match steps_in(alloc, others)? {
         None => Ok(None),
-        Some(steps) => Ok(Some(ProofLine::Loop(EventId(event), steps))),
+        Some(steps) => Ok(Some(StoredLine::Loop(EventId(event), steps))),
     }
 }
 
 // A step at each two words.
-fn steps_in(alloc: Global, words: &[&str]) -> Result<Option<Vec<Step>>, NoMemory>
+fn steps_in(alloc: Global, words: &[&str]) -> Result<Option<Vec<WalkStep>>, NoMemory>
     ensures { IfOk result (λ o. option_map (λ v. v.items) o ≡ steps_in (texts words.now)) }
 {
     let mut list = Vec::new(alloc);
@@ -123,7 +123,7 @@ fn steps_in(alloc: Global, words: &[&str]) -> Result<Option<Vec<Step>>, NoMemory
     Ok(Some(list))
 }
 
-fn assume_in(alloc: Global, words: &[&str]) -> Result<Option<ProofLine>, NoMemory>
+fn assume_in(alloc: Global, words: &[&str]) -> Result<Option<StoredLine>, NoMemory>
     ensures { IfOk result (λ o. option_map (λ l. line_of l) o ≡ assume_in (texts words.now)) }
 {
     let Some(others) = behind_word(words, "assume") else {
@@ -131,7 +131,7 @@ fn assume_in(alloc: Global, words: &[&str]) -> Result<Option<ProofLine>, NoMemor
     };
     match literals_in(alloc, others)? {
         None => Ok(None),
-        Some(literals) => Ok(Some(ProofLine::Assume(literals))),
+        Some(literals) => Ok(Some(StoredLine::Assume(literals))),
     }
 }
 
@@ -149,11 +149,11 @@ fn literals_in(alloc: Global, words: &[&str]) -> Result<Option<Vec<Literal>>, No
     Ok(Some(list))
 }
 
-fn close_in(words: &[&str]) -> Option<ProofLine>
+fn close_in(words: &[&str]) -> Option<StoredLine>
     ensures { option_map (λ l. line_of l) result ≡ close_in (texts words.now) }
 {
     if !behind_word(words, "close")?.is_empty() {
         return None;
     }
-    Some(ProofLine::Close)
+    Some(StoredLine::Close)
 }

@@ -5,12 +5,12 @@ ghost use Rattle.line_words.specs.Views.{texts};
 ghost use Rattle.certificate.specs.Reading.{cause_in, edge_in, side_in as edge_side_in};
 ghost use Rattle.settle_lines.specs.Step.Reading.{basis_in, first_number, first_step, lettered_in, literal_in, side_in, step_in};
 
-use clauses::{Basis, Literal, Step};
+use clauses::{Basis, Literal, WalkStep};
 use itv_base::{EdgeName, Side, split_digits, strip};
 use line_words::short_in;
 
 /// The step that the first two words are.
-pub fn first_step(words: &[&str]) -> Option<Step>
+pub fn first_step(words: &[&str]) -> Option<WalkStep>
     ensures step { result ≡ first_step (texts words.now) }
     ensures two { IfSome result (λ step. 2 ≤ length words.now) }
 {
@@ -21,10 +21,10 @@ pub fn first_step(words: &[&str]) -> Option<Step>
 }
 
 // A step, by the words of its basis and of its way.
-fn step_in(basis: &str, way: &str) -> Option<Step>
+fn step_in(basis: &str, way: &str) -> Option<WalkStep>
     ensures { result ≡ step_in basis.now way.now }
 {
-    Some(Step {
+    Some(WalkStep {
         basis: basis_in(basis)?,
         through: short_in(way)?,
     })

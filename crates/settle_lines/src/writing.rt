@@ -8,19 +8,19 @@ ghost use Rattle.settle.specs.Proofs.{line_of, lines_of};
 ghost use Rattle.settle_lines.specs.Text.{claim_text, clause_line_text, proof_text, view_text};
 
 use crate::put::{put_basis_end, put_literal, put_literals, put_named, put_steps, put_value};
-use clauses::{Basis, EventFall, Literal, Step};
+use clauses::{Basis, EventFall, Literal, WalkStep};
 use falling::View;
 use itoa::Buffer;
 use itv_base::{EventId, PutFailed, Sink, signed_text};
 use line_words::put_words;
-use settle::ProofLine;
+use settle::StoredLine;
 
 /// Writes what stands before the lines of a proof, and the lines: the view, the claim in picoseconds and each line. Where a put failed a
 /// front of it was written, and the sink's count of faults rose.
 pub fn write_proof<K: Sink>(
     view: View,
     claim: i64,
-    lines: &[ProofLine],
+    lines: &[StoredLine],
     sink: &mut K,
 ) -> Result<(), PutFailed>
     ensures puts { Puts (K.told sink.old) (K.told sink.new) (proof_text view claim (lines_of lines.now)) result }
@@ -51,7 +51,7 @@ fn put_claim<K: Sink>(claim: i64, sink: &mut K) -> Result<(), PutFailed>
 }
 
 // Each line and its end.
-fn put_lines<K: Sink>(lines: &[ProofLine], sink: &mut K) -> Result<(), PutFailed>
+fn put_lines<K: Sink>(lines: &[StoredLine], sink: &mut K) -> Result<(), PutFailed>
     ensures { Puts (K.told sink.old) (K.told sink.new) (flat_map clause_line_text (lines_of lines.now)) result }
 {
     for line in lines {
@@ -61,15 +61,15 @@ fn put_lines<K: Sink>(lines: &[ProofLine], sink: &mut K) -> Result<(), PutFailed
 }
 
 /// Writes a line of a proof and its end. Where a put failed a front of it was written, and the sink's count of faults rose.
-pub fn write_clause_line<K: Sink>(line: &ProofLine, sink: &mut K) -> Result<(), PutFailed>
+pub fn write_clause_line<K: Sink>(line: &StoredLine, sink: &mut K) -> Result<(), PutFailed>
     ensures puts { Puts (K.told sink.old) (K.told sink.new) (clause_line_text (line_of line.now)) result }
 {
     match line {
-        ProofLine::Fall(fall) => put_fall(*fall, sink),
-        ProofLine::Know(literal, basis) => put_know(*literal, *basis, sink),
-        ProofLine::Loop(event, steps) => put_loop(*event, steps, sink),
-        ProofLine::Assume(literals) => put_assume(literals, sink),
-        ProofLine::Close => sink.put(b"close\n"),
+        StoredLine::Fall(fall) => put_fall(*fall, sink),
+        StoredLine::Know(literal, basis) => put_know(*literal, *basis, sink),
+        StoredLine::Loop(event, steps) => put_loop(*event, steps, sink),
+        StoredLine::Assume(literals) => put_assume(literals, sink),
+        StoredLine::Close => sink.put(b"close\n"),
     }
 }
 
@@ -89,7 +89,7 @@ fn put_know<K: Sink>(literal: Literal, basis: Basis, sink: &mut K) -> Result<(),
     put_basis_end(basis, sink)
 }
 
-fn put_loop<K: Sink>(event: EventId, steps: &[Step], sink: &mut K) -> Result<(), PutFailed>
+fn put_loop<K: Sink>(event: EventId, steps: &[WalkStep], sink: &mut K) -> Result<(), PutFailed>
     ensures { Puts (K.told sink.old) (K.told sink.new) (clause_line_text (Loop event steps.now)) result }
 {
     put_named(b"loop", event, sink)?;

@@ -12,20 +12,20 @@ use Rattle.slack_report.specs.declared.words.Which.{Which}
 use Rattle.slack_report.specs.declared.words.Which.TheVariants.{Max, Min}
 use Rattle.drawn.specs.Drawn.{IsRowOf}
 use Rattle.drawn.specs.declared.row.Row.{Row}
-use Rattle.settle.specs.declared.found.Found.{Found}
+use Rattle.settle.specs.declared.found.ShownAnswer.{ShownAnswer}
 use Rattle.settle.specs.declared.found.Settled.{Settled}
 use Rattle.settle.specs.declared.found.Settled.TheVariants.{Closed, Unbounded, Inconsistent}
-use Rattle.settle.specs.Found.{IsFound, Says}
+use Rattle.settle.specs.Found.{IsFound, IsRightAnswer}
 use Rattle.settle.specs.Proofs.{IsProofAs}
 use Rattle.settle_report.specs.declared.finding.Finding.TheVariants as findings
 use Rattle.settle_report.specs.declared.proof.Proof.{Proof}
-use Rattle.settle_report.specs.Answers.{ArePrintedTimes, CanRise, IsEndless, IsExtreme, IsFinding, IsNumber, IsRefuted, Proves, first_event}
-use Rattle.settle_report.specs.Step.{IsNearby, shown_by, source, target}
+use Rattle.settle_report.specs.Answers.{ArePrintedTimes, CanRise, IsEndless, IsExtreme, IsFinding, IsNumber, IsRefuted, ProvesClaim, first_event}
+use Rattle.settle_report.specs.Step.{IsNearTime, shown_by, source, target}
 use Rattle.settle_report.proofs.Moving.{nearby-moved, nearby_times, separation_near}
 use Rattle.falling.specs.Cap.{IsNearValue}
 
-says : {net : Net} {from to : EventId} {turns : ℕ} (found : Found) (answer : Settled) → found.answer ≡ answer → IsFound net from to turns found → Says net from to turns found answer
-says {net} {from} {to} {turns} found answer is f = subst (Says net from to turns found) is f.answer
+says : {net : Net} {from to : EventId} {turns : ℕ} (found : ShownAnswer) (answer : Settled) → found.answer ≡ answer → IsFound net from to turns found → IsRightAnswer net from to turns found answer
+says {net} {from} {to} {turns} found answer is f = subst (IsRightAnswer net from to turns found) is f.answer
 
 -- ---- the finding
 
@@ -46,7 +46,7 @@ first_empty net is_net none = record {
   printed = λ i d within. absurd (none_within i within);
 }
 
-module _ (net : Net) (turns : ℕ) (found : Found) (is_net : IsNet net) (some : 0 < net.events) (f : IsFound net first_event first_event turns found) where
+module _ (net : Net) (turns : ℕ) (found : ShownAnswer) (is_net : IsNet net) (some : 0 < net.events) (f : IsFound net first_event first_event turns found) where
   -- the times that were found satisfy, with event 0 at 0 when they are moved
   pub first_times : (value : ℤ) → found.answer ≡ Closed value → ArePrintedTimes net first_event (moved first_event found.times.items)
   first_times value is =
@@ -62,11 +62,11 @@ module _ (net : Net) (turns : ℕ) (found : Found) (is_net : IsNet net) (some : 
 
   -- no times satisfy, as the lines prove where they are wanted
   pub refuted : (cert : Bool) (proof : Proof) → found.answer ≡ Inconsistent
-      → ((net : Net) (from to : EventId) → IsProofAs found.view net from to found.claim.value found.lines.items → Proves cert net from to found.claim.value proof)
+      → ((net : Net) (from to : EventId) → IsProofAs found.view net from to found.claim.value found.lines.items → ProvesClaim cert net from to found.claim.value proof)
       → IsRefuted cert net proof
   refuted cert proof is proves =
       let a = says found Inconsistent is f in
-      let p : Proves cert net first_event first_event found.claim.value proof = proves net first_event first_event a.proof in record {
+      let p : ProvesClaim cert net first_event first_event found.claim.value proof = proves net first_event first_event a.proof in record {
         none = a.none;
         low = rw p.0 a.low;
         proves = (refl, λ wanted. rw p.0 (p.1 wanted));
@@ -82,11 +82,11 @@ neg_twice : (value : ℤ) → neg_ℤ (neg_ℤ value) ≡ value
 neg_twice value = omega (arith, ints)
 
 extreme_of : (cert : Bool) (net : Net) (which : Which) (row : Row) (value : ℤ) (proof : Proof) → IsGreatest net (source which row) (target which row) value
-    → Proves cert net (source which row) (target which row) value proof → IsExtreme cert which net row (shown_by which value) proof
+    → ProvesClaim cert net (source which row) (target which row) value proof → IsExtreme cert which net row (shown_by which value) proof
 extreme_of cert net Max row value proof greatest p = (greatest, p)
 extreme_of cert net Min row value proof greatest p = (
   (least_is_reversed_greatest net row.from row.to (neg_ℤ value)).1 (subst (IsGreatest net row.to row.from) (sym (neg_twice value)) greatest),
-  subst (λ z. Proves cert net row.to row.from z proof) (sym (neg_twice value)) p,
+  subst (λ z. ProvesClaim cert net row.to row.from z proof) (sym (neg_twice value)) p,
 )
 
 back : (a b value : ℤ) → (a -ℤ b) ≡ value → (b -ℤ a) ≡ neg_ℤ value
@@ -110,11 +110,11 @@ pub in_target : (which : Which) (row : Row) (events : ℕ) → row.from.0 < even
 in_target Max row events in_from in_to = in_to
 in_target Min row events in_from in_to = in_from
 
-module _ (net : Net) (which : Which) (row : Row) (turns : ℕ) (found : Found) (is_net : IsNet net) (is_row : IsRowOf net row) (f : IsFound net (source which row) (target which row) turns found) where
+module _ (net : Net) (which : Which) (row : Row) (turns : ℕ) (found : ShownAnswer) (is_net : IsNet net) (is_row : IsRowOf net row) (f : IsFound net (source which row) (target which row) turns found) where
   in_times : {times : List ℤ} (event : EventId) → Satisfies times net → event.0 < net.events → event.0 < length times
   in_times event satisfies within = subst (λ n. event.0 < n) (sym satisfies.count) within
 
-  times_are : (times : List ℤ) → Satisfies times net → All IsNearby (moved row.from times) → ArePrintedTimes net row.from (moved row.from times)
+  times_are : (times : List ℤ) → Satisfies times net → All IsNearTime (moved row.from times) → ArePrintedTimes net row.from (moved row.from times)
   times_are times satisfies near = record {
     satisfied = satisfies-moved net row.from times is_net satisfies;
     at_zero = zero-moved row.from times (in_times row.from satisfies is_row.0);
@@ -134,11 +134,11 @@ module _ (net : Net) (which : Which) (row : Row) (turns : ℕ) (found : Found) (
       separation_near (source which row) (target which row) found.times.items value (in_times (source which row) a.satisfies (in_source which row net.events is_row.0 is_row.1))
       (in_times (target which row) a.satisfies (in_target which row net.events is_row.0 is_row.1)) a.near a.attained
 
-  moved_nearby : All IsNearValue found.times.items × (row.from.0 < length found.times.items) → All IsNearby (moved row.from found.times.items)
+  moved_nearby : All IsNearValue found.times.items × (row.from.0 < length found.times.items) → All IsNearTime (moved row.from found.times.items)
   moved_nearby near = nearby-moved row.from found.times.items near.1 near.0
 
   is_number : (cert : Bool) (value : ℤ) (proof : Proof) → found.answer ≡ Closed value
-      → ((net : Net) (from to : EventId) → IsProofAs found.view net from to found.claim.value found.lines.items → Proves cert net from to found.claim.value proof)
+      → ((net : Net) (from to : EventId) → IsProofAs found.view net from to found.claim.value found.lines.items → ProvesClaim cert net from to found.claim.value proof)
       → IsNumber cert net which row (shown_by which value) (moved row.from found.times.items) proof
   is_number cert value proof is proves =
       let both = says found (Closed value) is f in
@@ -147,19 +147,19 @@ module _ (net : Net) (which : Which) (row : Row) (turns : ℕ) (found : Found) (
       let lines : IsProofAs found.view net (source which row) (target which row) found.claim.value found.lines.items =
       subst (λ z. IsProofAs found.view net (source which row) (target which row) z found.lines.items) (sym both.1) a.proof in record {
         extreme = extreme_of cert net which row value proof a.greatest
-            (subst (λ z. Proves cert net (source which row) (target which row) z proof) both.1 (proves net (source which row) (target which row) lines));
+            (subst (λ z. ProvesClaim cert net (source which row) (target which row) z proof) both.1 (proves net (source which row) (target which row) lines));
         are_times = times_are times a.satisfies (moved_nearby (closed_near value is));
         attained = separation-moved row.from row.from row.to times (in_times row.from a.satisfies is_row.0) (in_times row.to a.satisfies is_row.1) ∙ attained_by which row times value a.attained;
       }
 
   -- the same of what is stored
   pub number_shown : (cert : Bool) (value shown : ℤ) (times : List ℤ) (proof : Proof) → found.answer ≡ Closed value
-      → ((net : Net) (from to : EventId) → IsProofAs found.view net from to found.claim.value found.lines.items → Proves cert net from to found.claim.value proof)
-      → shown ≡ shown_by which value → times ≡ moved row.from found.times.items → IsNumber cert net which row shown times proof × All IsNearby times
+      → ((net : Net) (from to : EventId) → IsProofAs found.view net from to found.claim.value found.lines.items → ProvesClaim cert net from to found.claim.value proof)
+      → shown ≡ shown_by which value → times ≡ moved row.from found.times.items → IsNumber cert net which row shown times proof × All IsNearTime times
   number_shown cert value shown times proof is proves e t = (
     subst (λ z. IsNumber cert net which row z times proof) (sym e)
         (subst (λ (ts : List ℤ). IsNumber cert net which row (shown_by which value) ts proof) (sym t) (is_number cert value proof is proves)),
-    subst (All IsNearby) (sym t) (moved_nearby (closed_near value is)),
+    subst (All IsNearTime) (sym t) (moved_nearby (closed_near value is)),
   )
 
   is_endless : found.answer ≡ Unbounded → IsEndless net which row (moved row.from found.times.items) found.ray.items
@@ -169,9 +169,9 @@ module _ (net : Net) (which : Which) (row : Row) (turns : ℕ) (found : Found) (
         raised = can_rise net which row found.times.items found.ray.items is_net a.raised;
       }
 
-  pub endless_shown : (times : List ℤ) → found.answer ≡ Unbounded → times ≡ moved row.from found.times.items → IsEndless net which row times found.ray.items × All IsNearby times
+  pub endless_shown : (times : List ℤ) → found.answer ≡ Unbounded → times ≡ moved row.from found.times.items → IsEndless net which row times found.ray.items × All IsNearTime times
   endless_shown times is t =
-      (subst (λ (ts : List ℤ). IsEndless net which row ts found.ray.items) (sym t) (is_endless is), subst (All IsNearby) (sym t) (moved_nearby (unbounded_near is)))
+      (subst (λ (ts : List ℤ). IsEndless net which row ts found.ray.items) (sym t) (is_endless is), subst (All IsNearTime) (sym t) (moved_nearby (unbounded_near is)))
 
   pub not_inconsistent : ((times : List ℤ) × Satisfies times net) → found.answer ≡ Inconsistent → ⊥
   not_inconsistent some is = (says found Inconsistent is f).none some.0 some.1

@@ -8,14 +8,14 @@ use Rattle.event_graph.specs.Times.{separation, time_of}
 use Rattle.requirements.specs.Verdicts.{breaks_high, breaks_low, meets_high, meets_low, verdict_of}
 use Rattle.requirements.specs.declared.bound.Bound.{Bound}
 use Rattle.requirements.specs.declared.verdict.Verdict.TheVariants as verdicts
-use Rattle.right_report.specs.Right.Facts.{Breaks}
+use Rattle.right_report.specs.Right.Facts.{BreaksEnd}
 use Rattle.slack_report.specs.declared.words.Which.{Which}
 use Rattle.slack_report.specs.declared.words.Which.TheVariants.{Max, Min}
 use Rattle.drawn.specs.declared.row.Row.{Row}
 use Rattle.settle_report.specs.declared.bound.SettledBound.{SettledBound}
 use Rattle.settle_report.specs.declared.bound.SettledBound.TheVariants as settled
 use Rattle.settle_report.specs.declared.proof.Proof.{Proof}
-use Rattle.settle_report.specs.Answers.{IsNumber, IsPast, bound_of}
+use Rattle.settle_report.specs.Answers.{IsNumber, IsViolation, bound_of}
 use Rattle.settle_report.specs.Step.{ArePast, IsBeyond, shown_by, source, target}
 
 -- ---- which end is broken
@@ -78,17 +78,17 @@ number_past cert net which row value limit times proof n beyond = record {
     past_by Max row times value limit e h = subst (λ z. limit <ℤ z) (sym e) h
     past_by Min row times value limit e h = back (time_of times row.from) (time_of times row.to) value limit e h
 
-above : (row : Row) (range : Ends) (limit : ℤ) (list : List ℤ) → range.high ≡ Some limit → limit <ℤ separation list row.from row.to → Breaks row range verdicts.FailHigh list
+above : (row : Row) (range : Ends) (limit : ℤ) (list : List ℤ) → range.high ≡ Some limit → limit <ℤ separation list row.from row.to → BreaksEnd row range verdicts.FailHigh list
 above row range limit list e h = subst (λ (high : Option ℤ). IsSomeAnd high (λ high. high <ℤ separation list row.from row.to)) (sym e) h
 
-under : (row : Row) (range : Ends) (limit : ℤ) (list : List ℤ) → range.low ≡ Some (neg_ℤ limit) → limit <ℤ separation list row.to row.from → Breaks row range verdicts.FailLow list
+under : (row : Row) (range : Ends) (limit : ℤ) (list : List ℤ) → range.low ≡ Some (neg_ℤ limit) → limit <ℤ separation list row.to row.from → BreaksEnd row range verdicts.FailLow list
 under row range limit list e h = subst (λ (low : Option ℤ). IsSomeAnd low (λ low. separation list row.from row.to <ℤ low)) (sym e) (turn_under (time_of list row.from) (time_of list row.to) limit h)
   where
     turn_under : (a b limit : ℤ) → limit <ℤ (a -ℤ b) → (b -ℤ a) <ℤ neg_ℤ limit
     turn_under a b limit h = omega (arith, ints)
 
-pub high_past : (net : Net) (row : Row) (range : Ends) (limit : ℤ) (list : List ℤ) → range.high ≡ Some limit → ArePast net Max row limit list → IsPast net row range verdicts.FailHigh list
+pub high_past : (net : Net) (row : Row) (range : Ends) (limit : ℤ) (list : List ℤ) → range.high ≡ Some limit → ArePast net Max row limit list → IsViolation net row range verdicts.FailHigh list
 high_past net row range limit list e past = (past.are_times, above row range limit list e past.past)
 
-pub low_past : (net : Net) (row : Row) (range : Ends) (limit : ℤ) (list : List ℤ) → range.low ≡ Some (neg_ℤ limit) → ArePast net Min row limit list → IsPast net row range verdicts.FailLow list
+pub low_past : (net : Net) (row : Row) (range : Ends) (limit : ℤ) (list : List ℤ) → range.low ≡ Some (neg_ℤ limit) → ArePast net Min row limit list → IsViolation net row range verdicts.FailLow list
 low_past net row range limit list e past = (past.are_times, under row range limit list e past.past)

@@ -7,7 +7,7 @@ use Rattle.event_graph.specs.Limits.{IsPrintedTime}
 use Rattle.event_graph.specs.Times.{IsTime, moved, separation, time_of}
 use Rattle.falling.proofs.Negating.{all_map}
 use Rattle.falling.specs.Cap.{IsNearValue}
-use Rattle.settle_report.specs.Step.{IsNearby}
+use Rattle.settle_report.specs.Step.{IsNearTime}
 
 near_time : (time : ℤ) → IsNearValue time → IsTime time
 near_time time near = (omega (arith, ints, near.0, near.1), omega (arith, ints, near.0, near.1))
@@ -15,17 +15,17 @@ near_time time near = (omega (arith, ints, near.0, near.1), omega (arith, ints, 
 pub near_times : (times : List ℤ) → All IsNearValue times → All IsTime times
 near_times times near = All-weaker IsNearValue IsTime near_time times near
 
-pub nearby-moved : (origin : EventId) (times : List ℤ) → origin.0 < length times → All IsNearValue times → All IsNearby (moved origin times)
+pub nearby-moved : (origin : EventId) (times : List ℤ) → origin.0 < length times → All IsNearValue times → All IsNearTime (moved origin times)
 nearby-moved origin times within near =
     let at : IsNearValue (time_of times origin) = near origin.0 (pos 0) within in
-    all_map (λ (time : ℤ). time +ℤ neg_ℤ (time_of times origin)) IsNearValue IsNearby times
+    all_map (λ (time : ℤ). time +ℤ neg_ℤ (time_of times origin)) IsNearValue IsNearTime times
     (λ value h. (omega (arith, ints, h.0, h.1, at.0, at.1), omega (arith, ints, h.0, h.1, at.0, at.1))) near
 
-nearby_printed : (time : ℤ) → IsNearby time → IsPrintedTime time
+nearby_printed : (time : ℤ) → IsNearTime time → IsPrintedTime time
 nearby_printed time h = (omega (arith, ints, h.0, h.1), omega (arith, ints, h.0, h.1))
 
-pub nearby_times : (times : List ℤ) → All IsNearby times → All IsPrintedTime times
-nearby_times times nearby = All-weaker IsNearby IsPrintedTime nearby_printed times nearby
+pub nearby_times : (times : List ℤ) → All IsNearTime times → All IsPrintedTime times
+nearby_times times nearby = All-weaker IsNearTime IsPrintedTime nearby_printed times nearby
 
 pub printed_time : (time : ℤ) → IsPrintedTime time → IsTime time
 printed_time time h = (omega (arith, ints, h.0, h.1), omega (arith, ints, h.0, h.1))

@@ -17,7 +17,7 @@ use Rattle.slack_report.specs.declared.words.Which.TheVariants.{Max, Min}
 use Rattle.drawn.specs.Drawn.{IsRowOf}
 use Rattle.drawn.specs.declared.row.Row.{Row}
 use Rattle.settle_report.specs.Answers.{CanRise, IsEndless}
-use Rattle.settle_report.specs.Step.{ArePast, IsNearby, source, target}
+use Rattle.settle_report.specs.Step.{ArePast, IsNearTime, source, target}
 
 -- the most that a set is raised by to pass an end
 abbrev most_by : ℕ
@@ -32,23 +32,23 @@ raised_at (false ∷ set) by (time ∷ times) zero d h = inl refl
 raised_at (is_in ∷ set) by (time ∷ times) (suc k) d h = raised_at set by times k d (omega arith)
 
 -- by how much they are raised
-raised_by : (old : List ℤ) (set : List Bool) (from to : EventId) (limit : ℤ) (new : List ℤ) (r : RaisesPast old set from to limit new) → IsNearby (separation old from to)
+raised_by : (old : List ℤ) (set : List Bool) (from to : EventId) (limit : ℤ) (new : List ℤ) (r : RaisesPast old set from to limit new) → IsNearTime (separation old from to)
     → IsEnd (Some limit) → slice_get set from.0 ≡ Some false → slice_get set to.0 ≡ Some true → to.0 < length old → pos r.by ≤ℤ pos most_by
 raised_by old set from to limit new r reached end lacks holds in_to = less r.by r.least
   where
-    at_most : (sep limit : ℤ) (n : ℕ) → IsNearby sep → IsEnd (Some limit) → (sep +ℤ pos n) ≤ℤ limit → pos (suc n) ≤ℤ pos most_by
+    at_most : (sep limit : ℤ) (n : ℕ) → IsNearTime sep → IsEnd (Some limit) → (sep +ℤ pos n) ≤ℤ limit → pos (suc n) ≤ℤ pos most_by
     at_most sep limit n reached end h = omega (arith, ints, reached.0, end.1, h)
 
     less : (by : ℕ) → ((n : ℕ) → n < by → separation (raised set n old) from to ≤ℤ limit) → pos by ≤ℤ pos most_by
     less zero least = omega (arith, ints)
     less (suc n) least = at_most (separation old from to) limit n reached end (subst (λ z. z ≤ℤ limit) (separation-raised set n old from to lacks holds in_to) (least n (omega arith)))
 
-raised_time : (old new by : ℤ) → IsNearby old → pos 0 ≤ℤ by → by ≤ℤ pos most_by → (new ≡ old) ⊎ (new ≡ old +ℤ by) → IsTime new
+raised_time : (old new by : ℤ) → IsNearTime old → pos 0 ≤ℤ by → by ≤ℤ pos most_by → (new ≡ old) ⊎ (new ≡ old +ℤ by) → IsTime new
 raised_time old new by near low high (inl e) = (omega (arith, ints, near.0, near.1, e), omega (arith, ints, near.0, near.1, e))
 raised_time old new by near low high (inr e) = (omega (arith, ints, near.0, near.1, low, high, e), omega (arith, ints, near.0, near.1, low, high, e))
 
 -- a time less that of an origin, which was at 0: each is an old one, with or without the raise
-apart : (old new origin at by : ℤ) → IsNearby old → origin ≡ pos 0 → pos 0 ≤ℤ by → by ≤ℤ pos most_by → (new ≡ old) ⊎ (new ≡ old +ℤ by) → (at ≡ origin) ⊎ (at ≡ origin +ℤ by)
+apart : (old new origin at by : ℤ) → IsNearTime old → origin ≡ pos 0 → pos 0 ≤ℤ by → by ≤ℤ pos most_by → (new ≡ old) ⊎ (new ≡ old +ℤ by) → (at ≡ origin) ⊎ (at ≡ origin +ℤ by)
     → IsPrintedTime (new +ℤ neg_ℤ at)
 apart old new origin at by n o low high (inl e) (inl f) = (omega (arith, ints, n.0, n.1, o, low, high, e, f), omega (arith, ints, n.0, n.1, o, low, high, e, f))
 apart old new origin at by n o low high (inl e) (inr f) = (omega (arith, ints, n.0, n.1, o, low, high, e, f), omega (arith, ints, n.0, n.1, o, low, high, e, f))
@@ -65,14 +65,14 @@ pub end_time : (end : ℤ) → IsEnd (Some end) → IsTime end
 end_time end h = (omega (arith, ints, h.0, h.1), omega (arith, ints, h.0, h.1))
 
 -- the separation of a pair one of whose events is at 0
-nearby_pair : (which : Which) (row : Row) (times : List ℤ) → time_of times row.from ≡ pos 0 → IsNearby (time_of times row.to) → IsNearby (separation times (source which row) (target which row))
+nearby_pair : (which : Which) (row : Row) (times : List ℤ) → time_of times row.from ≡ pos 0 → IsNearTime (time_of times row.to) → IsNearTime (separation times (source which row) (target which row))
 nearby_pair Max row times at_zero near = onward (time_of times row.from) (time_of times row.to) at_zero near
   where
-    onward : (a b : ℤ) → a ≡ pos 0 → IsNearby b → IsNearby (b -ℤ a)
+    onward : (a b : ℤ) → a ≡ pos 0 → IsNearTime b → IsNearTime (b -ℤ a)
     onward a b e n = (omega (arith, ints, n.0, n.1, e), omega (arith, ints, n.0, n.1, e))
 nearby_pair Min row times at_zero near = back (time_of times row.from) (time_of times row.to) at_zero near
   where
-    back : (a b : ℤ) → a ≡ pos 0 → IsNearby b → IsNearby (a -ℤ b)
+    back : (a b : ℤ) → a ≡ pos 0 → IsNearTime b → IsNearTime (a -ℤ b)
     back a b e n = (omega (arith, ints, n.0, n.1, e), omega (arith, ints, n.0, n.1, e))
 
 all_or : (P : ℤ → Type 0) (xs : List ℤ) (k : ℕ) (d e : ℤ) → k < length xs → P (get_or xs k d) → P (get_or xs k e)
@@ -101,7 +101,7 @@ module _ (net : Net) (which : Which) (row : Row) (limit : ℤ) (old : List ℤ) 
   pub old_flags : length old ≡ length set
   old_flags = endless.are_times.satisfied.count ∙ sym ray.count
 
-  module _ (new : List ℤ) (is_net : IsNet net) (end : IsEnd (Some limit)) (near : All IsNearby old) (r : RaisesPast old set (source which row) (target which row) limit new) where
+  module _ (new : List ℤ) (is_net : IsNet net) (end : IsEnd (Some limit)) (near : All IsNearTime old) (r : RaisesPast old set (source which row) (target which row) limit new) where
     new_count : length new ≡ net.events
     new_count = ap length r.rose ∙ length-raised set r.by old ∙ endless.are_times.satisfied.count
 

@@ -16,7 +16,7 @@ use Rattle.requirements.specs.declared.bound.Bound.{Bound}
 use Rattle.requirements.specs.declared.bound.Bound.TheVariants as bounds
 use Rattle.requirements.specs.declared.verdict.Verdict.{Verdict}
 use Rattle.requirements.specs.declared.verdict.Verdict.TheVariants as verdicts
-use Rattle.right_report.specs.Right.Facts.{Breaks}
+use Rattle.right_report.specs.Right.Facts.{BreaksEnd}
 use Rattle.slack_report.specs.declared.words.Which.{Which}
 use Rattle.slack_report.specs.declared.words.Which.TheVariants.{Max, Min}
 use Rattle.drawn.specs.declared.row.Row.{Row}
@@ -28,8 +28,8 @@ use Rattle.settle_report.specs.declared.bound.SettledBound.TheVariants as settle
 use Rattle.settle_report.specs.declared.row.RowFound.{RowFound}
 
 -- where proofs are wanted, the lines prove that no separation of the pair exceeds the claim
-abbrev pub Proves : Bool → Net → EventId → EventId → ℤ → Proof → Type 0
-Proves cert net from to claim proof = (proof.claim ≡ claim) × (IsTrue cert → IsProofAs proof.view net from to claim proof.lines.items)
+abbrev pub ProvesClaim : Bool → Net → EventId → EventId → ℤ → Proof → Type 0
+ProvesClaim cert net from to claim proof = (proof.claim ≡ claim) × (IsTrue cert → IsProofAs proof.view net from to claim proof.lines.items)
 
 -- the printed times satisfy, with an event at 0
 pub record ArePrintedTimes (net : Net) (origin : EventId) (times : List ℤ) : Type 0 where
@@ -47,7 +47,7 @@ first_event = record { 0 = 0 }
 pub record IsRefuted (cert : Bool) (net : Net) (proof : Proof) : Type 0 where
   pub none : IsInconsistent net
   pub low : proof.claim <ℤ neg_ℤ (pos (far_line net))
-  pub proves : Proves cert net first_event first_event proof.claim proof
+  pub proves : ProvesClaim cert net first_event first_event proof.claim proof
 
 -- of a finding that was spent nothing is known
 abbrev pub IsFinding : Bool → Net → Finding → Type 0
@@ -60,8 +60,8 @@ IsFinding cert net Spent = Unit {0}
 -- the number is the greatest or the least separation of a row; where proofs are wanted the lines prove that no separation of the pair exceeds the
 -- greatest one, or that none of the reversed pair exceeds minus the least one
 abbrev pub IsExtreme : Bool → Which → Net → Row → ℤ → Proof → Type 0
-IsExtreme cert Max net row value proof = IsGreatest net row.from row.to value × Proves cert net row.from row.to value proof
-IsExtreme cert Min net row value proof = IsLeast net row.from row.to value × Proves cert net row.to row.from (neg_ℤ value) proof
+IsExtreme cert Max net row value proof = IsGreatest net row.from row.to value × ProvesClaim cert net row.from row.to value proof
+IsExtreme cert Min net row value proof = IsLeast net row.from row.to value × ProvesClaim cert net row.to row.from (neg_ℤ value) proof
 
 -- the set can be raised by any number: for a greatest separation with the to-event, and for a least one with the from-event
 abbrev pub CanRise : Which → Net → Row → List ℤ → List Bool → Type 0
@@ -97,16 +97,16 @@ abbrev pub verdict_in : Ends → RowFound → Verdict
 verdict_in range found = verdict_of range (bound_of found.least) (bound_of found.greatest)
 
 -- behind a verdict that is a fail stand printed times that satisfy with the from-event at 0, and break the end that it names; behind another none
-abbrev pub IsPast : Net → Row → Ends → Verdict → List ℤ → Type 0
-IsPast net row range verdicts.FailHigh past = ArePrintedTimes net row.from past × Breaks row range verdicts.FailHigh past
-IsPast net row range verdicts.FailLow past = ArePrintedTimes net row.from past × Breaks row range verdicts.FailLow past
-IsPast net row range verdicts.Pass past = past ≡ []
-IsPast net row range verdicts.Undecided past = past ≡ []
+abbrev pub IsViolation : Net → Row → Ends → Verdict → List ℤ → Type 0
+IsViolation net row range verdicts.FailHigh past = ArePrintedTimes net row.from past × BreaksEnd row range verdicts.FailHigh past
+IsViolation net row range verdicts.FailLow past = ArePrintedTimes net row.from past × BreaksEnd row range verdicts.FailLow past
+IsViolation net row range verdicts.Pass past = past ≡ []
+IsViolation net row range verdicts.Undecided past = past ≡ []
 
 -- of a row that only asks nothing is broken
 abbrev pub IsPastOf : Net → Row → RowKind → RowFound → Type 0
 IsPastOf net row kinds.Ask found = found.past.items ≡ []
-IsPastOf net row (kinds.Req range) found = IsPast net row range (verdict_in range found) found.past.items
+IsPastOf net row (kinds.Req range) found = IsViolation net row range (verdict_in range found) found.past.items
 
 -- what is found of a row: both of its bounds, and times that break it
 pub record IsRowFound (cert : Bool) (net : Net) (row : Row) (found : RowFound) : Type 0 where

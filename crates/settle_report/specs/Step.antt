@@ -26,13 +26,13 @@ shown_by Max value = value
 shown_by Min value = neg_ℤ value
 
 -- a time is within twice the greatest cap in absolute value, as one near time less another is
-abbrev pub IsNearby : ℤ → Type 0
-IsNearby time = (neg_ℤ (pos (2 * cap_limit)) ≤ℤ time) × (time ≤ℤ pos (2 * cap_limit))
+abbrev pub IsNearTime : ℤ → Type 0
+IsNearTime time = (neg_ℤ (pos (2 * cap_limit)) ≤ℤ time) × (time ≤ℤ pos (2 * cap_limit))
 
 -- the times of a bound are nearby
 abbrev pub HasNearby : SettledBound → Type 0
-HasNearby (settled.Closed value times proof) = All IsNearby times.items
-HasNearby (settled.Unbounded times ray) = All IsNearby times.items
+HasNearby (settled.Closed value times proof) = All IsNearTime times.items
+HasNearby (settled.Unbounded times ray) = All IsNearTime times.items
 HasNearby settled.Spent = Unit {0}
 
 -- a bound that was found, with its proof or without, and its times are nearby

@@ -12,7 +12,7 @@ use Rattle.slack_report.specs.declared.words.Which.{Which}
 use Rattle.slack_report.specs.declared.words.Which.TheVariants.{Max, Min}
 use Rattle.slack_report.specs.Entry as line
 use Rattle.slack_report.specs.Text.{entry_text, report_text, which_word}
-use Rattle.right_report.specs.Right.At.{Course, course_of, end_word, is_fail, with_bounds, with_verdict}
+use Rattle.right_report.specs.Right.At.{ReportTally, course_of, end_word, is_fail, with_bounds, with_verdict}
 use Rattle.drawn.specs.Drawn.{Drawn, name_of}
 use Rattle.drawn.specs.declared.row.Row.{Row}
 use Rattle.jobs.specs.Events.{event_lines}
@@ -73,11 +73,11 @@ behind_text drawn cert (Inconsistent proof) found = []
 behind_text drawn cert Spent found = []
 
 -- what the rows so far and one more come to
-abbrev pub with_row : Course → RowKind → RowFound → Course
+abbrev pub with_row : ReportTally → RowKind → RowFound → ReportTally
 with_row course kinds.Ask found = with_bounds course (bound_of found.least) (bound_of found.greatest)
 with_row course (kinds.Req range) found = with_verdict (with_bounds course (bound_of found.least) (bound_of found.greatest)) (verdict_in range found)
 
-abbrev pub with_rows : Course → List Row → List RowFound → Course
+abbrev pub with_rows : ReportTally → List Row → List RowFound → ReportTally
 with_rows course [] found = course
 with_rows course (row ∷ rows) [] = course
 with_rows course (row ∷ rows) (found ∷ others) = with_rows (with_row course row.kind found) rows others

@@ -16,7 +16,7 @@ use crate::wanted::Wanted;
 use drawn::Row;
 use event_graph::Network;
 use itv_base::NoMemory;
-use settle::{Found, Settled, Settler};
+use settle::{Settled, Settler, ShownAnswer};
 use slack_report::Which;
 use std::alloc::Global;
 
@@ -47,7 +47,7 @@ fn bound_by(
     which: Which,
     row: &Row,
     net: &Network,
-    found: Found,
+    found: ShownAnswer,
     cert: bool,
 ) -> SettledBound
     requires consistent { (times : List ℤ) × Satisfies times net.now }
@@ -58,7 +58,7 @@ fn bound_by(
 {
     // The network is within its limits.
     let _events = net.events();
-    let Found {
+    let ShownAnswer {
         answer,
         times,
         ray,

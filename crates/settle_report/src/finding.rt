@@ -9,7 +9,7 @@ use crate::times::moved;
 use crate::wanted::Wanted;
 use event_graph::Network;
 use itv_base::{EventId, NoMemory};
-use settle::{Found, Settled, Settler};
+use settle::{Settled, Settler, ShownAnswer};
 use std::alloc::Global;
 
 /// What is found of a network.
@@ -42,14 +42,14 @@ pub fn find(
 }
 
 // What is found of a network with events by a search between event 0 and itself.
-fn finding_of(alloc: Global, net: &Network, found: Found, cert: bool) -> Finding
+fn finding_of(alloc: Global, net: &Network, found: ShownAnswer, cert: bool) -> Finding
     requires events { 0 < net.now.events }
     requires found { (turns : ℕ) × IsFound net.now first_event first_event turns found }
     ensures finding { IsFinding cert net.now result }
 {
     // The network is within its limits.
     let _events = net.events();
-    let Found {
+    let ShownAnswer {
         answer,
         times,
         ray: _,

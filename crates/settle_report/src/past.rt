@@ -6,8 +6,8 @@ ghost use Rattle.event_graph.specs.Bounds.{IsRay};
 ghost use Rattle.event_graph.specs.Network.{IsNet};
 ghost use Rattle.drawn.specs.Drawn.{IsRowOf};
 ghost use Rattle.requirements.specs.Verdicts.{verdict_of};
-ghost use Rattle.settle_report.specs.Answers.{IsEndless, IsPast, IsPastOf, bound_of};
-ghost use Rattle.settle_report.specs.Step.{ArePast, IsBeyond, IsFoundBound, IsNearby};
+ghost use Rattle.settle_report.specs.Answers.{IsEndless, IsViolation, IsPastOf, bound_of};
+ghost use Rattle.settle_report.specs.Step.{ArePast, IsBeyond, IsFoundBound, IsNearTime};
 
 use crate::bound::{SettledBound, both_of};
 use crate::pair::{source, target};
@@ -49,7 +49,7 @@ fn past_range(
     requires row { IsRowOf net.now row.now }
     requires least { IsFoundBound net.now Which.Min row.now least.now }
     requires greatest { IsFoundBound net.now Which.Max row.now greatest.now }
-    ensures past { IfOk result (λ past. IsPast net.now row.now range (verdict_of range (bound_of least.now) (bound_of greatest.now)) past.items) }
+    ensures past { IfOk result (λ past. IsViolation net.now row.now range (verdict_of range (bound_of least.now) (bound_of greatest.now)) past.items) }
 {
     match judge(range, &both_of(least, greatest)) {
         Verdict::FailHigh => {
@@ -142,7 +142,7 @@ fn raise(times: &mut [i64], set: &[bool], which: Which, limit: i64, row: &Row, n
     requires limit { IsEnd (Some limit) }
     requires row { IsRowOf net.now row.now }
     requires endless { IsEndless net.now which row.now times.old set.now }
-    requires nearby { All IsNearby times.old }
+    requires nearby { All IsNearTime times.old }
     ensures past { ArePast net.now which row.now limit times.new }
 {
     raise_past(times, set, source(which, row), target(which, row), limit);

@@ -5,13 +5,13 @@ ghost use Rattle.itv_base.specs.Outside.{Puts};
 ghost use Rattle.itv_base.specs.declared.names.EventId.{EventId};
 ghost use Rattle.event_graph.specs.Network.{Net};
 ghost use Rattle.settle.specs.Proofs.{IsProofAs};
-ghost use Rattle.settle_report.specs.Answers.{Proves};
+ghost use Rattle.settle_report.specs.Answers.{ProvesClaim};
 ghost use Rattle.settle_report.specs.Text.{shown_text};
 
 use clauses::Claim;
 use falling::View;
 use itv_base::{PutFailed, Sink};
-use settle::ProofLine;
+use settle::StoredLine;
 use settle_lines::write_proof;
 use std::alloc::Global;
 
@@ -22,7 +22,7 @@ pub struct Proof {
     pub view: View,
     pub claim: i64,
     /// Empty where no proofs are wanted.
-    pub lines: Vec<ProofLine>,
+    pub lines: Vec<StoredLine>,
 }
 
 /// The proof of a claim by lines of a view. Where no proofs are wanted the lines are let go.
@@ -30,10 +30,10 @@ pub fn proof_of(
     alloc: Global,
     view: View,
     claim: Claim,
-    lines: Vec<ProofLine>,
+    lines: Vec<StoredLine>,
     is_wanted: bool,
 ) -> Proof
-    ensures proves { (net : Net) (from to : EventId) → IsProofAs view net from to claim.value lines.items → Proves is_wanted net from to claim.value result }
+    ensures proves { (net : Net) (from to : EventId) → IsProofAs view net from to claim.value lines.items → ProvesClaim is_wanted net from to claim.value result }
 {
     if is_wanted {
         Proof {

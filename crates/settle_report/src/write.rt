@@ -2,7 +2,7 @@
 
 ghost use Rattle.std.specs.Prelude.{◌≡◌, ℕ, List, IfOk, OnErr};
 ghost use Rattle.itv_base.specs.Outside.{CutShort, Puts, grown};
-ghost use Rattle.jobs.specs.Works.{Works};
+ghost use Rattle.jobs.specs.Works.{JobWrote};
 ghost use Rattle.settle_report.specs.Answers.{AreFound, IsFinding};
 ghost use Rattle.settle_report.specs.Settle.{AnswersSettle, IsSettleText};
 ghost use Rattle.settle_report.specs.Text.{ending_of, front_text, settle_text};
@@ -32,7 +32,7 @@ pub fn write_settle<K: Sink>(
     cert: bool,
     sink: &mut K,
 ) -> Result<Answer, Unanswered>
-    ensures works { Works (AnswersSettle drawn.now cert) (IsSettleText drawn.now cert) (K.told sink.old) (K.told sink.new) result }
+    ensures works { JobWrote (AnswersSettle drawn.now cert) (IsSettleText drawn.now cert) (K.told sink.old) (K.told sink.new) result }
 {
     let found = find_network(alloc, drawn, Wanted { turns, cert })?;
     let mut buffer = LineBuffer::new(alloc, LINE_ROOM)?;

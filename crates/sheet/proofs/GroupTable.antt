@@ -14,7 +14,7 @@ use Rattle.sheet.specs.declared.groups.Group.{Group}
 use Rattle.sheet.specs.Rule.{SheetRule}
 use Rattle.sheet.specs.Links.{Link, is_full, same_tag, joins, source_of, link_rules}
 use Rattle.sheet.specs.Step.{is_cause, AddsCause}
-use Rattle.sheet.specs.Groups.{opens, openers, kind_of, same_group, group_link, Places, place_of, StandsFor, AddsLink}
+use Rattle.sheet.specs.Groups.{opens, openers, kind_of, same_group, group_link, Places, place_of, RepresentsRules, AddsLink}
 use Rattle.sheet.proofs.Joins.{joins-same, joins-itself, joins-comm, joins-no_cause}
 use Rattle.sheet.proofs.Openers.{linear_rule, rule_for, link_rules-map, openers-push, opens-joined, any-openers}
 use Rattle.sheet.proofs.OneMore.{not_full, full-rule, rules-linear, rules-row, rules-first, rules-unopened, rules-joined, rule_for-joined, with_cause}
@@ -60,7 +60,7 @@ row_no_cause : (kind : Kind) → (kind ≡ Req) ⊎ (kind ≡ Ask) → is_cause 
 row_no_cause kind (inl is) = rw is refl
 row_no_cause kind (inr is) = rw is refl
 
-module _ (front : List SheetRule) (links : List Link) (all : List SheetRule) (places : Places) (n : ℕ) (link : Link) (stands : StandsFor front links all places) where
+module _ (front : List SheetRule) (links : List Link) (all : List SheetRule) (places : Places) (n : ℕ) (link : Link) (stands : RepresentsRules front links all places) where
   other_by : (p : Link → Bool) (opened : Bool) (xs : List Link) → p link ≡ false → position_from p (length front) (xs ++ cond opened (link ∷ []) []) ≡ position_from p (length front) xs
   other_by p true xs other = position_from-other p (length front) xs link other
   other_by p false xs other = rw append-nil

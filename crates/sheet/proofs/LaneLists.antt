@@ -12,7 +12,7 @@ use Rattle.itv_base.specs.Characters.{is_mark}
 use Rattle.sheet.specs.declared.mark.Mark.{Mark}
 use Rattle.sheet.specs.declared.mark.TheConstants.{MAX_MARKS}
 use Rattle.sheet.proofs.FewMarks.{few_marks}
-use Rattle.sheet.specs.declared.lanes.Span.{Span}
+use Rattle.sheet.specs.declared.lanes.LaneSpan.{LaneSpan}
 use Rattle.itv_base.specs.Reading.{◌>>=◌, unless}
 use Rattle.sheet.specs.Lanes.{mark_at, drawn_kind, lane_marks, marks_of, numbered_from, has_bad_node}
 use Rattle.sheet.specs.Sheet.{read_marks}
@@ -82,7 +82,7 @@ module _ (done : List Mark) (lanes : List LaneText) (k : ℕ) (lane : LaneText) 
       → with_marks done (flat_map lane_marks (enumerate_from k (drop k lanes))) ≡ with_marks more (flat_map lane_marks (enumerate_from (k + 1) (drop (k + 1) lanes)))
   lanes-more all is = lanes-step ∙ ap (λ r. r >>= (λ more. with_marks more (flat_map lane_marks (enumerate_from (k + 1) (drop (k + 1) lanes))))) is
 
-  pub spans-step : (more : List Mark) (spans : List Span) → more ≡ done ++ lane_marks (k, lane)
+  pub spans-step : (more : List Mark) (spans : List LaneSpan) → more ≡ done ++ lane_marks (k, lane)
       → spans ++ map span_of (numbered_from k (length done) (drop k lanes))
       ≡ (spans ++ record { first = length done; count = length more - length done } ∷ []) ++ map span_of (numbered_from (k + 1) (length more) (drop (k + 1) lanes))
   spans-step more spans is =

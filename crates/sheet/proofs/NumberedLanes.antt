@@ -3,7 +3,7 @@ use Rattle.std.proofs.Common.{◌≡◌, ℕ, zero, suc, ◌+◌, List, [], ◌�
 use Rattle.std.specs.Prelude.{slice_get}
 use Rattle.std.proofs.lemmas.List.{length-map}
 use Rattle.wavejson.specs.declared.lane_text.LaneText.{LaneText}
-use Rattle.sheet.specs.declared.lanes.Span.{Span}
+use Rattle.sheet.specs.declared.lanes.LaneSpan.{LaneSpan}
 use Rattle.sheet.specs.Lanes.{numbered, numbered_from, lane_marks}
 use Rattle.sheet.specs.Step.{span_of, spans_of, numbered_by}
 
@@ -21,7 +21,7 @@ length-spans_of lanes = length-map (numbered lanes) span_of ∙ length-numbered 
 shifted : (number k : ℕ) → number + 1 + k ≡ number + suc k
 shifted number k = omega arith
 
-at_from : (number first : ℕ) (lanes : List LaneText) (k : ℕ) (lane : LaneText) (d : Span) → slice_get lanes k ≡ Some lane
+at_from : (number first : ℕ) (lanes : List LaneText) (k : ℕ) (lane : LaneText) (d : LaneSpan) → slice_get lanes k ≡ Some lane
     → drop k (numbered_from number first lanes) ≡ numbered_by (number + k) lane (get_or (map span_of (numbered_from number first lanes)) k d) ∷ drop (suc k) (numbered_from number first lanes)
 at_from number first [] k lane d read = cc
 at_from number first (x ∷ xs) zero lane d read =
@@ -33,6 +33,6 @@ at_from number first (x ∷ xs) (suc k) lane d read =
     ∙ ap (λ n. numbered_by n lane (get_or (map span_of rest) k d) ∷ drop (suc k) rest) (shifted number k)
 
 -- the lanes from number k on begin with lane k and its span
-pub numbered-read : (lanes : List LaneText) (k : ℕ) (lane : LaneText) (spans : List Span) (d : Span) → slice_get lanes k ≡ Some lane → spans ≡ spans_of lanes
+pub numbered-read : (lanes : List LaneText) (k : ℕ) (lane : LaneText) (spans : List LaneSpan) (d : LaneSpan) → slice_get lanes k ≡ Some lane → spans ≡ spans_of lanes
     → drop k (numbered lanes) ≡ numbered_by k lane (get_or spans k d) ∷ drop (k + 1) (numbered lanes)
 numbered-read lanes k lane spans d read is = rw (is, add-one) (at_from 0 0 lanes k lane d read ∙ ap (λ n. numbered_by n lane (get_or (spans_of lanes) k d) ∷ drop (suc k) (numbered lanes)) (zero-add k))

@@ -7,9 +7,9 @@ use Rattle.std.proofs.lemmas.Bool.{ne_eqb}
 use Rattle.wavejson.specs.declared.lane_text.LaneText.{LaneText}
 use Rattle.sheet.specs.declared.fault.SheetFault.{SheetFault}
 use Rattle.sheet.specs.declared.fault.SheetFault.TheVariants.{DoublePin}
-use Rattle.sheet.specs.declared.lanes.Span.{Span}
+use Rattle.sheet.specs.declared.lanes.LaneSpan.{LaneSpan}
 use Rattle.sheet.specs.declared.pin.Pin.{Pin}
-use Rattle.sheet.specs.Lanes.{Numbered, numbered, pin_of}
+use Rattle.sheet.specs.Lanes.{NumberedLane, numbered, pin_of}
 use Rattle.sheet.specs.Step.{with_pins, numbered_by}
 use Rattle.itv_base.specs.Reading.{◌>>=◌}
 use Rattle.sheet.proofs.Distinct.{with_distinct-stood, with_distinct-nil, with_distinct-new, with_distinct-append}
@@ -18,7 +18,7 @@ use Rattle.sheet.proofs.Lists.{list_any-map}
 -- ---- one pin
 
 -- a lane with a name and marks is a pin
-pub pin-named : (number : ℕ) (lane : LaneText) (span : Span) (name : List ℕ) → lane.name ≡ Some name → (span.count ≡ 0 → ⊥)
+pub pin-named : (number : ℕ) (lane : LaneText) (span : LaneSpan) (name : List ℕ) → lane.name ≡ Some name → (span.count ≡ 0 → ⊥)
     → option_to_list (pin_of (numbered_by number lane span)) ≡ record { lane = number; name = name; first = span.first; count = span.count } ∷ []
 pin-named number lane span name named some = rw (named, ne_eqb span.count 0 some)
 
@@ -32,7 +32,7 @@ pin-new pins pin new =
 
 -- ---- the lanes from a number on
 
-module _ (done : List Pin) (lanes : List LaneText) (k : ℕ) (l : Numbered) (read : drop k (numbered lanes) ≡ l ∷ drop (k + 1) (numbered lanes)) where
+module _ (done : List Pin) (lanes : List LaneText) (k : ℕ) (l : NumberedLane) (read : drop k (numbered lanes) ≡ l ∷ drop (k + 1) (numbered lanes)) where
   cons-option : (o : Option Pin) (xs : List Pin) → cons_option o xs ≡ option_to_list o ++ xs
   cons-option None xs = refl
   cons-option (Some x) xs = refl

@@ -18,7 +18,7 @@ use Rattle.wavejson.specs.declared.lane_text.LaneText.{LaneText}
 use Rattle.label_grammar.specs.declared.label.Kind.{Kind}
 use Rattle.label_grammar.specs.declared.label.Kind.TheVariants.{Lin, Late, Early, Req, Ask}
 use Rattle.label_grammar.specs.declared.label.LabelFault.{LabelFault}
-use Rattle.label_grammar.specs.Answer.{judged}
+use Rattle.label_grammar.specs.Answer.{judged_label}
 use Rattle.itv_base.specs.Characters.{is_mark}
 use Rattle.label_grammar.specs.Edge.{EdgeSeen, comment, timing, malformed, edge_of}
 use Rattle.label_grammar.specs.Label.{LooseLabel, Span, fixed, named, fixed_ends, version_1, version_2}
@@ -32,7 +32,7 @@ use Rattle.sheet.specs.declared.fault.SheetFault.{SheetFault}
 use Rattle.sheet.specs.declared.fault.SheetFault.TheVariants.{BadNode, DoubleMark, DoublePin, NoGrade, NoParam, TooManyCauses}
 use Rattle.sheet.specs.declared.mark.Mark.{Mark}
 use Rattle.sheet.specs.declared.pin.Pin.{Pin}
-use Rattle.sheet.specs.Contents.{Contents}
+use Rattle.sheet.specs.Contents.{SheetContents}
 use Rattle.sheet.specs.declared.mark.TheConstants.{MAX_MARKS}
 use Rattle.itv_base.specs.declared.limits.TheConstants.{MAX_SHIFT}
 use Rattle.itv_base.specs.declared.limits.TheConstants.{MAX_CAUSES}
@@ -40,7 +40,7 @@ use Rattle.itv_base.specs.Range.{Ends, IsRange}
 use Rattle.label_grammar.specs.Label.{IsProper}
 use Rattle.label_grammar.proofs.Pieces.{ends_invert, spans_invert}
 use Rattle.label_grammar.proofs.Proper.{judged_is_proper, proper_range, proper_span}
-use Rattle.sheet.specs.Lanes.{Numbered, first_repeated, follows_rule, has_bad_node, lane_marks, lane_order, order_named, mark_at, marks_of, node_of, numbered, numbered_from, order_of, order_rules, pin_named, pin_of, pins_of}
+use Rattle.sheet.specs.Lanes.{NumberedLane, first_repeated, follows_rule, has_bad_node, lane_marks, lane_order, order_named, mark_at, marks_of, node_of, numbered, numbered_from, order_of, order_rules, pin_named, pin_of, pins_of}
 use Rattle.sheet.specs.Links.{Labels, plain, graded, told, span_ends, resolved, label_in, Link, group_rule, is_full, joins, labelled, link_of, link_rows, link_rules, link_to, links_of, number_of, open_ends, row_by, rule_opened, seen_link, source_of, with_edge, with_link}
 use Rattle.sheet.specs.Step.{is_cause, AreWholeLabels}
 use Rattle.sheet.specs.Sheet.{grade_named, read_marks, read_pins, sheet_at, sheet_by, sheet_of}
@@ -176,14 +176,14 @@ resolved_whole n grade label whole proper =
 -- what is read of a label is whole
 label_whole : (labels : Labels) → AreWholeLabels labels → (n : ℕ) (text : List ℕ) → IfOk (label_in labels n text) IsWholeLabel
 label_whole plain whole n text =
-    told_whole IsWholeLabel n (judged (λ ends. Some ends) (label_of ends_of text)) (plain_whole (judged (λ ends. Some ends) (label_of ends_of text)) (judged_is_proper version_1 ends_of ends_invert text))
+    told_whole IsWholeLabel n (judged_label (λ ends. Some ends) (label_of ends_of text)) (plain_whole (judged_label (λ ends. Some ends) (label_of ends_of text)) (judged_is_proper version_1 ends_of ends_invert text))
   where
     plain_whole : (label : Result (LooseLabel Ends) LabelFault) → IfOk label (IsProper version_1) → IfOk label IsWholeLabel
     plain_whole (Err fault) proper = tt
     plain_whole (Ok label) proper = record { shift = proper.loose.shift; range = range_whole label.ends (proper_range label proper) }
 label_whole (graded grade) whole n text =
-    IfOk-bind (IsProper version_2) IsWholeLabel (told n (judged fixed_ends (label_of span_of text))) _
-    (told_whole (IsProper version_2) n (judged fixed_ends (label_of span_of text)) (judged_is_proper version_2 span_of spans_invert text)) (λ label proper. resolved_whole n grade label whole proper)
+    IfOk-bind (IsProper version_2) IsWholeLabel (told n (judged_label fixed_ends (label_of span_of text))) _
+    (told_whole (IsProper version_2) n (judged_label fixed_ends (label_of span_of text)) (judged_is_proper version_2 span_of spans_invert text)) (λ label proper. resolved_whole n grade label whole proper)
 
 -- ---- edges
 
@@ -366,7 +366,7 @@ order_of_whole marks origin first count h =
     All-push (IsWholeRule marks) _ _ (next_rules_whole marks origin first (count - 1) (omega arith)) (follows_rule_whole marks origin _ _ 1 (omega arith) (omega arith) (omega arith)))
 
 -- the marks of the lane are there
-abbrev IsNumberedWithin : ℕ → Numbered → Type 0
+abbrev IsNumberedWithin : ℕ → NumberedLane → Type 0
 IsNumberedWithin marks l = l.first + l.count ≤ marks
 
 -- the marks of the lanes from one on are there, where those before and those on them are
@@ -379,7 +379,7 @@ numbered_within marks number first (lane ∷ lanes) h =
     All-cons (IsNumberedWithin marks) _ _ (omega arith) (numbered_within marks (number + 1) (first + length (lane_marks (number, lane))) lanes (omega arith))
 
 -- the order on a lane is whole
-lane_order_whole : (marks : ℕ) (l : Numbered) (name wave : Option (List ℕ)) → IsNumberedWithin marks l → All (IsWholeRule marks) (order_named l name wave)
+lane_order_whole : (marks : ℕ) (l : NumberedLane) (name wave : Option (List ℕ)) → IsNumberedWithin marks l → All (IsWholeRule marks) (order_named l name wave)
 lane_order_whole marks l None wave h = All-nil (IsWholeRule marks)
 lane_order_whole marks l (Some name) None h = All-nil (IsWholeRule marks)
 lane_order_whole marks l (Some name) (Some wave) h = order_of_whole marks (Lane l.number) l.first l.count h
@@ -397,7 +397,7 @@ order_rules_whole lanes =
 abbrev IsWholePin : ℕ → Pin → Type 0
 IsWholePin marks pin = (1 ≤ pin.count) × (pin.first + pin.count ≤ marks)
 
-pin_within : (marks : ℕ) (l : Numbered) (name : Option (List ℕ)) → IsNumberedWithin marks l → IfSome (pin_named l name) (IsWholePin marks)
+pin_within : (marks : ℕ) (l : NumberedLane) (name : Option (List ℕ)) → IsNumberedWithin marks l → IfSome (pin_named l name) (IsWholePin marks)
 pin_within marks l None h = tt
 pin_within marks l (Some name) h =
     cond_both (l.count == 0) None _ (λ o. IfSome o (IsWholePin marks)) (λ _. tt) (λ some. let not_none : l.count ≢ 0 = eqb-false l.count 0 some in (omega arith, h))
@@ -431,7 +431,7 @@ sheet_of_whole labels are drawing =
     (λ links whole. contents_whole drawing.lanes drawing.edges drawing.near marks pins links read named whole)))
 
 -- every sheet that is read is whole
-pub sheet_whole : (labels : Labels) → AreWholeLabels labels → (drawing : Drawing) (sheet : Contents) → sheet_of labels drawing ≡ Ok sheet → IsWhole sheet
+pub sheet_whole : (labels : Labels) → AreWholeLabels labels → (drawing : Drawing) (sheet : SheetContents) → sheet_of labels drawing ≡ Ok sheet → IsWhole sheet
 sheet_whole labels are drawing sheet is = IfOk-at_ok IsWhole is (sheet_of_whole labels are drawing)
 
 -- the grade of a name among those that give ranges gives ranges

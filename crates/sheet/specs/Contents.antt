@@ -8,7 +8,7 @@ use Rattle.sheet.specs.Rule.{SheetRule}
 -- the marks lane by lane and then by place, the pins, the rules in the order of their constraints, the rows in the order of their
 -- edges, the texts of the edges in order, as they are written, comments among them, and the keys of the drawing's tree that are passed
 -- over and nearly are keys which are read
-pub record Contents : Type 0 where
+pub record SheetContents : Type 0 where
   pub marks : List Mark
   pub pins : List Pin
   pub rules : List SheetRule

@@ -71,7 +71,7 @@ abbrev pub ArePlaces : Places → ℕ → Type 0
 ArePlaces places count = (group : Group) → IfSome (place_of places group) (λ place. place < count)
 
 -- Behind others stand the rules of the links, and the table has the place of the rule that each group opened.
-pub record StandsFor (front : List SheetRule) (links : List Link) (all : List SheetRule) (places : Places) : Type 0 where
+pub record RepresentsRules (front : List SheetRule) (links : List Link) (all : List SheetRule) (places : Places) : Type 0 where
   pub stand : all ≡ front ++ link_rules links
   pub found : (group : Group) → place_of places group ≡ position_from (joins (group_link group)) (length front) (openers links)
 
@@ -82,5 +82,5 @@ TellsFull n full NoMemory = Unit {0}
 
 -- what is answered to one link more, of edge n, and what stands then
 abbrev pub AddsLink : List SheetRule → List Link → ℕ → Link → Result ⊤ GroupFault → List SheetRule → Places → Type 0
-AddsLink front links n link (Ok x) all places = (is_full links link ≡ false) × StandsFor front (links ++ link ∷ []) all places
+AddsLink front links n link (Ok x) all places = (is_full links link ≡ false) × RepresentsRules front (links ++ link ∷ []) all places
 AddsLink front links n link (Err fault) all places = TellsFull n (is_full links link) fault

@@ -47,27 +47,27 @@ marks_of lanes = flat_map lane_marks (enumerate_from 0 lanes)
 -- ---- pins
 
 -- a lane with its number, and the marks on the lanes before it and on itself
-pub record Numbered : Type 0 where
+pub record NumberedLane : Type 0 where
   pub number : ℕ
   pub lane : LaneText
   pub first : ℕ
   pub count : ℕ
 
 -- the lanes from one on, of which the first has this number and this many marks before it
-abbrev pub numbered_from : ℕ → ℕ → List LaneText → List Numbered
+abbrev pub numbered_from : ℕ → ℕ → List LaneText → List NumberedLane
 numbered_from number first [] = []
 numbered_from number first (lane ∷ lanes) =
     record { number = number; lane = lane; first = first; count = length (lane_marks (number, lane)) } ∷ numbered_from (number + 1) (first + length (lane_marks (number, lane))) lanes
 
-abbrev pub numbered : List LaneText → List Numbered
+abbrev pub numbered : List LaneText → List NumberedLane
 numbered lanes = numbered_from 0 0 lanes
 
 -- a pin is a lane with a name and at least one mark
-abbrev pub pin_named : Numbered → Option (List ℕ) → Option Pin
+abbrev pub pin_named : NumberedLane → Option (List ℕ) → Option Pin
 pin_named l None = None
 pin_named l (Some name) = if l.count == 0 then None else Some (record { lane = l.number; name = name; first = l.first; count = l.count })
 
-abbrev pub pin_of : Numbered → Option Pin
+abbrev pub pin_of : NumberedLane → Option Pin
 pin_of l = pin_named l l.lane.name
 
 abbrev pub pins_of : List LaneText → List Pin
@@ -87,11 +87,11 @@ order_of origin first count =
     else map (λ k. follows_rule origin k (k + 1) 0) (range_with_len first (count - 1)) ++ follows_rule origin (first + count - 1) first 1 ∷ []
 
 -- a lane with a name and a wave is in order, and draws the rules of that
-abbrev pub order_named : Numbered → Option (List ℕ) → Option (List ℕ) → List SheetRule
+abbrev pub order_named : NumberedLane → Option (List ℕ) → Option (List ℕ) → List SheetRule
 order_named l (Some name) (Some wave) = order_of (Lane l.number) l.first l.count
 order_named l name wave = []
 
-abbrev pub lane_order : Numbered → List SheetRule
+abbrev pub lane_order : NumberedLane → List SheetRule
 lane_order l = order_named l l.lane.name l.lane.wave
 
 abbrev pub order_rules : List LaneText → List SheetRule

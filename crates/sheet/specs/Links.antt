@@ -11,7 +11,7 @@ use Rattle.label_grammar.specs.declared.label.Kind.TheVariants.{Lin, Late, Early
 use Rattle.label_grammar.specs.declared.label.LabelFault.{LabelFault}
 use Rattle.label_grammar.specs.Label.{LooseLabel, Span, fixed, named, fixed_ends}
 use Rattle.label_grammar.specs.Reading.{ends_of, span_of, label_of}
-use Rattle.label_grammar.specs.Answer.{judged}
+use Rattle.label_grammar.specs.Answer.{judged_label}
 use Rattle.label_grammar.specs.Edge.{EdgeSeen, comment, timing, malformed, edge_of}
 use Rattle.grades.specs.declared.grade.Grade.{Grade}
 use Rattle.origin.specs.declared.origin.Origin.{Origin}
@@ -52,8 +52,8 @@ resolved n grade label = do
 
 -- what the label of edge n says
 abbrev pub label_in : Labels → ℕ → List ℕ → Result (LooseLabel Ends) SheetFault
-label_in plain n text = told n (judged (λ ends. Some ends) (label_of ends_of text))
-label_in (graded grade) n text = told n (judged fixed_ends (label_of span_of text)) >>= resolved n grade
+label_in plain n text = told n (judged_label (λ ends. Some ends) (label_of ends_of text))
+label_in (graded grade) n text = told n (judged_label fixed_ends (label_of span_of text)) >>= resolved n grade
 
 -- ---- one edge
 

@@ -10,7 +10,7 @@ use Rattle.sheet.specs.declared.pin.Pin.{Pin}
 use Rattle.sheet.specs.declared.fault.SheetFault.{SheetFault}
 use Rattle.sheet.specs.declared.fault.SheetFault.TheVariants.{BadNode, DoubleMark, DoublePin, NoGrade}
 use Rattle.itv_base.specs.Reading.{◌>>=◌, unless}
-use Rattle.sheet.specs.Contents.{Contents}
+use Rattle.sheet.specs.Contents.{SheetContents}
 use Rattle.sheet.specs.Lanes.{has_bad_node, marks_of, pins_of, order_rules, first_repeated}
 use Rattle.sheet.specs.Links.{Labels, plain, graded, links_of, link_rules, link_rows}
 
@@ -25,7 +25,7 @@ unfoldable pub read_pins : List LaneText → Result (List Pin) SheetFault
 read_pins lanes = unless (first_repeated bytes_eq (λ pin. pin.name) [] (pins_of lanes)) (λ pin. DoublePin pin.lane) (pins_of lanes)
 
 -- the sheet of a drawing, whose labels are read so
-unfoldable pub sheet_of : Labels → Drawing → Result Contents SheetFault
+unfoldable pub sheet_of : Labels → Drawing → Result SheetContents SheetFault
 sheet_of labels drawing = do
   marks ← read_marks drawing.lanes
   pins ← read_pins drawing.lanes
@@ -45,10 +45,10 @@ grade_named grades None = Ok None
 grade_named grades (Some name) = ok_or (option_map (λ grade. Some grade) (grade_called grades name)) NoGrade
 
 -- The sheet of a drawing at a grade or at none, where its labels are those of version 2. A grade that is not there is told first.
-unfoldable pub sheet_at : List Grade → Option (List ℕ) → Drawing → Result Contents SheetFault
+unfoldable pub sheet_at : List Grade → Option (List ℕ) → Drawing → Result SheetContents SheetFault
 sheet_at grades name drawing = grade_named grades name >>= λ grade. sheet_of (graded grade) drawing
 
 -- the sheet of a drawing in version 1, where there are no grades, and in version 2 at a grade of these or at none
-abbrev pub sheet_by : Option (List Grade) → Option (List ℕ) → Drawing → Result Contents SheetFault
+abbrev pub sheet_by : Option (List Grade) → Option (List ℕ) → Drawing → Result SheetContents SheetFault
 sheet_by None name drawing = sheet_of plain drawing
 sheet_by (Some grades) name drawing = sheet_at grades name drawing

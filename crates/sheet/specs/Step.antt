@@ -15,14 +15,14 @@ use Rattle.sheet.specs.declared.fault.SheetFault.{SheetFault}
 use Rattle.sheet.specs.declared.groups.GroupFault.{GroupFault}
 use Rattle.sheet.specs.declared.rule.Source.{Source}
 use Rattle.sheet.specs.declared.fault.SheetFault.TheVariants.{DoubleMark, DoublePin}
-use Rattle.sheet.specs.declared.lanes.Span.{Span}
+use Rattle.sheet.specs.declared.lanes.LaneSpan.{LaneSpan}
 use Rattle.sheet.specs.declared.labels.Labels as code_labels
 use Rattle.sheet.specs.declared.labels.Labels.TheVariants.{Plain, Graded}
 use Rattle.sheet.specs.declared.link.Link as code
 use Rattle.sheet.specs.declared.mark.Mark.{Mark}
 use Rattle.sheet.specs.declared.pin.Pin.{Pin}
 use Rattle.itv_base.specs.Reading.{◌>>=◌, unless}
-use Rattle.sheet.specs.Lanes.{Numbered, numbered, first_repeated}
+use Rattle.sheet.specs.Lanes.{NumberedLane, numbered, first_repeated}
 use Rattle.sheet.specs.Groups.{TellsFull}
 use Rattle.sheet.specs.Links.{Labels, plain, graded, Link, link_rules, link_rows}
 use Rattle.sheet.specs.Rule.{SheetRule}
@@ -43,15 +43,15 @@ abbrev pub with_pins : List Pin → List Pin → Result (List Pin) SheetFault
 with_pins = with_distinct bytes_eq (λ pin. pin.name) (λ pin. DoublePin pin.lane)
 
 -- the marks of a lane
-abbrev pub span_of : Numbered → Span
+abbrev pub span_of : NumberedLane → LaneSpan
 span_of l = record { first = l.first; count = l.count }
 
 -- those of each lane, by number
-abbrev pub spans_of : List LaneText → List Span
+abbrev pub spans_of : List LaneText → List LaneSpan
 spans_of lanes = map span_of (numbered lanes)
 
 -- a lane by its number and the span of its marks
-abbrev pub numbered_by : ℕ → LaneText → Span → Numbered
+abbrev pub numbered_by : ℕ → LaneText → LaneSpan → NumberedLane
 numbered_by number lane span = record { number = number; lane = lane; first = span.first; count = span.count }
 
 -- a link without where its texts lie in memory

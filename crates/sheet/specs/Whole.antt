@@ -14,7 +14,7 @@ use Rattle.sheet.specs.declared.rule.Source.{Source}
 use Rattle.grades.specs.Grades.{HasRanges}
 use Rattle.sheet.specs.Links.{Labels, plain, graded}
 use Rattle.sheet.specs.Rule.{SheetRule}
-use Rattle.sheet.specs.Contents.{Contents}
+use Rattle.sheet.specs.Contents.{SheetContents}
 
 -- how many causes a rule of a kind may have: a linear one its from-mark, and the others some
 abbrev pub IsCauseCount : RuleKind → ℕ → Type 0
@@ -47,7 +47,7 @@ pub record IsWholeRow (marks : ℕ) (row : SheetRow) : Type 0 where
   pub kind : IsWholeKind row.kind
 
 -- there are few marks, those of each pin are among them, and rules and rows are between them
-pub record IsWhole (sheet : Contents) : Type 0 where
+pub record IsWhole (sheet : SheetContents) : Type 0 where
   pub marks : length sheet.marks ≤ MAX_MARKS
   pub pins : All (λ (pin : Pin). (1 ≤ pin.count) × (pin.first + pin.count ≤ length sheet.marks)) sheet.pins
   pub rules : All (IsWholeRule (length sheet.marks)) sheet.rules

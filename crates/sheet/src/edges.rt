@@ -2,7 +2,7 @@
 
 ghost use Rattle.std.specs.Prelude.{◌≤◌, length};
 ghost use Rattle.sheet.specs.Fault.{is_memory};
-ghost use Rattle.itv_base.specs.Reading.{Gives};
+ghost use Rattle.itv_base.specs.Reading.{AgreesWith};
 ghost use Rattle.sheet.specs.Links.{links_of};
 ghost use Rattle.sheet.specs.Step.{labels_view, rules_and_rows};
 
@@ -35,7 +35,7 @@ pub fn read_edges(
     mut rules: Vec<Rule>,
 ) -> Result<EdgeRules, SheetFault>
     requires { length marks.now ≤ MAX_MARKS }
-    ensures { Gives is_memory (λ read. read) result (rules_and_rows rules.items (links_of (labels_view labels.entry) marks.now edges.now)) }
+    ensures { AgreesWith is_memory (λ read. read) result (rules_and_rows rules.items (links_of (labels_view labels.entry) marks.now edges.now)) }
 {
     let mut places = Places::new(alloc);
     let mut rows = SheetRows::new(alloc);

@@ -1,7 +1,7 @@
 //! Groups of causes: those of one kind with one target and one tag are the causes of one rule.
 
 ghost use Rattle.std.specs.Prelude.{◌≡◌, ◌++◌, ◌∷◌, [], List, length, if◌then◌else◌, true, Some, None, OnOk};
-ghost use Rattle.sheet.specs.Groups.{AddsLink, ArePlaces, StandsFor, kind_of, place_of, same_group};
+ghost use Rattle.sheet.specs.Groups.{AddsLink, ArePlaces, RepresentsRules, kind_of, place_of, same_group};
 ghost use Rattle.sheet.specs.Step.{AddsCause, is_cause, link_view};
 ghost use Rattle.sheet.specs.Links.{Link as LinkSeen, source_of};
 ghost use Rattle.sheet.specs.Rule.{SheetRule};
@@ -59,7 +59,7 @@ pub fn push_link<'a>(
     link: &Link<'a>,
 ) -> Result<(), GroupFault>
     requires { ArePlaces places.old (length rules.old.items) }
-    ensures adds { (front : List SheetRule) (links : List LinkSeen) → StandsFor front links rules.old.items places.old
+    ensures adds { (front : List SheetRule) (links : List LinkSeen) → RepresentsRules front links rules.old.items places.old
         → AddsLink front links n (link_view link.now) result rules.new.items places.new }
 {
     match link.label.kind {
@@ -85,7 +85,7 @@ fn join_group<'a>(
     requires places { ArePlaces places.old (length rules.old.items) }
     requires kind { kind_of kind ≡ link.now.label.kind }
     requires cause { is_cause link.now.label.kind ≡ true }
-    ensures { (front : List SheetRule) (links : List LinkSeen) → StandsFor front links rules.old.items places.old
+    ensures { (front : List SheetRule) (links : List LinkSeen) → RepresentsRules front links rules.old.items places.old
         → AddsLink front links n (link_view link.now) result rules.new.items places.new }
 {
     let group = Group {

@@ -2,7 +2,7 @@
 
 ghost use Rattle.std.specs.Prelude.{◌≡◌, option_map, option_and_then};
 ghost use Rattle.std.specs.Option.{option_copied};
-ghost use Rattle.itv_base.specs.Reading.{Gives};
+ghost use Rattle.itv_base.specs.Reading.{AgreesWith};
 ghost use Rattle.label_grammar.specs.Label.{label_view, span_view};
 ghost use Rattle.grades.specs.Grades.{range_in};
 ghost use Rattle.sheet.specs.Fault.{is_memory};
@@ -25,7 +25,7 @@ pub enum Labels<'a> {
 
 /// The label of edge n, with its range.
 pub fn read_label_in<'a>(labels: Labels<'_>, n: u64, text: &'a str) -> Result<Label<'a>, SheetFault>
-    ensures { Gives is_memory label_view result (label_in (labels_view labels.entry) n text.now) }
+    ensures { AgreesWith is_memory label_view result (label_in (labels_view labels.entry) n text.now) }
 {
     match labels {
         Labels::Plain => read_plain(n, text),
@@ -35,7 +35,7 @@ pub fn read_label_in<'a>(labels: Labels<'_>, n: u64, text: &'a str) -> Result<La
 
 // The label of edge n in version 1.
 fn read_plain<'a>(n: u64, text: &'a str) -> Result<Label<'a>, SheetFault>
-    ensures { Gives is_memory label_view result (label_in plain n text.now) }
+    ensures { AgreesWith is_memory label_view result (label_in plain n text.now) }
 {
     match read_label(text) {
         Ok(label) => Ok(label),
@@ -45,7 +45,7 @@ fn read_plain<'a>(n: u64, text: &'a str) -> Result<Label<'a>, SheetFault>
 
 // The label of edge n in version 2, with the range that a grade gives for the parameter that it names.
 fn read_graded<'a>(grade: Option<&Grade>, n: u64, text: &'a str) -> Result<Label<'a>, SheetFault>
-    ensures { Gives is_memory label_view result (label_in (graded (option_copied grade.entry)) n text.now) }
+    ensures { AgreesWith is_memory label_view result (label_in (graded (option_copied grade.entry)) n text.now) }
 {
     // A `?` on a value that holds a text beside a range gets no proof.
     let label = match read_label2(text) {
@@ -68,7 +68,7 @@ fn span_range(
     n: u64,
     span: &Option<Span<'_>>,
 ) -> Result<Option<Range>, SheetFault>
-    ensures { Gives is_memory (λ range. range) result (span_ends n (option_copied grade.entry) (option_map span_view span.now)) }
+    ensures { AgreesWith is_memory (λ range. range) result (span_ends n (option_copied grade.entry) (option_map span_view span.now)) }
 {
     match span {
         None => Ok(None),

@@ -4,7 +4,7 @@ ghost use Rattle.std.specs.Prelude.{◌≡◌, ◌+◌, ◌<◌, ◌≤◌, All,
 ghost use Rattle.std.specs.List.{list_all, list_any};
 ghost use Rattle.itv_base.specs.Characters.{is_mark};
 ghost use Rattle.sheet.specs.Fault.{is_memory};
-ghost use Rattle.itv_base.specs.Reading.{Gives};
+ghost use Rattle.itv_base.specs.Reading.{AgreesWith};
 ghost use Rattle.sheet.specs.Lanes.{is_node_byte, node_of, has_bad_node, drawn_kind, lane_marks};
 ghost use Rattle.sheet.specs.Sheet.{read_marks};
 ghost use Rattle.sheet.specs.Step.{AreMarks, with_marks, spans_of};
@@ -17,7 +17,7 @@ use wavejson::{LaneText, Lanes};
 
 /// Which marks of a sheet stand on a lane: those from number `first` on, `count` of them.
 #[derive(Clone, Copy, Debug, PartialEq, Eq)]
-pub struct Span {
+pub struct LaneSpan {
     pub first: u32,
     pub count: u32,
 }
@@ -26,12 +26,12 @@ pub struct Span {
 #[derive(Debug, Drop)]
 pub struct LaneMarks {
     pub marks: Marks,
-    pub spans: Vec<Span>,
+    pub spans: Vec<LaneSpan>,
 }
 
 /// The marks of all lanes, or the first fault of a node. No character is a mark twice, so there are few.
 pub fn read_marks(alloc: Global, lanes: &Lanes) -> Result<LaneMarks, SheetFault>
-    ensures answer { Gives is_memory (λ read. read.marks) result (read_marks lanes.now) }
+    ensures answer { AgreesWith is_memory (λ read. read.marks) result (read_marks lanes.now) }
     ensures few { IfOk result (λ read. length read.marks ≤ MAX_MARKS) }
     ensures spans { IfOk result (λ read. read.spans.items ≡ spans_of lanes.now) }
     ensures within { IfOk result (λ read. All (λ s. s.first + s.count ≤ MAX_MARKS) read.spans.items) }
@@ -44,7 +44,7 @@ pub fn read_marks(alloc: Global, lanes: &Lanes) -> Result<LaneMarks, SheetFault>
     for k in 0..lanes.len() {
         let first = marks.len();
         push_marks(&mut marks, k, lanes.get(k))?;
-        spans.push(Span {
+        spans.push(LaneSpan {
             first: first as u32,
             count: (marks.len() - first) as u32,
         })?;
@@ -99,7 +99,7 @@ fn node_of(lane: &LaneText) -> &[u8]
 
 // Puts the marks of a lane at the end, as far as none stood before.
 fn push_marks(marks: &mut Marks, number: u64, lane: &LaneText) -> Result<(), SheetFault>
-    ensures answer { Gives is_memory (λ _. marks.new) result (with_marks marks.old (lane_marks (number, lane.now))) }
+    ensures answer { AgreesWith is_memory (λ _. marks.new) result (with_marks marks.old (lane_marks (number, lane.now))) }
     ensures distinct { OnOk result (AreMarks marks.old → AreMarks marks.new) }
 {
     let node = node_of(lane);

@@ -2,7 +2,7 @@
 
 ghost use Rattle.std.specs.Prelude.{◌≡◌, ◌≤◌, length, option_map, unwrap_or};
 ghost use Rattle.sheet.specs.Fault.{is_memory};
-ghost use Rattle.itv_base.specs.Reading.{Gives};
+ghost use Rattle.itv_base.specs.Reading.{AgreesWith};
 ghost use Rattle.sheet.specs.Links.{number_of, link_of, source_of, open_ends};
 ghost use Rattle.sheet.specs.Step.{labels_view, link_view};
 
@@ -32,7 +32,7 @@ pub fn read_link<'a>(
     text: &'a str,
 ) -> Result<Option<Link<'a>>, SheetFault>
     requires { length marks.now ≤ MAX_MARKS }
-    ensures { Gives is_memory (λ link. option_map link_view link) result (link_of (labels_view labels.entry) marks.now n text.now) }
+    ensures { AgreesWith is_memory (λ link. option_map link_view link) result (link_of (labels_view labels.entry) marks.now n text.now) }
 {
     let (from, to, label) = match read_edge(text) {
         EdgeText::Comment => return Ok(None),

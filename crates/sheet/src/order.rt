@@ -4,7 +4,7 @@ ghost use Rattle.std.specs.Prelude.{◌≡◌, ◌+◌, ◌≤◌, ◌++◌, All
 ghost use Rattle.sheet.specs.Lanes.{follows_rule, order_of, lane_order, order_rules};
 ghost use Rattle.sheet.specs.Step.{spans_of, numbered_by};
 
-use crate::lanes::Span;
+use crate::lanes::LaneSpan;
 use crate::mark::MAX_MARKS;
 use crate::rule::{Rule, Source, Sources};
 use itv_base::{NoMemory, Range, RuleKind};
@@ -17,7 +17,7 @@ pub fn push_lane_orders(
     alloc: Global,
     rules: &mut Vec<Rule>,
     lanes: &Lanes,
-    spans: &[Span],
+    spans: &[LaneSpan],
 ) -> Result<(), NoMemory>
     requires spans { spans.now ≡ spans_of lanes.now }
     requires within { All (λ s. s.first + s.count ≤ MAX_MARKS) spans.now }
@@ -36,7 +36,7 @@ fn push_lane_order(
     rules: &mut Vec<Rule>,
     number: u64,
     lane: &LaneText,
-    span: Span,
+    span: LaneSpan,
 ) -> Result<(), NoMemory>
     requires { span.first + span.count ≤ MAX_MARKS }
     ensures { OnOk result (rules.new.items ≡ rules.old.items ++ lane_order (numbered_by number lane.now span)) }
@@ -52,7 +52,7 @@ fn push_order(
     alloc: Global,
     rules: &mut Vec<Rule>,
     origin: Origin,
-    span: Span,
+    span: LaneSpan,
 ) -> Result<(), NoMemory>
     requires { span.first + span.count ≤ MAX_MARKS }
     ensures { OnOk result (rules.new.items ≡ rules.old.items ++ order_of origin span.first span.count) }

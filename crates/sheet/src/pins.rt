@@ -4,22 +4,22 @@ ghost use Rattle.std.specs.Prelude.{◌≡◌, option_to_list};
 ghost use Rattle.std.specs.List.{list_any};
 ghost use Rattle.std.specs.Str.{bytes_eq};
 ghost use Rattle.sheet.specs.Fault.{is_memory};
-ghost use Rattle.itv_base.specs.Reading.{Gives};
+ghost use Rattle.itv_base.specs.Reading.{AgreesWith};
 ghost use Rattle.sheet.specs.Lanes.{pin_of};
 ghost use Rattle.sheet.specs.Sheet.{read_pins};
 ghost use Rattle.sheet.specs.Step.{with_pins, spans_of, numbered_by};
 
 use crate::fault::SheetFault;
-use crate::lanes::Span;
+use crate::lanes::LaneSpan;
 use crate::pin::{Pin, Pins};
 use itv_base::Text;
 use std::alloc::Global;
 use wavejson::{LaneText, Lanes};
 
 /// The pins of lanes, where the spans of their marks are known; or the first lane with the name of an earlier pin.
-pub fn read_pins(alloc: Global, lanes: &Lanes, spans: &[Span]) -> Result<Pins, SheetFault>
+pub fn read_pins(alloc: Global, lanes: &Lanes, spans: &[LaneSpan]) -> Result<Pins, SheetFault>
     requires { spans.now ≡ spans_of lanes.now }
-    ensures { Gives is_memory (λ pins. pins) result (read_pins lanes.now) }
+    ensures { AgreesWith is_memory (λ pins. pins) result (read_pins lanes.now) }
 {
     let mut pins = Pins::new(alloc);
     for (k, span) in spans.iter().enumerate() {
@@ -35,9 +35,9 @@ fn push_pin(
     pins: &mut Pins,
     number: u64,
     lane: &LaneText,
-    span: Span,
+    span: LaneSpan,
 ) -> Result<(), SheetFault>
-    ensures { Gives is_memory (λ _. pins.new) result
+    ensures { AgreesWith is_memory (λ _. pins.new) result
         (with_pins pins.old (option_to_list (pin_of (numbered_by number lane.now span)))) }
 {
     let Some(name) = &lane.name else {

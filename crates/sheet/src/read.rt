@@ -4,7 +4,7 @@ ghost use Rattle.std.specs.Prelude.{IfOk, IfSome};
 ghost use Rattle.std.specs.Option.{option_copied};
 ghost use Rattle.grades.specs.Grades.{HasRanges};
 ghost use Rattle.sheet.specs.Fault.{is_memory};
-ghost use Rattle.itv_base.specs.Reading.{Gives};
+ghost use Rattle.itv_base.specs.Reading.{AgreesWith};
 ghost use Rattle.sheet.specs.Links.{plain};
 ghost use Rattle.sheet.specs.Sheet.{grade_named, sheet_at, sheet_of};
 ghost use Rattle.sheet.specs.Step.{labels_view, AreWholeLabels};
@@ -30,7 +30,7 @@ use wavejson::Diagram;
 ///
 /// `NoMemory` may come in place of a sheet or a fault. After any fault no sheet was made.
 pub fn read_sheet(alloc: Global, diagram: &Diagram) -> Result<Sheet, SheetFault>
-    ensures answer { Gives is_memory (λ sheet. sheet) result (sheet_of plain diagram.now) }
+    ensures answer { AgreesWith is_memory (λ sheet. sheet) result (sheet_of plain diagram.now) }
 {
     read_with(alloc, Labels::Plain, diagram)
 }
@@ -47,7 +47,7 @@ pub fn read_sheet_at(
     grades: &Grades,
     grade: Option<&str>,
 ) -> Result<Sheet, SheetFault>
-    ensures answer { Gives is_memory (λ sheet. sheet) result (sheet_at grades.now (option_copied grade.entry) diagram.now) }
+    ensures answer { AgreesWith is_memory (λ sheet. sheet) result (sheet_at grades.now (option_copied grade.entry) diagram.now) }
 {
     let grade = match grade_named(grades, grade) {
         Ok(grade) => grade,
@@ -58,7 +58,7 @@ pub fn read_sheet_at(
 
 // The grade of a name, if one is named.
 fn grade_named<'g>(grades: &'g Grades, name: Option<&str>) -> Result<Option<&'g Grade>, SheetFault>
-    ensures grade { Gives is_memory (λ grade. option_copied grade) result (grade_named grades.now (option_copied name.entry)) }
+    ensures grade { AgreesWith is_memory (λ grade. option_copied grade) result (grade_named grades.now (option_copied name.entry)) }
     ensures ranges { IfOk result (λ grade. IfSome (option_copied grade) HasRanges) }
 {
     let Some(name) = name else {
@@ -73,7 +73,7 @@ fn grade_named<'g>(grades: &'g Grades, name: Option<&str>) -> Result<Option<&'g 
 // The sheet of a drawing whose labels are read so.
 fn read_with(alloc: Global, labels: Labels<'_>, diagram: &Diagram) -> Result<Sheet, SheetFault>
     requires { AreWholeLabels (labels_view labels) }
-    ensures { Gives is_memory (λ sheet. sheet) result (sheet_of (labels_view labels.entry) diagram.now) }
+    ensures { AgreesWith is_memory (λ sheet. sheet) result (sheet_of (labels_view labels.entry) diagram.now) }
 {
     let lanes = diagram.lanes();
     let LaneMarks { marks, spans } = read_marks(alloc, lanes)?;

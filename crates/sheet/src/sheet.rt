@@ -22,10 +22,10 @@ pub struct Sheet {
 }
 
 impl Model for Sheet {
-    ghost use Rattle.sheet.specs.Contents.{Contents};
+    ghost use Rattle.sheet.specs.Contents.{SheetContents};
     ghost use Rattle.sheet.specs.Whole.{IsWhole};
 
-    ghost Value = { Contents };
+    ghost Value = { SheetContents };
 
     ghost view = { λ s. record { marks = s.marks; pins = s.pins; rules = s.rules; rows = s.rows; edges = s.edges; near = s.near } };
 

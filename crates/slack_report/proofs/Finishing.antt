@@ -16,16 +16,16 @@ use Rattle.slack_report.specs.declared.words.Which.TheVariants as sorts
 use Rattle.slack_report.specs.declared.place.Place.{Place}
 use Rattle.slack_report.specs.declared.place.Place.TheVariants as at
 use Rattle.slack_report.specs.declared.place.Spot.{Spot}
-use Rattle.slack_report.specs.Entry.{Entry, IsEntry, IsName, heading, budget, events, event, finding, times, rows, row, bound, raise, verdict, slack, ending}
-use Rattle.slack_report.specs.Order.{Leads, Steps, after_bound, after_row, after_times, before_event, before_row, next}
+use Rattle.slack_report.specs.Entry.{Entry, IsReportEntry, IsName, heading, budget, events, event, finding, times, rows, row, bound, raise, verdict, slack, ending}
+use Rattle.slack_report.specs.Order.{OrderLeads, OrderStep, after_bound, after_row, after_times, before_event, before_row, next}
 
 -- lines that lead from a place to the end of a report
 pub record Ends (place : Place) : Type 0 where
   pub entries : List Entry
-  pub leads : Leads place entries at.Nothing
+  pub leads : OrderLeads place entries at.Nothing
 
 -- one line more in front
-ends_by : (place behind : Place) (entry : Entry) → Steps place entry behind → Ends behind → Ends place
+ends_by : (place behind : Place) (entry : Entry) → OrderStep place entry behind → Ends behind → Ends place
 ends_by place behind entry steps ends = record { entries = entry ∷ ends.entries; leads = (behind, steps, ends.leads) }
 
 -- ---- lines that may stand anywhere
@@ -60,7 +60,7 @@ zeros_are_long : (count : ℕ) → AllByRecursion IsLong (zeros count)
 zeros_are_long zero = tt
 zeros_are_long (suc count) = (zero_is_long, zeros_are_long count)
 
-zeros_fit : (count : ℕ) → IsEntry count (times (zeros count))
+zeros_fit : (count : ℕ) → IsReportEntry count (times (zeros count))
 zeros_fit count = (length-zeros count, All-from_recursion IsLong (zeros count) (zeros_are_long count))
 
 -- ---- from the end backwards

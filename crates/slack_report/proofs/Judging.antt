@@ -14,7 +14,7 @@ use Rattle.std.specs.Prelude.{IfOk, IsErrOf}
 use Rattle.slack_report.specs.Answer.{IsLineFault, IsRead}
 use Rattle.slack_report.specs.Step.Answer.{IsAnswer}
 use Rattle.slack_report.specs.Entry.{Entry}
-use Rattle.slack_report.specs.Order.{BeginsReport, IsReport, Leads}
+use Rattle.slack_report.specs.Order.{BeginsReport, IsReport, OrderLeads}
 use Rattle.slack_report.specs.Reading.{Read, report_in}
 use Rattle.slack_report.specs.Report.{BeginsReportText, IsFirstWrongLine, first_lines, line_count}
 use Rattle.slack_report.specs.Text.{entry_text, report_text}
@@ -25,12 +25,12 @@ use Rattle.slack_report.proofs.Walking.{lines_again, lines_err, lines_ok, split_
 pub report_text-append : (es more : List Entry) → report_text (es ++ more) ≡ report_text es ++ report_text more
 report_text-append es more = flat_map-append entry_text es more
 
-pub leads-append : (es more : List Entry) (place behind last : Place) → Leads place es behind → Leads behind more last → Leads place (es ++ more) last
-leads-append [] more place behind last p q = subst (λ x. Leads x more last) (sym p) q
+pub leads-append : (es more : List Entry) (place behind last : Place) → OrderLeads place es behind → OrderLeads behind more last → OrderLeads place (es ++ more) last
+leads-append [] more place behind last p q = subst (λ x. OrderLeads x more last) (sym p) q
 leads-append (entry ∷ es) more place behind last p q = (p.0, p.1, leads-append es more p.0 behind last p.2 q)
 
 -- the text of lines that begin a report begins a report's text
-pub begins_by : (bytes : List ℕ) (es : List Entry) (behind : Place) → Leads at.Heading es behind → bytes ≡ report_text es → BeginsReportText bytes
+pub begins_by : (bytes : List ℕ) (es : List Entry) (behind : Place) → OrderLeads at.Heading es behind → bytes ≡ report_text es → BeginsReportText bytes
 begins_by bytes es behind leads text =
     let rest = finish behind in record {
       more = report_text rest.entries;

@@ -24,7 +24,7 @@ use Rattle.itv_base.specs.declared.row_kind.RowKind.TheVariants as kinds
 use Rattle.slack_report.specs.declared.words.Which.{Which}
 use Rattle.slack_report.specs.declared.place.Place.{Place}
 use Rattle.slack_report.specs.declared.place.Place.TheVariants as at
-use Rattle.slack_report.specs.Entry.{Entry, IsBound, IsEntry, IsKind, IsName, heading, budget, events, event, proof, finding, times, rows, row, bound, raise, verdict, slack, ending}
+use Rattle.slack_report.specs.Entry.{Entry, HasBoundForm, IsReportEntry, IsKind, IsName, heading, budget, events, event, proof, finding, times, rows, row, bound, raise, verdict, slack, ending}
 use Rattle.slack_report.specs.Order.{events_at}
 use Rattle.slack_report.specs.Reading.{ask_in, bound_in, budget_in, demand_in, ending_in, entry_at, finding_in, flags_in, heading_in, name_in, range_in, row_in, times_in, verdict_in}
 use Rattle.slack_report.specs.Text.{bound_words, ending_word, finding_word, members_from, name_word, range_word, row_words, verdict_words, which_word, words_of}
@@ -34,7 +34,7 @@ use Rattle.slack_report.proofs.WordLaws.{IsBudget, budget_inverts, ending_invert
 -- ---- bounds and verdicts
 
 abbrev BoundTaken : List Word → Bound → Type 0
-BoundTaken words value = (words ≡ bound_words value) × IsBound value
+BoundTaken words value = (words ≡ bound_words value) × HasBoundForm value
 
 bound_takes : (words : List Word) (value : Bound) → bound_in words ≡ Some value → BoundTaken words value
 unfolding bound_in
@@ -69,14 +69,14 @@ unbounded_is_no_number : long_in (codes "unbounded") ≡ None
 unfolding long_in
 unbounded_is_no_number = refl
 
-bound_again : (value : Bound) → IsBound value → bound_in (bound_words value) ≡ Some value
+bound_again : (value : Bound) → HasBoundForm value → bound_in (bound_words value) ≡ Some value
 unfolding bound_in
 bound_again (bounds.Closed value) form = rw (long_inverts.again value form) refl
 bound_again bounds.Unbounded form = rw unbounded_is_no_number refl
 bound_again (bounds.Within limit None) form = rw (open_inverts.again limit form.0) refl
 bound_again (bounds.Within limit (Some found)) form = rw (open_inverts.again limit form.0, long_inverts.again found form.1) refl
 
-pub bound_inverts : Inverts bound_in bound_words IsBound
+pub bound_inverts : Inverts bound_in bound_words HasBoundForm
 bound_inverts = record { takes = bound_takes; again = bound_again }
 
 verdict_takes : (words : List Word) (word : Verdict) → verdict_in words ≡ Some word → words ≡ verdict_words word
@@ -236,10 +236,10 @@ row_inverts = record { takes = row_takes; again = row_again }
 -- ---- each place
 
 abbrev EntryTaken : ℕ → List Word → Entry → Type 0
-EntryTaken count words entry = (words ≡ words_of entry) × IsEntry count entry
+EntryTaken count words entry = (words ≡ words_of entry) × IsReportEntry count entry
 
 mapped : {A : Type 0} (f : A → Entry) (read : List Word → Option A) (spell : A → List Word) (Form : A → Type 0) (words : List Word) (entry : Entry) (count : ℕ) → Inverts read spell Form
-    → ((x : A) → spell x ≡ words_of (f x)) → ((x : A) → Form x → IsEntry count (f x)) → option_map f (read words) ≡ Some entry → EntryTaken count words entry
+    → ((x : A) → spell x ≡ words_of (f x)) → ((x : A) → Form x → IsReportEntry count (f x)) → option_map f (read words) ≡ Some entry → EntryTaken count words entry
 mapped f read spell Form words entry count i spells forms e =
     let m = map_some f (read words) entry e in
     let t = i.takes words m.0 m.1 in
@@ -286,8 +286,8 @@ slack_line =
     keyed_inverts (codes "slack") (two open_in open_in) (λ x. end_text x.0 ∷ end_text x.1 ∷ []) (λ x. IsLongOrOpen x.0 × IsLongOrOpen x.1)
     (two_inverts open_in end_text IsLongOrOpen open_in end_text IsLongOrOpen open_inverts open_inverts)
 
-pub bound_line : (which : Which) → Inverts (keyed (which_word which) bound_in) (λ value. which_word which ∷ bound_words value) IsBound
-bound_line which = keyed_inverts (which_word which) bound_in bound_words IsBound bound_inverts
+pub bound_line : (which : Which) → Inverts (keyed (which_word which) bound_in) (λ value. which_word which ∷ bound_words value) HasBoundForm
+bound_line which = keyed_inverts (which_word which) bound_in bound_words HasBoundForm bound_inverts
 
 heading_takes : (words : List Word) (entry : Entry) → keyed (codes "itv") (keyed (codes "report") (one heading_in)) words ≡ Some entry → EntryTaken 0 words entry
 unfolding words_of

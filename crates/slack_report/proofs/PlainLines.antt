@@ -24,10 +24,10 @@ use Rattle.slack_report.specs.declared.words.FindingWord.TheVariants as findings
 use Rattle.slack_report.specs.declared.words.Which.{Which}
 use Rattle.slack_report.specs.declared.words.Which.TheVariants as sorts
 use Rattle.slack_report.specs.declared.place.Place.{Place}
-use Rattle.slack_report.specs.Entry.{Entry, IsEntry, IsName, heading, budget, events, event, proof, finding, times, rows, row, bound, raise, verdict, slack, ending}
+use Rattle.slack_report.specs.Entry.{Entry, IsReportEntry, IsName, heading, budget, events, event, proof, finding, times, rows, row, bound, raise, verdict, slack, ending}
 use Rattle.slack_report.specs.declared.words.EndWord.{EndWord}
 use Rattle.slack_report.specs.declared.words.FindingWord.{FindingWord}
-use Rattle.slack_report.specs.Order.{Steps, events_at}
+use Rattle.slack_report.specs.Order.{OrderStep, events_at}
 use Rattle.slack_report.specs.Reading.{step_at}
 use Rattle.slack_report.specs.Text.{entry_line, ending_word, finding_word, members_from, name_word, range_word, which_word, words_of}
 use Rattle.slack_report.proofs.Standing.{step_again, step_takes}
@@ -80,7 +80,7 @@ pub record Words (words : List Word) : Type 0 where
 abbrev words_are : (first : Word) (others : List Word) → ArePlain (first ∷ others) → Words (first ∷ others)
 words_are first others plain = record { first = first; others = others; parts = refl; plain = plain }
 
-pub words_plain : (count : ℕ) (entry : Entry) → IsEntry count entry → Words (words_of entry)
+pub words_plain : (count : ℕ) (entry : Entry) → IsReportEntry count entry → Words (words_of entry)
 unfolding words_of
 words_plain count heading form = words_are (codes "itv") (codes "report" ∷ codes "1" ∷ []) (refl, (refl, (refl, tt)))
 words_plain count (budget most) form = words_are (codes "budget") (number_text most ∷ []) (refl, (number_plain most, tt))
@@ -109,22 +109,22 @@ words_plain count (ending word) form = words_are (codes "end") (ending_word word
 
 -- ---- lines
 
-pub line_words : (count : ℕ) (entry : Entry) → IsEntry count entry → split_words (entry_line entry) ≡ words_of entry
+pub line_words : (count : ℕ) (entry : Entry) → IsReportEntry count entry → split_words (entry_line entry) ≡ words_of entry
 line_words count entry form =
     let w = words_plain count entry form in
     rw w.parts (split-join w.first w.others w.plain)
 
-is_one_line : (count : ℕ) (entry : Entry) → IsEntry count entry → IsLine (entry_line entry)
+is_one_line : (count : ℕ) (entry : Entry) → IsReportEntry count entry → IsLine (entry_line entry)
 is_one_line count entry form =
     let w = words_plain count entry form in
     rw w.parts (join_line (w.first ∷ w.others) w.plain)
 
-entry_is_text : (count : ℕ) (entry : Entry) → IsEntry count entry → IsUtf8 (entry_line entry)
+entry_is_text : (count : ℕ) (entry : Entry) → IsReportEntry count entry → IsUtf8 (entry_line entry)
 entry_is_text count entry form =
     let w = words_plain count entry form in
     rw w.parts (line_is_text (w.first ∷ w.others) w.plain)
 
-takes_line : (place : Place) (line : List ℕ) (step : Entry × Place) → step_at place (split_words line) ≡ Some step → (line ≡ entry_line step.0) × Steps place step.0 step.1
+takes_line : (place : Place) (line : List ℕ) (step : Entry × Place) → step_at place (split_words line) ≡ Some step → (line ≡ entry_line step.0) × OrderStep place step.0 step.1
 takes_line place line step e =
     let t = step_takes place (split_words line) step e in
     (sym (join_with_byte-slice_split 32 line) ∙ ap line_of t.0, t.1)

@@ -10,15 +10,15 @@ use Rattle.line_words.proofs.Cutting.{IsLine, cut_same, split_line}
 use Rattle.slack_report.specs.declared.place.Place.{Place}
 use Rattle.slack_report.specs.declared.place.Place.TheVariants as at
 use Rattle.slack_report.specs.Entry.{Entry}
-use Rattle.slack_report.specs.Order.{Leads, Steps}
+use Rattle.slack_report.specs.Order.{OrderLeads, OrderStep}
 use Rattle.slack_report.specs.Reading.{Read, behind_line, is_nothing, lines_in, step_at, with_line}
 use Rattle.slack_report.specs.Text.{entry_line, entry_text, report_text}
 
 -- What a line that may stand at a place is, and that it is read there.
 pub record LineLaws : Type 0 where
-  pub takes : (place : Place) (line : List ℕ) (step : Entry × Place) → step_at place (split_words line) ≡ Some step → (line ≡ entry_line step.0) × Steps place step.0 step.1
-  pub again : (place : Place) (entry : Entry) (behind : Place) → Steps place entry behind → step_at place (split_words (entry_line entry)) ≡ Some (entry, behind)
-  pub is_line : (place : Place) (entry : Entry) (behind : Place) → Steps place entry behind → IsLine (entry_line entry)
+  pub takes : (place : Place) (line : List ℕ) (step : Entry × Place) → step_at place (split_words line) ≡ Some step → (line ≡ entry_line step.0) × OrderStep place step.0 step.1
+  pub again : (place : Place) (entry : Entry) (behind : Place) → OrderStep place entry behind → step_at place (split_words (entry_line entry)) ≡ Some (entry, behind)
+  pub is_line : (place : Place) (entry : Entry) (behind : Place) → OrderStep place entry behind → IsLine (entry_line entry)
 
 -- ---- steps
 
@@ -102,14 +102,14 @@ last_again = refl
 -- ---- what is read is the report
 
 module _ (laws : LineLaws) where
-  pub lines_ok : (parts : List (List ℕ)) (place : Place) (es : List Entry) → lines_in place parts ≡ Ok es → Leads place es at.Nothing × (join_with_byte 10 parts ≡ report_text es)
+  pub lines_ok : (parts : List (List ℕ)) (place : Place) (es : List Entry) → lines_in place parts ≡ Ok es → OrderLeads place es at.Nothing × (join_with_byte 10 parts ≡ report_text es)
   unfolding lines_in
   lines_ok [] place es e = absurd (cc)
   lines_ok (last ∷ []) place es e =
       let l = last_ok (is_nothing place && eqb (length last) 0) es e in
       let p = and_parts (is_nothing place) (eqb (length last) 0) l.0 in
       let empty : last ≡ [] = nil_from_length last (eqb-true (length last) 0 p.1) in
-      subst (λ (xs : List Entry). Leads place xs at.Nothing × (last ≡ report_text xs)) l.1 (nothing_is place p.0, empty)
+      subst (λ (xs : List Entry). OrderLeads place xs at.Nothing × (last ≡ report_text xs)) l.1 (nothing_is place p.0, empty)
   lines_ok (line ∷ more ∷ lines) place es e =
       let b = behind_ok (step_at place (split_words line)) (λ behind. lines_in behind (more ∷ lines)) es e in
       let w = with_line_ok b.0.0 (lines_in b.0.1 (more ∷ lines)) es b.2 in
@@ -117,9 +117,9 @@ module _ (laws : LineLaws) where
       let t = laws.takes place line b.0 b.1 in
       let text : line ++ (10 ∷ join_with_byte 10 (more ∷ lines)) ≡ entry_text b.0.0 ++ report_text w.0 =
       ap (λ x. x ++ (10 ∷ join_with_byte 10 (more ∷ lines))) t.0 ∙ ap (λ x. entry_line b.0.0 ++ (10 ∷ x)) rest.1 ∙ sym (append_assoc (entry_line b.0.0) (10 ∷ []) (report_text w.0)) in
-      subst (λ (xs : List Entry). Leads place xs at.Nothing × (line ++ (10 ∷ join_with_byte 10 (more ∷ lines)) ≡ report_text xs)) w.2 ((b.0.1, t.1, rest.0), text)
+      subst (λ (xs : List Entry). OrderLeads place xs at.Nothing × (line ++ (10 ∷ join_with_byte 10 (more ∷ lines)) ≡ report_text xs)) w.2 ((b.0.1, t.1, rest.0), text)
 
-  pub lines_again : (es : List Entry) (place : Place) → Leads place es at.Nothing → lines_in place (slice_split is_feed (report_text es)) ≡ Ok es
+  pub lines_again : (es : List Entry) (place : Place) → OrderLeads place es at.Nothing → lines_in place (slice_split is_feed (report_text es)) ≡ Ok es
   lines_again [] place leads = rw leads last_again
   lines_again (entry ∷ es) place leads =
       let rest = report_text es in
@@ -132,14 +132,14 @@ module _ (laws : LineLaws) where
   pub record Wrong (place : Place) (parts : List (List ℕ)) (before : ℕ) : Type 0 where
     pub entries : List Entry
     pub behind : Place
-    pub leads : Leads place entries behind
+    pub leads : OrderLeads place entries behind
     pub text : flat_map ended (take before parts) ≡ report_text entries
     pub is_there : suc before ≤ length parts
-    pub wrong : suc before < length parts → (es : List Entry) → Leads place es at.Nothing → (more : List ℕ) → flat_map ended (take (suc before) parts) ++ more ≡ report_text es → ⊥
+    pub wrong : suc before < length parts → (es : List Entry) → OrderLeads place es at.Nothing → (more : List ℕ) → flat_map ended (take (suc before) parts) ++ more ≡ report_text es → ⊥
 
   -- a line that is not read begins no report from its place on
   none_wrong : (place : Place) (line : List ℕ) (rest : List (List ℕ)) → IsLine line → step_at place (split_words line) ≡ None
-      → (es : List Entry) → Leads place es at.Nothing → (more : List ℕ) → flat_map ended (take 1 (line ∷ rest)) ++ more ≡ report_text es → ⊥
+      → (es : List Entry) → OrderLeads place es at.Nothing → (more : List ℕ) → flat_map ended (take 1 (line ∷ rest)) ++ more ≡ report_text es → ⊥
   none_wrong place line rest is none [] leads more e = not_empty line more (ap (λ x. x ++ more) (sym (append-nil (ended line))) ∙ e)
   none_wrong place line rest is none (entry ∷ es) leads more e =
       let whole : ended line ++ more ≡ entry_text entry ++ report_text es = ap (λ x. x ++ more) (sym (append-nil (ended line))) ∙ e in
@@ -149,15 +149,15 @@ module _ (laws : LineLaws) where
 
   -- lines behind one that is read begin none if they begin none from the place behind it on
   later_wrong : (place : Place) (line : List ℕ) (text : List ℕ) (step : Entry × Place) → IsLine line → step_at place (split_words line) ≡ Some step
-      → ((es : List Entry) → Leads step.1 es at.Nothing → (more : List ℕ) → text ++ more ≡ report_text es → ⊥)
-      → (es : List Entry) → Leads place es at.Nothing → (more : List ℕ) → (ended line ++ text) ++ more ≡ report_text es → ⊥
+      → ((es : List Entry) → OrderLeads step.1 es at.Nothing → (more : List ℕ) → text ++ more ≡ report_text es → ⊥)
+      → (es : List Entry) → OrderLeads place es at.Nothing → (more : List ℕ) → (ended line ++ text) ++ more ≡ report_text es → ⊥
   later_wrong place line text step is reads behind [] leads more e = not_empty line (text ++ more) (sym (append_assoc (ended line) text more) ∙ e)
   later_wrong place line text step is reads behind (entry ∷ es) leads more e =
       let whole : ended line ++ (text ++ more) ≡ entry_text entry ++ report_text es = sym (append_assoc (ended line) text more) ∙ e in
       let same = cut_same line (entry_line entry) (text ++ more) (report_text es) is (laws.is_line place entry leads.0 leads.1) whole in
       let read : step_at place (split_words line) ≡ Some (entry, leads.0) = ap (λ l. step_at place (split_words l)) same.0 ∙ laws.again place entry leads.0 leads.1 in
       let step_is : (entry, leads.0) ≡ step = same_Some (entry, leads.0) step (sym read ∙ reads) in
-      behind es (subst (λ (p : Entry × Place). Leads p.1 es at.Nothing) step_is leads.2) more same.1
+      behind es (subst (λ (p : Entry × Place). OrderLeads p.1 es at.Nothing) step_is leads.2) more same.1
 
   pub lines_err : (parts : List (List ℕ)) (place : Place) (before : ℕ) → IsSome parts → AllByRecursion IsLine parts → lines_in place parts ≡ Err before → Wrong place parts before
   unfolding lines_in

@@ -46,24 +46,24 @@ abbrev pub IsKind : RowKind → Type 0
 IsKind kinds.Ask = Unit {0}
 IsKind (kinds.Req ends) = IsRange ends
 
-abbrev pub IsBound : Bound → Type 0
-IsBound (bounds.Closed value) = IsLong value
-IsBound bounds.Unbounded = Unit {0}
-IsBound (bounds.Within limit attained) = IsLongOrOpen limit × IsLongOrOpen attained
+abbrev pub HasBoundForm : Bound → Type 0
+HasBoundForm (bounds.Closed value) = IsLong value
+HasBoundForm bounds.Unbounded = Unit {0}
+HasBoundForm (bounds.Within limit attained) = IsLongOrOpen limit × IsLongOrOpen attained
 
 -- the line may stand in a report of this number of events, wherever its order allows it
-abbrev pub IsEntry : ℕ → Entry → Type 0
-IsEntry count heading = Unit {0}
-IsEntry count (budget most) = (1 ≤ most) × (most ≤ MAX_BUDGET)
-IsEntry count (events number) = number ≤ MAX_EVENTS
-IsEntry count (event number name) = IsName name
-IsEntry count (proof line) = IsProofLine line
-IsEntry count (finding word) = Unit {0}
-IsEntry count (times list) = (length list ≡ count) × All IsLong list
-IsEntry count (rows number) = number ≤ MAX_ROWS
-IsEntry count (row number kind from to) = IsKind kind × IsName from × IsName to
-IsEntry count (bound which value) = IsBound value
-IsEntry count (raise set) = length set ≡ count
-IsEntry count (verdict word) = Unit {0}
-IsEntry count (slack value) = IsLongOrOpen value.low × IsLongOrOpen value.high
-IsEntry count (ending word) = Unit {0}
+abbrev pub IsReportEntry : ℕ → Entry → Type 0
+IsReportEntry count heading = Unit {0}
+IsReportEntry count (budget most) = (1 ≤ most) × (most ≤ MAX_BUDGET)
+IsReportEntry count (events number) = number ≤ MAX_EVENTS
+IsReportEntry count (event number name) = IsName name
+IsReportEntry count (proof line) = IsProofLine line
+IsReportEntry count (finding word) = Unit {0}
+IsReportEntry count (times list) = (length list ≡ count) × All IsLong list
+IsReportEntry count (rows number) = number ≤ MAX_ROWS
+IsReportEntry count (row number kind from to) = IsKind kind × IsName from × IsName to
+IsReportEntry count (bound which value) = HasBoundForm value
+IsReportEntry count (raise set) = length set ≡ count
+IsReportEntry count (verdict word) = Unit {0}
+IsReportEntry count (slack value) = IsLongOrOpen value.low × IsLongOrOpen value.high
+IsReportEntry count (ending word) = Unit {0}

@@ -13,7 +13,7 @@ use Rattle.slack_report.specs.declared.words.Which.TheVariants as sorts
 use Rattle.slack_report.specs.declared.place.Place.{Place}
 use Rattle.slack_report.specs.declared.place.Place.TheVariants as at
 use Rattle.slack_report.specs.declared.place.Spot.{Spot}
-use Rattle.slack_report.specs.Entry.{Entry, IsEntry, heading, budget, events, event, proof, finding, times, rows, row, bound, raise, verdict, slack, ending}
+use Rattle.slack_report.specs.Entry.{Entry, IsReportEntry, heading, budget, events, event, proof, finding, times, rows, row, bound, raise, verdict, slack, ending}
 
 -- the number of the report's events, once it is known
 abbrev pub events_at : Place → ℕ
@@ -110,19 +110,19 @@ next at.End (ending word) = Some at.Nothing
 next place entry = None
 
 -- the line may stand at a place, and leads to another
-pub record Steps (place : Place) (entry : Entry) (behind : Place) : Type 0 where
-  pub is_entry : IsEntry (events_at place) entry
+pub record OrderStep (place : Place) (entry : Entry) (behind : Place) : Type 0 where
+  pub is_entry : IsReportEntry (events_at place) entry
   pub leads : next place entry ≡ Some behind
 
 -- the lines may stand one after another from a place on, and lead to another
-abbrev pub Leads : Place → List Entry → Place → Type 0
-Leads place [] last = place ≡ last
-Leads place (entry ∷ entries) last = (behind : Place) × Steps place entry behind × Leads behind entries last
+abbrev pub OrderLeads : Place → List Entry → Place → Type 0
+OrderLeads place [] last = place ≡ last
+OrderLeads place (entry ∷ entries) last = (behind : Place) × OrderStep place entry behind × OrderLeads behind entries last
 
 -- the lines of a whole report
 abbrev pub IsReport : List Entry → Type 0
-IsReport entries = Leads at.Heading entries at.Nothing
+IsReport entries = OrderLeads at.Heading entries at.Nothing
 
 -- lines that begin a report, in their order
 abbrev pub BeginsReport : List Entry → Type 0
-BeginsReport entries = (place : Place) × Leads at.Heading entries place
+BeginsReport entries = (place : Place) × OrderLeads at.Heading entries place

@@ -150,14 +150,14 @@ entry_at at.End words = option_map ending (keyed (codes "end") (one ending_in) w
 entry_at at.Nothing words = None
 
 -- with the place behind it
-abbrev pub stepped : Place → Option Entry → Option (Entry × Place)
-stepped place found = do
+abbrev pub with_place : Place → Option Entry → Option (Entry × Place)
+with_place place found = do
   entry ← found
   behind ← next place entry
   Some (entry, behind)
 
 abbrev pub step_at : Place → List Word → Option (Entry × Place)
-step_at place words = stepped place (entry_at place words)
+step_at place words = with_place place (entry_at place words)
 
 -- ---- lines one after another
 

@@ -2,7 +2,7 @@
 
 ghost use Rattle.std.specs.Prelude.{◌≡◌, ◌+◌, ◌^◌, ◌<◌};
 ghost use Rattle.slack_report.specs.Order.{after_bound, after_finding, after_row, after_times, after_verdict, before_event, before_row, in_bound, in_row};
-ghost use Rattle.slack_report.specs.Step.Within.{IsSpot, IsWithin};
+ghost use Rattle.slack_report.specs.Step.Within.{IsSpot, IsPlaceWithin};
 
 use crate::place::{Place, Spot};
 use crate::words::{FindingWord, Which};
@@ -13,7 +13,7 @@ use requirements::{Bound, Verdict};
 pub fn before_event(events: u32, number: u32, left: u32) -> Place
     requires { number + left < 2 ^ 32 }
     ensures is { result ≡ before_event events number left }
-    ensures within { IsWithin result }
+    ensures within { IsPlaceWithin result }
 {
     if left == 0 {
         return Place::Finding { events };
@@ -29,7 +29,7 @@ pub fn before_event(events: u32, number: u32, left: u32) -> Place
 pub fn before_row(events: u32, number: u32, left: u32) -> Place
     requires { number + left < 2 ^ 32 }
     ensures is { result ≡ before_row events number left }
-    ensures within { IsWithin result }
+    ensures within { IsPlaceWithin result }
 {
     if left == 0 {
         return Place::End;
@@ -45,7 +45,7 @@ pub fn before_row(events: u32, number: u32, left: u32) -> Place
 pub fn in_row(events: u32, number: u32, more: u32, kind: &RowKind) -> Place
     requires { number + more + 1 < 2 ^ 32 }
     ensures is { result ≡ in_row events number more kind.now }
-    ensures within { IsWithin result }
+    ensures within { IsPlaceWithin result }
 {
     let is_required = match kind {
         RowKind::Ask => false,
@@ -66,7 +66,7 @@ pub fn in_row(events: u32, number: u32, more: u32, kind: &RowKind) -> Place
 /// Behind a finding.
 pub fn after_finding(events: u32, word: FindingWord) -> Place
     ensures is { result ≡ after_finding events word }
-    ensures within { IsWithin result }
+    ensures within { IsPlaceWithin result }
 {
     match word {
         FindingWord::Consistent => Place::FoundTimes { events },
@@ -79,7 +79,7 @@ pub fn after_finding(events: u32, word: FindingWord) -> Place
 pub fn after_row(spot: Spot) -> Place
     requires { IsSpot spot }
     ensures is { result ≡ after_row spot }
-    ensures within { IsWithin result }
+    ensures within { IsPlaceWithin result }
 {
     before_row(spot.events, spot.next, spot.left)
 }
@@ -88,7 +88,7 @@ pub fn after_row(spot: Spot) -> Place
 pub fn after_bound(spot: Spot, which: Which) -> Place
     requires { IsSpot spot }
     ensures is { result ≡ after_bound spot which }
-    ensures within { IsWithin result }
+    ensures within { IsPlaceWithin result }
 {
     match which {
         Which::Max => Place::Bound {
@@ -104,7 +104,7 @@ pub fn after_bound(spot: Spot, which: Which) -> Place
 pub fn in_bound(spot: Spot, which: Which, value: Bound) -> Place
     requires { IsSpot spot }
     ensures is { result ≡ in_bound spot which value }
-    ensures within { IsWithin result }
+    ensures within { IsPlaceWithin result }
 {
     match value {
         Bound::Closed(_) => Place::Times {
@@ -133,7 +133,7 @@ pub fn in_bound(spot: Spot, which: Which, value: Bound) -> Place
 pub fn after_times(spot: Spot, which: Which, raises: bool) -> Place
     requires { IsSpot spot }
     ensures is { result ≡ after_times spot which raises }
-    ensures within { IsWithin result }
+    ensures within { IsPlaceWithin result }
 {
     if raises {
         return Place::Raise { spot, which };
@@ -145,7 +145,7 @@ pub fn after_times(spot: Spot, which: Which, raises: bool) -> Place
 pub fn after_verdict(spot: Spot, word: Verdict) -> Place
     requires { IsSpot spot }
     ensures is { result ≡ after_verdict spot word }
-    ensures within { IsWithin result }
+    ensures within { IsPlaceWithin result }
 {
     match word {
         Verdict::Pass | Verdict::Undecided => Place::Slack { spot },

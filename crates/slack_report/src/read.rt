@@ -9,7 +9,7 @@ ghost use Rattle.slack_report.specs.Step.Items.{step_view};
 ghost use Rattle.slack_report.specs.Reading.{is_nothing, report_in, step_at};
 ghost use Rattle.slack_report.specs.Step.Answers.{IsItemsRead};
 ghost use Rattle.slack_report.specs.Step.Cuts.{Cuts};
-ghost use Rattle.slack_report.specs.Step.Within.{IsWithin};
+ghost use Rattle.slack_report.specs.Step.Within.{IsPlaceWithin};
 
 use crate::fault::ReportFault;
 use crate::owned::OwnedItem;
@@ -24,9 +24,9 @@ fn read_text(
     place: Place,
     line: &str,
 ) -> Result<Option<(OwnedItem, Place)>, NoMemory>
-    requires { IsWithin place }
+    requires { IsPlaceWithin place }
     ensures is { IfOk result (λ o. option_map (λ s. step_view s) o ≡ step_at place (split_words line.now)) }
-    ensures within { IfOk result (λ o. IfSome o (λ s. IsWithin s.1)) }
+    ensures within { IfOk result (λ o. IfSome o (λ s. IsPlaceWithin s.1)) }
 {
     let words = split_words(alloc, line)?;
     step_at(alloc, place, &words)
@@ -38,9 +38,9 @@ fn read_line(
     place: Place,
     line: &[u8],
 ) -> Result<Option<(OwnedItem, Place)>, NoMemory>
-    requires { IsWithin place }
+    requires { IsPlaceWithin place }
     ensures is { IfOk result (λ o. option_map (λ s. step_view s) o ≡ step_at place (split_words line.now)) }
-    ensures within { IfOk result (λ o. IfSome o (λ s. IsWithin s.1)) }
+    ensures within { IfOk result (λ o. IfSome o (λ s. IsPlaceWithin s.1)) }
 {
     match str::from_utf8(line) {
         Ok(line) => read_text(alloc, place, line),

@@ -8,8 +8,8 @@ ghost use Rattle.line_words.specs.Words.{keyed, one};
 ghost use Rattle.slack_report.specs.Entry.{bound, finding, times};
 ghost use Rattle.slack_report.specs.Step.Items.{step_view};
 ghost use Rattle.slack_report.specs.Order.{next};
-ghost use Rattle.slack_report.specs.Reading.{bound_in, finding_in, name_in, row_in, step_at, stepped, times_in};
-ghost use Rattle.slack_report.specs.Step.Within.{IsSpot, IsWithin};
+ghost use Rattle.slack_report.specs.Reading.{bound_in, finding_in, name_in, row_in, step_at, with_place, times_in};
+ghost use Rattle.slack_report.specs.Step.Within.{IsSpot, IsPlaceWithin};
 ghost use Rattle.slack_report.specs.Text.{which_word};
 
 use crate::order::{
@@ -32,7 +32,7 @@ use std::alloc::Global;
 #[tactic(auto, unfolding(crate::specs::Reading::entry_at))]
 fn step_heading(words: &[&str]) -> Option<(OwnedItem, Place)>
     ensures is { option_map (λ s. step_view s) result ≡ step_at Place.Heading (texts words.now) }
-    ensures within { IfSome result (λ s. IsWithin s.1) }
+    ensures within { IfSome result (λ s. IsPlaceWithin s.1) }
 {
     let form = only_word(behind_word(behind_word(words, "itv")?, "report")?)?;
     if form != "1" {
@@ -44,7 +44,7 @@ fn step_heading(words: &[&str]) -> Option<(OwnedItem, Place)>
 #[tactic(auto, unfolding(crate::specs::Reading::entry_at))]
 fn step_budget(words: &[&str]) -> Option<(OwnedItem, Place)>
     ensures is { option_map (λ s. step_view s) result ≡ step_at Place.Budget (texts words.now) }
-    ensures within { IfSome result (λ s. IsWithin s.1) }
+    ensures within { IfSome result (λ s. IsPlaceWithin s.1) }
 {
     let most = budget_in(only_word(behind_word(words, "budget")?)?)?;
     Some((OwnedItem::Budget(most), Place::Events))
@@ -53,7 +53,7 @@ fn step_budget(words: &[&str]) -> Option<(OwnedItem, Place)>
 #[tactic(auto, unfolding(crate::specs::Reading::entry_at))]
 fn step_events(words: &[&str]) -> Option<(OwnedItem, Place)>
     ensures is { option_map (λ s. step_view s) result ≡ step_at Place.Events (texts words.now) }
-    ensures within { IfSome result (λ s. IsWithin s.1) }
+    ensures within { IfSome result (λ s. IsPlaceWithin s.1) }
 {
     let word = only_word(behind_word(words, "events")?)?;
     let count = number_in(u64::from(MAX_EVENTS), word)? as u32;
@@ -63,7 +63,7 @@ fn step_events(words: &[&str]) -> Option<(OwnedItem, Place)>
 #[tactic(auto, unfolding(crate::specs::Reading::entry_at))]
 fn step_rows(events: u32, words: &[&str]) -> Option<(OwnedItem, Place)>
     ensures is { option_map (λ s. step_view s) result ≡ step_at (Place.Rows events) (texts words.now) }
-    ensures within { IfSome result (λ s. IsWithin s.1) }
+    ensures within { IfSome result (λ s. IsPlaceWithin s.1) }
 {
     let word = only_word(behind_word(words, "rows")?)?;
     let count = number_in(u64::from(MAX_ROWS), word)? as u32;
@@ -71,9 +71,9 @@ fn step_rows(events: u32, words: &[&str]) -> Option<(OwnedItem, Place)>
 }
 
 fn step_finding(events: u32, words: &[&str]) -> Option<(OwnedItem, Place)>
-    ensures is { option_map (λ s. step_view s) result ≡ stepped (Place.Finding events)
+    ensures is { option_map (λ s. step_view s) result ≡ with_place (Place.Finding events)
         (option_map finding (keyed (codes "finding") (one finding_in) (texts words.now))) }
-    ensures within { IfSome result (λ s. IsWithin s.1) }
+    ensures within { IfSome result (λ s. IsPlaceWithin s.1) }
 {
     let word = finding_in(only_word(behind_word(words, "finding")?)?)?;
     Some((OwnedItem::Finding(word), after_finding(events, word)))
@@ -90,9 +90,9 @@ fn which_key(which: Which) -> &'static str
 
 fn step_bound(spot: Spot, which: Which, words: &[&str]) -> Option<(OwnedItem, Place)>
     requires { IsSpot spot }
-    ensures is { option_map (λ s. step_view s) result ≡ stepped (Place.Bound spot which)
+    ensures is { option_map (λ s. step_view s) result ≡ with_place (Place.Bound spot which)
         (option_map (bound which) (keyed (which_word which) bound_in (texts words.now))) }
-    ensures within { IfSome result (λ s. IsWithin s.1) }
+    ensures within { IfSome result (λ s. IsPlaceWithin s.1) }
 {
     let value = bound_in(behind_word(words, which_key(which))?)?;
     Some((OwnedItem::Bound(which, value), in_bound(spot, which, value)))
@@ -102,7 +102,7 @@ fn step_bound(spot: Spot, which: Which, words: &[&str]) -> Option<(OwnedItem, Pl
 fn step_verdict(spot: Spot, words: &[&str]) -> Option<(OwnedItem, Place)>
     requires { IsSpot spot }
     ensures is { option_map (λ s. step_view s) result ≡ step_at (Place.Verdict spot) (texts words.now) }
-    ensures within { IfSome result (λ s. IsWithin s.1) }
+    ensures within { IfSome result (λ s. IsPlaceWithin s.1) }
 {
     let word = verdict_in(behind_word(words, "verdict")?)?;
     Some((OwnedItem::Verdict(word), after_verdict(spot, word)))
@@ -112,7 +112,7 @@ fn step_verdict(spot: Spot, words: &[&str]) -> Option<(OwnedItem, Place)>
 fn step_slack(spot: Spot, words: &[&str]) -> Option<(OwnedItem, Place)>
     requires { IsSpot spot }
     ensures is { option_map (λ s. step_view s) result ≡ step_at (Place.Slack spot) (texts words.now) }
-    ensures within { IfSome result (λ s. IsWithin s.1) }
+    ensures within { IfSome result (λ s. IsPlaceWithin s.1) }
 {
     let (low, high) = two_words(behind_word(words, "slack")?)?;
     let low = open_in(low)?;
@@ -123,7 +123,7 @@ fn step_slack(spot: Spot, words: &[&str]) -> Option<(OwnedItem, Place)>
 #[tactic(auto, unfolding(crate::specs::Reading::entry_at))]
 fn step_end(words: &[&str]) -> Option<(OwnedItem, Place)>
     ensures is { option_map (λ s. step_view s) result ≡ step_at Place.End (texts words.now) }
-    ensures within { IfSome result (λ s. IsWithin s.1) }
+    ensures within { IfSome result (λ s. IsPlaceWithin s.1) }
 {
     let word = ending_in(only_word(behind_word(words, "end")?)?)?;
     Some((OwnedItem::End(word), Place::Nothing))
@@ -148,7 +148,7 @@ fn step_event(
 ) -> Result<Option<(OwnedItem, Place)>, NoMemory>
     requires { number + more + 1 < 2 ^ 32 }
     ensures is { IfOk result (λ o. option_map (λ s. step_view s) o ≡ step_at (Place.Event events number more) (texts words.now)) }
-    ensures within { IfOk result (λ o. IfSome o (λ s. IsWithin s.1)) }
+    ensures within { IfOk result (λ o. IfSome o (λ s. IsPlaceWithin s.1)) }
 {
     let Some(name) = event_name_in(number, words) else {
         return Ok(None);
@@ -174,7 +174,7 @@ fn step_row(
 ) -> Result<Option<(OwnedItem, Place)>, NoMemory>
     requires { number + more + 1 < 2 ^ 32 }
     ensures is { IfOk result (λ o. option_map (λ s. step_view s) o ≡ step_at (Place.Row events number more) (texts words.now)) }
-    ensures within { IfOk result (λ o. IfSome o (λ s. IsWithin s.1)) }
+    ensures within { IfOk result (λ o. IfSome o (λ s. IsPlaceWithin s.1)) }
 {
     let Some((kind, from, to)) = asked_in(number, words) else {
         return Ok(None);
@@ -194,10 +194,10 @@ fn step_times(
     words: &[&str],
 ) -> Result<Option<(OwnedItem, Place)>, NoMemory>
     requires leads { (list : List ℤ) → next place (times list) ≡ Some behind }
-    requires within { IsWithin behind }
+    requires within { IsPlaceWithin behind }
     ensures is { IfOk result (λ o. option_map (λ s. step_view s) o
-        ≡ stepped place (option_map times (keyed (codes "times") (times_in events) (texts words.now)))) }
-    ensures within { IfOk result (λ o. IfSome o (λ s. IsWithin s.1)) }
+        ≡ with_place place (option_map times (keyed (codes "times") (times_in events) (texts words.now)))) }
+    ensures within { IfOk result (λ o. IfSome o (λ s. IsPlaceWithin s.1)) }
 {
     let Some(words) = behind_word(words, "times") else {
         return Ok(None);
@@ -217,7 +217,7 @@ fn step_raise(
 ) -> Result<Option<(OwnedItem, Place)>, NoMemory>
     requires { IsSpot spot }
     ensures is { IfOk result (λ o. option_map (λ s. step_view s) o ≡ step_at (Place.Raise spot which) (texts words.now)) }
-    ensures within { IfOk result (λ o. IfSome o (λ s. IsWithin s.1)) }
+    ensures within { IfOk result (λ o. IfSome o (λ s. IsPlaceWithin s.1)) }
 {
     let Some(words) = behind_word(words, "raise") else {
         return Ok(None);
@@ -235,7 +235,7 @@ fn step_found(
     words: &[&str],
 ) -> Result<Option<(OwnedItem, Place)>, NoMemory>
     ensures is { IfOk result (λ o. option_map (λ s. step_view s) o ≡ step_at (Place.Finding events) (texts words.now)) }
-    ensures within { IfOk result (λ o. IfSome o (λ s. IsWithin s.1)) }
+    ensures within { IfOk result (λ o. IfSome o (λ s. IsPlaceWithin s.1)) }
 {
     match proof_in(alloc, words)? {
         Some(line) => Ok(Some((OwnedItem::Proof(line), Place::Finding { events }))),
@@ -252,7 +252,7 @@ fn step_bounded(
 ) -> Result<Option<(OwnedItem, Place)>, NoMemory>
     requires { IsSpot spot }
     ensures is { IfOk result (λ o. option_map (λ s. step_view s) o ≡ step_at (Place.Bound spot which) (texts words.now)) }
-    ensures within { IfOk result (λ o. IfSome o (λ s. IsWithin s.1)) }
+    ensures within { IfOk result (λ o. IfSome o (λ s. IsPlaceWithin s.1)) }
 {
     match proof_in(alloc, words)? {
         Some(line) => Ok(Some((OwnedItem::Proof(line), Place::Bound { spot, which }))),
@@ -267,9 +267,9 @@ pub fn step_at(
     place: Place,
     words: &[&str],
 ) -> Result<Option<(OwnedItem, Place)>, NoMemory>
-    requires { IsWithin place }
+    requires { IsPlaceWithin place }
     ensures is { IfOk result (λ o. option_map (λ s. step_view s) o ≡ step_at place (texts words.now)) }
-    ensures within { IfOk result (λ o. IfSome o (λ s. IsWithin s.1)) }
+    ensures within { IfOk result (λ o. IfSome o (λ s. IsPlaceWithin s.1)) }
 {
     match place {
         Place::Heading => Ok(step_heading(words)),

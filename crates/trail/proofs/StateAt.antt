@@ -9,43 +9,43 @@ use Rattle.itv_base.specs.declared.names.EdgeName.{EdgeName}
 use Rattle.trail.specs.declared.undo.Slot.{Slot}
 use Rattle.trail.specs.declared.undo.Saved.{Saved}
 use Rattle.trail.specs.declared.undo.LevelStart.{LevelStart}
-use Rattle.trail.specs.Step.Undo.{State, state_at, graphs_at, graph_of, IsLogged, IsUndoable}
+use Rattle.trail.specs.Step.Undo.{TrailState, state_at, graphs_at, graph_of, IsLogged, IsUndoable}
 use Rattle.trail.proofs.SlotsBefore.{length-slots_before, slots_before-set_saved, slots_before-save}
 
 -- with one edge more
-abbrev pub with_edge : State → EdgeName → State
+abbrev pub with_edge : TrailState → EdgeName → TrailState
 with_edge state e = record state { edges = state.edges ++ e ∷ [] }
 
 -- with a slot set that is saved already
-abbrev pub with_slot : State → ℕ → Slot → State
+abbrev pub with_slot : TrailState → ℕ → Slot → TrailState
 with_slot state i x = record state { slots = set state.slots i x }
 
 -- with a slot saved, and then set
-abbrev pub with_saved : State → ℕ → Slot → Slot → State
+abbrev pub with_saved : TrailState → ℕ → Slot → Slot → TrailState
 with_saved state i was x = record state { slots = set state.slots i x; saved = state.saved ++ record { slot = i; was = was } ∷ [] }
 
 -- where a level starts that begins here
-abbrev pub start_here : State → LevelStart
+abbrev pub start_here : TrailState → LevelStart
 start_here state = record { edges = length state.edges; saved = length state.saved }
 
-state_at-edge : (state : State) (m : LevelStart) (e : EdgeName) → m.edges ≤ length state.edges → state_at (with_edge state e) m ≡ state_at state m
+state_at-edge : (state : TrailState) (m : LevelStart) (e : EdgeName) → m.edges ≤ length state.edges → state_at (with_edge state e) m ≡ state_at state m
 state_at-edge state m e within = rw take-append-le
 
-state_at-slot : (state : State) (m : LevelStart) (i : ℕ) (x : Slot) → Contains (map (λ e. e.slot) (drop m.saved state.saved)) i → state_at (with_slot state i x) m ≡ state_at state m
+state_at-slot : (state : TrailState) (m : LevelStart) (i : ℕ) (x : Slot) → Contains (map (λ e. e.slot) (drop m.saved state.saved)) i → state_at (with_slot state i x) m ≡ state_at state m
 state_at-slot state m i x logged = rw (slots_before-set_saved (drop m.saved state.saved) state.slots i x logged)
 
-state_at-saved : (state : State) (m : LevelStart) (i : ℕ) (was x : Slot) → m.saved ≤ length state.saved → was ≡ get_or state.slots i was → state_at (with_saved state i was x) m ≡ state_at state m
+state_at-saved : (state : TrailState) (m : LevelStart) (i : ℕ) (was x : Slot) → m.saved ≤ length state.saved → was ≡ get_or state.slots i was → state_at (with_saved state i was x) m ≡ state_at state m
 state_at-saved state m i was x within read =
     rw (drop-append-le, take-append-le, slots_before-save (drop m.saved state.saved) state.slots i was x read)
 
-state_at-here : (state : State) → state_at state (start_here state) ≡ state
+state_at-here : (state : TrailState) → state_at state (start_here state) ≡ state
 state_at-here state =
     let edges_end : length state.edges ≤ length state.edges = omega arith in
     let saved_end : length state.saved ≤ length state.saved = omega arith in
     rw (take_all (length state.edges) state.edges edges_end, drop_all (length state.saved) state.saved saved_end, take_all (length state.saved) state.saved saved_end)
 
 -- no slot was set by a level that isn't there
-levels-le : (state : State) (starts : List LevelStart) → IsUndoable state starts → All (λ s. s.level ≤ length starts) state.slots
+levels-le : (state : TrailState) (starts : List LevelStart) → IsUndoable state starts → All (λ s. s.level ≤ length starts) state.slots
 levels-le state [] undoable = All-weaker (λ s. s.level ≡ 0) (λ s. s.level ≤ 0) (λ s e. omega arith) state.slots undoable.0
 levels-le state (m ∷ starts) undoable = undoable.0.not_later
 
@@ -60,7 +60,7 @@ to_save-unset : (level : ℕ) (s : Slot) → s.level < level → to_save level s
 to_save-unset level s below = rw (lt-ltb s.level level below)
 
 -- The log of the last level, after each of the changes.
-module _ (state : State) (m : LevelStart) (level : ℕ) (h : IsLogged state m level) where
+module _ (state : TrailState) (m : LevelStart) (level : ℕ) (h : IsLogged state m level) where
   IsLogged-edge : (e : EdgeName) → IsLogged (with_edge state e) m level
   IsLogged-edge e = record {
     edges_within = omega (arith, length_push state.edges e);
@@ -129,25 +129,25 @@ module _ (state : State) (m : LevelStart) (level : ℕ) (h : IsLogged state m le
         }
 
 -- what changes in a level leaves what is below it
-IsUndoable-moved : (state after : State) (m : LevelStart) (starts : List LevelStart) → state_at after m ≡ state_at state m → IsLogged after m (suc (length starts)) → IsUndoable state (m ∷ starts) → IsUndoable after (m ∷ starts)
+IsUndoable-moved : (state after : TrailState) (m : LevelStart) (starts : List LevelStart) → state_at after m ≡ state_at state m → IsLogged after m (suc (length starts)) → IsUndoable state (m ∷ starts) → IsUndoable after (m ∷ starts)
 IsUndoable-moved state after m starts same logged undoable =
     (logged, subst (λ below. IsUndoable below starts) (sym same) undoable.1)
 
-graphs_at-moved : (state after : State) (m : LevelStart) (starts : List LevelStart) → state_at after m ≡ state_at state m → graphs_at after (m ∷ starts) ≡ graphs_at state (m ∷ starts)
+graphs_at-moved : (state after : TrailState) (m : LevelStart) (starts : List LevelStart) → state_at after m ≡ state_at state m → graphs_at after (m ∷ starts) ≡ graphs_at state (m ∷ starts)
 graphs_at-moved state after m starts same = ap (λ below. graph_of below ∷ graphs_at below starts) same
 
-pub IsUndoable-edge : (state : State) (starts : List LevelStart) (e : EdgeName) → IsUndoable state starts → IsUndoable (with_edge state e) starts
+pub IsUndoable-edge : (state : TrailState) (starts : List LevelStart) (e : EdgeName) → IsUndoable state starts → IsUndoable (with_edge state e) starts
 IsUndoable-edge state [] e undoable = undoable
 IsUndoable-edge state (m ∷ starts) e undoable =
     IsUndoable-moved state (with_edge state e) m starts (state_at-edge state m e undoable.0.edges_within) (IsLogged-edge state m _ undoable.0 e) undoable
 
-pub graphs_at-edge : (state : State) (starts : List LevelStart) (e : EdgeName) → IsUndoable state starts → graphs_at (with_edge state e) starts ≡ graphs_at state starts
+pub graphs_at-edge : (state : TrailState) (starts : List LevelStart) (e : EdgeName) → IsUndoable state starts → graphs_at (with_edge state e) starts ≡ graphs_at state starts
 graphs_at-edge state [] e undoable = refl
 graphs_at-edge state (m ∷ starts) e undoable =
     graphs_at-moved state (with_edge state e) m starts (state_at-edge state m e undoable.0.edges_within)
 
 -- A slot is set whose stamp was set at this level already.
-module _ (state : State) (i : ℕ) (was x : Slot) (below : i < length state.slots) (read : was ≡ get_or state.slots i was) where
+module _ (state : TrailState) (i : ℕ) (was x : Slot) (below : i < length state.slots) (read : was ≡ get_or state.slots i was) where
   pub IsUndoable-slot : (starts : List LevelStart) → x.level ≡ length starts → length starts ≤ was.level → IsUndoable state starts → IsUndoable (with_slot state i x) starts
   IsUndoable-slot [] now at undoable = (All-set (λ s. s.level ≡ 0) state.slots i x now undoable.0, undoable.1)
   IsUndoable-slot (m ∷ starts) now at undoable =
@@ -169,7 +169,7 @@ module _ (state : State) (i : ℕ) (was x : Slot) (below : i < length state.slot
       graphs_at-moved state (with_saved state i was x) m starts (state_at-saved state m i was x undoable.0.saved_within read)
 
 -- a level begins
-pub IsUndoable-start : (state : State) (starts : List LevelStart) → IsUndoable state starts → IsUndoable state (start_here state ∷ starts)
+pub IsUndoable-start : (state : TrailState) (starts : List LevelStart) → IsUndoable state starts → IsUndoable state (start_here state ∷ starts)
 IsUndoable-start state starts undoable =
     let saved_end : length state.saved ≤ length state.saved = omega arith in
     let none = drop_all (length state.saved) state.saved saved_end in
@@ -186,15 +186,15 @@ IsUndoable-start state starts undoable =
       subst (λ below. IsUndoable below starts) (sym (state_at-here state)) undoable,
     )
 
-pub graphs_at-start : (state : State) (starts : List LevelStart) → graphs_at state (start_here state ∷ starts) ≡ graph_of state ∷ graphs_at state starts
+pub graphs_at-start : (state : TrailState) (starts : List LevelStart) → graphs_at state (start_here state ∷ starts) ≡ graph_of state ∷ graphs_at state starts
 graphs_at-start state starts = ap (λ below. graph_of below ∷ graphs_at below starts) (state_at-here state)
 
 -- a level has saved each slot at most once
-length-log : (state : State) (m : LevelStart) (level : ℕ) → IsLogged state m level → length state.saved ≤ m.saved + length state.slots
+length-log : (state : TrailState) (m : LevelStart) (level : ℕ) → IsLogged state m level → length state.saved ≤ m.saved + length state.slots
 length-log state m level h = omega (arith, length-drop m.saved state.saved, h.once)
 
 -- there are no more saved slots than slots at each level
-length-saved : (state : State) (starts : List LevelStart) → IsUndoable state starts → length state.saved ≤ length state.slots * length starts
+length-saved : (state : TrailState) (starts : List LevelStart) → IsUndoable state starts → length state.saved ≤ length state.slots * length starts
 length-saved state [] undoable = omega (arith, ap length undoable.1)
 length-saved state (m ∷ starts) undoable =
     omega (
@@ -207,7 +207,7 @@ length-saved state (m ∷ starts) undoable =
     )
 
 -- where a slot is still to be saved, there is room for it
-pub room-saved : (state : State) (starts : List LevelStart) (i : ℕ) (was : Slot) → IsUndoable state starts → i < length state.slots → was ≡ get_or state.slots i was → was.level < length starts → length state.saved < length state.slots * length starts
+pub room-saved : (state : TrailState) (starts : List LevelStart) (i : ℕ) (was : Slot) → IsUndoable state starts → i < length state.slots → was ≡ get_or state.slots i was → was.level < length starts → length state.saved < length state.slots * length starts
 room-saved state [] i was undoable below read unset = absurd (omega arith)
 room-saved state (m ∷ starts) i was undoable below read unset =
     omega (

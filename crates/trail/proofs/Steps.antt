@@ -8,14 +8,14 @@ use Rattle.trail.specs.declared.undo.Saved.{Saved}
 use Rattle.trail.specs.declared.undo.LevelStart.{LevelStart}
 use Rattle.trail.specs.declared.trail.Trail.TheInside.{Inside}
 use Rattle.trail.specs.Stack.{Stack, new_stack, empty_stamp, after_push, with_edge, with_stamp}
-use Rattle.trail.specs.Step.Undo.{State, state_at, graphs_at}
-use Rattle.trail.specs.Step.Inside.{state_in, stack_in, IsSound}
+use Rattle.trail.specs.Step.Undo.{TrailState, state_at, graphs_at}
+use Rattle.trail.specs.Step.Inside.{state_in, stack_in, IsSoundTrail}
 use Rattle.trail.proofs.StateAt.{IsUndoable-edge, graphs_at-edge, IsUndoable-slot, graphs_at-slot, IsUndoable-saved, graphs_at-saved, IsUndoable-start, graphs_at-start, room-saved}
 
 reverse_push : (starts : List LevelStart) (m : LevelStart) → reverse (starts ++ m ∷ []) ≡ m ∷ reverse starts
 reverse_push starts m = reverse-append starts (m ∷ [])
 
-length-graphs_at : (k : State) (starts : List LevelStart) → length (graphs_at k starts) ≡ length starts
+length-graphs_at : (k : TrailState) (starts : List LevelStart) → length (graphs_at k starts) ≡ length starts
 length-graphs_at k [] = refl
 length-graphs_at k (m ∷ starts) = ap suc (length-graphs_at (state_at k m) starts)
 
@@ -53,11 +53,11 @@ module _ (t : Inside) (g : Stack) (view : stack_in t ≡ g) where
   pub edges_below : length g.current.edges < g.levels → length t.edges.items < t.levels
   edges_below below = subst (λ (g : Stack). length g.current.edges < g.levels) (sym view) below
 
-module _ (t : Inside) (h : IsSound t) where
+module _ (t : Inside) (h : IsSoundTrail t) where
   -- An edge is added.
   module _ (edges : Vec EdgeName Global) (e : EdgeName) (items : edges.items ≡ t.edges.items ++ e ∷ []) where
-    pub IsSound-edge : vec_capacity edges ≡ vec_capacity t.edges → length t.edges.items < t.levels → IsSound (record t { edges = edges })
-    IsSound-edge room few = record {
+    pub IsSoundTrail-edge : vec_capacity edges ≡ vec_capacity t.edges → length t.edges.items < t.levels → IsSoundTrail (record t { edges = edges })
+    IsSoundTrail-edge room few = record {
       few_levels = h.few_levels;
       few_edges = omega (arith, ap length items, length_push t.edges.items e);
       few_starts = h.few_starts;
@@ -72,8 +72,8 @@ module _ (t : Inside) (h : IsSound t) where
 
   -- A level begins.
   module _ (starts : Vec LevelStart Global) (items : starts.items ≡ t.starts.items ++ record { edges = vec_len t.edges; saved = vec_len t.saved } ∷ []) where
-    pub IsSound-start : vec_capacity starts ≡ vec_capacity t.starts → length t.starts.items < t.levels → IsSound (record t { starts = starts })
-    IsSound-start room few = record {
+    pub IsSoundTrail-start : vec_capacity starts ≡ vec_capacity t.starts → length t.starts.items < t.levels → IsSoundTrail (record t { starts = starts })
+    IsSoundTrail-start room few = record {
       few_levels = h.few_levels;
       few_edges = h.few_edges;
       few_starts = omega (arith, ap length items, length_push t.starts.items (record { edges = vec_len t.edges; saved = vec_len t.saved }));
@@ -91,8 +91,8 @@ module _ (t : Inside) (h : IsSound t) where
     starts_now : x.level ≡ length (reverse t.starts.items)
     starts_now = now ∙ sym (length-reverse t.starts.items)
 
-    pub IsSound-slot : length t.starts.items ≤ was.level → IsSound (record t { slots = slots })
-    IsSound-slot at = record {
+    pub IsSoundTrail-slot : length t.starts.items ≤ was.level → IsSoundTrail (record t { slots = slots })
+    IsSoundTrail-slot at = record {
       few_levels = h.few_levels;
       few_edges = h.few_edges;
       few_starts = h.few_starts;
@@ -111,8 +111,8 @@ module _ (t : Inside) (h : IsSound t) where
       starts_unset : was.level < length (reverse t.starts.items)
       starts_unset = omega (arith, length-reverse t.starts.items)
 
-      pub IsSound-saved : vec_capacity saved ≡ vec_capacity t.saved → IsSound (record t { slots = slots; saved = saved })
-      IsSound-saved room = record {
+      pub IsSoundTrail-saved : vec_capacity saved ≡ vec_capacity t.saved → IsSoundTrail (record t { slots = slots; saved = saved })
+      IsSoundTrail-saved room = record {
         few_levels = h.few_levels;
         few_edges = h.few_edges;
         few_starts = h.few_starts;

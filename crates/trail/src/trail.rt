@@ -30,11 +30,11 @@ impl Model for Trail {
 
     ghost Value = { Stack };
 
-    ghost use Rattle.trail.specs.Step.Inside.{stack_in, IsSound};
+    ghost use Rattle.trail.specs.Step.Inside.{stack_in, IsSoundTrail};
 
     ghost view = { stack_in };
 
-    ghost invariant = { IsSound };
+    ghost invariant = { IsSoundTrail };
 }
 
 impl Trail {

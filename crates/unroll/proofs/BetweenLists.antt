@@ -12,7 +12,7 @@ use Rattle.std.proofs.lemmas.Option.{get_or_from_slice_get, slice_get_within}
 use Rattle.sheet.specs.declared.row.SheetRow.{SheetRow}
 use Rattle.sheet.specs.declared.rule.Source.{Source}
 use Rattle.sheet.specs.Rule.{SheetRule}
-use Rattle.sheet.specs.Contents.{Contents}
+use Rattle.sheet.specs.Contents.{SheetContents}
 use Rattle.sheet.specs.Whole.{IsWhole, IsWholeRow, IsWholeRule, IsWholeSource}
 use Rattle.itv_base.specs.declared.limits.TheConstants.{MAX_EVENTS}
 use Rattle.sheet.specs.declared.mark.TheConstants.{MAX_MARKS}
@@ -60,7 +60,7 @@ more_rows few many rows le whole =
     All-weaker (IsRowBetween few) (IsRowBetween many) (λ row h. record { from = omega (arith, le, h.from); to = omega (arith, le, h.to) }) rows (rows_between few rows whole)
 
 -- those of a sheet are between as many marks as there may be events
-pub sheet_rules : (sheet : Contents) → IsWhole sheet → All (IsRuleBetween MAX_EVENTS) sheet.rules
+pub sheet_rules : (sheet : SheetContents) → IsWhole sheet → All (IsRuleBetween MAX_EVENTS) sheet.rules
 sheet_rules sheet h = let few : length sheet.marks ≤ MAX_MARKS = h.marks in more_rules (length sheet.marks) MAX_EVENTS sheet.rules (omega (arith, few)) h.rules
 
 -- so are those of the wires of a design with few marks
@@ -80,7 +80,7 @@ rule_behind_between first few many le rule h = record {
   count = rw (length-map rule.causes (source_behind first)) h.count;
 }
 
-part_rules_between : (first many : ℕ) (sheets : List Contents) → All IsWhole sheets → first + mark_count sheets ≤ many → All (IsRuleBetween many) (part_rules first sheets)
+part_rules_between : (first many : ℕ) (sheets : List SheetContents) → All IsWhole sheets → first + mark_count sheets ≤ many → All (IsRuleBetween many) (part_rules first sheets)
 part_rules_between first many [] all le = All-nil (IsRuleBetween many)
 part_rules_between first many (sheet ∷ sheets) all le =
     let whole = All-head IsWhole sheet sheets all in
@@ -90,7 +90,7 @@ part_rules_between first many (sheet ∷ sheets) all le =
     (All-weaker (IsRuleBetween (length sheet.marks)) (λ rule. IsRuleBetween many (rule_behind first rule)) (rule_behind_between first (length sheet.marks) many (omega (arith, le, count))) sheet.rules (rules_between (length sheet.marks) sheet.rules whole.rules)))
     (part_rules_between (first + length sheet.marks) many sheets (All-tail IsWhole sheet sheets all) (omega (arith, le, count)))
 
-part_rows_between : (first many : ℕ) (sheets : List Contents) → All IsWhole sheets → first + mark_count sheets ≤ many → All (IsRowBetween many) (part_rows first sheets)
+part_rows_between : (first many : ℕ) (sheets : List SheetContents) → All IsWhole sheets → first + mark_count sheets ≤ many → All (IsRowBetween many) (part_rows first sheets)
 part_rows_between first many [] all le = All-nil (IsRowBetween many)
 part_rows_between first many (sheet ∷ sheets) all le =
     let whole = All-head IsWhole sheet sheets all in
@@ -103,7 +103,7 @@ part_rows_between first many (sheet ∷ sheets) all le =
 
 -- ---- of nets
 
-join_between : (sheets : List Contents) (join : Join) → IsJoinOf sheets join → IsRuleBetween (mark_count sheets) (join_rule sheets join)
+join_between : (sheets : List SheetContents) (join : Join) → IsJoinOf sheets join → IsRuleBetween (mark_count sheets) (join_rule sheets join)
 join_between sheets join h = record {
   target = number_within sheets join.to h.1;
   causes = All-cons (λ (source : Source). source.mark < mark_count sheets) (record { mark = number_of sheets join.from; shift = 0; range = join.delay; origin = join.origin }) [] (number_within sheets join.from h.0)
@@ -137,8 +137,8 @@ kept_rows_between d h = All-filter (λ row. row_exists (d.cycles - 1) row) (IsRo
 -- a design has few marks
 pub few_marks : (d : Composed) → IsDesign d → mark_count d.sheets ≤ 2 ^ 15
 few_marks d h =
-    let each : All (λ (sheet : Contents). length sheet.marks ≤ MAX_MARKS) d.sheets = All-weaker IsWhole (λ sheet. length sheet.marks ≤ MAX_MARKS) (λ sheet whole. whole.marks) d.sheets h.sheets in
-    let most : mark_count d.sheets ≤ length d.sheets * MAX_MARKS = sum_by-le (λ (sheet : Contents). length sheet.marks) MAX_MARKS d.sheets each in
+    let each : All (λ (sheet : SheetContents). length sheet.marks ≤ MAX_MARKS) d.sheets = All-weaker IsWhole (λ sheet. length sheet.marks ≤ MAX_MARKS) (λ sheet whole. whole.marks) d.sheets h.sheets in
+    let most : mark_count d.sheets ≤ length d.sheets * MAX_MARKS = sum_by-le (λ (sheet : SheetContents). length sheet.marks) MAX_MARKS d.sheets each in
     omega (arith, most, h.few)
 
 -- ---- joins of pins
@@ -166,5 +166,5 @@ first_joins_at P pin (suc n) k less all =
     last_or_earlier P pin n k less (λ before. first_joins_at P pin n k before parts.0) parts.1
 
 -- each mark of the pin has a join
-pub join_there : (sheets : List Contents) (pin : PinJoins) (k : ℕ) → k < pin.marks → All (IsJoinOf sheets) (pin_joins pin) → IsJoinOf sheets (join_at pin k)
+pub join_there : (sheets : List SheetContents) (pin : PinJoins) (k : ℕ) → k < pin.marks → All (IsJoinOf sheets) (pin_joins pin) → IsJoinOf sheets (join_at pin k)
 join_there sheets pin k less all = first_joins_at (IsJoinOf sheets) pin pin.marks k less all

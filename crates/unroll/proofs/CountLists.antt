@@ -10,7 +10,7 @@ use Rattle.itv_base.specs.declared.names.RuleKind.{RuleKind}
 use Rattle.event_graph.specs.Network.{named_causes}
 use Rattle.sheet.specs.declared.row.SheetRow.{SheetRow}
 use Rattle.sheet.specs.Rule.{SheetRule}
-use Rattle.sheet.specs.Contents.{Contents}
+use Rattle.sheet.specs.Contents.{SheetContents}
 use Rattle.compose.specs.declared.joins.Join.{Join}
 use Rattle.compose.specs.Numbers.{join_rule, mark_count}
 use Rattle.unroll.specs.declared.counts.Counts.{Counts}
@@ -42,21 +42,21 @@ splittable_rule n rule kind count test same_kind same_count answer holds =
 zero_le : (n : ℕ) → nat_le 0 n ≡ true
 zero_le n = le-leb 0 n (omega arith)
 
-join_counted : (n : ℕ) (sheets : List Contents) (join : Join) → rule_cycles n (join_rule sheets join) ≡ n
+join_counted : (n : ℕ) (sheets : List SheetContents) (join : Join) → rule_cycles n (join_rule sheets join) ≡ n
 join_counted n sheets join =
     let from_first = how_often_from 0 n in
     let always = how_often_same (λ cycle. list_all (λ source. nat_le source.shift cycle) (join_rule sheets join).causes) (λ cycle. nat_le 0 cycle) n (λ cycle. rw (zero_le cycle) refl) in
     omega (arith, always, from_first)
 
 -- a join exists in each cycle
-pub joins_counted : (n : ℕ) (sheets : List Contents) (joins : List Join) → sum_by (rule_cycles n) (map (join_rule sheets) joins) ≡ n * length joins
+pub joins_counted : (n : ℕ) (sheets : List SheetContents) (joins : List Join) → sum_by (rule_cycles n) (map (join_rule sheets) joins) ≡ n * length joins
 joins_counted n sheets [] = omega arith
 joins_counted n sheets (join ∷ joins) =
     let here = sum_by-cons (rule_cycles n) (join_rule sheets join) (map (join_rule sheets) joins) in
     here ∙ rw (join_counted n sheets join, joins_counted n sheets joins, mul-suc n (length joins)) (omega arith)
 
 -- and has one cause
-pub joins_unsplittable : (n : ℕ) (sheets : List Contents) (joins : List Join) → sum_by (splittable_cycles n) (map (join_rule sheets) joins) ≡ 0
+pub joins_unsplittable : (n : ℕ) (sheets : List SheetContents) (joins : List Join) → sum_by (splittable_cycles n) (map (join_rule sheets) joins) ≡ 0
 joins_unsplittable n sheets [] = refl
 joins_unsplittable n sheets (join ∷ joins) = sum_by-cons (splittable_cycles n) (join_rule sheets join) (map (join_rule sheets) joins) ∙ rw (joins_unsplittable n sheets joins) refl
 
@@ -93,7 +93,7 @@ counts_together most other n rules rules' rows rows' a b h k = record {
 }
 
 -- one part more
-pub part_counted : (n : ℕ) (sheets : List Contents) (sheet : Contents) (a b : Counts)
+pub part_counted : (n : ℕ) (sheets : List SheetContents) (sheet : SheetContents) (a b : Counts)
     → AreCounts (mark_count sheets) n (part_rules 0 sheets) (part_rows 0 sheets) a
     → AreCounts (length sheet.marks) n sheet.rules sheet.rows b
     → AreCounts (mark_count (sheets ++ sheet ∷ [])) n (part_rules 0 (sheets ++ sheet ∷ [])) (part_rows 0 (sheets ++ sheet ∷ [])) (sums a b)

@@ -24,7 +24,7 @@ use Rattle.unroll.specs.Limits.{counts_by, counts_of, first_passed, unrolled, wi
 use Rattle.unroll.specs.Step.Between.{IsRowBetween}
 use Rattle.unroll.specs.Step.Counting.{AreCounts}
 use Rattle.unroll.specs.Step.Kept.{kept_rows, kept_rules}
-use Rattle.drawn.specs.Kept.{IsKept, drawn_by}
+use Rattle.drawn.specs.Kept.{IsDrawn, drawn_by}
 use Rattle.unroll.specs.Step.Labels.{labels_from}
 use Rattle.unroll.proofs.BetweenLists.{kept_rows_between}
 use Rattle.unroll.proofs.KeptLists.{constraints_counted, kept_constraints, kept_origins, kept_rows_in, rows_counted, splittable_counted}
@@ -96,7 +96,7 @@ pub record IsMade (d : Composed) (net : Net) (drew : List (List Origin)) (texts 
   pub names : labels ≡ in_cycles (λ cycle. labels_from cycle 0 d.sheets) d.cycles
   pub rows : asked ≡ rows_in (mark_count d.sheets) (kept_rows d.cycles (rows_of d)) d.cycles
 
-pub made_kept : (d : Composed) (net : Net) (drew : List (List Origin)) (texts : List (List ℕ)) (labels : List EventLabel) (asked : List Row) → IsDesign d → length (drawn_of d).rows ≤ MAX_ROWS → IsMade d net drew texts labels asked → IsKept net drew texts labels asked
+pub made_kept : (d : Composed) (net : Net) (drew : List (List Origin)) (texts : List (List ℕ)) (labels : List EventLabel) (asked : List Row) → IsDesign d → length (drawn_of d).rows ≤ MAX_ROWS → IsMade d net drew texts labels asked → IsDrawn net drew texts labels asked
 made_kept d net drew texts labels asked h few made =
     let events : net.events ≡ d.cycles * mark_count d.sheets = ap (λ (n : Net). n.events) made.network in
     record {

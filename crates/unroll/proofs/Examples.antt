@@ -8,7 +8,7 @@ use Rattle.wave_string.specs.declared.mark_kind.MarkKind.TheVariants.{Bare}
 use Rattle.itv_base.specs.declared.row_kind.RowKind.TheVariants.{Ask}
 use Rattle.origin.specs.declared.origin.Origin.TheVariants.{Edge, Pin, Wire}
 use Rattle.sheet.specs.Rule.{SheetRule}
-use Rattle.sheet.specs.Contents.{Contents}
+use Rattle.sheet.specs.Contents.{SheetContents}
 use Rattle.compose.specs.Design.{Composed}
 use Rattle.unroll.specs.Cycles.{constraints_of, origins_of}
 use Rattle.unroll.specs.declared.limit.Limit.TheVariants.{Events, Constraints, Rows, Cells, SearchCells}
@@ -20,7 +20,7 @@ ends = record { low = Some (pos 10); high = Some (pos 20) }
 
 -- a sheet of the marks a and j, of which j comes at the latest of its causes, a one cycle before; a to j is asked for in one
 -- cycle and over two
-abbrev late_sheet : Contents
+abbrev late_sheet : SheetContents
 late_sheet = record {
   marks = record { lane = 0; place = 0; name = 97; kind = Bare } ∷ record { lane = 1; place = 0; name = 106; kind = Bare } ∷ [];
   pins = [];

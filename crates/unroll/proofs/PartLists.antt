@@ -6,7 +6,7 @@ use Rattle.std.proofs.lemmas.List.Elements.{filter-append}
 use Rattle.std.proofs.lemmas.List.Folds.{list_all-map}
 use Rattle.std.proofs.lemmas.List.Sums.{sum_by-cons, sum_by-take-le, sum_by_push}
 use Rattle.std.proofs.lemmas.Option.{slice_get_within}
-use Rattle.sheet.specs.Contents.{Contents}
+use Rattle.sheet.specs.Contents.{SheetContents}
 use Rattle.sheet.specs.declared.rule.Source.{Source}
 use Rattle.sheet.specs.Rule.{SheetRule}
 use Rattle.sheet.proofs.Lists.{take_get}
@@ -26,41 +26,41 @@ take_length xs i x read =
 
 -- ---- marks
 
-pub mark_count_push : (sheets : List Contents) (sheet : Contents) → mark_count (sheets ++ sheet ∷ []) ≡ mark_count sheets + length sheet.marks
-mark_count_push sheets sheet = sum_by_push (λ (s : Contents). length s.marks) sheets sheet
+pub mark_count_push : (sheets : List SheetContents) (sheet : SheetContents) → mark_count (sheets ++ sheet ∷ []) ≡ mark_count sheets + length sheet.marks
+mark_count_push sheets sheet = sum_by_push (λ (s : SheetContents). length s.marks) sheets sheet
 
-pub mark_count_cons : (sheet : Contents) (sheets : List Contents) → mark_count (sheet ∷ sheets) ≡ length sheet.marks + mark_count sheets
-mark_count_cons sheet sheets = sum_by-cons (λ (s : Contents). length s.marks) sheet sheets
+pub mark_count_cons : (sheet : SheetContents) (sheets : List SheetContents) → mark_count (sheet ∷ sheets) ≡ length sheet.marks + mark_count sheets
+mark_count_cons sheet sheets = sum_by-cons (λ (s : SheetContents). length s.marks) sheet sheets
 
 -- the marks of a part and of those before it are among all
-pub sheet_fits : (sheets : List Contents) (part : ℕ) (sheet : Contents) → slice_get sheets part ≡ Some sheet → mark_count (take part sheets) + length sheet.marks ≤ mark_count sheets
+pub sheet_fits : (sheets : List SheetContents) (part : ℕ) (sheet : SheetContents) → slice_get sheets part ≡ Some sheet → mark_count (take part sheets) + length sheet.marks ≤ mark_count sheets
 sheet_fits sheets part sheet read =
     let front : mark_count (take (part + 1) sheets) ≡ mark_count (take part sheets) + length sheet.marks = ap mark_count (take_get sheets part sheet read) ∙ mark_count_push (take part sheets) sheet in
-    omega (arith, front, sum_by-take-le (λ (s : Contents). length s.marks) sheets (part + 1))
+    omega (arith, front, sum_by-take-le (λ (s : SheetContents). length s.marks) sheets (part + 1))
 
-number_fits : (sheets : List Contents) (mark : DesignMark) (found : Option Contents) → slice_get sheets mark.part ≡ found
+number_fits : (sheets : List SheetContents) (mark : DesignMark) (found : Option SheetContents) → slice_get sheets mark.part ≡ found
     → IsSomeAnd found (λ sheet. mark.mark < length sheet.marks) → number_of sheets mark < mark_count sheets
 number_fits sheets mark None read h = absurd h
 number_fits sheets mark (Some sheet) read h = omega (arith, h, sheet_fits sheets mark.part sheet read)
 
 -- the number of a mark that is there is among all
-pub number_within : (sheets : List Contents) (mark : DesignMark) → IsMarkOf sheets mark → number_of sheets mark < mark_count sheets
+pub number_within : (sheets : List SheetContents) (mark : DesignMark) → IsMarkOf sheets mark → number_of sheets mark < mark_count sheets
 number_within sheets mark h = number_fits sheets mark (slice_get sheets mark.part) refl h
 
 -- ---- first marks
 
-pub length-firsts_of : (first : ℕ) (sheets : List Contents) → length (firsts_of first sheets) ≡ length sheets
+pub length-firsts_of : (first : ℕ) (sheets : List SheetContents) → length (firsts_of first sheets) ≡ length sheets
 length-firsts_of first [] = refl
 length-firsts_of first (sheet ∷ sheets) = ap suc (length-firsts_of (first + length sheet.marks) sheets)
 
-pub firsts_of_push : (first : ℕ) (sheets : List Contents) (sheet : Contents)
+pub firsts_of_push : (first : ℕ) (sheets : List SheetContents) (sheet : SheetContents)
     → firsts_of first (sheets ++ sheet ∷ []) ≡ firsts_of first sheets ++ (first + mark_count sheets) ∷ []
 firsts_of_push first [] sheet = ap (λ n. n ∷ []) (sym (add-zero first))
 firsts_of_push first (s ∷ sheets) sheet =
     let number : (first + length s.marks) + mark_count sheets ≡ first + mark_count (s ∷ sheets) = omega (arith, mark_count_cons s sheets) in
     ap (λ rest. first ∷ rest) (firsts_of_push (first + length s.marks) sheets sheet ∙ ap (λ n. firsts_of (first + length s.marks) sheets ++ n ∷ []) number)
 
-pub get_or-firsts_of : (first : ℕ) (sheets : List Contents) (part : ℕ) → part < length sheets → get_or (firsts_of first sheets) part 0 ≡ first + mark_count (take part sheets)
+pub get_or-firsts_of : (first : ℕ) (sheets : List SheetContents) (part : ℕ) → part < length sheets → get_or (firsts_of first sheets) part 0 ≡ first + mark_count (take part sheets)
 get_or-firsts_of first [] part within = absurd (omega arith)
 get_or-firsts_of first (s ∷ sheets) zero within = sym (add-zero first)
 get_or-firsts_of first (s ∷ sheets) (suc part) within =
@@ -68,14 +68,14 @@ get_or-firsts_of first (s ∷ sheets) (suc part) within =
     omega (arith, rest, mark_count_cons s (take part sheets))
 
 -- the firsts that are kept with that of one part more
-pub firsts_kept : (sheets : List Contents) (sheet : Contents) (old new : List ℕ) (first : ℕ) → first ≡ mark_count sheets → old ≡ firsts_of 0 sheets → new ≡ old ++ first ∷ [] → new ≡ firsts_of 0 (sheets ++ sheet ∷ [])
+pub firsts_kept : (sheets : List SheetContents) (sheet : SheetContents) (old new : List ℕ) (first : ℕ) → first ≡ mark_count sheets → old ≡ firsts_of 0 sheets → new ≡ old ++ first ∷ [] → new ≡ firsts_of 0 (sheets ++ sheet ∷ [])
 firsts_kept sheets sheet old new first is stood more =
     let number : first ≡ 0 + mark_count sheets = omega (arith, is) in
     rw (more, stood, number) (sym (firsts_of_push 0 sheets sheet))
 
 -- ---- rules and rows
 
-pub part_rules_push : (first : ℕ) (sheets : List Contents) (sheet : Contents)
+pub part_rules_push : (first : ℕ) (sheets : List SheetContents) (sheet : SheetContents)
     → part_rules first (sheets ++ sheet ∷ []) ≡ part_rules first sheets ++ map (rule_behind (first + mark_count sheets)) sheet.rules
 part_rules_push first [] sheet = append-nil (map (rule_behind first) sheet.rules) ∙ ap (λ n. map (rule_behind n) sheet.rules) (sym (add-zero first))
 part_rules_push first (s ∷ sheets) sheet =
@@ -84,7 +84,7 @@ part_rules_push first (s ∷ sheets) sheet =
     (part_rules_push (first + length s.marks) sheets sheet ∙ ap (λ n. part_rules (first + length s.marks) sheets ++ map (rule_behind n) sheet.rules) number)
     ∙ sym (append_assoc (map (rule_behind first) s.rules) (part_rules (first + length s.marks) sheets) (map (rule_behind (first + mark_count (s ∷ sheets))) sheet.rules))
 
-pub part_rows_push : (first : ℕ) (sheets : List Contents) (sheet : Contents)
+pub part_rows_push : (first : ℕ) (sheets : List SheetContents) (sheet : SheetContents)
     → part_rows first (sheets ++ sheet ∷ []) ≡ part_rows first sheets ++ map (row_behind (first + mark_count sheets)) sheet.rows
 part_rows_push first [] sheet = append-nil (map (row_behind first) sheet.rows) ∙ ap (λ n. map (row_behind n) sheet.rows) (sym (add-zero first))
 part_rows_push first (s ∷ sheets) sheet =
@@ -94,7 +94,7 @@ part_rows_push first (s ∷ sheets) sheet =
     ∙ sym (append_assoc (map (row_behind first) s.rows) (part_rows (first + length s.marks) sheets) (map (row_behind (first + mark_count (s ∷ sheets))) sheet.rows))
 
 -- the kept rules with those of one part more
-pub parts_kept : (cycles first : ℕ) (sheets : List Contents) (sheet : Contents) (old items new list : List SheetRule) → first ≡ mark_count sheets → items ≡ old ++ kept_rules cycles (part_rules 0 sheets)
+pub parts_kept : (cycles first : ℕ) (sheets : List SheetContents) (sheet : SheetContents) (old items new list : List SheetRule) → first ≡ mark_count sheets → items ≡ old ++ kept_rules cycles (part_rules 0 sheets)
     → list ≡ sheet.rules → new ≡ items ++ kept_rules cycles (map (rule_behind first) list) → new ≡ old ++ kept_rules cycles (part_rules 0 (sheets ++ sheet ∷ []))
 parts_kept cycles first sheets sheet old items new list is stood same more =
     let number : first ≡ 0 + mark_count sheets = omega (arith, is) in
@@ -102,7 +102,7 @@ parts_kept cycles first sheets sheet old items new list is stood same more =
     ap (kept_rules cycles) (part_rules_push 0 sheets sheet) ∙ filter-append (λ rule. rule_exists (cycles - 1) rule) (part_rules 0 sheets) (map (rule_behind (0 + mark_count sheets)) sheet.rules) in
     rw (more, stood, same, number, both) (append_assoc old (kept_rules cycles (part_rules 0 sheets)) (kept_rules cycles (map (rule_behind (0 + mark_count sheets)) sheet.rules)))
 
-pub part_rows_kept : (cycles first : ℕ) (sheets : List Contents) (sheet : Contents) (old items new list : List SheetRow) → first ≡ mark_count sheets → items ≡ old ++ kept_rows cycles (part_rows 0 sheets)
+pub part_rows_kept : (cycles first : ℕ) (sheets : List SheetContents) (sheet : SheetContents) (old items new list : List SheetRow) → first ≡ mark_count sheets → items ≡ old ++ kept_rows cycles (part_rows 0 sheets)
     → list ≡ sheet.rows → new ≡ items ++ kept_rows cycles (map (row_behind first) list) → new ≡ old ++ kept_rows cycles (part_rows 0 (sheets ++ sheet ∷ []))
 part_rows_kept cycles first sheets sheet old items new list is stood same more =
     let number : first ≡ 0 + mark_count sheets = omega (arith, is) in
@@ -111,7 +111,7 @@ part_rows_kept cycles first sheets sheet old items new list is stood same more =
     rw (more, stood, same, number, both) (append_assoc old (kept_rows cycles (part_rows 0 sheets)) (kept_rows cycles (map (row_behind (0 + mark_count sheets)) sheet.rows)))
 
 -- what was read of the firsts
-pub first_read : (sheets : List Contents) (firsts : List ℕ) (part read : ℕ) → firsts ≡ firsts_of 0 sheets → part < length sheets → read ≡ get_or firsts part read → read ≡ mark_count (take part sheets)
+pub first_read : (sheets : List SheetContents) (firsts : List ℕ) (part read : ℕ) → firsts ≡ firsts_of 0 sheets → part < length sheets → read ≡ get_or firsts part read → read ≡ mark_count (take part sheets)
 first_read sheets firsts part read stand within is =
     let there : part < length firsts = omega (arith, ap length stand, length-firsts_of 0 sheets, within) in
     let at : read ≡ get_or (firsts_of 0 sheets) part 0 = get_or_read firsts part read there is 0 ∙ ap (λ xs. get_or xs part 0) stand in

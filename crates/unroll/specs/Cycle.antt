@@ -3,7 +3,7 @@ use Rattle.std.specs.Prelude.{ℕ, ◌+◌, List, [], ◌∷◌, ◌++◌, lengt
 use Rattle.sheet.specs.declared.row.SheetRow.{SheetRow}
 use Rattle.sheet.specs.declared.rule.Source.{Source}
 use Rattle.sheet.specs.Rule.{SheetRule}
-use Rattle.sheet.specs.Contents.{Contents}
+use Rattle.sheet.specs.Contents.{SheetContents}
 use Rattle.compose.specs.Design.{Composed}
 use Rattle.compose.specs.Numbers.{join_rule}
 
@@ -17,7 +17,7 @@ abbrev pub rule_behind : ℕ → SheetRule → SheetRule
 rule_behind first rule = record { kind = rule.kind; target = first + rule.target; causes = map (source_behind first) rule.causes }
 
 -- the rules of the sheets of parts, the marks of the first of which stand behind so many others
-abbrev pub part_rules : ℕ → List Contents → List SheetRule
+abbrev pub part_rules : ℕ → List SheetContents → List SheetRule
 part_rules first [] = []
 part_rules first (sheet ∷ sheets) = map (rule_behind first) sheet.rules ++ part_rules (first + length sheet.marks) sheets
 
@@ -30,7 +30,7 @@ rules_of d = part_rules 0 d.sheets ++ (map (join_rule d.sheets) d.joins ++ d.rul
 abbrev pub row_behind : ℕ → SheetRow → SheetRow
 row_behind first row = record { kind = row.kind; from = first + row.from; to = first + row.to; shift = row.shift; origin = row.origin }
 
-abbrev pub part_rows : ℕ → List Contents → List SheetRow
+abbrev pub part_rows : ℕ → List SheetContents → List SheetRow
 part_rows first [] = []
 part_rows first (sheet ∷ sheets) = map (row_behind first) sheet.rows ++ part_rows (first + length sheet.marks) sheets
 

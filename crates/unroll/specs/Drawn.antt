@@ -2,14 +2,14 @@
 use Rattle.std.specs.Prelude.{ℕ, ◌*◌, List, [], ◌∷◌, ◌++◌, map}
 use Rattle.itv_base.specs.Names.{Name}
 use Rattle.drawn.specs.Drawn.{Drawn}
-use Rattle.sheet.specs.Contents.{Contents}
+use Rattle.sheet.specs.Contents.{SheetContents}
 use Rattle.compose.specs.Design.{Composed}
 use Rattle.compose.specs.Numbers.{mark_count}
 use Rattle.unroll.specs.Cycle.{rows_of, rules_of}
 use Rattle.unroll.specs.Cycles.{constraints_of, in_cycles, origins_of, rows_in}
 
 -- the names of the marks of parts in a cycle, of parts with these names and these sheets
-abbrev pub names_in : List (List ℕ) → List Contents → ℕ → List Name
+abbrev pub names_in : List (List ℕ) → List SheetContents → ℕ → List Name
 names_in [] sheets cycle = []
 names_in (part ∷ parts) [] cycle = []
 names_in (part ∷ parts) (sheet ∷ sheets) cycle = map (λ mark. record { part = part; mark = mark.name; cycle = cycle }) sheet.marks ++ names_in parts sheets cycle

@@ -6,14 +6,14 @@ ghost use Rattle.unroll.specs.Cycle.{part_rows, row_behind, rows_of};
 ghost use Rattle.unroll.specs.Step.Between.{IsRowBetween};
 ghost use Rattle.unroll.specs.Step.Kept.{kept_rows};
 
-use crate::numbered::Numbered;
+use crate::numbered::NumberedDesign;
 use itv_base::{NoMemory, RowKind};
 use origin::Origin;
 use sheet::SheetRow;
 use std::alloc::Global;
 
 /// The rows of a design that exist in some cycle: those of the parts and of the wires.
-pub fn rows_of(alloc: Global, design: &Numbered<'_>) -> Result<Vec<SheetRow>, NoMemory>
+pub fn rows_of(alloc: Global, design: &NumberedDesign<'_>) -> Result<Vec<SheetRow>, NoMemory>
     ensures { IfOk result (λ rows. rows.items ≡ kept_rows design.now.cycles (rows_of design.now)) }
 {
     let mut rows = Vec::new(alloc);
@@ -42,7 +42,7 @@ fn keep(rows: &mut Vec<SheetRow>, cycles: u32, row: SheetRow) -> Result<(), NoMe
 // ---- parts
 
 // The rows of the parts.
-fn keep_parts(rows: &mut Vec<SheetRow>, design: &Numbered<'_>) -> Result<(), NoMemory>
+fn keep_parts(rows: &mut Vec<SheetRow>, design: &NumberedDesign<'_>) -> Result<(), NoMemory>
     ensures { OnOk result (rows.new.items
         ≡ rows.old.items ++ kept_rows design.now.cycles (part_rows 0 design.now.sheets)) }
 {
@@ -92,7 +92,7 @@ fn row_behind(first: u32, row: &SheetRow) -> SheetRow
 // ---- wires
 
 // The rows of the wires, which stand between the marks of the design already.
-fn keep_wires(rows: &mut Vec<SheetRow>, design: &Numbered<'_>) -> Result<(), NoMemory>
+fn keep_wires(rows: &mut Vec<SheetRow>, design: &NumberedDesign<'_>) -> Result<(), NoMemory>
     ensures { OnOk result (rows.new.items ≡ rows.old.items ++ kept_rows design.now.cycles design.now.rows) }
 {
     let cycles = design.design().cycles();

@@ -4,7 +4,7 @@ ghost use Rattle.std.specs.Prelude.{◌≡◌, ◌≤◌, ◌+◌, ◌^◌, ◌+
 ghost use Rattle.std.specs.List.{list_all};
 ghost use Rattle.itv_base.specs.declared.limits.TheConstants.{MAX_CYCLES};
 ghost use Rattle.event_graph.specs.Network.{named_causes};
-ghost use Rattle.sheet.specs.Contents.{Contents};
+ghost use Rattle.sheet.specs.Contents.{SheetContents};
 ghost use Rattle.compose.specs.Numbers.{join_rule, mark_count};
 ghost use Rattle.unroll.specs.Cycle.{part_rows, part_rules, rows_of, rules_of};
 ghost use Rattle.unroll.specs.Step.Counting.{AreCounts, AreWithin, how_often, row_cycles, rule_cycles, splittable_cycles, sums};
@@ -125,9 +125,9 @@ fn count_rules(cycles: u32, rules: &[Rule]) -> RuleCounts
 // A join exists in each cycle, and has one cause.
 fn count_joins(cycles: u32, joins: &Joins) -> u128
     requires { cycles ≤ MAX_CYCLES }
-    ensures all { (sheets : List Contents) → result
+    ensures all { (sheets : List SheetContents) → result
         ≡ sum_by (rule_cycles cycles) (map (join_rule sheets) joins.now) }
-    ensures splittable { (sheets : List Contents) →
+    ensures splittable { (sheets : List SheetContents) →
         sum_by (splittable_cycles cycles) (map (join_rule sheets) joins.now) ≡ 0 }
     ensures within { result ≤ 2 ^ 104 }
 {

@@ -2,7 +2,7 @@
 
 ghost use Rattle.std.specs.Prelude.{◌≡◌, ◌≤◌, ◌*◌, IfOk, IsErrOf, IsOk, length};
 ghost use Rattle.itv_base.specs.declared.limits.TheConstants.{MAX_CONSTRAINTS, MAX_EVENTS, MAX_ROWS};
-ghost use Rattle.itv_base.specs.Reading.{Gives};
+ghost use Rattle.itv_base.specs.Reading.{AgreesWith};
 ghost use Rattle.compose.specs.Numbers.{mark_count};
 ghost use Rattle.unroll.specs.Drawn.{drawn_of};
 ghost use Rattle.unroll.specs.Limits.{unrolled};
@@ -14,7 +14,7 @@ use crate::counts::Counts;
 use crate::fault::UnrollFault;
 use crate::names::labels_of;
 use crate::network::network_of;
-use crate::numbered::Numbered;
+use crate::numbered::NumberedDesign;
 use crate::origins::origins_of;
 use crate::row::rows_in;
 use crate::rules::rules_of;
@@ -30,7 +30,7 @@ use std::alloc::Global;
 ///
 /// `NoMemory` may come in place of what is drawn, and never in place of a limit that is passed. After a refusal nothing was made.
 pub fn unroll(alloc: Global, design: &Design<'_>) -> Result<DrawnNetwork, UnrollFault>
-    ensures answer { Gives is_memory (λ drawn. drawn) result (unrolled design.now) }
+    ensures answer { AgreesWith is_memory (λ drawn. drawn) result (unrolled design.now) }
     ensures memory { IsErrOf result UnrollFault.NoMemory → IsOk (unrolled design.now) }
 {
     let counts = Counts::of(design);
@@ -59,7 +59,7 @@ fn draw(alloc: Global, design: &Design<'_>, marks: u32) -> Result<DrawnNetwork, 
     ensures { IfOk result (λ drawn. drawn ≡ drawn_of design.now) }
 {
     let cycles = design.cycles();
-    let numbered = Numbered::new(alloc, design)?;
+    let numbered = NumberedDesign::new(alloc, design)?;
     let rules = rules_of(alloc, &numbered)?;
     let asked = rows_of(alloc, &numbered)?;
     let network = network_of(alloc, marks, cycles, &rules)?;

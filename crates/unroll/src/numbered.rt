@@ -12,12 +12,12 @@ use std::marker::Model;
 
 /// A design with few marks, and the number of the first mark of each part.
 #[derive(Debug, Drop)]
-pub struct Numbered<'a> {
+pub struct NumberedDesign<'a> {
     design: &'a Design<'a>,
     firsts: Vec<u32>,
 }
 
-impl<'a> Model for Numbered<'a> {
+impl<'a> Model for NumberedDesign<'a> {
     ghost use Rattle.compose.specs.Design.{Composed};
     ghost use Rattle.unroll.specs.Step.Firsts.{IsNumbered};
 
@@ -28,15 +28,15 @@ impl<'a> Model for Numbered<'a> {
     ghost invariant = { λ n. IsNumbered n.design.now n.firsts.items };
 }
 
-impl<'a> Numbered<'a> {
+impl<'a> NumberedDesign<'a> {
     /// Numbers the marks of a design.
-    pub fn new(alloc: Global, design: &'a Design<'a>) -> Result<Numbered<'a>, NoMemory>
+    pub fn new(alloc: Global, design: &'a Design<'a>) -> Result<NumberedDesign<'a>, NoMemory>
         requires { mark_count design.now.sheets ≤ MAX_EVENTS }
         ensures { IfOk result (λ numbered. numbered ≡ design.now) }
     {
         let _cycles = design.cycles();
         let firsts = firsts_of(alloc, design)?;
-        Ok(Numbered { design, firsts })
+        Ok(NumberedDesign { design, firsts })
     }
 
     /// The design itself.

@@ -10,7 +10,7 @@ ghost use Rattle.unroll.specs.Step.Between.{IsRuleBetween};
 ghost use Rattle.unroll.specs.Step.Kept.{kept_rules};
 
 use crate::network::rule_exists;
-use crate::numbered::Numbered;
+use crate::numbered::NumberedDesign;
 use compose::{Join, PinJoins};
 use itv_base::{NoMemory, RuleKind};
 use origin::Origin;
@@ -18,7 +18,7 @@ use sheet::{Rule, Source, Sources};
 use std::alloc::Global;
 
 /// The rules of a design that exist in some cycle: those of the parts, of the nets and of the wires.
-pub fn rules_of(alloc: Global, design: &Numbered<'_>) -> Result<Vec<Rule>, NoMemory>
+pub fn rules_of(alloc: Global, design: &NumberedDesign<'_>) -> Result<Vec<Rule>, NoMemory>
     ensures { IfOk result (λ rules. rules.items ≡ kept_rules design.now.cycles (rules_of design.now)) }
 {
     let mut rules = Vec::new(alloc);
@@ -42,7 +42,11 @@ fn keep(rules: &mut Vec<Rule>, cycles: u32, rule: Rule) -> Result<(), NoMemory>
 // ---- parts
 
 // The rules of the parts.
-fn keep_parts(alloc: Global, rules: &mut Vec<Rule>, design: &Numbered<'_>) -> Result<(), NoMemory>
+fn keep_parts(
+    alloc: Global,
+    rules: &mut Vec<Rule>,
+    design: &NumberedDesign<'_>,
+) -> Result<(), NoMemory>
     ensures { OnOk result (rules.new.items
         ≡ rules.old.items ++ kept_rules design.now.cycles (part_rules 0 design.now.sheets)) }
 {
@@ -128,7 +132,7 @@ fn sources_behind(alloc: Global, first: u32, sources: &[Source]) -> Result<Sourc
 fn keep_joins(
     alloc: Global,
     rules: &mut Vec<Rule>,
-    design: &Numbered<'_>,
+    design: &NumberedDesign<'_>,
     pins: &[PinJoins],
 ) -> Result<(), NoMemory>
     requires { All (IsJoinOf design.now.sheets) (joins_of_pins pins.now) }
@@ -145,7 +149,7 @@ fn keep_joins(
 fn keep_pin(
     alloc: Global,
     rules: &mut Vec<Rule>,
-    design: &Numbered<'_>,
+    design: &NumberedDesign<'_>,
     pin: &PinJoins,
 ) -> Result<(), NoMemory>
     requires { All (IsJoinOf design.now.sheets) (pin_joins pin.now) }
@@ -159,7 +163,7 @@ fn keep_pin(
     Ok(())
 }
 
-fn join_rule(alloc: Global, design: &Numbered<'_>, join: &Join) -> Result<Rule, NoMemory>
+fn join_rule(alloc: Global, design: &NumberedDesign<'_>, join: &Join) -> Result<Rule, NoMemory>
     requires { IsJoinOf design.now.sheets join.now }
     ensures { IfOk result (λ rule. rule ≡ join_rule design.now.sheets join.now) }
 {
@@ -176,7 +180,11 @@ fn join_rule(alloc: Global, design: &Numbered<'_>, join: &Join) -> Result<Rule, 
 // ---- wires
 
 // The rules of the wires, which stand between the marks of the design already.
-fn keep_wires(alloc: Global, rules: &mut Vec<Rule>, design: &Numbered<'_>) -> Result<(), NoMemory>
+fn keep_wires(
+    alloc: Global,
+    rules: &mut Vec<Rule>,
+    design: &NumberedDesign<'_>,
+) -> Result<(), NoMemory>
     ensures { OnOk result (rules.new.items ≡ rules.old.items ++ kept_rules design.now.cycles design.now.rules) }
 {
     let cycles = design.design().cycles();

@@ -9,7 +9,7 @@ use Rattle.std.proofs.lemmas.List.Concat.{flat_map-append}
 use Rattle.std.proofs.lemmas.List.Folds.{find-append}
 use Rattle.std.proofs.lemmas.Option.{slice_get_within}
 use Rattle.origin.specs.declared.origin.Origin.{Origin}
-use Rattle.sheet.specs.Contents.{Contents}
+use Rattle.sheet.specs.Contents.{SheetContents}
 use Rattle.sheet.specs.Whole.{IsWhole}
 use Rattle.sheet.specs.declared.mark.TheConstants.{MAX_MARKS}
 use Rattle.compose.specs.declared.joins.Join.{Join}
@@ -25,8 +25,8 @@ use Rattle.warnings.proofs.EachLists.{behind_lists, behind_push}
 
 -- ---- marks
 
-mark_at : (sheets : List Contents) (mark : DesignMark) (found : Option Contents) → slice_get sheets mark.part ≡ found → All IsWhole sheets
-    → IsSomeAnd found (λ (sheet : Contents). mark.mark < length sheet.marks) → (mark.part < length sheets) × (mark.mark < MAX_MARKS)
+mark_at : (sheets : List SheetContents) (mark : DesignMark) (found : Option SheetContents) → slice_get sheets mark.part ≡ found → All IsWhole sheets
+    → IsSomeAnd found (λ (sheet : SheetContents). mark.mark < length sheet.marks) → (mark.part < length sheets) × (mark.mark < MAX_MARKS)
 mark_at sheets mark None is whole there = absurd there
 mark_at sheets mark (Some sheet) is whole there =
     let few : length sheet.marks ≤ MAX_MARKS = (All-slice_get IsWhole sheets mark.part sheet whole is).marks in
@@ -143,13 +143,13 @@ flat_push : {X : Type 0} (gives : X → List Warning) (xs ys : List X) (old now 
 flat_push gives xs ys old now new held grown =
     grown ∙ ap (λ zs. zs ++ flat_map gives ys) held ∙ append_assoc old (flat_map gives xs) (flat_map gives ys) ∙ ap (λ zs. old ++ zs) (sym (flat_map-append gives xs ys))
 
-pub own_more : (sheets : List Contents) (pin : PinJoins) (k : ℕ) (old now new : List Warning) → now ≡ old ++ flat_map (own_join sheets) (first_joins pin k) → new ≡ now ++ own_join sheets (join_at pin k)
+pub own_more : (sheets : List SheetContents) (pin : PinJoins) (k : ℕ) (old now new : List Warning) → now ≡ old ++ flat_map (own_join sheets) (first_joins pin k) → new ≡ now ++ own_join sheets (join_at pin k)
     → new ≡ old ++ flat_map (own_join sheets) (first_joins pin (k + 1))
 own_more sheets pin k old now new held grown =
     flat_push (own_join sheets) (first_joins pin k) (join_at pin k ∷ []) old now new held (grown ∙ ap (λ ys. now ++ ys) (sym (append-nil (own_join sheets (join_at pin k)))))
     ∙ ap (λ n. old ++ flat_map (own_join sheets) (first_joins pin n)) (sym (add-one k))
 
-pub own_pins_more : (sheets : List Contents) (pins : List PinJoins) (n : ℕ) (pin : PinJoins) (old now new : List Warning) → n < length pins → pin ≡ get_or pins n pin
+pub own_pins_more : (sheets : List SheetContents) (pins : List PinJoins) (n : ℕ) (pin : PinJoins) (old now new : List Warning) → n < length pins → pin ≡ get_or pins n pin
     → now ≡ old ++ flat_map (own_join sheets) (joins_of_pins (take n pins)) → new ≡ now ++ flat_map (own_join sheets) (pin_joins pin)
     → new ≡ old ++ flat_map (own_join sheets) (joins_of_pins (take (n + 1) pins))
 own_pins_more sheets pins n pin old now new within is held grown =

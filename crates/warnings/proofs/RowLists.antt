@@ -4,16 +4,16 @@ use Rattle.std.specs.Prelude.{◌==◌, slice_get, sum_by}
 use Rattle.std.proofs.lemmas.Bool.{eqb-false, eqb-true, ne_eqb}
 use Rattle.std.proofs.lemmas.List.{length-map, take_all}
 use Rattle.std.proofs.lemmas.List.Sums.{sum_by-cons, sum_by-take-le, sum_by_push}
-use Rattle.sheet.specs.Contents.{Contents}
+use Rattle.sheet.specs.Contents.{SheetContents}
 use Rattle.sheet.proofs.Lists.{take_get}
 use Rattle.compose.specs.Design.{Composed}
 use Rattle.unroll.specs.Cycle.{part_rows, row_behind, rows_of}
 
 -- how many rows sheets have
-abbrev pub row_count : List Contents → ℕ
-row_count sheets = sum_by (λ (sheet : Contents). length sheet.rows) sheets
+abbrev pub row_count : List SheetContents → ℕ
+row_count sheets = sum_by (λ (sheet : SheetContents). length sheet.rows) sheets
 
-length-part_rows : (first : ℕ) (sheets : List Contents) → length (part_rows first sheets) ≡ row_count sheets
+length-part_rows : (first : ℕ) (sheets : List SheetContents) → length (part_rows first sheets) ≡ row_count sheets
 length-part_rows first [] = refl
 length-part_rows first (sheet ∷ sheets) =
     omega (
@@ -21,15 +21,15 @@ length-part_rows first (sheet ∷ sheets) =
       length-append (map (row_behind first) sheet.rows) (part_rows (first + length sheet.marks) sheets),
       length-map sheet.rows (row_behind first),
       length-part_rows (first + length sheet.marks) sheets,
-      sum_by-cons (λ (s : Contents). length s.rows) sheet sheets,
+      sum_by-cons (λ (s : SheetContents). length s.rows) sheet sheets,
     )
 
 length-rows_of : (d : Composed) → length (rows_of d) ≡ row_count d.sheets + length d.rows
 length-rows_of d = length-append (part_rows 0 d.sheets) d.rows ∙ ap (λ n. n + length d.rows) (length-part_rows 0 d.sheets)
 
-module _ (d : Composed) (part : ℕ) (sheet : Contents) (read : slice_get d.sheets part ≡ Some sheet) where
+module _ (d : Composed) (part : ℕ) (sheet : SheetContents) (read : slice_get d.sheets part ≡ Some sheet) where
   row_count_more : row_count (take (part + 1) d.sheets) ≡ row_count (take part d.sheets) + length sheet.rows
-  row_count_more = ap row_count (take_get d.sheets part sheet read) ∙ sum_by_push (λ (s : Contents). length s.rows) (take part d.sheets) sheet
+  row_count_more = ap row_count (take_get d.sheets part sheet read) ∙ sum_by_push (λ (s : SheetContents). length s.rows) (take part d.sheets) sheet
 
   -- one sheet more without rows
   pub none_more : row_count (take part d.sheets) ≡ 0 → (length sheet.rows == 0) ≡ true → row_count (take (part + 1) d.sheets) ≡ 0
@@ -39,7 +39,7 @@ module _ (d : Composed) (part : ℕ) (sheet : Contents) (read : slice_get d.shee
   pub some_rows : (length sheet.rows == 0) ≡ false → false ≡ (length (rows_of d) == 0)
   some_rows some =
       sym (ne_eqb (length (rows_of d)) 0 (λ none. eqb-false (length sheet.rows) 0 some
-      (omega (arith, none, length-rows_of d, row_count_more, sum_by-take-le (λ (s : Contents). length s.rows) d.sheets (part + 1)))))
+      (omega (arith, none, length-rows_of d, row_count_more, sum_by-take-le (λ (s : SheetContents). length s.rows) d.sheets (part + 1)))))
 
 -- no sheet has rows
 pub no_rows : (d : Composed) (n : ℕ) → length d.sheets ≤ n → row_count (take n d.sheets) ≡ 0 → (length d.rows == 0) ≡ (length (rows_of d) == 0)

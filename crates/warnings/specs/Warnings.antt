@@ -16,7 +16,7 @@ use Rattle.origin.specs.declared.origin.Origin.TheVariants as drawn
 use Rattle.origin.specs.Order.{is_lane}
 use Rattle.sheet.specs.declared.row.SheetRow.{SheetRow}
 use Rattle.sheet.specs.declared.rule.Source.{Source}
-use Rattle.sheet.specs.Contents.{Contents}
+use Rattle.sheet.specs.Contents.{SheetContents}
 use Rattle.sheet.specs.Rule.{SheetRule}
 use Rattle.compose.specs.declared.joins.Join.{Join}
 use Rattle.compose.specs.declared.mark.DesignMark.{DesignMark}
@@ -25,7 +25,7 @@ use Rattle.unroll.specs.Cycles.{row_exists, rule_exists}
 use Rattle.unroll.specs.Cycle.{rows_of}
 use Rattle.plan.specs.Notes.{edge_note, wire_note}
 use Rattle.plan.specs.Plan.{Planned}
-use Rattle.warnings.specs.declared.warning.Spot.{Spot}
+use Rattle.warnings.specs.declared.warning.DrawnPlace.{DrawnPlace}
 use Rattle.warnings.specs.declared.warning.Warning.{Warning}
 use Rattle.warnings.specs.declared.warning.Warning.TheVariants.{Rows, Comment, Note, SheetKey, NetlistKey, Both, Single, Never, Drivers, Own}
 
@@ -46,7 +46,7 @@ abbrev pub warned : Bool → Warning → List Warning
 warned true warning = warning ∷ []
 warned false warning = []
 
-abbrev pub spot : ℕ → Origin → Spot
+abbrev pub spot : ℕ → Origin → DrawnPlace
 spot part origin = record { part = part; origin = origin }
 
 -- what draws a part has this part; what a netlist draws has part 0
@@ -80,7 +80,7 @@ edge_comment part n text = warned (is_edge_comment (edge_of text) && list_any is
 abbrev pub wire_comment : ℕ → List ℕ → List Warning
 wire_comment n text = warned (is_wire_comment (wire_of text) && list_any is_sign text) (Comment (spot netlist_part (drawn.Wire n)))
 
-abbrev pub sheet_comments : ℕ → Contents → List Warning
+abbrev pub sheet_comments : ℕ → SheetContents → List Warning
 sheet_comments part sheet = each_from (edge_comment part) 0 sheet.edges
 
 abbrev pub comment_warnings : Planned → Composed → List Warning
@@ -107,7 +107,7 @@ edge_note_warning version part n text = warned (is_misplaced (edge_note version 
 abbrev pub wire_note_warning : ℕ → List ℕ → List Warning
 wire_note_warning n text = warned (is_misplaced (wire_note text)) (Note (spot netlist_part (drawn.Wire n)))
 
-abbrev pub sheet_notes : ℕ → ℕ → Contents → List Warning
+abbrev pub sheet_notes : ℕ → ℕ → SheetContents → List Warning
 sheet_notes version part sheet = each_from (edge_note_warning version part) 0 sheet.edges
 
 abbrev pub note_warnings : Planned → Composed → List Warning
@@ -121,11 +121,11 @@ sheet_key part n key = SheetKey part n ∷ []
 abbrev pub netlist_key : ℕ → List ℕ → List Warning
 netlist_key n key = NetlistKey n ∷ []
 
-abbrev pub sheet_keys : ℕ → Contents → List Warning
-sheet_keys part sheet = each_from (sheet_key part) 0 sheet.near
+abbrev pub sheet_key_warnings : ℕ → SheetContents → List Warning
+sheet_key_warnings part sheet = each_from (sheet_key part) 0 sheet.near
 
 abbrev pub key_warnings : Planned → Composed → List Warning
-key_warnings plan d = each_from sheet_keys 0 d.sheets ++ each_from netlist_key 0 plan.netlist.near
+key_warnings plan d = each_from sheet_key_warnings 0 d.sheets ++ each_from netlist_key 0 plan.netlist.near
 
 -- ---- rules
 
@@ -159,7 +159,7 @@ abbrev pub meet : SheetRule → SheetRule → Bool
 meet a b = is_upper a && (is_upper b && (a.target == b.target && not (same_mark (from_mark a) (from_mark b))))
 
 -- a warning of a rule, where it has a cause
-abbrev pub of_rule : ℕ → (Spot → Warning) → SheetRule → List Warning
+abbrev pub of_rule : ℕ → (DrawnPlace → Warning) → SheetRule → List Warning
 of_rule part gives rule = option_to_list (option_map (λ origin. gives (spot part origin)) (drawn_by rule))
 
 abbrev pub of_two : ℕ → SheetRule → Option SheetRule → List Warning
@@ -173,7 +173,7 @@ rule_both part before rule = of_two part rule (find (meet rule) before)
 abbrev pub both_in : ℕ → List SheetRule → List Warning
 both_in part rules = each_behind (rule_both part) [] rules
 
-abbrev pub sheet_both : ℕ → Contents → List Warning
+abbrev pub sheet_both : ℕ → SheetContents → List Warning
 sheet_both part sheet = both_in part sheet.rules
 
 abbrev pub both_warnings : Composed → List Warning
@@ -189,7 +189,7 @@ rule_single part rule = if is_single rule then of_rule part Single rule else []
 abbrev pub single_in : ℕ → List SheetRule → List Warning
 single_in part rules = flat_map (rule_single part) rules
 
-abbrev pub sheet_single : ℕ → Contents → List Warning
+abbrev pub sheet_single : ℕ → SheetContents → List Warning
 sheet_single part sheet = single_in part sheet.rules
 
 abbrev pub single_warnings : Composed → List Warning
@@ -213,7 +213,7 @@ row_never last part row = warned (not (row_exists last row)) (Never (spot part r
 abbrev pub never_rows : ℕ → ℕ → List SheetRow → List Warning
 never_rows last part rows = flat_map (row_never last part) rows
 
-abbrev pub sheet_never : ℕ → ℕ → Contents → List Warning
+abbrev pub sheet_never : ℕ → ℕ → SheetContents → List Warning
 sheet_never last part sheet = never_rules last part sheet.rules ++ never_rows last part sheet.rows
 
 abbrev pub never_warnings : Composed → List Warning
@@ -248,10 +248,10 @@ own_by join None = []
 own_by join (Some rule) = option_to_list (option_map (Own join.to join.origin) (drawn_by rule))
 
 -- the first rule of the sheet of a part that holds a mark of it from above
-abbrev pub own_rule : List Contents → DesignMark → Option SheetRule
-own_rule sheets mark = find (holds mark.mark) (unwrap_or (option_map (λ (sheet : Contents). sheet.rules) (slice_get sheets mark.part)) [])
+abbrev pub own_rule : List SheetContents → DesignMark → Option SheetRule
+own_rule sheets mark = find (holds mark.mark) (unwrap_or (option_map (λ (sheet : SheetContents). sheet.rules) (slice_get sheets mark.part)) [])
 
-abbrev pub own_join : List Contents → Join → List Warning
+abbrev pub own_join : List SheetContents → Join → List Warning
 own_join sheets join = own_by join (own_rule sheets join.to)
 
 abbrev pub own_warnings : Composed → List Warning

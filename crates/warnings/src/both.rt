@@ -6,7 +6,7 @@ ghost use Rattle.warnings.specs.Warnings.{both_in, both_warnings, each_from, mee
 
 use crate::asked::part_count;
 use crate::rule::{drawn_by, from_mark, is_upper};
-use crate::warning::{Spot, Warning};
+use crate::warning::{DrawnPlace, Warning};
 use compose::Design;
 use itv_base::NoMemory;
 use sheet::Rule;
@@ -67,11 +67,11 @@ fn push_two(
         return Ok(());
     };
     let other = drawn_by(rule).unwrap_or(first);
-    let first = Spot {
+    let first = DrawnPlace {
         part,
         origin: first,
     };
-    let other = Spot {
+    let other = DrawnPlace {
         part,
         origin: other,
     };

@@ -8,7 +8,7 @@ ghost use Rattle.warnings.specs.Warnings.{comment_warnings, each_from, edge_comm
 
 use crate::asked::part_count;
 use crate::push::push_where;
-use crate::warning::{Spot, Warning};
+use crate::warning::{DrawnPlace, Warning};
 use compose::Design;
 use itv_base::{NoMemory, Texts};
 use label_grammar::{EdgeText, WireText, read_edge, read_wire};
@@ -53,7 +53,11 @@ fn push_edge(warnings: &mut Vec<Warning>, part: u32, n: u64, text: &str) -> Resu
 {
     let given = is_edge_comment(text) && has_sign(text.as_bytes());
     let origin = Origin::Edge(n);
-    push_where(given, Warning::Comment(Spot { part, origin }), warnings)
+    push_where(
+        given,
+        Warning::Comment(DrawnPlace { part, origin }),
+        warnings,
+    )
 }
 
 // Those of the edges of the netlist.
@@ -71,7 +75,7 @@ fn push_wire(warnings: &mut Vec<Warning>, n: u64, text: &str) -> Result<(), NoMe
     ensures pushed { OnOk result (warnings.new.items ≡ warnings.old.items ++ wire_comment n text.now) }
 {
     let given = is_wire_comment(text) && has_sign(text.as_bytes());
-    push_where(given, Warning::Comment(Spot::wire(n)), warnings)
+    push_where(given, Warning::Comment(DrawnPlace::wire(n)), warnings)
 }
 
 fn is_edge_comment(text: &str) -> bool

@@ -1,7 +1,7 @@
 //! Keys that are passed over, and nearly are keys which are read.
 
 ghost use Rattle.std.specs.Prelude.{◌≡◌, ◌++◌, OnOk};
-ghost use Rattle.warnings.specs.Warnings.{each_from, key_warnings, netlist_key, sheet_key, sheet_keys};
+ghost use Rattle.warnings.specs.Warnings.{each_from, key_warnings, netlist_key, sheet_key, sheet_key_warnings};
 
 use crate::asked::part_count;
 use crate::warning::Warning;
@@ -23,7 +23,7 @@ pub fn push_keys(
 
 // Those of the sheets.
 fn push_sheets(warnings: &mut Vec<Warning>, design: &Design<'_>) -> Result<(), NoMemory>
-    ensures pushed { OnOk result (warnings.new.items ≡ warnings.old.items ++ each_from sheet_keys 0 design.now.sheets) }
+    ensures pushed { OnOk result (warnings.new.items ≡ warnings.old.items ++ each_from sheet_key_warnings 0 design.now.sheets) }
 {
     for part in 0..part_count(design) {
         push_sheet(warnings, part, design.sheet_of(part).near())?;

@@ -18,4 +18,4 @@ mod single;
 mod warning;
 
 pub use all::warnings_of;
-pub use warning::{Spot, Warning};
+pub use warning::{DrawnPlace, Warning};

@@ -8,7 +8,7 @@ ghost use Rattle.warnings.specs.Warnings.{each_from, edge_note_warning, is_mispl
 
 use crate::asked::part_count;
 use crate::push::push_where;
-use crate::warning::{Spot, Warning};
+use crate::warning::{DrawnPlace, Warning};
 use compose::Design;
 use itv_base::{NoMemory, Texts};
 use origin::Origin;
@@ -67,7 +67,7 @@ fn push_edge(
 {
     let given = is_misplaced(edge_note(version, text));
     let origin = Origin::Edge(n);
-    push_where(given, Warning::Note(Spot { part, origin }), warnings)
+    push_where(given, Warning::Note(DrawnPlace { part, origin }), warnings)
 }
 
 // Those of the edges of the netlist.
@@ -85,7 +85,7 @@ fn push_wire(warnings: &mut Vec<Warning>, n: u64, text: &str) -> Result<(), NoMe
     ensures pushed { OnOk result (warnings.new.items ≡ warnings.old.items ++ wire_note_warning n text.now) }
 {
     let given = is_misplaced(wire_note(text));
-    push_where(given, Warning::Note(Spot::wire(n)), warnings)
+    push_where(given, Warning::Note(DrawnPlace::wire(n)), warnings)
 }
 
 // Whether a note begins with a unit of time or with an opening bracket.

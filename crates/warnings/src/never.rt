@@ -7,7 +7,7 @@ ghost use Rattle.warnings.specs.Warnings.{each_from, keeps_order, never_rows, ne
 use crate::asked::part_count;
 use crate::push::push_where;
 use crate::rule::{drawn_by, spot_of};
-use crate::warning::{Spot, Warning};
+use crate::warning::{DrawnPlace, Warning};
 use compose::Design;
 use itv_base::NoMemory;
 use sheet::{Rule, Sheet, SheetRow};
@@ -119,5 +119,5 @@ fn push_row(
 {
     let given = !(row.shift <= last);
     let origin = row.origin;
-    push_where(given, Warning::Never(Spot { part, origin }), warnings)
+    push_where(given, Warning::Never(DrawnPlace { part, origin }), warnings)
 }

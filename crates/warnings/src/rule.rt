@@ -4,7 +4,7 @@ ghost use Rattle.std.specs.Prelude.{◌≡◌, option_map, slice_get};
 ghost use Rattle.std.specs.List.{list_any};
 ghost use Rattle.warnings.specs.Warnings.{drawn_by, from_mark, is_high, is_linear, is_upper, spot};
 
-use crate::warning::Spot;
+use crate::warning::DrawnPlace;
 use itv_base::RuleKind;
 use origin::Origin;
 use sheet::{Rule, Source};
@@ -18,11 +18,11 @@ pub fn drawn_by(rule: &Rule) -> Option<Origin>
 }
 
 /// What draws the first cause of a rule of a part, where it has one.
-pub fn spot_of(part: u32, rule: &Rule) -> Option<Spot>
+pub fn spot_of(part: u32, rule: &Rule) -> Option<DrawnPlace>
     ensures { result ≡ option_map (spot part) (drawn_by rule.now) }
 {
     let origin = drawn_by(rule)?;
-    Some(Spot { part, origin })
+    Some(DrawnPlace { part, origin })
 }
 
 /// The mark of the first cause of a rule, where it has one.

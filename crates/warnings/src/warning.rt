@@ -10,17 +10,17 @@ use origin::Origin;
 /// What draws something: an edge or a lane of the sheet of a part, by the number of the part from 0; or a pin of a net or an edge of the
 /// netlist, and then the part is not looked at.
 #[derive(Clone, Copy, Debug, PartialEq, Eq)]
-pub struct Spot {
+pub struct DrawnPlace {
     pub part: u32,
     pub origin: Origin,
 }
 
-impl Spot {
+impl DrawnPlace {
     /// An edge of the netlist, by its number from 0.
-    pub(crate) fn wire(n: u64) -> Spot
+    pub(crate) fn wire(n: u64) -> DrawnPlace
         ensures { result ≡ spot netlist_part (Wire n) }
     {
-        Spot {
+        DrawnPlace {
             part: 0,
             origin: Origin::Wire(n),
         }
@@ -33,9 +33,9 @@ pub enum Warning {
     /// The design asks nothing: it has no question and no requirement.
     Rows,
     /// The text of an edge is a comment, and has a sign of a label.
-    Comment(Spot),
+    Comment(DrawnPlace),
     /// The note of an edge begins with a unit of time or with a bracket.
-    Note(Spot),
+    Note(DrawnPlace),
     /// A key of the sheet of a part is passed over, and nearly is a key that is read: the number of the key among those of the sheet.
     SheetKey {
         part: u32,
@@ -44,11 +44,11 @@ pub enum Warning {
     /// A key of the netlist is passed over, and nearly is a key that is read: its number among those of the netlist.
     NetlistKey(u64),
     /// Two linear rules from different marks hold one mark from above.
-    Both(Spot, Spot),
+    Both(DrawnPlace, DrawnPlace),
     /// A latest or earliest rule has one cause.
-    Single(Spot),
+    Single(DrawnPlace),
     /// A rule or a row is in no cycle.
-    Never(Spot),
+    Never(DrawnPlace),
     /// A mark follows two drivers: the pins by which it does.
     Drivers {
         mark: DesignMark,

@@ -38,10 +38,10 @@ abbrev pub effective_class : List ℕ → ℕ → Class
 effective_class wave place = option_map_or class_of (effective_character wave place) Unknown
 
 -- the class that a brick ends with: a positive clock ends low, a negative one high
-abbrev pub end_of : Class → Class
-end_of PositiveClock = Low
-end_of NegativeClock = High
-end_of class = class
+abbrev pub last_class : Class → Class
+last_class PositiveClock = Low
+last_class NegativeClock = High
+last_class class = class
 
 -- From the class that ends a brick to the class that begins the next one. Equal classes are steady, but two values of a
 -- bus may differ. No brick ends as a clock, and where a clock begins an earlier rule applies.
@@ -65,7 +65,7 @@ brick_kind place c before NegativeClock = Fall
 brick_kind place c before here =
     if place == 0 then Bare
     else (if continues c then Steady
-    else transition (end_of before) here)
+    else transition (last_class before) here)
 
 -- the kind of the mark at a place of a wave, which is bare past the last brick
 unfoldable pub kind_of : List ℕ → ℕ → MarkKind

@@ -1,5 +1,5 @@
 ghost use Rattle.std.specs.Prelude.{◌≡◌, if◌then◌else◌};
-ghost use Rattle.wave_string.specs.Kinds.{class_of, continues, end_of};
+ghost use Rattle.wave_string.specs.Kinds.{class_of, continues, last_class};
 
 /// What a brick draws, by the character that is in effect there.
 #[derive(Clone, Copy, Debug)]
@@ -50,7 +50,7 @@ impl Class {
 
     /// The class that a brick of this class ends with.
     pub fn at_end(self) -> Self
-        ensures { result ≡ end_of self }
+        ensures { result ≡ last_class self }
     {
         match self {
             Class::PositiveClock => Class::Low,

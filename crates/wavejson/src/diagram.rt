@@ -3,7 +3,7 @@
 ghost use Rattle.std.specs.Prelude.{◌≡◌, ◌↔◌, ℕ, Some, IsNone, IsOk, IsSome, IsSomeAnd, IsErrOf, position, codes};
 ghost use Rattle.serde_json.specs.Find.{get, as_object};
 ghost use Rattle.serde_json.specs.View.{view};
-ghost use Rattle.itv_base.specs.Reading.{Gives};
+ghost use Rattle.itv_base.specs.Reading.{AgreesWith};
 ghost use Rattle.json_tree.specs.Words.{list_at};
 ghost use Rattle.wavejson.specs.Fault.{is_memory};
 ghost use Rattle.wavejson.specs.Drawing.{diagram_of, signal_of, is_no_string};
@@ -63,7 +63,7 @@ impl Diagram {
 /// in it is passed over, a group's title too. Of a lane only `name`, `wave` and `node` are read, of the tree only `signal` and
 /// `edge`. Of the keys that are passed over those are kept that nearly are known: [`near_in_sheet`] says which.
 pub fn read_diagram(alloc: Global, tree: &Value) -> Result<Diagram, DiagramFault>
-    ensures answer { Gives is_memory (λ drawing. drawing) result (diagram_of (view tree.now)) }
+    ensures answer { AgreesWith is_memory (λ drawing. drawing) result (diagram_of (view tree.now)) }
     ensures memory { IsErrOf result DiagramFault.NoMemory → IsOk (diagram_of (view tree.now)) }
 
     // When each fault comes, in the order in which they are told.

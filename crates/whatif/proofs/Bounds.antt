@@ -11,16 +11,16 @@ use Rattle.event_graph.specs.Satisfying.{Satisfies}
 use Rattle.event_graph.specs.Times.{IsTime, raised, separation}
 use Rattle.event_graph.proofs.Rays.{ray_is_unbounded}
 use Rattle.event_graph.proofs.SoundProofs.{proof_bounds}
-use Rattle.branch.specs.Answers.{Answers}
+use Rattle.branch.specs.Answers.{IsGreatestAnswer}
 use Rattle.branch.specs.Needed.{IsNeededToBound}
 use Rattle.branch.specs.Work.{IsClose}
-use Rattle.branch.specs.declared.answer.Answer.{Answer}
-use Rattle.branch.specs.declared.answer.Answer.TheVariants.{Closed, Unbounded, Enclosed}
+use Rattle.branch.specs.declared.answer.GreatestAnswer.{GreatestAnswer}
+use Rattle.branch.specs.declared.answer.GreatestAnswer.TheVariants.{Closed, Unbounded, Enclosed}
 use Rattle.whatif.specs.declared.bound.TheConstants.{MAX_KEPT_EDGES, MAX_KEPT_LINES}
 use Rattle.whatif.specs.declared.pair.Pair.{Pair}
 use Rattle.whatif.specs.Step.Keeping.{KeeperGrew, Keeping, KeptOn}
 use Rattle.whatif.specs.Laws.{IsSettledAnswer, SettledBoundsAgree}
-use Rattle.whatif.specs.Session.{left_by, pair_search, HasProof, IsRightBound, IsSearched, KeepsProof, KeptBound, MayKeep, MayKeepAs}
+use Rattle.whatif.specs.Session.{left_by, pair_search, HasProof, IsRightBound, IsSearchedAnew, KeepsProof, KeptBound, MayKeep, MayKeepAs}
 use Rattle.whatif.specs.Step.Bounds.{IsPairSearched, kept_of}
 
 -- ---- a bound that is kept
@@ -36,9 +36,9 @@ raised_none (false ∷ set) (time ∷ times) = ap (λ ts. time ∷ ts) (raised_n
 ray_satisfies : (net : Net) (from to : EventId) (times : List ℤ) (set : List Bool) → IsRay net from to times set → Satisfies times net
 ray_satisfies net from to times set ray = subst (λ ts. Satisfies ts net) (raised_none set times) (ray.satisfies 0)
 
-kept_answers : (old net : Net) (budget : ℕ) (pair : Pair) (times : List ℤ) (ray : List Bool) (proof : Option (List ProofLine)) (answer : Answer) (lines : List ProofLine)
-    (leaves : ℕ) → Answers (pair_search old pair budget) (left_by lines leaves times ray) answer → MayKeepAs net pair times ray proof answer
-    → (others : List ProofLine) × (count : ℕ) × Answers (pair_search net pair budget) (left_by others count times ray) answer
+kept_answers : (old net : Net) (budget : ℕ) (pair : Pair) (times : List ℤ) (ray : List Bool) (proof : Option (List ProofLine)) (answer : GreatestAnswer) (lines : List ProofLine)
+    (leaves : ℕ) → IsGreatestAnswer (pair_search old pair budget) (left_by lines leaves times ray) answer → MayKeepAs net pair times ray proof answer
+    → (others : List ProofLine) × (count : ℕ) × IsGreatestAnswer (pair_search net pair budget) (left_by others count times ray) answer
 kept_answers old net budget pair times ray (Some kept) (Closed value) lines leaves was may = (
   kept,
   closing_lines kept,
@@ -54,13 +54,13 @@ kept_answers old net budget pair times ray proof Unbounded lines leaves was may 
     ([], 1, record { raised = may; stopped = (pos 0, 0, record { open_case = ([], [], refl); closed = refl }, refl) })
 kept_answers old net budget pair times ray proof (Enclosed upper attained) lines leaves was may = absurd may
 
-kept_satisfies : (net : Net) (pair : Pair) (times : List ℤ) (ray : List Bool) (proof : Option (List ProofLine)) (answer : Answer) → MayKeepAs net pair times ray proof answer
+kept_satisfies : (net : Net) (pair : Pair) (times : List ℤ) (ray : List Bool) (proof : Option (List ProofLine)) (answer : GreatestAnswer) → MayKeepAs net pair times ray proof answer
     → Satisfies times net
 kept_satisfies net pair times ray proof (Closed value) may = may.1
 kept_satisfies net pair times ray proof Unbounded may = ray_satisfies net pair.from pair.to times ray may
 kept_satisfies net pair times ray proof (Enclosed upper attained) may = absurd may
 
-kept_proof : (old net : Net) (pair : Pair) (times : List ℤ) (ray : List Bool) (proof : Option (List ProofLine)) (answer : Answer) → KeepsProof old pair proof answer
+kept_proof : (old net : Net) (pair : Pair) (times : List ℤ) (ray : List Bool) (proof : Option (List ProofLine)) (answer : GreatestAnswer) → KeepsProof old pair proof answer
     → MayKeepAs net pair times ray proof answer → KeepsProof net pair proof answer
 kept_proof old net pair times ray (Some lines) (Closed value) was may = may.0
 kept_proof old net pair times ray None (Closed value) was may = absurd may.0
@@ -87,17 +87,17 @@ closed_keeps net pair known value lines now (inr full) proof satisfies needed =
     let many : HasProof net pair value None = (lines, record { accepted = (value, ([], proof)); needed = (known, satisfies, needed); full = full.1 }) in
     rw full.0 many
 
-search_keeps : (net : Net) (budget : ℕ) (pair : Pair) (known times : List ℤ) (ray : List Bool) (answer : Answer) (lines : List ProofLine) (leaves : ℕ) (now : Option (List ProofLine))
-    → KeptOn MAX_KEPT_LINES MAX_KEPT_EDGES (Some []) lines now → Answers (pair_search net pair budget) (left_by lines leaves times ray) answer → Satisfies known net
+search_keeps : (net : Net) (budget : ℕ) (pair : Pair) (known times : List ℤ) (ray : List Bool) (answer : GreatestAnswer) (lines : List ProofLine) (leaves : ℕ) (now : Option (List ProofLine))
+    → KeptOn MAX_KEPT_LINES MAX_KEPT_EDGES (Some []) lines now → IsGreatestAnswer (pair_search net pair budget) (left_by lines leaves times ray) answer → Satisfies known net
     → AtEachSplit net (IsNeededToBound net pair.from pair.to (separation known pair.from pair.to)) lines → KeepsProof net pair (kept_of answer now) answer
 search_keeps net budget pair known times ray (Closed value) lines leaves now kept is satisfies needed = closed_keeps net pair known value lines now kept is.proof satisfies needed
 search_keeps net budget pair known times ray Unbounded lines leaves now kept is satisfies needed = refl
 search_keeps net budget pair known times ray (Enclosed upper attained) lines leaves now kept is satisfies needed = refl
 
 -- an answer speaks of the events to raise only where it is unbounded
-answers_with : (net : Net) (budget : ℕ) (pair : Pair) (times : List ℤ) (ray other : List Bool) (answer : Answer) (lines : List ProofLine) (leaves : ℕ)
-    → (answer ≡ Unbounded → other ≡ ray) → Answers (pair_search net pair budget) (left_by lines leaves times ray) answer
-    → Answers (pair_search net pair budget) (left_by lines leaves times other) answer
+answers_with : (net : Net) (budget : ℕ) (pair : Pair) (times : List ℤ) (ray other : List Bool) (answer : GreatestAnswer) (lines : List ProofLine) (leaves : ℕ)
+    → (answer ≡ Unbounded → other ≡ ray) → IsGreatestAnswer (pair_search net pair budget) (left_by lines leaves times ray) answer
+    → IsGreatestAnswer (pair_search net pair budget) (left_by lines leaves times other) answer
 answers_with net budget pair times ray other (Closed value) lines leaves same is = record { greatest = is.greatest; attained = is.attained; proof = is.proof; count = is.count }
 answers_with net budget pair times ray other Unbounded lines leaves same is = rw (same refl) is
 answers_with net budget pair times ray other (Enclosed upper attained) lines leaves same is = record {
@@ -110,8 +110,8 @@ answers_with net budget pair times ray other (Enclosed upper attained) lines lea
 }
 
 -- the events to raise are as many as the events
-pub ray_places : (net : Net) (budget : ℕ) (pair : Pair) (times : List ℤ) (ray : List Bool) (answer : Answer) (lines : List ProofLine) (leaves : ℕ)
-    → Answers (pair_search net pair budget) (left_by lines leaves times ray) answer → answer ≡ Unbounded → length ray ≡ net.events
+pub ray_places : (net : Net) (budget : ℕ) (pair : Pair) (times : List ℤ) (ray : List Bool) (answer : GreatestAnswer) (lines : List ProofLine) (leaves : ℕ)
+    → IsGreatestAnswer (pair_search net pair budget) (left_by lines leaves times ray) answer → answer ≡ Unbounded → length ray ≡ net.events
 ray_places net budget pair times ray (Closed value) lines leaves is same = absurd (cc)
 ray_places net budget pair times ray Unbounded lines leaves is same = is.raised.count
 ray_places net budget pair times ray (Enclosed upper attained) lines leaves is same = absurd (cc)
@@ -121,11 +121,11 @@ known_satisfies net None h = absurd h
 known_satisfies net (Some times) h = h
 
 -- what a bound is behind a search that a keeper took the lines of
-pub searched_is : (net : Net) (budget leaves : ℕ) (old : KeptBound) (known times : List ℤ) (ray kept_ray : List Bool) (answer : Answer) (begun grown last : Keeping)
+pub searched_is : (net : Net) (budget leaves : ℕ) (old : KeptBound) (known times : List ℤ) (ray kept_ray : List Bool) (answer : GreatestAnswer) (begun grown last : Keeping)
     (lines : List ProofLine) → begun.lines ≡ Some [] → begun.line_room ≡ MAX_KEPT_LINES → begun.edge_room ≡ MAX_KEPT_EDGES → KeeperGrew begun lines grown
     → IsPairSearched net old.pair budget known (left_by lines leaves times ray) answer → (answer ≡ Unbounded → kept_ray ≡ ray)
     → last ≡ record grown { lines = kept_of answer grown.lines }
-    → IsSearched net budget known old (record { pair = old.pair; answer = answer; times = times; ray = kept_ray; proof = last.lines })
+    → IsSearchedAnew net budget known old (record { pair = old.pair; answer = answer; times = times; ray = kept_ray; proof = last.lines })
 searched_is net budget leaves old known times ray kept_ray answer begun grown last lines empty line_room edge_room grew is same is_last =
     let rooms : KeptOn MAX_KEPT_LINES MAX_KEPT_EDGES (Some []) lines grown.lines =
     subst (λ o. KeptOn MAX_KEPT_LINES MAX_KEPT_EDGES o lines grown.lines) empty
@@ -166,8 +166,8 @@ unbounded_above net from to times set value ray greatest =
     let most : separation beyond.0 from to ≤ℤ value = greatest.most beyond.0 beyond.1 in
     omega (arith, ints)
 
-agree : (net : Net) (budget other : ℕ) (pair : Pair) (times_a times_b : List ℤ) (ray_a ray_b : List Bool) (a b : Answer) (lines_a lines_b : List ProofLine) (leaves_a leaves_b : ℕ)
-    → Answers (pair_search net pair budget) (left_by lines_a leaves_a times_a ray_a) a → Answers (pair_search net pair other) (left_by lines_b leaves_b times_b ray_b) b
+agree : (net : Net) (budget other : ℕ) (pair : Pair) (times_a times_b : List ℤ) (ray_a ray_b : List Bool) (a b : GreatestAnswer) (lines_a lines_b : List ProofLine) (leaves_a leaves_b : ℕ)
+    → IsGreatestAnswer (pair_search net pair budget) (left_by lines_a leaves_a times_a ray_a) a → IsGreatestAnswer (pair_search net pair other) (left_by lines_b leaves_b times_b ray_b) b
     → IsSettledAnswer a → IsSettledAnswer b → a ≡ b
 agree net budget other pair ta tb ra rb (Closed v) (Closed w) la lb na nb p q sa sb = ap (λ z. Closed z) (closed_same net pair.from pair.to v w p.greatest q.greatest)
 agree net budget other pair ta tb ra rb (Closed v) Unbounded la lb na nb p q sa sb = absurd (unbounded_above net pair.from pair.to tb rb v q.raised p.greatest)
@@ -179,7 +179,7 @@ agree net budget other pair ta tb ra rb (Enclosed upper attained) b la lb na nb 
 
 pub settled_bounds_agree : SettledBoundsAgree
 settled_bounds_agree net budget other a b right_a right_b same settled_a settled_b =
-    let moved : Answers (pair_search net a.pair other) (left_by right_b.answers.0 right_b.answers.1 b.times b.ray) b.answer =
-    subst (λ (p : Pair). Answers (pair_search net p other) (left_by right_b.answers.0 right_b.answers.1 b.times b.ray) b.answer) (sym same) right_b.answers.2 in
+    let moved : IsGreatestAnswer (pair_search net a.pair other) (left_by right_b.answers.0 right_b.answers.1 b.times b.ray) b.answer =
+    subst (λ (p : Pair). IsGreatestAnswer (pair_search net p other) (left_by right_b.answers.0 right_b.answers.1 b.times b.ray) b.answer) (sym same) right_b.answers.2 in
     agree net budget other a.pair a.times b.times a.ray b.ray a.answer b.answer right_a.answers.0 right_b.answers.0 right_a.answers.1 right_b.answers.1 right_a.answers.2 moved
     settled_a settled_b

@@ -8,8 +8,8 @@ use Rattle.event_graph.specs.Network.{Constraint, Net, cause_at, causes_with, co
 use Rattle.edits.specs.declared.edit.RangeEdit.{RangeEdit}
 use Rattle.edits.specs.EditLine.{IsThere}
 use Rattle.whatif.specs.declared.change.Change.{Change}
-use Rattle.whatif.specs.Runs.{IsRun, Note, Runs, Stand, edited, last_of, note_of}
-use Rattle.whatif.specs.Session.{IsEdited, IsRight, View}
+use Rattle.whatif.specs.Runs.{IsRun, Note, Runs, EditedSession, edited, last_of, note_of}
+use Rattle.whatif.specs.Session.{IsEdited, IsRight, SessionView}
 
 -- ---- a cause that is there stays there
 
@@ -58,31 +58,31 @@ there_behind net number cause range e there = cause_with net.constraints number 
 
 -- ---- one edit more
 
-runs_more : (s : View) (edits : List RangeEdit) (later : List Stand) (e : RangeEdit) (t : Stand) → Runs s edits later
+runs_more : (s : SessionView) (edits : List RangeEdit) (later : List EditedSession) (e : RangeEdit) (t : EditedSession) → Runs s edits later
     → IsEdited (last_of s later) e.constraint e.cause e.range t.session t.change → IsRight t.session → Runs s (edits ++ e ∷ []) (later ++ t ∷ [])
 runs_more s [] [] e t runs edited right = (edited, right, tt)
 runs_more s [] (u ∷ later) e t runs edited right = absurd runs
 runs_more s (f ∷ edits) [] e t runs edited right = absurd runs
 runs_more s (f ∷ edits) (u ∷ later) e t runs edited right = (runs.0, runs.1, runs_more u.session edits later e t runs.2 edited right)
 
-last_more : (s : View) (later : List Stand) (t : Stand) → last_of s (later ++ t ∷ []) ≡ t.session
+last_more : (s : SessionView) (later : List EditedSession) (t : EditedSession) → last_of s (later ++ t ∷ []) ≡ t.session
 last_more s [] t = refl
 last_more s (u ∷ later) t = last_more u.session later t
 
-net_of : (s : View) (edits : List RangeEdit) (later : List Stand) → Runs s edits later → (last_of s later).net ≡ edited s.net edits
+net_of : (s : SessionView) (edits : List RangeEdit) (later : List EditedSession) → Runs s edits later → (last_of s later).net ≡ edited s.net edits
 net_of s [] [] runs = refl
 net_of s [] (u ∷ later) runs = absurd runs
 net_of s (f ∷ edits) [] runs = absurd runs
 net_of s (f ∷ edits) (u ∷ later) runs = net_of u.session edits later runs.2 ∙ ap (λ (n : Net). edited n edits) runs.0.net
 
-there_last : (s : View) (edits : List RangeEdit) (later : List Stand) (e : RangeEdit) → Runs s edits later → IsThere s.net e → IsThere (last_of s later).net e
+there_last : (s : SessionView) (edits : List RangeEdit) (later : List EditedSession) (e : RangeEdit) → Runs s edits later → IsThere s.net e → IsThere (last_of s later).net e
 there_last s [] [] e runs there = there
 there_last s [] (u ∷ later) e runs there = absurd runs
 there_last s (f ∷ edits) [] e runs there = absurd runs
 there_last s (f ∷ edits) (u ∷ later) e runs there =
     there_last u.session edits later e runs.2 (subst (λ (n : Net). IsThere n e) (sym runs.0.net) (there_behind s.net f.constraint f.cause f.range e there))
 
-pub run_none : (s : View) (edits : List RangeEdit) → IsRun s (take 0 edits) s []
+pub run_none : (s : SessionView) (edits : List RangeEdit) → IsRun s (take 0 edits) s []
 run_none s edits = record { later = []; runs = tt; is_last = refl; net = refl; noted = refl }
 
 -- an element within a list doesn't depend on the default
@@ -94,24 +94,24 @@ never_both None some none = cc
 never_both (Some c) some none = cc
 
 -- the cause of the next edit is there
-pub run_there : (s now : View) (edits : List RangeEdit) (k : ℕ) (notes : List Note) (d e : RangeEdit) → IsRun s (take k edits) now notes → All (IsThere s.net) edits → k < length edits
+pub run_there : (s now : SessionView) (edits : List RangeEdit) (k : ℕ) (notes : List Note) (d e : RangeEdit) → IsRun s (take k edits) now notes → All (IsThere s.net) edits → k < length edits
     → IsNone (cause_at now.net (get_or edits k d).constraint (get_or edits k e).cause) → ⊥
 run_there s now edits k notes d e run there within none =
     let here : IsThere now.net (get_or edits k d) =
-    subst (λ (v : View). IsThere v.net (get_or edits k d)) (sym run.is_last) (there_last s (take k edits) run.later (get_or edits k d) run.runs (there k d within)) in
+    subst (λ (v : SessionView). IsThere v.net (get_or edits k d)) (sym run.is_last) (there_last s (take k edits) run.later (get_or edits k d) run.runs (there k d within)) in
     let same : (get_or edits k e).cause ≡ (get_or edits k d).cause = ap (λ (x : RangeEdit). x.cause) (get_any edits k e d within) in
     never_both (cause_at now.net (get_or edits k d).constraint (get_or edits k d).cause) here
     (subst (λ i. IsNone (cause_at now.net (get_or edits k d).constraint i)) same none)
 
-run_more : (s now next : View) (edits : List RangeEdit) (k : ℕ) (notes more : List Note) (d : RangeEdit) (change : Change) (n : Note) → IsRun s (take k edits) now notes → k < length edits
+run_more : (s now next : SessionView) (edits : List RangeEdit) (k : ℕ) (notes more : List Note) (d : RangeEdit) (change : Change) (n : Note) → IsRun s (take k edits) now notes → k < length edits
     → IsEdited now (get_or edits k d).constraint (get_or edits k d).cause (get_or edits k d).range next change → IsRight next → n ≡ note_of change next → more ≡ notes ++ n ∷ []
     → IsRun s (take (k + 1) edits) next more
 run_more s now next edits k notes more d change n run within edit right is grows =
     let e : RangeEdit = get_or edits k d in
-    let t : Stand = record { session = next; change = change } in
-    let stands : List Stand = run.later ++ t ∷ [] in
+    let t : EditedSession = record { session = next; change = change } in
+    let stands : List EditedSession = run.later ++ t ∷ [] in
     let step : IsEdited (last_of s run.later) e.constraint e.cause e.range next change =
-    subst (λ (v : View). IsEdited v e.constraint e.cause e.range next change) run.is_last edit in
+    subst (λ (v : SessionView). IsEdited v e.constraint e.cause e.range next change) run.is_last edit in
     let runs : Runs s (take k edits ++ e ∷ []) stands = runs_more s (take k edits) run.later e t run.runs step right in
     let taken : take (k + 1) edits ≡ take k edits ++ e ∷ [] = take_more edits k d within in
     let last : next ≡ last_of s stands = sym (last_more s run.later t) in
@@ -119,13 +119,13 @@ run_more s now next edits k notes more d change n run within edit right is grows
       later = stands;
       runs = subst (λ es. Runs s es stands) (sym taken) runs;
       is_last = last;
-      net = ap (λ (v : View). v.net) last ∙ (net_of s (take k edits ++ e ∷ []) stands runs ∙ ap (edited s.net) (sym taken));
+      net = ap (λ (v : SessionView). v.net) last ∙ (net_of s (take k edits ++ e ∷ []) stands runs ∙ ap (edited s.net) (sym taken));
       noted = grows ∙ (ap (λ m. notes ++ m ∷ []) is ∙ (ap (λ ns. ns ++ note_of change next ∷ []) run.noted
-          ∙ sym (map-append (λ (u : Stand). note_of u.change u.session) run.later (t ∷ []))));
+          ∙ sym (map-append (λ (u : EditedSession). note_of u.change u.session) run.later (t ∷ []))));
     }
 
 -- the same, by the parts of the edit that a slice gives
-pub run_more_at : (s now next : View) (edits : List RangeEdit) (k : ℕ) (notes more : List Note) (d e f : RangeEdit) (change : Change) (n : Note) → IsRun s (take k edits) now notes
+pub run_more_at : (s now next : SessionView) (edits : List RangeEdit) (k : ℕ) (notes more : List Note) (d e f : RangeEdit) (change : Change) (n : Note) → IsRun s (take k edits) now notes
     → k < length edits → IsEdited now (get_or edits k d).constraint (get_or edits k e).cause (get_or edits k f).range next change → IsRight next → n ≡ note_of change next
     → more ≡ notes ++ n ∷ [] → IsRun s (take (k + 1) edits) next more
 run_more_at s now next edits k notes more d e f change n run within edit right is grows =

@@ -5,16 +5,16 @@ use Rattle.std.proofs.lemmas.List.{drop_more, take-append-drop, take_all}
 use Rattle.std.proofs.lemmas.Option.{get_or_from_slice_get, slice_get_within}
 use Rattle.event_graph.specs.Network.{Net}
 use Rattle.event_graph.proofs.EdgesMet.{take_next}
-use Rattle.event_graph.specs.Proof.{Case, IsProof, Loop, Path, ProofGoal, ProofLine, Reads, Split, cases_of}
-use Rattle.cert_checker.specs.Checking.{Tells}
+use Rattle.event_graph.specs.Proof.{Case, IsProof, Loop, Path, ProofGoal, ProofLine, ProofLeaves, Split, cases_of}
+use Rattle.cert_checker.specs.Checking.{AnswersFault}
 use Rattle.cert_checker.specs.Faults.{behind_line, fault_of_line}
 use Rattle.cert_checker.specs.declared.check_fault.CheckFault.{CheckFault}
 use Rattle.cert_checker.proofs.Reading.{lines_are_read_one_by_one, no_fault_is_read}
 
 -- lines that are read, and then more: those are read from where the first ones lead
-reads_behind : (net : Net) (goal : ProofGoal) (lines more : List ProofLine) (cases mid left : List Case) → Reads net goal cases lines mid → Reads net goal cases (lines ++ more) left
-    → Reads net goal mid more left
-reads_behind net goal [] more cases mid left first whole = subst (λ cs. Reads net goal cs more left) first whole
+reads_behind : (net : Net) (goal : ProofGoal) (lines more : List ProofLine) (cases mid left : List Case) → ProofLeaves net goal cases lines mid → ProofLeaves net goal cases (lines ++ more) left
+    → ProofLeaves net goal mid more left
+reads_behind net goal [] more cases mid left first whole = subst (λ cs. ProofLeaves net goal cs more left) first whole
 reads_behind net goal (line ∷ lines) more [] mid left first whole = absurd first
 reads_behind net goal (Split number ∷ lines) more (chosen ∷ cases) mid left first whole =
     reads_behind net goal lines more (cases_of net chosen number ++ cases) mid left first.1 whole.1
@@ -28,17 +28,17 @@ split_at xs i x at =
 
 -- a line without a fault is read
 line_read : (net : Net) (goal : ProofGoal) (lines : List ProofLine) (k : ℕ) (line : ProofLine) (cases now : List Case) → slice_get lines k ≡ Some line
-    → Reads net goal ([] ∷ []) (take k lines) cases → fault_of_line net goal cases line ≡ None → now ≡ behind_line net cases line
-    → Reads net goal ([] ∷ []) (take (k + 1) lines) now
+    → ProofLeaves net goal ([] ∷ []) (take k lines) cases → fault_of_line net goal cases line ≡ None → now ≡ behind_line net cases line
+    → ProofLeaves net goal ([] ∷ []) (take (k + 1) lines) now
 line_read net goal lines k line cases now at reads none behind =
-    subst (λ ls. Reads net goal ([] ∷ []) ls now) (sym (take_next lines k line at)) ((no_fault_is_read net goal (take k lines) cases line now reads).1 (none, sym behind))
+    subst (λ ls. ProofLeaves net goal ([] ∷ []) ls now) (sym (take_next lines k line at)) ((no_fault_is_read net goal (take k lines) cases line now reads).1 (none, sym behind))
 
 -- where a line has a fault the lines are no proof
 line_refused : (net : Net) (goal : ProofGoal) (lines : List ProofLine) (k : ℕ) (line : ProofLine) (cases : List Case) (fault : CheckFault) → slice_get lines k ≡ Some line
-    → Reads net goal ([] ∷ []) (take k lines) cases → fault_of_line net goal cases line ≡ Some fault → IsProof net goal lines → ⊥
+    → ProofLeaves net goal ([] ∷ []) (take k lines) cases → fault_of_line net goal cases line ≡ Some fault → IsProof net goal lines → ⊥
 line_refused net goal lines k line cases fault at reads has proof =
-    let whole : Reads net goal ([] ∷ []) (take k lines ++ line ∷ drop (k + 1) lines) [] = subst (λ ls. Reads net goal ([] ∷ []) ls []) (split_at lines k line at) proof in
-    let rest : Reads net goal cases (line ∷ drop (k + 1) lines) [] = reads_behind net goal (take k lines) (line ∷ drop (k + 1) lines) ([] ∷ []) cases [] reads whole in
+    let whole : ProofLeaves net goal ([] ∷ []) (take k lines ++ line ∷ drop (k + 1) lines) [] = subst (λ ls. ProofLeaves net goal ([] ∷ []) ls []) (split_at lines k line at) proof in
+    let rest : ProofLeaves net goal cases (line ∷ drop (k + 1) lines) [] = reads_behind net goal (take k lines) (line ∷ drop (k + 1) lines) ([] ∷ []) cases [] reads whole in
     let none : fault_of_line net goal cases line ≡ None = ((lines_are_read_one_by_one net goal cases line (drop (k + 1) lines) []).0 rest).0 in
     absurd (none-and-some (fault_of_line net goal cases line) fault none has)
   where
@@ -47,22 +47,22 @@ line_refused net goal lines k line cases fault at reads has proof =
     none-and-some (Some other) fault none has = cc
 
 -- lines that are read are a proof exactly where they leave no case
-all_read : (net : Net) (goal : ProofGoal) (lines : List ProofLine) (cases : List Case) (result : Bool) → Reads net goal ([] ∷ []) lines cases
+all_read : (net : Net) (goal : ProofGoal) (lines : List ProofLine) (cases : List Case) (result : Bool) → ProofLeaves net goal ([] ∷ []) lines cases
     → (IsTrue result ↔ (cases ≡ [])) → IsTrue result ↔ IsProof net goal lines
 all_read net goal lines cases result reads done = (
-  (λ yes. subst (λ cs. Reads net goal ([] ∷ []) lines cs) (done.0 yes) reads),
-  (λ proof. done.1 (reads_behind net goal lines [] ([] ∷ []) cases [] reads (subst (λ ls. Reads net goal ([] ∷ []) ls []) (sym (append-nil lines)) proof))),
+  (λ yes. subst (λ cs. ProofLeaves net goal ([] ∷ []) lines cs) (done.0 yes) reads),
+  (λ proof. done.1 (reads_behind net goal lines [] ([] ∷ []) cases [] reads (subst (λ ls. ProofLeaves net goal ([] ∷ []) ls []) (sym (append-nil lines)) proof))),
 )
 
 -- one line is taken, or the lines are no proof
 pub line_told : {A : Type 0} (net : Net) (goal : ProofGoal) (lines : List ProofLine) (k : ℕ) (line : ProofLine) (cases now : List Case) (result : Result A CheckFault) (b : Bool)
-    → b ≡ is_ok result → slice_get lines k ≡ Some line → Reads net goal ([] ∷ []) (take k lines) cases → Tells result (fault_of_line net goal cases line)
+    → b ≡ is_ok result → slice_get lines k ≡ Some line → ProofLeaves net goal ([] ∷ []) (take k lines) cases → AnswersFault result (fault_of_line net goal cases line)
     → OnOk result (now ≡ behind_line net cases line)
-    → MatchBool b (Reads net goal ([] ∷ []) (take (k + 1) lines) now) (IsProof net goal lines → ⊥)
+    → MatchBool b (ProofLeaves net goal ([] ∷ []) (take (k + 1) lines) now) (IsProof net goal lines → ⊥)
 line_told net goal lines k line cases now (Ok x) b is at reads tells behind = rw is (line_read net goal lines k line cases now at reads tells behind)
 line_told net goal lines k line cases now (Err fault) b is at reads tells behind = rw is (line_refused net goal lines k line cases fault at reads tells)
 
 pub all_taken : (net : Net) (goal : ProofGoal) (lines : List ProofLine) (k : ℕ) (cases : List Case) (result : Bool) → length lines ≤ k
-    → Reads net goal ([] ∷ []) (take k lines) cases → (IsTrue result ↔ (cases ≡ [])) → IsTrue result ↔ IsProof net goal lines
+    → ProofLeaves net goal ([] ∷ []) (take k lines) cases → (IsTrue result ↔ (cases ≡ [])) → IsTrue result ↔ IsProof net goal lines
 all_taken net goal lines k cases result past reads done =
-    all_read net goal lines cases result (subst (λ ls. Reads net goal ([] ∷ []) ls cases) (take_all k lines past) reads) done
+    all_read net goal lines cases result (subst (λ ls. ProofLeaves net goal ([] ∷ []) ls cases) (take_all k lines past) reads) done

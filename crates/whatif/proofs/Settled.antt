@@ -4,7 +4,7 @@ use Rattle.std.proofs.lemmas.Grind.{drop_more_same}
 use Rattle.std.proofs.lemmas.List.{drop-set-lt, get_or-drop, set-get_or, take_more, take_more_set}
 use Rattle.std.proofs.lemmas.List.Elements.{All-cons, All-head, All-tail}
 use Rattle.std.proofs.lemmas.Option.{same_Some, slice_get-get_or}
-use Rattle.whatif.specs.Session.{AreSettled, KeptBound}
+use Rattle.whatif.specs.Session.{AreUpdated, KeptBound}
 
 -- one more is kept or searched
 abbrev pub Goes : (KeptBound → Type 0) → (KeptBound → KeptBound → Type 0) → KeptBound → KeptBound → ℕ → ℕ → ℕ → ℕ → Type 0
@@ -15,11 +15,11 @@ Goes May Searched a b kept searched kept_now searched_now =
 module _ (May : KeptBound → Type 0) (Searched : KeptBound → KeptBound → Type 0) where
   -- the bounds before a place are settled, and those from it on are as they were
   pub record Settling (before now : List KeptBound) (place kept searched : ℕ) : Type 0 where
-    pub done : AreSettled May Searched (take place before) (take place now) kept searched
+    pub done : AreUpdated May Searched (take place before) (take place now) kept searched
     pub rest : drop place now ≡ drop place before
 
   none_before : (a b : KeptBound) (kept searched kept_now searched_now : ℕ) → kept ≡ 0 → searched ≡ 0
-      → Goes May Searched a b kept searched kept_now searched_now → AreSettled May Searched (a ∷ []) (b ∷ []) kept_now searched_now
+      → Goes May Searched a b kept searched kept_now searched_now → AreUpdated May Searched (a ∷ []) (b ∷ []) kept_now searched_now
   none_before a b kept searched kept_now searched_now none_kept none_searched (inl goes) =
       inl (0, omega (arith, none_kept, goes.2), goes.0, goes.1, (refl, goes.3 ∙ none_searched))
   none_before a b kept searched kept_now searched_now none_kept none_searched (inr goes) =
@@ -41,8 +41,8 @@ module _ (May : KeptBound → Type 0) (Searched : KeptBound → KeptBound → Ty
 
   -- one more bound behind those that are settled
   one_more : (before now : List KeptBound) (a b : KeptBound) (kept searched kept_now searched_now : ℕ)
-      → AreSettled May Searched before now kept searched → Goes May Searched a b kept searched kept_now searched_now
-      → AreSettled May Searched (before ++ a ∷ []) (now ++ b ∷ []) kept_now searched_now
+      → AreUpdated May Searched before now kept searched → Goes May Searched a b kept searched kept_now searched_now
+      → AreUpdated May Searched (before ++ a ∷ []) (now ++ b ∷ []) kept_now searched_now
   one_more [] [] a b kept searched kept_now searched_now settled goes = none_before a b kept searched kept_now searched_now settled.0 settled.1 goes
   one_more [] (y ∷ now) a b kept searched kept_now searched_now settled goes = absurd settled
   one_more (x ∷ before) [] a b kept searched kept_now searched_now settled goes = absurd settled
@@ -71,12 +71,12 @@ module _ (May : KeptBound → Type 0) (Searched : KeptBound → KeptBound → Ty
       let first : take (place + 1) before ≡ take place before ++ a ∷ [] =
       take_more before place a within ∙ ap (λ x. take place before ++ x ∷ []) (sym (at ∙ as_before before now place kept searched a s)) in
       let second : take (place + 1) (set now place b) ≡ take place now ++ b ∷ [] = take_more_set now place b within_now in
-      let more : AreSettled May Searched (take place before ++ a ∷ []) (take place now ++ b ∷ []) kept_now searched_now =
+      let more : AreUpdated May Searched (take place before ++ a ∷ []) (take place now ++ b ∷ []) kept_now searched_now =
       one_more (take place before) (take place now) a b kept searched kept_now searched_now s.done goes in
       let later : place < place + 1 = omega arith in
       record {
-        done = subst (λ xs. AreSettled May Searched xs (take (place + 1) (set now place b)) kept_now searched_now) (sym first)
-            (subst (λ ys. AreSettled May Searched (take place before ++ a ∷ []) ys kept_now searched_now) (sym second) more);
+        done = subst (λ xs. AreUpdated May Searched xs (take (place + 1) (set now place b)) kept_now searched_now) (sym first)
+            (subst (λ ys. AreUpdated May Searched (take place before ++ a ∷ []) ys kept_now searched_now) (sym second) more);
         rest = drop-set-lt (place + 1) now place b later ∙ drop_more_same now before place s.rest;
       }
 
@@ -93,7 +93,7 @@ module _ (May : KeptBound → Type 0) (Searched : KeptBound → KeptBound → Ty
 
   -- what bounds that are kept go on to be, and those that are searched are, all are
   pub settled_all : (Was Is : KeptBound → Type 0) (before now : List KeptBound) (kept searched : ℕ)
-      → ((a : KeptBound) → May a → Was a → Is a) → ((a b : KeptBound) → Searched a b → Is b) → AreSettled May Searched before now kept searched → All Was before → All Is now
+      → ((a : KeptBound) → May a → Was a → Is a) → ((a b : KeptBound) → Searched a b → Is b) → AreUpdated May Searched before now kept searched → All Was before → All Is now
   settled_all Was Is [] [] kept searched stays is settled was = λ k d within. absurd (omega arith)
   settled_all Was Is [] (y ∷ now) kept searched stays is settled was = absurd settled
   settled_all Was Is (x ∷ before) [] kept searched stays is settled was = absurd settled
@@ -105,7 +105,7 @@ module _ (May : KeptBound → Type 0) (Searched : KeptBound → KeptBound → Ty
 
   -- what searches leave as it is stays
   pub settled_same : {A : Type 0} (part : KeptBound → A) (before now : List KeptBound) (kept searched : ℕ)
-      → ((a b : KeptBound) → Searched a b → part b ≡ part a) → AreSettled May Searched before now kept searched → map part now ≡ map part before
+      → ((a b : KeptBound) → Searched a b → part b ≡ part a) → AreUpdated May Searched before now kept searched → map part now ≡ map part before
   settled_same part [] [] kept searched same settled = refl
   settled_same part [] (y ∷ now) kept searched same settled = absurd settled
   settled_same part (x ∷ before) [] kept searched same settled = absurd settled

@@ -1,12 +1,12 @@
 -- Laws of sessions.
 use Rattle.std.specs.Prelude.{◌≡◌, ℕ}
 use Rattle.event_graph.specs.Network.{Net}
-use Rattle.branch.specs.declared.answer.Answer.{Answer}
-use Rattle.branch.specs.declared.answer.Answer.TheVariants.{Closed, Unbounded, Enclosed}
+use Rattle.branch.specs.declared.answer.GreatestAnswer.{GreatestAnswer}
+use Rattle.branch.specs.declared.answer.GreatestAnswer.TheVariants.{Closed, Unbounded, Enclosed}
 use Rattle.whatif.specs.Session.{IsRightBound, KeptBound}
 
 -- the answer settles the bound
-abbrev pub IsSettledAnswer : Answer → Type 0
+abbrev pub IsSettledAnswer : GreatestAnswer → Type 0
 IsSettledAnswer (Closed value) = Unit {0}
 IsSettledAnswer Unbounded = Unit {0}
 IsSettledAnswer (Enclosed upper attained) = ⊥

@@ -7,14 +7,14 @@ use Rattle.event_graph.specs.Proof.{Bound, IsProof, ProofLine}
 use Rattle.event_graph.specs.Reading.{AtEachSplit}
 use Rattle.event_graph.specs.Satisfying.{Satisfies}
 use Rattle.event_graph.specs.Times.{separation}
-use Rattle.branch.specs.Answers.{Answers, Evidence, Finds, PairSearch}
+use Rattle.branch.specs.Answers.{IsGreatestAnswer, Evidence, Finds, PairSearch}
 use Rattle.branch.specs.Lines.{IsAccepted}
 use Rattle.branch.specs.Needed.{IsNeededToBound, IsNeededToFind}
 use Rattle.branch.specs.Work.{IsClose}
-use Rattle.branch.specs.declared.answer.Answer.{Answer}
-use Rattle.branch.specs.declared.answer.Answer.TheVariants.{Closed, Unbounded, Enclosed}
-use Rattle.branch.specs.declared.answer.Found.{Found}
-use Rattle.branch.specs.declared.answer.Found.TheVariants.{Consistent, Inconsistent, Unsettled}
+use Rattle.branch.specs.declared.answer.GreatestAnswer.{GreatestAnswer}
+use Rattle.branch.specs.declared.answer.GreatestAnswer.TheVariants.{Closed, Unbounded, Enclosed}
+use Rattle.branch.specs.declared.answer.SearchFinding.{SearchFinding}
+use Rattle.branch.specs.declared.answer.SearchFinding.TheVariants.{Consistent, Inconsistent, Unsettled}
 use Rattle.certificate.specs.Scribing.{FitsTree, Tree}
 use Rattle.whatif.specs.declared.pair.Pair.{Pair}
 use Rattle.whatif.specs.declared.bound.Kept.{Kept}
@@ -34,14 +34,14 @@ use Rattle.whatif.specs.declared.bound.TheConstants.{MAX_KEPT_EDGES, MAX_KEPT_LI
 -- its proof, where they fitted.
 pub record KeptBound : Type 0 where
   pub pair : Pair
-  pub answer : Answer
+  pub answer : GreatestAnswer
   pub times : List ℤ
   pub ray : List Bool
   pub proof : Option (List ProofLine)
 
 -- An answer may be kept for a network: a closed one where its proof is a proof for this network and its times satisfy it, an unbounded one where
 -- its times and events show this network unbounded, and no other.
-abbrev pub MayKeepAs : Net → Pair → List ℤ → List Bool → Option (List ProofLine) → Answer → Type 0
+abbrev pub MayKeepAs : Net → Pair → List ℤ → List Bool → Option (List ProofLine) → GreatestAnswer → Type 0
 MayKeepAs net pair times ray proof (Closed value) = IsSomeAnd proof (IsProof net (Bound pair.from pair.to value)) × Satisfies times net
 MayKeepAs net pair times ray proof Unbounded = IsRay net pair.from pair.to times ray
 MayKeepAs net pair times ray proof (Enclosed upper attained) = ⊥
@@ -62,7 +62,7 @@ HasProof net pair value (Some lines) = IsProof net (Bound pair.from pair.to valu
 HasProof net pair value None = (lines : List ProofLine) × AreTooMany net pair lines
 
 -- a closed bound has a proof, or its lines were too many
-abbrev pub KeepsProof : Net → Pair → Option (List ProofLine) → Answer → Type 0
+abbrev pub KeepsProof : Net → Pair → Option (List ProofLine) → GreatestAnswer → Type 0
 KeepsProof net pair proof (Closed value) = HasProof net pair value proof
 KeepsProof net pair proof Unbounded = proof ≡ None
 KeepsProof net pair proof (Enclosed upper attained) = proof ≡ None
@@ -77,7 +77,7 @@ left_by lines leaves times ray = record { lines = lines; leaves = leaves; times 
 
 -- the bound is right for a network and a budget: it is what a search may answer there, and its times satisfy
 pub record IsRightBound (net : Net) (budget : ℕ) (b : KeptBound) : Type 0 where
-  pub answers : (lines : List ProofLine) × (leaves : ℕ) × Answers (pair_search net b.pair budget) (left_by lines leaves b.times b.ray) b.answer
+  pub answers : (lines : List ProofLine) × (leaves : ℕ) × IsGreatestAnswer (pair_search net b.pair budget) (left_by lines leaves b.times b.ray) b.answer
   pub satisfies : Satisfies b.times net
   pub close : All IsClose b.times
   pub proof : KeepsProof net b.pair b.proof b.answer
@@ -90,7 +90,7 @@ pub record HasPlaces (events : ℕ) (b : KeptBound) : Type 0 where
 -- ---- a finding
 
 -- the finding is right for a network and a budget: it is what a search may find there
-abbrev pub IsRightFinding : Net → ℕ → Found → Type 0
+abbrev pub IsRightFinding : Net → ℕ → SearchFinding → Type 0
 IsRightFinding net budget found =
     (lines : List ProofLine) × (leaves : ℕ) × (known : Option (List ℤ)) × Finds net budget lines leaves known found × AtEachSplit net (IsNeededToFind net) lines
 
@@ -103,11 +103,11 @@ both_ways (pair ∷ pairs) = pair ∷ (record { from = pair.to; to = pair.from }
 
 -- the network, the budget of each search, the pairs, the finding, and two bounds for each pair one after another, of which nothing is said where
 -- the finding isn't consistent
-pub record View : Type 0 where
+pub record SessionView : Type 0 where
   pub net : Net
   pub budget : ℕ
   pub pairs : List Pair
-  pub found : Found
+  pub found : SearchFinding
   pub bounds : List KeptBound
 
 -- the pair is of events below a number
@@ -115,7 +115,7 @@ abbrev pub IsPairOf : ℕ → Pair → Type 0
 IsPairOf events pair = (pair.from.0 < events) × (pair.to.0 < events)
 
 -- the finding is right, and so is each bound where the finding is consistent
-pub record IsRight (s : View) : Type 0 where
+pub record IsRight (s : SessionView) : Type 0 where
   pub net : IsNet s.net
   pub pairs : map (λ (b : KeptBound). b.pair) s.bounds ≡ both_ways s.pairs
   pub within : All (IsPairOf s.net.events) s.pairs
@@ -123,19 +123,19 @@ pub record IsRight (s : View) : Type 0 where
   pub bounds : s.found ≡ Consistent → All (IsRightBound s.net s.budget) s.bounds
 
 -- the bound of a number, where the finding is consistent
-abbrev pub bound_at : Found → List KeptBound → ℕ → Option KeptBound
+abbrev pub bound_at : SearchFinding → List KeptBound → ℕ → Option KeptBound
 bound_at Consistent bounds number = slice_get bounds number
 bound_at Inconsistent bounds number = None
 bound_at Unsettled bounds number = None
 
 -- what was answered for each bound, where the finding is consistent
-abbrev pub answers_of : Found → List KeptBound → List Answer
+abbrev pub answers_of : SearchFinding → List KeptBound → List GreatestAnswer
 answers_of Consistent bounds = map (λ (b : KeptBound). b.answer) bounds
 answers_of Inconsistent bounds = []
 answers_of Unsettled bounds = []
 
 -- what is lent of a bound: its times, its events to raise and its proof
-pub record IsKept (lent : Kept) (b : KeptBound) : Type 0 where
+pub record IsLent (lent : Kept) (b : KeptBound) : Type 0 where
   pub times : lent.times.now ≡ b.times
   pub ray : lent.ray.now ≡ b.ray
   pub proof : option_map (λ (tree : Tree). tree.lines) (option_copied lent.proof) ≡ b.proof
@@ -143,45 +143,45 @@ pub record IsKept (lent : Kept) (b : KeptBound) : Type 0 where
 -- what is lent of a bound, if it is there
 abbrev pub IsKeptOf : Option Kept → Option KeptBound → Type 0
 IsKeptOf None bound = bound ≡ None
-IsKeptOf (Some lent) bound = IsSomeAnd bound (IsKept lent)
+IsKeptOf (Some lent) bound = IsSomeAnd bound (IsLent lent)
 
 -- ---- an edit
 
 -- a bound was searched anew from known times: it is right, and attains no less than they do
-pub record IsSearched (net : Net) (budget : ℕ) (known : List ℤ) (old new : KeptBound) : Type 0 where
+pub record IsSearchedAnew (net : Net) (budget : ℕ) (known : List ℤ) (old new : KeptBound) : Type 0 where
   pub pair : new.pair ≡ old.pair
   pub right : IsRightBound net budget new
   pub least : separation known old.pair.from old.pair.to ≤ℤ separation new.times old.pair.from old.pair.to
 
 -- One bound after another, each was kept as it was, which it may be, or was searched anew, as it may not be kept. So many were kept and so many
 -- searched.
-abbrev pub AreSettled : (KeptBound → Type 0) → (KeptBound → KeptBound → Type 0) → List KeptBound → List KeptBound → ℕ → ℕ → Type 0
-AreSettled May Searched [] [] kept searched = (kept ≡ 0) × (searched ≡ 0)
-AreSettled May Searched [] (b ∷ now) kept searched = ⊥
-AreSettled May Searched (a ∷ before) [] kept searched = ⊥
-AreSettled May Searched (a ∷ before) (b ∷ now) kept searched =
-    ((fewer : ℕ) × (kept ≡ fewer + 1) × May a × (b ≡ a) × AreSettled May Searched before now fewer searched)
-    ⊎ ((fewer : ℕ) × (searched ≡ fewer + 1) × (May a → ⊥) × Searched a b × AreSettled May Searched before now kept fewer)
+abbrev pub AreUpdated : (KeptBound → Type 0) → (KeptBound → KeptBound → Type 0) → List KeptBound → List KeptBound → ℕ → ℕ → Type 0
+AreUpdated May Searched [] [] kept searched = (kept ≡ 0) × (searched ≡ 0)
+AreUpdated May Searched [] (b ∷ now) kept searched = ⊥
+AreUpdated May Searched (a ∷ before) [] kept searched = ⊥
+AreUpdated May Searched (a ∷ before) (b ∷ now) kept searched =
+    ((fewer : ℕ) × (kept ≡ fewer + 1) × May a × (b ≡ a) × AreUpdated May Searched before now fewer searched)
+    ⊎ ((fewer : ℕ) × (searched ≡ fewer + 1) × (May a → ⊥) × Searched a b × AreUpdated May Searched before now kept fewer)
 
 -- which bounds may be kept by an edit: where the finding before was consistent, those that may be kept for the network behind it
-abbrev pub MayKeepFrom : Found → Net → KeptBound → Type 0
+abbrev pub MayKeepFrom : SearchFinding → Net → KeptBound → Type 0
 MayKeepFrom Consistent net b = MayKeep net b
 MayKeepFrom Inconsistent net b = ⊥
 MayKeepFrom Unsettled net b = ⊥
 
 -- what becomes of the bounds: where the finding is consistent now, each is kept or searched anew, and where not nothing is done
-abbrev pub IsSettled : Net → ℕ → Found → Found → List KeptBound → List KeptBound → Change → Type 0
-IsSettled net budget was Consistent before now change =
-    (known : List ℤ) × Satisfies known net × AreSettled (MayKeepFrom was net) (IsSearched net budget known) before now change.kept change.searched
-IsSettled net budget was Inconsistent before now change = (now ≡ before) × (change.kept ≡ 0) × (change.searched ≡ 0)
-IsSettled net budget was Unsettled before now change = (now ≡ before) × (change.kept ≡ 0) × (change.searched ≡ 0)
+abbrev pub AreBoundsUpdated : Net → ℕ → SearchFinding → SearchFinding → List KeptBound → List KeptBound → Change → Type 0
+AreBoundsUpdated net budget was Consistent before now change =
+    (known : List ℤ) × Satisfies known net × AreUpdated (MayKeepFrom was net) (IsSearchedAnew net budget known) before now change.kept change.searched
+AreBoundsUpdated net budget was Inconsistent before now change = (now ≡ before) × (change.kept ≡ 0) × (change.searched ≡ 0)
+AreBoundsUpdated net budget was Unsettled before now change = (now ≡ before) × (change.kept ≡ 0) × (change.searched ≡ 0)
 
 -- an edit of one range that is there
-pub record IsEdited (old : View) (constraint cause : ℕ) (range : Ends) (new : View) (change : Change) : Type 0 where
+pub record IsEdited (old : SessionView) (constraint cause : ℕ) (range : Ends) (new : SessionView) (change : Change) : Type 0 where
   pub net : new.net ≡ with_range old.net constraint cause range
   pub budget : new.budget ≡ old.budget
   pub pairs : new.pairs ≡ old.pairs
-  pub bounds : IsSettled new.net new.budget old.found new.found old.bounds new.bounds change
+  pub bounds : AreBoundsUpdated new.net new.budget old.found new.found old.bounds new.bounds change
 
 -- ---- why there is none
 
@@ -198,14 +198,14 @@ IsEditFault net constraint cause edits.NoMemory = IsSome (cause_at net constrain
 -- ---- new sessions
 
 -- where the finding is consistent each bound attains no less than some known times
-abbrev pub AttainsKnown : View → Type 0
+abbrev pub AttainsKnown : SessionView → Type 0
 AttainsKnown s = s.found ≡ Consistent → (known : List ℤ) × Satisfies known s.net
     × All (λ (b : KeptBound). separation known b.pair.from b.pair.to ≤ℤ separation b.times b.pair.from b.pair.to) s.bounds
 
 -- ---- inside
 
 -- a session with a checker of some room is sound
-pub record IsSound (s : View) (room : ℕ) : Type 0 where
+pub record IsSoundSession (s : SessionView) (room : ℕ) : Type 0 where
   pub right : IsRight s
   pub room_is : room ≡ length s.net.constraints
   pub some_budget : 0 < s.budget

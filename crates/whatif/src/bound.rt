@@ -8,17 +8,17 @@ ghost use Rattle.event_graph.specs.Satisfying.{Satisfies};
 ghost use Rattle.event_graph.specs.Times.{separation};
 ghost use Rattle.branch.specs.Answers.{evidence};
 ghost use Rattle.branch.specs.Work.{IsClose, IsMadeFor, IsStart};
-ghost use Rattle.branch.specs.declared.answer.Answer.TheVariants as answers;
-ghost use Rattle.branch.specs.declared.answer.Found.TheVariants as findings;
+ghost use Rattle.branch.specs.declared.answer.GreatestAnswer.TheVariants as answers;
+ghost use Rattle.branch.specs.declared.answer.SearchFinding.TheVariants as findings;
 ghost use Rattle.certificate.specs.Scribing.{Tree};
-ghost use Rattle.whatif.specs.Session.{HasPlaces, IsKept, IsPairOf, IsSearched, MayKeep};
+ghost use Rattle.whatif.specs.Session.{HasPlaces, IsLent, IsPairOf, IsSearchedAnew, MayKeep};
 ghost use Rattle.whatif.specs.Step.Bounds.{IsBetterStart, IsCloseBound, IsPairSearched, kept_of};
 ghost use Rattle.whatif.specs.Step.Keeping.{KeeperGrew};
 
 use crate::keeper::Keeper;
 use crate::pair::Pair;
 use crate::proving::is_proof;
-use branch::{Answer, Found, MAX_START, Work, greatest, greatest_from};
+use branch::{GreatestAnswer, MAX_START, SearchFinding, Work, greatest, greatest_from};
 use cert_checker::{Checker, Goal};
 use certificate::TreeScribe;
 use event_graph::{Network, ScribeFailed};
@@ -45,7 +45,7 @@ pub struct Kept<'a> {
 #[derive(Debug, Drop)]
 pub struct KeptBound {
     pair: Pair,
-    answer: Answer,
+    answer: GreatestAnswer,
     times: Vec<i64>,
     ray: Vec<bool>,
     keeper: Keeper,
@@ -72,7 +72,7 @@ impl KeptBound {
         let events = events as usize;
         Ok(KeptBound {
             pair,
-            answer: Answer::Unbounded,
+            answer: GreatestAnswer::Unbounded,
             times: Vec::from_elem(alloc, 0, events)?,
             ray: Vec::from_elem(alloc, false, events)?,
             keeper: Keeper::new(alloc, MAX_KEPT_LINES, MAX_KEPT_EDGES)?,
@@ -80,7 +80,7 @@ impl KeptBound {
     }
 
     /// What was answered.
-    pub fn answer(&self) -> Answer
+    pub fn answer(&self) -> GreatestAnswer
         ensures { result ≡ self.now.answer }
     {
         self.answer
@@ -88,7 +88,7 @@ impl KeptBound {
 
     /// What it keeps.
     pub fn kept(&self) -> Kept<'_>
-        ensures { IsKept result self.now }
+        ensures { IsLent result self.now }
     {
         Kept {
             times: &self.times,
@@ -108,20 +108,20 @@ impl KeptBound {
     {
         let Pair { from, to } = self.pair;
         match self.answer {
-            Answer::Closed(value) => {
+            GreatestAnswer::Closed(value) => {
                 if net.broken(&self.times).is_some() {
                     return false;
                 }
                 has_proof(net, checker, self.pair, value, self.keeper.proof())
             }
-            Answer::Unbounded => net.is_ray(&self.times, &self.ray, from, to),
-            Answer::Enclosed { .. } => false,
+            GreatestAnswer::Unbounded => net.is_ray(&self.times, &self.ray, from, to),
+            GreatestAnswer::Enclosed { .. } => false,
         }
     }
 
     /// Searches it anew, where the finding was this one before. The search starts from the times that the bound has, where they are a
     /// start no worse than the known times of the working memory, and from the known times everywhere else.
-    pub fn search(&mut self, net: &Network, work: &mut Work, budget: u64, was: Found)
+    pub fn search(&mut self, net: &Network, work: &mut Work, budget: u64, was: SearchFinding)
         requires pair { IsPairOf net.now.events self.old.pair }
         requires places { HasPlaces net.now.events self.old }
         requires made { IsMadeFor net.now work.old }
@@ -130,7 +130,7 @@ impl KeptBound {
         requires budget { 0 < budget }
         ensures made { IsMadeFor net.now work.new }
         ensures known { work.new.known ≡ work.old.known }
-        ensures searched { IsSearched net.now budget (unwrap_or work.old.known []) self.old self.new }
+        ensures searched { IsSearchedAnew net.now budget (unwrap_or work.old.known []) self.old self.new }
         ensures places { HasPlaces net.now.events self.new }
     {
         self.keeper.begin();
@@ -158,7 +158,7 @@ fn search_pair(
     start: Option<&[i64]>,
     budget: u64,
     keeper: &mut Keeper,
-) -> Answer
+) -> GreatestAnswer
     requires pair { IsPairOf net.now.events pair }
     requires made { IsMadeFor net.now work.old }
     requires known { IsSomeAnd work.old.known (λ times. Satisfies times net.now) }
@@ -184,7 +184,7 @@ fn search_pair(
 }
 
 // Whether times of a bound are a start no worse than the known times, where the finding was this one before.
-fn is_start(net: &Network, was: Found, pair: Pair, times: &[i64], known: &[i64]) -> bool
+fn is_start(net: &Network, was: SearchFinding, pair: Pair, times: &[i64], known: &[i64]) -> bool
     requires pair { IsPairOf net.now.events pair }
     requires places { length times.now ≡ net.now.events }
     requires known { Satisfies known.now net.now }
@@ -193,11 +193,11 @@ fn is_start(net: &Network, was: Found, pair: Pair, times: &[i64], known: &[i64])
     ensures { IsTrue result → IsBetterStart net.now pair known.now times.now }
 {
     match was {
-        Found::Consistent => {
+        SearchFinding::Consistent => {
             is_no_worse(separation_of(times, pair), separation_of(known, pair))
                 && net.broken(times).is_none()
         }
-        Found::Inconsistent | Found::Unsettled => false,
+        SearchFinding::Inconsistent | SearchFinding::Unsettled => false,
     }
 }
 
@@ -243,23 +243,23 @@ fn has_proof(
 }
 
 // Takes the events to raise of an answer that has them.
-fn take_ray(ray: &mut [bool], answer: Answer, found: &[bool])
+fn take_ray(ray: &mut [bool], answer: GreatestAnswer, found: &[bool])
     requires places { answer ≡ answers.Unbounded → length found.now ≡ length ray.old }
     ensures ray { answer ≡ answers.Unbounded → ray.new ≡ found.now }
     ensures places { length ray.new ≡ length ray.old }
 {
     match answer {
-        Answer::Unbounded => ray.copy_from_slice(found),
-        Answer::Closed(_) | Answer::Enclosed { .. } => {}
+        GreatestAnswer::Unbounded => ray.copy_from_slice(found),
+        GreatestAnswer::Closed(_) | GreatestAnswer::Enclosed { .. } => {}
     }
 }
 
 // Lets the lines of an answer go that has no proof.
-fn keep_by(keeper: &mut Keeper, answer: Answer)
+fn keep_by(keeper: &mut Keeper, answer: GreatestAnswer)
     ensures { keeper.new ≡ record keeper.old { lines = kept_of answer keeper.old.lines } }
 {
     match answer {
-        Answer::Closed(_) => {}
-        Answer::Unbounded | Answer::Enclosed { .. } => keeper.forget(),
+        GreatestAnswer::Closed(_) => {}
+        GreatestAnswer::Unbounded | GreatestAnswer::Enclosed { .. } => keeper.forget(),
     }
 }

@@ -1,8 +1,8 @@
 //! Lines of a proof that were kept, checked anew.
 
 ghost use Rattle.std.specs.Prelude.{◌≡◌, ◌<◌, ◌+◌, ◌∷◌, ◌↔◌, [], IsTrue, MatchBool, length, take};
-ghost use Rattle.event_graph.specs.Proof.{IsProof, Reads};
-ghost use Rattle.cert_checker.specs.Checking.{StandsFor, goal_view, open_cases};
+ghost use Rattle.event_graph.specs.Proof.{IsProof, ProofLeaves};
+ghost use Rattle.cert_checker.specs.Checking.{IsProofCheckerFor, goal_view, open_cases};
 
 use cert_checker::{Checker, Goal};
 use certificate::TreeScribe;
@@ -26,14 +26,14 @@ pub fn is_proof(net: &Network, checker: &mut Checker, goal: Goal, proof: &TreeSc
 
 // Takes the next line, where it has no fault.
 fn takes(net: &Network, checker: &mut Checker, proof: &TreeScribe, k: u64) -> bool
-    requires stands { StandsFor net.now checker.old }
+    requires stands { IsProofCheckerFor net.now checker.old }
     requires line { k < length proof.now.lines }
-    requires reads { Reads net.now checker.old.goal ([] ∷ []) (take k proof.now.lines) (open_cases net.now checker.old) }
+    requires reads { ProofLeaves net.now checker.old.goal ([] ∷ []) (take k proof.now.lines) (open_cases net.now checker.old) }
     ensures taken { MatchBool result
-        (Reads net.now checker.old.goal ([] ∷ []) (take (k + 1) proof.now.lines) (open_cases net.now checker.new))
+        (ProofLeaves net.now checker.old.goal ([] ∷ []) (take (k + 1) proof.now.lines) (open_cases net.now checker.new))
         (IsProof net.now checker.old.goal proof.now.lines → ⊥) }
     ensures goal { checker.new.goal ≡ checker.old.goal }
-    ensures stands { StandsFor net.now checker.new }
+    ensures stands { IsProofCheckerFor net.now checker.new }
 {
     checker.take(net, &proof.line(k)).is_ok()
 }

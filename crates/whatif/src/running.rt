@@ -7,7 +7,7 @@ ghost use Rattle.whatif.specs.Runs.{IsRun, note_of};
 use crate::change::Change;
 use crate::fault::EditFault;
 use crate::session::Session;
-use branch::{Answer, Found};
+use branch::{GreatestAnswer, SearchFinding};
 use edits::RangeEdit;
 use itv_base::NoMemory;
 use std::alloc::Global;
@@ -18,8 +18,8 @@ use std::marker::Model;
 #[derive(Debug, Drop)]
 pub struct Note {
     pub change: Change,
-    pub found: Found,
-    pub answers: Vec<Answer>,
+    pub found: SearchFinding,
+    pub answers: Vec<GreatestAnswer>,
 }
 
 impl Model for Note {

@@ -4,8 +4,8 @@ ghost use Rattle.std.specs.Prelude.{◌≡◌, ◌+◌, ◌<◌, ◌≤◌, All,
 ghost use Rattle.std.specs.Option.{option_copied};
 ghost use Rattle.event_graph.specs.Network.{IsNet, cause_at, with_range};
 ghost use Rattle.branch.specs.Work.{IsMadeFor};
-ghost use Rattle.branch.specs.declared.answer.Found.TheVariants as findings;
-ghost use Rattle.whatif.specs.Session.{AttainsKnown, HasPlaces, IsEditFault, IsEdited, IsKeptOf, IsPairOf, IsRight, IsRightFinding, IsSessionFault, IsSettled, KeptBound, answers_of, both_ways, bound_at};
+ghost use Rattle.branch.specs.declared.answer.SearchFinding.TheVariants as findings;
+ghost use Rattle.whatif.specs.Session.{AttainsKnown, HasPlaces, IsEditFault, IsEdited, IsKeptOf, IsPairOf, IsRight, IsRightFinding, IsSessionFault, AreBoundsUpdated, KeptBound, answers_of, both_ways, bound_at};
 ghost use Rattle.whatif.specs.Step.Bounds.{IsPairIn};
 ghost use Rattle.whatif.specs.declared.change.Change.{Change};
 ghost use Rattle.whatif.specs.declared.settling.TheConstants.{MAX_BOUNDS};
@@ -16,7 +16,7 @@ use crate::copying::copied;
 use crate::fault::{EditFault, SessionFault};
 use crate::pair::Pair;
 use crate::settling::settle_by;
-use branch::{Answer, Found, Work};
+use branch::{GreatestAnswer, SearchFinding, Work};
 use cert_checker::Checker;
 use event_graph::Network;
 use itv_base::{NoMemory, Range};
@@ -34,20 +34,20 @@ pub struct Session {
     net: Network,
     budget: u64,
     pairs: Vec<Pair>,
-    found: Found,
+    found: SearchFinding,
     // Two for each pair: its own, and that of the reversed pair.
     bounds: Vec<KeptBound>,
     checker: Checker,
 }
 
 impl Model for Session {
-    ghost use Rattle.whatif.specs.Session.{IsSound, View};
+    ghost use Rattle.whatif.specs.Session.{IsSoundSession, SessionView};
 
-    ghost Value = { View };
+    ghost Value = { SessionView };
 
     ghost view = { λ s. record { net = s.net; budget = s.budget; pairs = s.pairs.items; found = s.found; bounds = s.bounds.items } };
 
-    ghost invariant = { λ s. IsSound (record { net = s.net; budget = s.budget; pairs = s.pairs.items; found = s.found; bounds = s.bounds.items }) s.checker.room };
+    ghost invariant = { λ s. IsSoundSession (record { net = s.net; budget = s.budget; pairs = s.pairs.items; found = s.found; bounds = s.bounds.items }) s.checker.room };
 }
 
 impl Session {
@@ -116,7 +116,7 @@ impl Session {
     }
 
     /// Whether times satisfy the network, as far as the budget tells.
-    pub fn finding(&self) -> Found
+    pub fn finding(&self) -> SearchFinding
         ensures found { result ≡ self.now.found }
         ensures right { IsRight self.now }
     {
@@ -124,7 +124,7 @@ impl Session {
     }
 
     /// The greatest separation of a pair by its number from 0, or `None` exactly where the finding isn't consistent.
-    pub fn greatest_of(&self, pair: u32) -> Option<Answer>
+    pub fn greatest_of(&self, pair: u32) -> Option<GreatestAnswer>
         requires there { pair < length self.now.pairs }
         ensures { result ≡ option_map (λ (b : KeptBound). b.answer) (bound_at self.now.found self.now.bounds (pair + pair)) }
     {
@@ -134,7 +134,7 @@ impl Session {
 
     /// The greatest separation of the reversed pair, which is minus the least one of the pair, or `None` exactly where the finding
     /// isn't consistent.
-    pub fn least_of(&self, pair: u32) -> Option<Answer>
+    pub fn least_of(&self, pair: u32) -> Option<GreatestAnswer>
         requires there { pair < length self.now.pairs }
         ensures { result ≡ option_map (λ (b : KeptBound). b.answer) (bound_at self.now.found self.now.bounds (pair + pair + 1)) }
     {
@@ -161,12 +161,12 @@ impl Session {
     }
 
     /// The answers of all bounds, two for each pair, or none where the finding isn't consistent.
-    pub fn answers(&self, alloc: Global) -> Result<Vec<Answer>, NoMemory>
+    pub fn answers(&self, alloc: Global) -> Result<Vec<GreatestAnswer>, NoMemory>
         ensures { IfOk result (λ answers. answers.items ≡ answers_of self.now.found self.now.bounds) }
     {
         match self.found {
-            Found::Consistent => answers_in(alloc, &self.bounds),
-            Found::Inconsistent | Found::Unsettled => Ok(Vec::new(alloc)),
+            SearchFinding::Consistent => answers_in(alloc, &self.bounds),
+            SearchFinding::Inconsistent | SearchFinding::Unsettled => Ok(Vec::new(alloc)),
         }
     }
 
@@ -176,14 +176,14 @@ impl Session {
         ensures { option_copied result ≡ bound_at self.now.found self.now.bounds number }
     {
         match self.found {
-            Found::Consistent => self.bounds.get(number),
-            Found::Inconsistent | Found::Unsettled => None,
+            SearchFinding::Consistent => self.bounds.get(number),
+            SearchFinding::Inconsistent | SearchFinding::Unsettled => None,
         }
     }
 }
 
 // The answer of each bound.
-fn answers_in(alloc: Global, bounds: &[KeptBound]) -> Result<Vec<Answer>, NoMemory>
+fn answers_in(alloc: Global, bounds: &[KeptBound]) -> Result<Vec<GreatestAnswer>, NoMemory>
     ensures { IfOk result (λ answers. answers.items ≡ map (λ (b : KeptBound). b.answer) bounds.now) }
 {
     let mut answers = Vec::new(alloc);
@@ -214,7 +214,7 @@ fn begin(
     checker: &mut Checker,
     budget: u64,
     bounds: &mut [KeptBound],
-) -> Result<Found, NoMemory>
+) -> Result<SearchFinding, NoMemory>
     requires room { checker.old.room ≡ length net.now.constraints }
     requires budget { 0 < budget }
     requires count { length bounds.old ≤ MAX_BOUNDS }
@@ -222,12 +222,12 @@ fn begin(
     requires places { All (HasPlaces net.now.events) bounds.old }
     ensures net { OnOk result (IsNet net.now) }
     ensures finding { IfOk result (IsRightFinding net.now budget) }
-    ensures settled { IfOk result (λ found. (change : Change) × IsSettled net.now budget findings.Unsettled found bounds.old bounds.new change) }
+    ensures settled { IfOk result (λ found. (change : Change) × AreBoundsUpdated net.now budget findings.Unsettled found bounds.old bounds.new change) }
     ensures places { OnOk result (All (HasPlaces net.now.events) bounds.new) }
     ensures room { checker.new.room ≡ checker.old.room }
 {
     let work = Work::new(alloc, net)?;
-    let mut found = Found::Unsettled;
+    let mut found = SearchFinding::Unsettled;
     settle_by(net, work, checker, budget, &mut found, bounds);
     Ok(found)
 }

@@ -3,14 +3,14 @@
 ghost use Rattle.std.specs.Prelude.{◌≡◌, ◌<◌, ◌≤◌, ◌↔◌, [], All, IsSomeAnd, IsTrue, length, unwrap_or};
 ghost use Rattle.event_graph.specs.Satisfying.{Satisfies};
 ghost use Rattle.branch.specs.Work.{IsMadeFor};
-ghost use Rattle.branch.specs.declared.answer.Found.TheVariants as findings;
-ghost use Rattle.whatif.specs.Session.{AreSettled, HasPlaces, IsRightFinding, IsSearched, IsSettled, MayKeepFrom};
+ghost use Rattle.branch.specs.declared.answer.SearchFinding.TheVariants as findings;
+ghost use Rattle.whatif.specs.Session.{AreUpdated, HasPlaces, IsRightFinding, IsSearchedAnew, AreBoundsUpdated, MayKeepFrom};
 ghost use Rattle.whatif.specs.Step.Bounds.{IsCloseBound, IsPairIn};
 ghost use Rattle.whatif.specs.declared.settling.TheConstants.{MAX_BOUNDS};
 
 use crate::bound::KeptBound;
 use crate::change::Change;
-use branch::{Found, Quiet, Work, find};
+use branch::{Quiet, SearchFinding, Work, find};
 use cert_checker::Checker;
 use event_graph::{Network, ScribeFailed};
 
@@ -24,7 +24,7 @@ pub fn settle(
     work: &mut Work,
     checker: &mut Checker,
     budget: u64,
-    found: &mut Found,
+    found: &mut SearchFinding,
     bounds: &mut [KeptBound],
 ) -> Change
     requires made { IsMadeFor net.now work.old }
@@ -35,7 +35,7 @@ pub fn settle(
     requires places { All (HasPlaces net.now.events) bounds.old }
     requires close { found.old ≡ findings.Consistent → All IsCloseBound bounds.old }
     ensures finding { IsRightFinding net.now budget found.new }
-    ensures settled { IsSettled net.now budget found.old found.new bounds.old bounds.new result }
+    ensures settled { AreBoundsUpdated net.now budget found.old found.new bounds.old bounds.new result }
     ensures places { All (HasPlaces net.now.events) bounds.new }
     ensures room { checker.new.room ≡ checker.old.room }
 {
@@ -43,8 +43,8 @@ pub fn settle(
     let now = find_times(net, work, budget);
     *found = now;
     match now {
-        Found::Consistent => settle_bounds(net, work, checker, budget, was, bounds),
-        Found::Inconsistent | Found::Unsettled => Change {
+        SearchFinding::Consistent => settle_bounds(net, work, checker, budget, was, bounds),
+        SearchFinding::Inconsistent | SearchFinding::Unsettled => Change {
             kept: 0,
             searched: 0,
         },
@@ -57,7 +57,7 @@ pub fn settle_by(
     mut work: Work,
     checker: &mut Checker,
     budget: u64,
-    found: &mut Found,
+    found: &mut SearchFinding,
     bounds: &mut [KeptBound],
 ) -> Change
     requires made { IsMadeFor net.now work }
@@ -68,7 +68,7 @@ pub fn settle_by(
     requires places { All (HasPlaces net.now.events) bounds.old }
     requires close { found.old ≡ findings.Consistent → All IsCloseBound bounds.old }
     ensures finding { IsRightFinding net.now budget found.new }
-    ensures settled { IsSettled net.now budget found.old found.new bounds.old bounds.new result }
+    ensures settled { AreBoundsUpdated net.now budget found.old found.new bounds.old bounds.new result }
     ensures places { All (HasPlaces net.now.events) bounds.new }
     ensures room { checker.new.room ≡ checker.old.room }
 {
@@ -76,7 +76,7 @@ pub fn settle_by(
 }
 
 // Whether some times satisfy the network, which are known afterwards.
-fn find_times(net: &Network, work: &mut Work, budget: u64) -> Found
+fn find_times(net: &Network, work: &mut Work, budget: u64) -> SearchFinding
     requires made { IsMadeFor net.now work.old }
     requires budget { 0 < budget }
     ensures made { IsMadeFor net.now work.new }
@@ -98,7 +98,7 @@ fn settle_bounds(
     work: &mut Work,
     checker: &mut Checker,
     budget: u64,
-    was: Found,
+    was: SearchFinding,
     bounds: &mut [KeptBound],
 ) -> Change
     requires made { IsMadeFor net.now work.old }
@@ -109,7 +109,7 @@ fn settle_bounds(
     requires pairs { All (IsPairIn net.now.events) bounds.old }
     requires places { All (HasPlaces net.now.events) bounds.old }
     requires close { was ≡ findings.Consistent → All IsCloseBound bounds.old }
-    ensures settled { AreSettled (MayKeepFrom was net.now) (IsSearched net.now budget (unwrap_or work.old.known [])) bounds.old bounds.new result.kept result.searched }
+    ensures settled { AreUpdated (MayKeepFrom was net.now) (IsSearchedAnew net.now budget (unwrap_or work.old.known [])) bounds.old bounds.new result.kept result.searched }
     ensures places { All (HasPlaces net.now.events) bounds.new }
     ensures room { checker.new.room ≡ checker.old.room }
 {
@@ -129,7 +129,7 @@ fn settle_bounds(
 }
 
 // Whether a bound is kept, where the finding was this one before.
-fn keeps(net: &Network, checker: &mut Checker, was: Found, bound: &KeptBound) -> bool
+fn keeps(net: &Network, checker: &mut Checker, was: SearchFinding, bound: &KeptBound) -> bool
     requires pair { IsPairIn net.now.events bound.now }
     requires places { HasPlaces net.now.events bound.now }
     requires room { checker.old.room ≡ length net.now.constraints }
@@ -138,7 +138,7 @@ fn keeps(net: &Network, checker: &mut Checker, was: Found, bound: &KeptBound) ->
     ensures room { checker.new.room ≡ checker.old.room }
 {
     match was {
-        Found::Consistent => bound.may_keep(net, checker),
-        Found::Inconsistent | Found::Unsettled => false,
+        SearchFinding::Consistent => bound.may_keep(net, checker),
+        SearchFinding::Inconsistent | SearchFinding::Unsettled => false,
     }
 }

@@ -9,16 +9,16 @@ use Rattle.itv_base.specs.declared.row_kind.RowKind.{RowKind}
 use Rattle.event_graph.specs.Limits.{IsReach}
 use Rattle.event_graph.specs.Network.{Net}
 use Rattle.event_graph.specs.Times.{IsTime, separation, time_of}
-use Rattle.branch.specs.Answers.{Answers, Evidence, PairSearch}
+use Rattle.branch.specs.Answers.{IsGreatestAnswer, Evidence, PairSearch}
 use Rattle.branch.specs.Work.{IsClose}
-use Rattle.branch.specs.declared.answer.Answer.{Answer}
-use Rattle.branch.specs.declared.answer.Answer.TheVariants.{Closed, Unbounded, Enclosed}
-use Rattle.branch.specs.declared.answer.Found.{Found}
-use Rattle.branch.specs.declared.answer.Found.TheVariants.{Consistent, Inconsistent, Unsettled}
+use Rattle.branch.specs.declared.answer.GreatestAnswer.{GreatestAnswer}
+use Rattle.branch.specs.declared.answer.GreatestAnswer.TheVariants.{Closed, Unbounded, Enclosed}
+use Rattle.branch.specs.declared.answer.SearchFinding.{SearchFinding}
+use Rattle.branch.specs.declared.answer.SearchFinding.TheVariants.{Consistent, Inconsistent, Unsettled}
 use Rattle.edits.specs.declared.edit.RangeEdit.{RangeEdit}
 use Rattle.whatif.specs.declared.change.Change.{Change}
-use Rattle.whatif.specs.Runs.{IsRun, Note, Runs, Stand, note_of, notes_of}
-use Rattle.whatif.specs.Session.{IsRight, IsRightBound, KeptBound, View, answers_of, left_by, pair_search}
+use Rattle.whatif.specs.Runs.{IsRun, Note, Runs, EditedSession, note_of, notes_of}
+use Rattle.whatif.specs.Session.{IsRight, IsRightBound, KeptBound, SessionView, answers_of, left_by, pair_search}
 use Rattle.whatif.proofs.Sessions.{count_bounds}
 use Rattle.drawn.specs.Drawn.{IsRowOf}
 use Rattle.drawn.specs.declared.row.Row.{Row}
@@ -45,7 +45,7 @@ reach_time : (upper : Option ℤ) → IfSome upper IsReach → IfSome upper IsTi
 reach_time None h = tt
 reach_time (Some sum) h = (omega (arith, ints, h.0, h.1), omega (arith, ints, h.0, h.1))
 
-timed_by : (search : PairSearch) (left : Evidence) (answer : Answer) → Answers search left answer → All IsClose left.times → IsTimed answer
+timed_by : (search : PairSearch) (left : Evidence) (answer : GreatestAnswer) → IsGreatestAnswer search left answer → All IsClose left.times → IsTimed answer
 timed_by search left (Closed value) a close = subst IsTime a.attained (separation_time left.times search.from search.to close)
 timed_by search left Unbounded a close = tt
 timed_by search left (Enclosed upper found) a close = (reach_time upper a.within, subst IsTime a.attains (separation_time left.times search.from search.to close))
@@ -60,7 +60,7 @@ bounds_timed net budget bounds right =
 
 -- ---- notes
 
-note_by : (kinds : List RowKind) (s : View) (change : Change) (found : Found) → s.found ≡ found → IsRight s → length kinds ≡ length s.pairs
+note_by : (kinds : List RowKind) (s : SessionView) (change : Change) (found : SearchFinding) → s.found ≡ found → IsRight s → length kinds ≡ length s.pairs
     → IsNoteOf kinds (record { change = change; found = found; answers = answers_of found s.bounds })
 note_by kinds s change Consistent is right same = record {
   timed = bounds_timed s.net s.budget s.bounds (right.bounds is);
@@ -70,10 +70,10 @@ note_by kinds s change Inconsistent is right same = record { timed = λ k d with
 note_by kinds s change Unsettled is right same = record { timed = λ k d within. absurd (omega arith); count = inl refl }
 
 -- the note of a session that is right
-pub note_is : (kinds : List RowKind) (s : View) (change : Change) → IsRight s → length kinds ≡ length s.pairs → IsNoteOf kinds (note_of change s)
+pub note_is : (kinds : List RowKind) (s : SessionView) (change : Change) → IsRight s → length kinds ≡ length s.pairs → IsNoteOf kinds (note_of change s)
 note_is kinds s change right same = note_by kinds s change s.found refl right same
 
-notes_by : (kinds : List RowKind) (s : View) (edits : List RangeEdit) (later : List Stand) → Runs s edits later → length kinds ≡ length s.pairs
+notes_by : (kinds : List RowKind) (s : SessionView) (edits : List RangeEdit) (later : List EditedSession) → Runs s edits later → length kinds ≡ length s.pairs
     → All (IsNoteOf kinds) (notes_of later) × (length (notes_of later) ≡ length edits)
 notes_by kinds s [] [] runs same = ((λ k d within. absurd (omega arith)), refl)
 notes_by kinds s [] (t ∷ later) runs same = absurd runs
@@ -86,7 +86,7 @@ notes_by kinds s (e ∷ edits) (t ∷ later) runs same =
     )
 
 -- the notes of a run are of its rows, and there is one for each edit
-pub notes_are : (kinds : List RowKind) (first last : View) (edits : List RangeEdit) (notes : List Note) → IsRun first edits last notes → length kinds ≡ length first.pairs
+pub notes_are : (kinds : List RowKind) (first last : SessionView) (edits : List RangeEdit) (notes : List Note) → IsRun first edits last notes → length kinds ≡ length first.pairs
     → All (IsNoteOf kinds) notes × (length notes ≡ length edits)
 notes_are kinds first last edits notes run same =
     subst (λ (ns : List Note). All (IsNoteOf kinds) ns × (length ns ≡ length edits)) (sym run.noted) (notes_by kinds first edits run.later run.runs same)

@@ -9,7 +9,7 @@ use Rattle.itv_base.specs.declared.row_kind.RowKind.TheVariants as kinds
 use Rattle.line_words.specs.Words.{Word}
 use Rattle.line_words.specs.Lines.{ended, line_of, spaced}
 use Rattle.line_words.proofs.Printing.{join_spaced}
-use Rattle.branch.specs.declared.answer.Answer.{Answer}
+use Rattle.branch.specs.declared.answer.GreatestAnswer.{GreatestAnswer}
 use Rattle.requirements.specs.declared.bound.Bound.{Bound}
 use Rattle.slack_report.specs.Text.{bound_words}
 use Rattle.slack_report.specs.declared.words.FindingWord.{FindingWord}
@@ -55,23 +55,23 @@ drop_two xs k x y d e h is_x is_y =
     drop_one xs (2 * k) x d (omega (arith, h)) is_x ∙ ap (λ l. x ∷ l) (drop_one xs (2 * k + 1) y e h is_y ∙ ap (λ n. y ∷ drop n xs) next)
 
 -- a list that is tested to be empty has no elements
-pub none_in : (list : List Answer) → true ≡ (length list == 0) → length list ≡ 0
+pub none_in : (list : List GreatestAnswer) → true ≡ (length list == 0) → length list ≡ 0
 none_in list e = eqb-true (length list) 0 (sym e)
 
 -- there are two answers for the row at a place
-pub enough_of : (rows : List RowKind) (list : List Answer) (k : ℕ) → IsCountFor rows list → (length list == 0) ≡ false → k < length rows → 2 * k + 1 < length list
+pub enough_of : (rows : List RowKind) (list : List GreatestAnswer) (k : ℕ) → IsCountFor rows list → (length list == 0) ≡ false → k < length rows → 2 * k + 1 < length list
 enough_of rows list k (inl none) some within = absurd (cc (none, some))
 enough_of rows list k (inr both) some within = omega (arith, both, within)
 
 -- ---- rows
 
-pub rows_none : (number : ℕ) (rows : List RowKind) (list : List Answer) → length list ≡ 0 → rows_text number rows list ≡ []
+pub rows_none : (number : ℕ) (rows : List RowKind) (list : List GreatestAnswer) → length list ≡ 0 → rows_text number rows list ≡ []
 rows_none number [] list none = refl
 rows_none number (kind ∷ rows) [] none = refl
 rows_none number (kind ∷ rows) (a ∷ list) none = absurd (omega (arith, none))
 
 -- the line of the row at a place stands behind a text
-pub rows_step : (whole text next : List ℕ) (rows : List RowKind) (list : List Answer) (k : ℕ) (kind c : RowKind) (most least d e : Answer) (low high : Bound) → k < length rows
+pub rows_step : (whole text next : List ℕ) (rows : List RowKind) (list : List GreatestAnswer) (k : ℕ) (kind c : RowKind) (most least d e : GreatestAnswer) (low high : Bound) → k < length rows
     → 2 * k + 1 < length list → kind ≡ get_or rows k c → most ≡ get_or list (2 * k) d → least ≡ get_or list (2 * k + 1) e → low ≡ least_bound least
     → high ≡ greatest_bound most → text ++ rows_text k (drop k rows) (drop (2 * k) list) ≡ whole → next ≡ text ++ ended (line_of (row_words k kind low high))
     → next ++ rows_text (k + 1) (drop (k + 1) rows) (drop (2 * (k + 1)) list) ≡ whole
@@ -103,7 +103,7 @@ or_false : (b : Bool) → (b || false) ≡ b
 or_false true = refl
 or_false false = refl
 
-pub judged_none : (w : FindingWord) (rows : List RowKind) (list : List Answer) → length list ≡ 0 → judged_rows (course_of w) rows list ≡ course_of w
+pub judged_none : (w : FindingWord) (rows : List RowKind) (list : List GreatestAnswer) → length list ≡ 0 → judged_rows (course_of w) rows list ≡ course_of w
 judged_none w [] list none = refl
 judged_none w (kind ∷ rows) [] none = refl
 judged_none w (kind ∷ rows) (a ∷ list) none = absurd (omega (arith, none))
@@ -114,7 +114,7 @@ judged_row_is w fails within kinds.Ask least most = rw (or_false fails) refl
 judged_row_is w fails within (kinds.Req range) least most = refl
 
 -- the row at a place is taken in
-pub judged_step : (w : FindingWord) (fails within fails_now within_now : Bool) (rows : List RowKind) (list : List Answer) (k : ℕ) (kind c : RowKind) (most least d e : Answer)
+pub judged_step : (w : FindingWord) (fails within fails_now within_now : Bool) (rows : List RowKind) (list : List GreatestAnswer) (k : ℕ) (kind c : RowKind) (most least d e : GreatestAnswer)
     (low high : Bound) → k < length rows → 2 * k + 1 < length list → kind ≡ get_or rows k c → most ≡ get_or list (2 * k) d → least ≡ get_or list (2 * k + 1) e
     → low ≡ least_bound least → high ≡ greatest_bound most → fails_now ≡ (fails || is_broken kind low high) → within_now ≡ (within || (is_within low || is_within high))
     → judged_rows (record { found = w; fails = fails; within = within }) (drop k rows) (drop (2 * k) list) ≡ judged_rows (course_of w) rows list

@@ -2,7 +2,7 @@
 use Rattle.std.specs.Prelude.{◌≡◌, ◌+◌, ◌⊎◌, Bool, false, List, length, All}
 use Rattle.itv_base.specs.declared.row_kind.RowKind.{RowKind}
 use Rattle.itv_base.specs.declared.row_kind.RowKind.TheVariants as kinds
-use Rattle.branch.specs.declared.answer.Answer.{Answer}
+use Rattle.branch.specs.declared.answer.GreatestAnswer.{GreatestAnswer}
 use Rattle.requirements.specs.Bounds.{HasTimes}
 use Rattle.requirements.specs.Verdicts.{verdict_of}
 use Rattle.requirements.specs.declared.bound.Bound.{Bound}
@@ -16,11 +16,11 @@ is_broken kinds.Ask least most = false
 is_broken (kinds.Req range) least most = is_fail (verdict_of range least most)
 
 -- the numbers of an answer are below 2^61 in absolute value
-abbrev pub IsTimed : Answer → Type 0
+abbrev pub IsTimed : GreatestAnswer → Type 0
 IsTimed answer = HasTimes (greatest_bound answer)
 
 -- there are two answers for each row, or none
-abbrev pub IsCountFor : List RowKind → List Answer → Type 0
+abbrev pub IsCountFor : List RowKind → List GreatestAnswer → Type 0
 IsCountFor rows list = (length list ≡ 0) ⊎ (length list ≡ length rows + length rows)
 
 -- a note is of a session of these rows

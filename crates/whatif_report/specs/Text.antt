@@ -5,10 +5,10 @@ use Rattle.itv_base.specs.declared.row_kind.RowKind.{RowKind}
 use Rattle.itv_base.specs.declared.row_kind.RowKind.TheVariants as kinds
 use Rattle.line_words.specs.Words.{Word}
 use Rattle.line_words.specs.Lines.{ended, line_of}
-use Rattle.branch.specs.declared.answer.Answer.{Answer}
-use Rattle.branch.specs.declared.answer.Answer.TheVariants as answers
-use Rattle.branch.specs.declared.answer.Found.{Found}
-use Rattle.branch.specs.declared.answer.Found.TheVariants as founds
+use Rattle.branch.specs.declared.answer.GreatestAnswer.{GreatestAnswer}
+use Rattle.branch.specs.declared.answer.GreatestAnswer.TheVariants as answers
+use Rattle.branch.specs.declared.answer.SearchFinding.{SearchFinding}
+use Rattle.branch.specs.declared.answer.SearchFinding.TheVariants as founds
 use Rattle.requirements.specs.Bounds.{reversed}
 use Rattle.requirements.specs.Verdicts.{verdict_of}
 use Rattle.requirements.specs.declared.bound.Bound.{Bound}
@@ -18,20 +18,20 @@ use Rattle.slack_report.specs.Text.{bound_words, entry_text, range_word, verdict
 use Rattle.slack_report.specs.declared.words.EndWord.{EndWord}
 use Rattle.slack_report.specs.declared.words.FindingWord.{FindingWord}
 use Rattle.slack_report.specs.declared.words.FindingWord.TheVariants as findings
-use Rattle.right_report.specs.Right.At.{Course, course_of, end_word, with_bounds, with_verdict}
+use Rattle.right_report.specs.Right.At.{ReportTally, course_of, end_word, with_bounds, with_verdict}
 use Rattle.edits.specs.declared.edit.RangeEdit.{RangeEdit}
 use Rattle.whatif.specs.Runs.{Note}
 
 -- ---- a row
 
 -- the greatest bound of an answer for a pair
-abbrev pub greatest_bound : Answer → Bound
+abbrev pub greatest_bound : GreatestAnswer → Bound
 greatest_bound (answers.Closed value) = bounds.Closed value
 greatest_bound answers.Unbounded = bounds.Unbounded
 greatest_bound (answers.Enclosed upper attained) = bounds.Within upper (Some attained)
 
 -- the least bound of a pair, by the answer for the reversed pair
-abbrev pub least_bound : Answer → Bound
+abbrev pub least_bound : GreatestAnswer → Bound
 least_bound answer = reversed (greatest_bound answer)
 
 -- the words of the verdict on a requirement; an ask has none
@@ -45,7 +45,7 @@ row_words number kind least most =
     codes "row" ∷ number_text number ∷ codes "max" ∷ (bound_words most ++ (codes "min" ∷ (bound_words least ++ judged_words kind least most)))
 
 -- the lines of rows of these kinds, the first of which has a number, by the answers, two for each row; without answers there are none
-abbrev pub rows_text : ℕ → List RowKind → List Answer → List ℕ
+abbrev pub rows_text : ℕ → List RowKind → List GreatestAnswer → List ℕ
 rows_text number [] found = []
 rows_text number (kind ∷ others) [] = []
 rows_text number (kind ∷ others) (most ∷ []) = []
@@ -54,13 +54,13 @@ rows_text number (kind ∷ others) (most ∷ least ∷ found) =
 
 -- ---- a state
 
-abbrev pub found_word : Found → FindingWord
+abbrev pub found_word : SearchFinding → FindingWord
 found_word founds.Consistent = findings.Consistent
 found_word founds.Inconsistent = findings.Inconsistent
 found_word founds.Unsettled = findings.Unsettled
 
 -- the finding and the rows; where the finding isn't consistent there are no answers, and so no rows
-abbrev pub found_text : List RowKind → Found → List Answer → List ℕ
+abbrev pub found_text : List RowKind → SearchFinding → List GreatestAnswer → List ℕ
 found_text rows found list = entry_text (finding (found_word found)) ++ rows_text 0 rows list
 
 -- a constraint, a full stop and one of its causes
@@ -83,18 +83,18 @@ states_text number rows (e ∷ edits) (note ∷ notes) =
 -- ---- the end
 
 -- what the rows so far and one more come to
-abbrev pub judged_row : Course → RowKind → Bound → Bound → Course
+abbrev pub judged_row : ReportTally → RowKind → Bound → Bound → ReportTally
 judged_row course kinds.Ask least most = with_bounds course least most
 judged_row course (kinds.Req range) least most = with_verdict (with_bounds course least most) (verdict_of range least most)
 
-abbrev pub judged_rows : Course → List RowKind → List Answer → Course
+abbrev pub judged_rows : ReportTally → List RowKind → List GreatestAnswer → ReportTally
 judged_rows course [] found = course
 judged_rows course (kind ∷ others) [] = course
 judged_rows course (kind ∷ others) (most ∷ []) = course
 judged_rows course (kind ∷ others) (most ∷ least ∷ found) = judged_rows (judged_row course kind (least_bound least) (greatest_bound most)) others found
 
 -- the word at the end, by a finding and the answers for rows: a report of that state ends with it
-abbrev pub ending_of : List RowKind → Found → List Answer → EndWord
+abbrev pub ending_of : List RowKind → SearchFinding → List GreatestAnswer → EndWord
 ending_of rows found list = end_word (judged_rows (course_of (found_word found)) rows list)
 
 -- the note of the last state: that behind all others

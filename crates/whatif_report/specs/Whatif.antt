@@ -9,7 +9,7 @@ use Rattle.jobs.specs.declared.answer.Answer.{Answer}
 use Rattle.edits.specs.declared.edit.RangeEdit.{RangeEdit}
 use Rattle.whatif.specs.declared.change.Change.{Change}
 use Rattle.whatif.specs.declared.pair.Pair.{Pair}
-use Rattle.whatif.specs.Session.{AttainsKnown, IsRight, View}
+use Rattle.whatif.specs.Session.{AttainsKnown, IsRight, SessionView}
 use Rattle.whatif.specs.Runs.{IsRun, Note, note_of}
 use Rattle.whatif_report.specs.Text.{ending_of, last_note, whatif_text}
 
@@ -25,7 +25,7 @@ abbrev pub kinds_of : List Row → List RowKind
 kinds_of rows = map (λ (row : Row). row.kind) rows
 
 -- a new session of pairs of events of a network, each search of which closes at most so many cases
-pub record IsFirst (net : Net) (pairs : List Pair) (budget : ℕ) (s : View) : Type 0 where
+pub record IsFirst (net : Net) (pairs : List Pair) (budget : ℕ) (s : SessionView) : Type 0 where
   pub net_is : s.net ≡ net
   pub budget_is : s.budget ≡ budget
   pub pairs_are : s.pairs ≡ pairs
@@ -37,8 +37,8 @@ abbrev pub no_change : Change
 no_change = record { kept = 0; searched = 0 }
 
 -- The edits lead from a session through sessions, each of which is right. The text is of all of them, and the answer is by the last.
-pub record AnswersFrom (first : View) (kinds : List RowKind) (edits : List RangeEdit) (answer : Answer) (text : List ℕ) : Type 0 where
-  pub last : View
+pub record AnswersFrom (first : SessionView) (kinds : List RowKind) (edits : List RangeEdit) (answer : Answer) (text : List ℕ) : Type 0 where
+  pub last : SessionView
   pub notes : List Note
   pub run : IsRun first edits last notes
   pub note : Note
@@ -48,7 +48,7 @@ pub record AnswersFrom (first : View) (kinds : List RowKind) (edits : List Range
 
 -- the same from a new session
 abbrev pub AnswersFor : Net → List Pair → List RowKind → ℕ → List RangeEdit → Answer → List ℕ → Type 0
-AnswersFor net pairs kinds budget edits answer text = (first : View) × IsFirst net pairs budget first × AnswersFrom first kinds edits answer text
+AnswersFor net pairs kinds budget edits answer text = (first : SessionView) × IsFirst net pairs budget first × AnswersFrom first kinds edits answer text
 
 -- What may have been begun: all states are known before anything is put, so it is a front of a whole text.
 abbrev pub BeginsFor : Net → List Pair → List RowKind → ℕ → List RangeEdit → List ℕ → Type 0

@@ -11,7 +11,7 @@ ghost use Rattle.whatif_report.specs.Text.{ending_of, found_word, judged_rows, l
 
 use crate::rows::both_of;
 use crate::words::add;
-use branch::{Answer, Found};
+use branch::{GreatestAnswer, SearchFinding};
 use itv_base::{NoMemory, RowKind};
 use requirements::{BothBounds, judge};
 use right_report::{is_fail, is_within};
@@ -59,7 +59,7 @@ struct Marks {
 }
 
 // What all rows come to.
-fn judged_rows(kinds: &[RowKind], answers: &[Answer]) -> Marks
+fn judged_rows(kinds: &[RowKind], answers: &[GreatestAnswer]) -> Marks
     requires timed { All IsTimed answers.now }
     requires count { IsCountFor kinds.now answers.now }
     requires few { length kinds.now ≤ MAX_PAIRS }
@@ -110,16 +110,16 @@ fn is_broken(kind: RowKind, both: &BothBounds) -> bool
 }
 
 // The word by a finding, and by what the rows come to.
-fn word_by(found: Found, marks: Marks) -> EndWord
+fn word_by(found: SearchFinding, marks: Marks) -> EndWord
     ensures { result ≡ end_word (record { found = found_word found; fails = marks.fails; within = marks.within }) }
 {
     if marks.fails {
         return EndWord::Fail;
     }
     match found {
-        Found::Consistent if marks.within => EndWord::Undecided,
-        Found::Consistent => EndWord::Pass,
-        Found::Inconsistent => EndWord::Inconsistent,
-        Found::Unsettled => EndWord::Undecided,
+        SearchFinding::Consistent if marks.within => EndWord::Undecided,
+        SearchFinding::Consistent => EndWord::Pass,
+        SearchFinding::Inconsistent => EndWord::Inconsistent,
+        SearchFinding::Unsettled => EndWord::Undecided,
     }
 }

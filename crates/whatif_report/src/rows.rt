@@ -10,12 +10,16 @@ ghost use Rattle.whatif_report.specs.Step.{IsCountFor, IsTimed};
 ghost use Rattle.whatif_report.specs.Text.{greatest_bound, judged_words, least_bound, row_words, rows_text};
 
 use crate::words::{add, add_bound, add_number, add_spaced, add_verdict};
-use branch::Answer;
+use branch::GreatestAnswer;
 use itv_base::{NoMemory, RowKind};
 use requirements::{BothBounds, Bound, judge};
 
 /// Adds the lines of rows by the answers for their pairs: two for each row, its own and that of the reversed pair, or none.
-pub fn add_rows(text: &mut Vec<u8>, kinds: &[RowKind], answers: &[Answer]) -> Result<(), NoMemory>
+pub fn add_rows(
+    text: &mut Vec<u8>,
+    kinds: &[RowKind],
+    answers: &[GreatestAnswer],
+) -> Result<(), NoMemory>
     requires timed { All IsTimed answers.now }
     requires count { IsCountFor kinds.now answers.now }
     requires few { length kinds.now ≤ MAX_PAIRS }
@@ -32,7 +36,7 @@ pub fn add_rows(text: &mut Vec<u8>, kinds: &[RowKind], answers: &[Answer]) -> Re
 }
 
 /// Both bounds of a row, by the answers for its pair and for the reversed pair.
-pub fn both_of(most: Answer, least: Answer) -> BothBounds
+pub fn both_of(most: GreatestAnswer, least: GreatestAnswer) -> BothBounds
     requires most { IsTimed most }
     requires least { IsTimed least }
     ensures greatest { result.greatest ≡ greatest_bound most }
@@ -47,15 +51,15 @@ pub fn both_of(most: Answer, least: Answer) -> BothBounds
 }
 
 // The greatest bound of an answer.
-fn greatest_bound(answer: Answer) -> Bound
+fn greatest_bound(answer: GreatestAnswer) -> Bound
     requires { IsTimed answer }
     ensures bound { result ≡ greatest_bound answer }
     ensures times { HasTimes result }
 {
     match answer {
-        Answer::Closed(value) => Bound::Closed(value),
-        Answer::Unbounded => Bound::Unbounded,
-        Answer::Enclosed { upper, attained } => Bound::Within {
+        GreatestAnswer::Closed(value) => Bound::Closed(value),
+        GreatestAnswer::Unbounded => Bound::Unbounded,
+        GreatestAnswer::Enclosed { upper, attained } => Bound::Within {
             limit: upper,
             attained: Some(attained),
         },

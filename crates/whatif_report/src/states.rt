@@ -11,7 +11,7 @@ ghost use Rattle.whatif_report.specs.Text.{cause_word, found_text, found_word, s
 
 use crate::rows::add_rows;
 use crate::words::{add, add_number, add_spaced};
-use branch::Found;
+use branch::SearchFinding;
 use edits::RangeEdit;
 use itoa::Buffer;
 use itv_base::{NoMemory, Range, RowKind, end_text, number_text};
@@ -48,13 +48,13 @@ pub fn add_found(text: &mut Vec<u8>, kinds: &[RowKind], note: &Note) -> Result<(
 
 // The line of a finding.
 #[tactic(auto, unfolding(slack_report::specs::Text::words_of))]
-fn add_finding(text: &mut Vec<u8>, found: Found) -> Result<(), NoMemory>
+fn add_finding(text: &mut Vec<u8>, found: SearchFinding) -> Result<(), NoMemory>
     ensures { OnOk result (text.new.items ≡ text.old.items ++ entry_text (finding (found_word found))) }
 {
     match found {
-        Found::Consistent => add(text, b"finding consistent\n"),
-        Found::Inconsistent => add(text, b"finding inconsistent\n"),
-        Found::Unsettled => add(text, b"finding unsettled\n"),
+        SearchFinding::Consistent => add(text, b"finding consistent\n"),
+        SearchFinding::Inconsistent => add(text, b"finding inconsistent\n"),
+        SearchFinding::Unsettled => add(text, b"finding unsettled\n"),
     }
 }
 

@@ -2,7 +2,7 @@
 
 ghost use Rattle.std.specs.Prelude.{◌≡◌, ◌<◌, ◌≤◌, All, IfOk, length};
 ghost use Rattle.edits.specs.EditLine.{IsThere};
-ghost use Rattle.jobs.specs.Works.{Works};
+ghost use Rattle.jobs.specs.Works.{JobWrote};
 ghost use Rattle.whatif.specs.Session.{IsPairOf};
 ghost use Rattle.whatif.specs.declared.session.TheConstants.{MAX_PAIRS};
 ghost use Rattle.whatif_report.specs.Step.{IsNoteOf};
@@ -34,7 +34,7 @@ pub fn write_whatif<K: Sink>(
     requires rows { length drawn.now.rows ≤ MAX_PAIRS }
     requires budget { 0 < budget }
     requires there { All (IsThere drawn.now.net) edits.now }
-    ensures works { Works (AnswersWhatif drawn.now budget edits.now) (BeginsWhatif drawn.now budget edits.now)
+    ensures works { JobWrote (AnswersWhatif drawn.now budget edits.now) (BeginsWhatif drawn.now budget edits.now)
         (K.told sink.old) (K.told sink.new) result }
 {
     let rows = drawn.rows().as_slice();
@@ -73,7 +73,7 @@ fn write_states<K: Sink>(
     requires few { length kinds.now ≤ MAX_PAIRS }
     requires budget { 0 < budget }
     requires there { All (IsThere net.now) edits.now }
-    ensures works { Works (AnswersFor net.now pairs.now kinds.now budget edits.now) (BeginsFor net.now pairs.now kinds.now budget edits.now)
+    ensures works { JobWrote (AnswersFor net.now pairs.now kinds.now budget edits.now) (BeginsFor net.now pairs.now kinds.now budget edits.now)
         (K.told sink.old) (K.told sink.new) result }
 {
     let told = told_of(alloc, net, pairs, kinds, edits, budget)?;

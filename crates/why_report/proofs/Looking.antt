@@ -10,7 +10,7 @@ use Rattle.event_graph.specs.Edges.{edge, side_edge}
 use Rattle.event_graph.specs.Network.{Constraint, IsCauseCount, IsConstraint, IsNet, cause_at}
 use Rattle.event_graph.specs.declared.cause.Cause.{Cause}
 use Rattle.origin.specs.declared.origin.Origin.{Origin}
-use Rattle.right_report.specs.Right.At.{Side, greatest, least_by}
+use Rattle.right_report.specs.Right.At.{NextBound, greatest, least_by}
 use Rattle.slack_report.specs.declared.words.FindingWord.{FindingWord}
 use Rattle.drawn.specs.Drawn.{Drawn, OriginsFit}
 use Rattle.drawn.specs.declared.row.Row.{Row}
@@ -20,7 +20,7 @@ use Rattle.explained.specs.declared.bound.BoundFound.TheVariants.{Closed, Unboun
 use Rattle.explained.specs.declared.finding.Finding.{Finding}
 use Rattle.explained.specs.declared.finding.Finding.TheVariants.{Consistent, Inconsistent, Unsettled}
 use Rattle.explained.specs.declared.row.RowFound.{RowFound}
-use Rattle.why_report.specs.Step.{HasFlags, IsTold, constraint_at, no_constraint, origins_at}
+use Rattle.why_report.specs.Step.{HasFlags, IsWritable, constraint_at, no_constraint, origins_at}
 use Rattle.why_report.specs.Text.{Noted, drawn_words, origin_words, part_of}
 
 -- ---- lists
@@ -34,7 +34,7 @@ at_or xs k d h = go d (slice_get xs k) (slice_get-get_or xs k d h)
 
 -- ---- rows
 
-flags : (net : _) (row : Row) (side : Side) (found : BoundFound) → IsBehind net row side found → HasFlags net.events found
+flags : (net : _) (row : Row) (side : NextBound) (found : BoundFound) → IsBehind net row side found → HasFlags net.events found
 flags net row side (Closed value chain) b = tt
 flags net row greatest (Unbounded set) b = b.2.count
 flags net row (least_by most) (Unbounded set) b = b.2.count
@@ -48,7 +48,7 @@ rows_count drawn word (r ∷ rows) (f ∷ found) are = ap suc (rows_count drawn 
 
 -- what is found of each row can be told
 pub rows_told : (drawn : Drawn) (word : FindingWord) (rows : List Row) (found : List RowFound) → AreRowsFound drawn word rows found → All HasRowTimes found
-    → All (IsTold drawn.net.events) found
+    → All (IsWritable drawn.net.events) found
 rows_told drawn word [] [] are times k d h = absurd (omega arith)
 rows_told drawn word [] (f ∷ found) are times k d h = absurd are
 rows_told drawn word (r ∷ rows) [] are times k d h = absurd are
@@ -73,7 +73,7 @@ pub known_count : (drawn : Drawn) (finding : Finding) (found : List RowFound) �
 known_count drawn finding found e are = rows_count drawn (word_of finding) drawn.rows found (known_rows drawn finding found e are)
 
 pub known_told : (drawn : Drawn) (finding : Finding) (found : List RowFound) → (finding ≡ Consistent) ⊎ (finding ≡ Unsettled) → AreFound drawn finding found
-    → All HasRowTimes found → All (IsTold drawn.net.events) found
+    → All HasRowTimes found → All (IsWritable drawn.net.events) found
 known_told drawn finding found e are times = rows_told drawn (word_of finding) drawn.rows found (known_rows drawn finding found e are) times
 
 -- ---- constraints

@@ -1,7 +1,7 @@
 -- The whole text of the job.
 use Rattle.std.proofs.Common.{◌≡◌, ℕ, List, ◌++◌, refl}
 use Rattle.std.specs.Prelude.{OnErr, Result, Ok, Err, codes}
-use Rattle.itv_base.specs.Outside.{CutShort, SinkTold}
+use Rattle.itv_base.specs.Outside.{CutShort, SinkView}
 use Rattle.itv_base.specs.Range.{Ends}
 use Rattle.itv_base.specs.declared.row_kind.RowKind.TheVariants.{Req}
 use Rattle.line_words.specs.Lines.{ended}
@@ -39,7 +39,7 @@ module _ (noted : Noted) (drawn : Drawn) (budget : ℕ) (finding : Finding) (fou
   answers_why answer is = record { finding = finding; found = found; is_finding = f; are_found = a; settles = s; is_text = refl; is_answer = is }
 
   -- and a front of it begins it
-  pub begins_why : {B E : Type 0} (result : Result B E) (old new : SinkTold) → CutShort old new (why_text noted drawn finding found)
+  pub begins_why : {B E : Type 0} (result : Result B E) (old new : SinkView) → CutShort old new (why_text noted drawn finding found)
       → OnErr result ((text : List ℕ) × BeginsWhy noted drawn budget text × CutShort old new text)
   begins_why (Ok x) old new cut = tt
   begins_why (Err e) old new cut = (why_text noted drawn finding found, (answer_of (ending_of drawn.rows finding found), answers_why _ refl), cut)

@@ -16,7 +16,7 @@ use Rattle.explained.specs.declared.row.RowFound.{RowFound}
 use Rattle.why_report.specs.declared.drawn_by.DrawnBy.{DrawnBy}
 use Rattle.why_report.specs.declared.line.Line.{Line}
 use Rattle.why_report.specs.declared.line.Line.TheVariants as lines
-use Rattle.why_report.specs.declared.rule.Rule.{Rule}
+use Rattle.why_report.specs.declared.rule.DrawnCause.{DrawnCause}
 use Rattle.why_report.specs.Text.{Noted, cause_words, causes_text, rule_word, some_word}
 
 -- ---- lines
@@ -45,7 +45,7 @@ HasFlags events (Unbounded set) = length set.items ≡ events
 HasFlags events (Within limit attained) = Unit {0}
 
 -- what is found of a row can be told: its sets have a flag for each event, and its numbers are below 2^61 in absolute value
-pub record IsTold (events : ℕ) (found : RowFound) : Type 0 where
+pub record IsWritable (events : ℕ) (found : RowFound) : Type 0 where
   pub greatest : HasFlags events found.greatest
   pub least : HasFlags events found.least
   pub times : HasRowTimes found
@@ -68,9 +68,9 @@ abbrev pub causes_at : Noted → Drawn → ℕ → List ℕ
 causes_at noted drawn number = causes_text noted drawn (constraint_at drawn number) (constraint_at drawn number).causes (origins_at drawn number)
 
 -- the words of a cause of a constraint, and of what draws it
-abbrev pub rule_words : Noted → Drawn → Rule → List Word
+abbrev pub rule_words : Noted → Drawn → DrawnCause → List Word
 rule_words noted drawn rule = cause_words noted drawn (record { kind = rule.kind; target = rule.target; causes = [] }) rule.cause rule.origin
 
 -- the cause and the target are events that are there
-abbrev pub IsBetween : ℕ → Rule → Type 0
+abbrev pub IsBetween : ℕ → DrawnCause → Type 0
 IsBetween events rule = (rule.target.0 < events) × (rule.cause.event.0 < events)

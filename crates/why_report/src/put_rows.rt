@@ -6,7 +6,7 @@ ghost use Rattle.itv_base.specs.declared.row_kind.RowKind.TheVariants.{Req};
 ghost use Rattle.line_words.specs.Lines.{ended, line_of};
 ghost use Rattle.drawn.specs.Drawn.{IsRowOf};
 ghost use Rattle.explained.specs.Answers.{HasRowTimes};
-ghost use Rattle.why_report.specs.Step.{IsTold};
+ghost use Rattle.why_report.specs.Step.{IsWritable};
 ghost use Rattle.why_report.specs.Text.{apart_text, asked_words, judged_text, row_text, rows_text};
 
 use crate::bound::both_of;
@@ -32,7 +32,7 @@ pub fn put_rows<N: Notes, K: Sink>(
     sink: &mut K,
 ) -> Result<(), PutFailed>
     requires count { length found.now ≡ length drawn.now.rows }
-    requires told { All (IsTold drawn.now.net.events) found.now }
+    requires told { All (IsWritable drawn.now.net.events) found.now }
     ensures puts { Puts (K.told sink.old) (K.told sink.new) (rows_text (N.noted notes.now) drawn.now 0 drawn.now.rows found.now) result }
 {
     for number in 0..drawn.rows().len() as u32 {
@@ -54,7 +54,7 @@ fn put_found<N: Notes, K: Sink>(
     sink: &mut K,
 ) -> Result<(), PutFailed>
     requires row { IsRowOf drawn.now.net row.now }
-    requires told { IsTold drawn.now.net.events found.now }
+    requires told { IsWritable drawn.now.net.events found.now }
     ensures puts { Puts (K.told sink.old) (K.told sink.new) (row_text (N.noted notes.now) drawn.now number row.now found.now) result }
 {
     put_asked(number, row, notes, drawn, buffer, sink)?;

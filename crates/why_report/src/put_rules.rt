@@ -9,7 +9,7 @@ ghost use Rattle.why_report.specs.Text.{rules_text};
 use crate::drawn_by::DrawnBy;
 use crate::line::Line;
 use crate::put_line::put_line;
-use crate::rule::{Rule, cause_count, rule_at};
+use crate::rule::{DrawnCause, cause_count, rule_at};
 use drawn::DrawnNetwork;
 use itv_base::{PutFailed, Sink};
 use line_words::LineBuffer;
@@ -76,7 +76,7 @@ fn put_causes<N: Notes, K: Sink>(
 fn put_rule<N: Notes, K: Sink>(
     notes: &N,
     drawn: &DrawnNetwork,
-    rule: &Rule,
+    rule: &DrawnCause,
     buffer: &mut LineBuffer,
     sink: &mut K,
 ) -> Result<(), PutFailed>

@@ -14,7 +14,7 @@ use origin::Origin;
 
 /// A cause of a constraint: the kind and the target of the constraint, the cause itself, and what draws it.
 #[derive(Clone, Copy, Debug)]
-pub struct Rule {
+pub struct DrawnCause {
     pub kind: RuleKind,
     pub target: EventId,
     pub cause: Cause,
@@ -33,7 +33,7 @@ pub fn cause_count(drawn: &DrawnNetwork, number: u32) -> u32
 }
 
 /// The cause of a number of a constraint, which are both there.
-pub fn rule_at(drawn: &DrawnNetwork, number: u32, cause: u32) -> Rule
+pub fn rule_at(drawn: &DrawnNetwork, number: u32, cause: u32) -> DrawnCause
     requires number { number < length drawn.now.net.constraints }
     requires cause { cause < length (constraint_at drawn.now number).causes }
     ensures kind { result.kind ≡ (constraint_at drawn.now number).kind }
@@ -45,7 +45,7 @@ pub fn rule_at(drawn: &DrawnNetwork, number: u32, cause: u32) -> Rule
     let net = drawn.network();
     // The network is within its limits.
     let _events = net.events();
-    Rule {
+    DrawnCause {
         kind: net.kind(number),
         target: net.target(number),
         cause: net.cause(number, cause),

@@ -3,7 +3,7 @@
 ghost use Rattle.std.specs.Prelude.{◌≡◌, ◌≤◌, ℕ, List, All, IfOk, OnErr};
 ghost use Rattle.itv_base.specs.Outside.{CutShort, Puts, grown};
 ghost use Rattle.itv_base.specs.declared.limits.TheConstants.{MAX_BUDGET};
-ghost use Rattle.jobs.specs.Works.{Works};
+ghost use Rattle.jobs.specs.Works.{JobWrote};
 ghost use Rattle.explained.specs.Answers.{AreFound, HasRowTimes, IsFindingFound, SettlesWithin};
 ghost use Rattle.why_report.specs.Text.{ending_of, found_text, why_text};
 ghost use Rattle.why_report.specs.Why.{AnswersWhy, BeginsWhy};
@@ -32,7 +32,7 @@ pub fn write_why<N: Notes, K: Sink>(
 ) -> Result<Answer, Unanswered>
     requires least { 1 ≤ budget }
     requires most { budget ≤ MAX_BUDGET }
-    ensures works { Works (AnswersWhy (N.noted notes.now) drawn.now budget) (BeginsWhy (N.noted notes.now) drawn.now budget)
+    ensures works { JobWrote (AnswersWhy (N.noted notes.now) drawn.now budget) (BeginsWhy (N.noted notes.now) drawn.now budget)
         (K.told sink.old) (K.told sink.new) result }
 {
     let found = explain(alloc, drawn, budget)?;

@@ -13,7 +13,7 @@ use Rattle.words.specs.Command.{command}
 use Rattle.itv_base.specs.declared.text.NoMemory.{NoMemory}
 use Rattle.words.specs.Task as said
 use Rattle.words.specs.View.{answer_view}
-use Rattle.words.specs.declared.task.Answer.{Answer}
+use Rattle.words.specs.declared.task.Invocation.{Invocation}
 use Rattle.words.specs.Task.{answer_by, answer_for, refusal_for, taken, task_of}
 use Rattle.words.proofs.Single.{AtMostOne, built_single}
 
@@ -67,7 +67,7 @@ as_read [] = refl
 as_read (word ∷ words) = ap (λ ws. word ∷ ws) (as_read words)
 
 -- where memory was found for the answer
-pub of_refusal : (result : Result Answer NoMemory) (kind : ErrorKind) (wanted : said.Answer) → IfOk result (λ a. (kind ≡ OutOfMemory → ⊥) × (answer_view a ≡ refusal_for kind))
+pub of_refusal : (result : Result Invocation NoMemory) (kind : ErrorKind) (wanted : said.Invocation) → IfOk result (λ a. (kind ≡ OutOfMemory → ⊥) × (answer_view a ≡ refusal_for kind))
     → ((kind ≡ OutOfMemory → ⊥) → refusal_for kind ≡ wanted) → IfOk result (λ a. answer_view a ≡ wanted)
 of_refusal (Ok a) kind wanted refusal is = refusal.1 ∙ is refusal.0
 of_refusal (Err e) kind wanted refusal is = tt

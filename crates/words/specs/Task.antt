@@ -31,10 +31,10 @@ pub data Task : Type 0 where
   whatif : Text → Text → ℕ → Task
 
 -- a task, a wish for help, or words that are neither
-pub data Answer : Type 0 where
-  task : Task → Answer
-  help : Answer
-  bad_words : Answer
+pub data Invocation : Type 0 where
+  task : Task → Invocation
+  help : Invocation
+  bad_words : Invocation
 
 -- ---- what the matches of taken words say
 
@@ -95,21 +95,21 @@ task_of rows = option_and_then (task_named rows) (first_of (codes "job") rows)
 
 -- ---- what the words say
 
-abbrev pub answer_for : Option Task → Answer
+abbrev pub answer_for : Option Task → Invocation
 answer_for (Some wanted) = task wanted
 answer_for None = bad_words
 
-abbrev pub refusal_for : ErrorKind → Answer
+abbrev pub refusal_for : ErrorKind → Invocation
 refusal_for DisplayHelp = help
 refusal_for _ = bad_words
 
 -- the first thing in the words that `clap` refuses, or that asks for help, decides; where there is none, what the matches say
-abbrev pub answer_by : Kinds → List Row → Answer
+abbrev pub answer_by : Kinds → List Row → Invocation
 answer_by [] rows = answer_for (task_of rows)
 answer_by (kind ∷ kinds) rows = refusal_for kind
 
 -- what the words behind the program's name are taken for
-unfoldable pub taken : List Text → Answer
+unfoldable pub taken : List Text → Invocation
 taken words = answer_by (fault_of command words) (matches_of command words)
 
 -- ---- limits
@@ -139,7 +139,7 @@ IsWithinLimits (confirm design report) = Unit {0}
 IsWithinLimits (generated size budget) = IsSize size × IsBudget budget
 IsWithinLimits (whatif design edits budget) = IsBudget budget
 
-abbrev pub KeepsLimits : Answer → Type 0
+abbrev pub KeepsLimits : Invocation → Type 0
 KeepsLimits (task t) = IsWithinLimits t
 KeepsLimits help = Unit {0}
 KeepsLimits bad_words = Unit {0}

@@ -1,7 +1,7 @@
 -- What the code answers, without where its texts lie in memory.
 use Rattle.words.specs.Task as said
-use Rattle.words.specs.declared.task.Answer.{Answer}
-use Rattle.words.specs.declared.task.Answer.TheVariants as answer
+use Rattle.words.specs.declared.task.Invocation.{Invocation}
+use Rattle.words.specs.declared.task.Invocation.TheVariants as answer
 use Rattle.words.specs.declared.task.Task.{Task}
 use Rattle.words.specs.declared.task.Task.TheVariants as wanted
 
@@ -19,7 +19,7 @@ task_view (wanted.Confirm design report) = said.confirm design.now report.now
 task_view (wanted.Generated size budget) = said.generated size budget
 task_view (wanted.Whatif design edits budget) = said.whatif design.now edits.now budget
 
-abbrev pub answer_view : Answer → said.Answer
+abbrev pub answer_view : Invocation → said.Invocation
 answer_view (answer.Task task) = said.task (task_view task)
 answer_view (answer.Help text) = said.help
 answer_view answer.BadWords = said.bad_words

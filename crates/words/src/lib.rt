@@ -8,4 +8,4 @@ mod read;
 mod task;
 
 pub use read::read_words;
-pub use task::{Answer, Task};
+pub use task::{Invocation, Task};

@@ -9,7 +9,7 @@ ghost use Rattle.words.specs.Task.{KeepsLimits, answer_for, bounds, brief, budge
 ghost use Rattle.words.specs.View.{answer_view, task_view};
 
 use crate::command::command;
-use crate::task::{Answer, Task};
+use crate::task::{Invocation, Task};
 use clap::error::ErrorKind;
 use clap::{ArgMatches, Error};
 use itv_base::{DEFAULT_BUDGET, MAX_BUDGET, MAX_SELF_SIZE, NoMemory, Texts};
@@ -17,7 +17,7 @@ use std::alloc::Global;
 
 /// Reads the words behind the program's name. The text of help is made whole here, and no memory is wanted for it
 /// later. Any words may meet want of memory, since `clap` takes some for all of them.
-pub fn read_words<'a>(alloc: Global, words: &'a Texts) -> Result<Answer<'a>, NoMemory>
+pub fn read_words<'a>(alloc: Global, words: &'a Texts) -> Result<Invocation<'a>, NoMemory>
     ensures taken { IfOk result (λ answer. answer_view answer ≡ taken words.entry.now) }
     ensures limits { IfOk result (λ answer. KeepsLimits (answer_view answer)) }
 {
@@ -28,24 +28,24 @@ pub fn read_words<'a>(alloc: Global, words: &'a Texts) -> Result<Answer<'a>, NoM
 }
 
 // What words say that `clap` takes.
-fn answer<'a>(task: Option<Task<'a>>) -> Answer<'a>
+fn answer<'a>(task: Option<Task<'a>>) -> Invocation<'a>
     ensures { answer_view result ≡ answer_for (option_map task_view task.entry) }
 {
     match task {
-        Some(task) => Answer::Task(task),
-        None => Answer::BadWords,
+        Some(task) => Invocation::Task(task),
+        None => Invocation::BadWords,
     }
 }
 
 // What words say that `clap` does not take.
-fn refusal<'a>(alloc: Global, error: &Error) -> Result<Answer<'a>, NoMemory>
+fn refusal<'a>(alloc: Global, error: &Error) -> Result<Invocation<'a>, NoMemory>
     ensures { IfOk result (λ answer. (kind_of error.now ≢ ErrorKind.OutOfMemory)
         × (answer_view answer ≡ refusal_for (kind_of error.now))) }
 {
     match error.kind() {
         ErrorKind::OutOfMemory => Err(NoMemory),
-        ErrorKind::DisplayHelp => Ok(Answer::Help(format!(in alloc; "{error}")?)),
-        _ => Ok(Answer::BadWords),
+        ErrorKind::DisplayHelp => Ok(Invocation::Help(format!(in alloc; "{error}")?)),
+        _ => Ok(Invocation::BadWords),
     }
 }
 

@@ -77,7 +77,7 @@ pub enum Task<'a> {
 
 /// What words are taken for.
 #[derive(Debug, Drop)]
-pub enum Answer<'a> {
+pub enum Invocation<'a> {
     Task(Task<'a>),
     /// The text that is shown to someone who asks for help.
     Help(String),

@@ -7,13 +7,13 @@ use Rattle.event_graph.specs.Satisfying.{Satisfies}
 use Rattle.event_graph.specs.Times.{separation, shifted, time_of}
 use Rattle.itv_base.specs.declared.names.EventId.{EventId}
 use Rattle.event_graph.specs.Limits.{IsPrintedTime, IsReach, reach_limit}
-use Rattle.branch.specs.Work.{IsReached}
+use Rattle.branch.specs.Work.{IsKnownReach}
 use Rattle.requirements.specs.declared.bound.Bound.{Bound}
 use Rattle.requirements.specs.declared.bound.Bound.TheVariants as bounds
 use Rattle.slack_report.specs.declared.words.Which.{Which}
 use Rattle.slack_report.specs.declared.words.Which.TheVariants as sorts
 use Rattle.bounds_report.specs.declared.pair.Pair.{Pair}
-use Rattle.bounds_report.specs.declared.kept.Kept.{Kept}
+use Rattle.bounds_report.specs.declared.kept.BoundWitness.{BoundWitness}
 
 -- the pair whose greatest separation gives a bound of a pair: for a least bound the reversed pair
 abbrev pub searched_pair : Which → Pair → Pair
@@ -33,7 +33,7 @@ abbrev pub IsShiftedTo : EventId → List ℤ → List ℤ → Type 0
 IsShiftedTo origin times list = list ≡ shifted times (neg_ℤ (time_of times origin))
 
 -- there is a place for each event
-pub record IsRoomFor (net : Net) (kept : Kept) : Type 0 where
+pub record IsRoomFor (net : Net) (kept : BoundWitness) : Type 0 where
   pub times : length kept.times.items ≡ net.events
   pub set : length kept.set.items ≡ net.events
 
@@ -45,20 +45,20 @@ Attain net pair which (bounds.Within limit attained) times set = IsSomeAnd attai
 
 -- Times and a set of events behind a bound of a pair: the times satisfy with the from-event at 0, and their separation of the searched pair
 -- is no less than that of known times can be.
-pub record IsKept (net : Net) (pair : Pair) (which : Which) (value : Bound) (times : List ℤ) (set : List Bool) : Type 0 where
+pub record IsWitness (net : Net) (pair : Pair) (which : Which) (value : Bound) (times : List ℤ) (set : List Bool) : Type 0 where
   pub from : pair.from.0 < net.events
   pub satisfied : Satisfies times net
   pub at_zero : time_of times pair.from ≡ pos 0
   pub nearby : AreNearby times
-  pub reached : IsReached (separation times (searched_pair which pair).from (searched_pair which pair).to)
+  pub reached : IsKnownReach (separation times (searched_pair which pair).from (searched_pair which pair).to)
   pub attain : Attain net pair which value times set
 
 -- something may be past an end: a bound that the budget ended before anything was found has nothing
-abbrev pub HasTold : Bound → Type 0
-HasTold (bounds.Closed value) = Unit {0}
-HasTold bounds.Unbounded = Unit {0}
-HasTold (bounds.Within limit None) = ⊥
-HasTold (bounds.Within limit (Some found)) = Unit {0}
+abbrev pub HasFoundValue : Bound → Type 0
+HasFoundValue (bounds.Closed value) = Unit {0}
+HasFoundValue bounds.Unbounded = Unit {0}
+HasFoundValue (bounds.Within limit None) = ⊥
+HasFoundValue (bounds.Within limit (Some found)) = Unit {0}
 
 -- the root bound of the searched pair, as a limit of a bound of the pair
 abbrev pub IsLimitOf : Net → Pair → Which → Option ℤ → Type 0

@@ -1,7 +1,7 @@
 -- When all that the rows need is at hand.
 use Rattle.std.specs.Prelude.{◌≡◌, ◌||◌, ℕ, ℤ, pos, All, List, [], Option, Some, None, IsSomeAnd, count_by, nat_lt}
-use Rattle.branch.specs.declared.answer.Found.{Found}
-use Rattle.branch.specs.declared.answer.Found.TheVariants as founds
+use Rattle.branch.specs.declared.answer.SearchFinding.{SearchFinding}
+use Rattle.branch.specs.declared.answer.SearchFinding.TheVariants as founds
 use Rattle.branch.specs.Work.{IsMadeFor}
 use Rattle.event_graph.specs.Limits.{IsPrintedTime}
 use Rattle.event_graph.specs.Network.{Net}
@@ -12,7 +12,7 @@ use Rattle.requirements.specs.declared.verdict.Verdict.{Verdict}
 use Rattle.slack_report.specs.declared.words.EndWord.TheVariants as endings
 use Rattle.slack_report.specs.declared.words.FindingWord.{FindingWord}
 use Rattle.slack_report.specs.declared.words.FindingWord.TheVariants as findings
-use Rattle.right_report.specs.Right.At.{At, Course, at_end, at_row, at_rows, end_word, is_fail, with_verdict}
+use Rattle.right_report.specs.Right.At.{ReportState, ReportTally, at_end, at_row, at_rows, end_word, is_fail, with_verdict}
 use Rattle.bounds_report.specs.Reports.{is_pass, is_undecided}
 use Rattle.bounds_report.specs.declared.desk.Desk.{Desk}
 use Rattle.bounds_report.specs.declared.tally.RowEnd.{RowEnd}
@@ -37,12 +37,12 @@ pub record IsReady (net : Net) (word : FindingWord) (desk : Desk) : Type 0 where
   pub found : HasFound net word desk.work.known
 
 -- the course behind the verdict of a row, if it has one
-abbrev pub course_with : Course → Option Verdict → Course
+abbrev pub course_with : ReportTally → Option Verdict → ReportTally
 course_with course None = course
 course_with course (Some word) = with_verdict course word
 
 -- the course behind a row
-abbrev pub course_after : Course → RowEnd → Course
+abbrev pub course_after : ReportTally → RowEnd → ReportTally
 course_after course end = course_with (record course { within = course.within || end.is_within }) end.verdict
 
 -- the counts of some verdicts
@@ -52,11 +52,11 @@ pub record IsTally (tally : Tally) (words : List Verdict) : Type 0 where
   pub undecided : tally.undecided ≡ count_by is_undecided words
 
 -- the course of a report behind a finding and some rows
-abbrev pub tally_course : FindingWord → Tally → Course
+abbrev pub tally_course : FindingWord → Tally → ReportTally
 tally_course word tally = record { found = word; fails = nat_lt 0 tally.fails; within = tally.is_within }
 
 -- the word for a finding
-abbrev pub word_of : Found → FindingWord
+abbrev pub word_of : SearchFinding → FindingWord
 word_of founds.Consistent = findings.Consistent
 word_of founds.Inconsistent = findings.Inconsistent
 word_of founds.Unsettled = findings.Unsettled
@@ -66,13 +66,13 @@ abbrev pub AreKnown : Net → List ℤ → Type 0
 AreKnown net list = All IsPrintedTime list × Satisfies list net × (time_of list (record { 0 = 0 }) ≡ pos 0)
 
 -- behind a finding and the times that come with it
-abbrev pub behind_known : FindingWord → At
+abbrev pub behind_known : FindingWord → ReportState
 behind_known findings.Consistent = at_rows findings.Consistent
 behind_known findings.Inconsistent = at_end endings.Inconsistent
 behind_known findings.Unsettled = at_rows findings.Unsettled
 
 -- behind a finding and all rows, of which there are so many
-abbrev pub behind_rows : FindingWord → Tally → ℕ → At
+abbrev pub behind_rows : FindingWord → Tally → ℕ → ReportState
 behind_rows findings.Consistent tally count = at_row (tally_course findings.Consistent tally) count []
 behind_rows findings.Inconsistent tally count = at_end (end_word (tally_course findings.Inconsistent tally))
 behind_rows findings.Unsettled tally count = at_row (tally_course findings.Unsettled tally) count []

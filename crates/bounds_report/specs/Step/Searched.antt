@@ -1,27 +1,27 @@
 -- What a search for a bound of a pair shows.
 use Rattle.std.specs.Prelude.{ℕ, ℤ, neg_ℤ, List, [], Bool, Option, Some, unwrap_or}
-use Rattle.branch.specs.Answers.{Answers, Evidence, Finds, PairSearch}
+use Rattle.branch.specs.Answers.{IsGreatestAnswer, Evidence, Finds, PairSearch}
 use Rattle.branch.specs.Needed.{IsNeededToBound, IsNeededToFind}
-use Rattle.branch.specs.declared.answer.Answer.{Answer}
-use Rattle.branch.specs.declared.answer.Answer.TheVariants as answers
-use Rattle.branch.specs.declared.answer.Found.{Found}
+use Rattle.branch.specs.declared.answer.GreatestAnswer.{GreatestAnswer}
+use Rattle.branch.specs.declared.answer.GreatestAnswer.TheVariants as answers
+use Rattle.branch.specs.declared.answer.SearchFinding.{SearchFinding}
 use Rattle.event_graph.specs.Network.{Net}
 use Rattle.event_graph.specs.Proof.{ProofLine}
 use Rattle.event_graph.specs.Reading.{AtEachSplit}
 use Rattle.event_graph.specs.Times.{shifted, time_of}
 use Rattle.certificate.specs.Scribing.{SinkGrew, SinkWasCut}
-use Rattle.itv_base.specs.Outside.{SinkTold}
+use Rattle.itv_base.specs.Outside.{SinkView}
 use Rattle.requirements.specs.Bounds.{HasTimes, reversed}
 use Rattle.requirements.specs.declared.bound.Bound.{Bound}
 use Rattle.requirements.specs.declared.bound.Bound.TheVariants as bounds
 use Rattle.slack_report.specs.declared.words.Which.{Which}
 use Rattle.slack_report.specs.declared.words.Which.TheVariants as sorts
-use Rattle.right_report.specs.Right.Following.{Facts}
+use Rattle.right_report.specs.Right.Following.{LineClaims}
 use Rattle.bounds_report.specs.Written.{printed, written}
 use Rattle.bounds_report.specs.declared.pair.Pair.{Pair}
 
 -- what is asked beside, which follows: each number of a bound, its limit too, is below 2^61 in absolute value
-abbrev pub sized : Net → ℕ → Bool → List ℤ → Facts
+abbrev pub sized : Net → ℕ → Bool → List ℤ → LineClaims
 sized net most cert known = record (written net most cert known) {
   bound = λ found r side lines value. (written net most cert known).bound found r side lines value × HasTimes value;
 }
@@ -35,30 +35,30 @@ abbrev pub search_of : Net → Pair → ℕ → PairSearch
 search_of net pair budget = record { net = net; from = pair.from; to = pair.to; budget = budget }
 
 -- the greatest bound that an answer tells
-abbrev pub greatest_of : Answer → Bound
+abbrev pub greatest_of : GreatestAnswer → Bound
 greatest_of (answers.Closed value) = bounds.Closed value
 greatest_of answers.Unbounded = bounds.Unbounded
 greatest_of (answers.Enclosed upper attained) = bounds.Within upper (Some attained)
 
 -- the bound of a pair that an answer on its searched pair tells
-abbrev pub bound_of : Which → Answer → Bound
+abbrev pub bound_of : Which → GreatestAnswer → Bound
 bound_of sorts.Max answer = greatest_of answer
 bound_of sorts.Min answer = reversed (greatest_of answer)
 
 -- what a finding says of a network by the lines of its search, each split of which was needed
-pub record FindsBy (net : Net) (budget : ℕ) (lines : List ProofLine) (leaves : ℕ) (known : Option (List ℤ)) (found : Found) : Type 0 where
+pub record FindsBy (net : Net) (budget : ℕ) (lines : List ProofLine) (leaves : ℕ) (known : Option (List ℤ)) (found : SearchFinding) : Type 0 where
   pub says : Finds net budget lines leaves known found
   pub needed : AtEachSplit net (IsNeededToFind net) lines
 
 -- what an answer says of a pair by the lines of its search, each split of which was needed behind a known separation
-pub record AnswersBy (search : PairSearch) (known : ℤ) (left : Evidence) (answer : Answer) : Type 0 where
-  pub says : Answers search left answer
+pub record AnswersSearch (search : PairSearch) (known : ℤ) (left : Evidence) (answer : GreatestAnswer) : Type 0 where
+  pub says : IsGreatestAnswer search left answer
   pub needed : AtEachSplit search.net (IsNeededToBound search.net search.from search.to known) left.lines
 
 -- a search told the lines of a proof to a sink, where they are wanted, and what the lines show
-abbrev pub Tells : Bool → SinkTold → SinkTold → (List ProofLine → Type 0) → Type 0
-Tells cert old new Shows = (lines : List ProofLine) × SinkGrew old (printed cert lines) new × Shows lines
+abbrev pub WroteProof : Bool → SinkView → SinkView → (List ProofLine → Type 0) → Type 0
+WroteProof cert old new Shows = (lines : List ProofLine) × SinkGrew old (printed cert lines) new × Shows lines
 
 -- a search was cut short in the lines of a proof
-abbrev pub WasCut : SinkTold → SinkTold → Type 0
+abbrev pub WasCut : SinkView → SinkView → Type 0
 WasCut old new = (lines : List ProofLine) × SinkWasCut old lines new

@@ -1,15 +1,15 @@
 -- What a step of the writer promises: the lines that it put lead from a place to another, tell some verdicts, and do not end the report.
 use Rattle.std.specs.Prelude.{◌≡◌, List, [], ◌∷◌, None, Result, Ok, Err}
-use Rattle.itv_base.specs.Outside.{SinkTold, grown}
+use Rattle.itv_base.specs.Outside.{SinkView, grown}
 use Rattle.requirements.specs.declared.verdict.Verdict.{Verdict}
 use Rattle.slack_report.specs.declared.words.Which.{Which}
 use Rattle.slack_report.specs.Entry.{Entry, verdict}
 use Rattle.slack_report.specs.Text.{report_text}
-use Rattle.right_report.specs.Right.At.{At, Side, Telling, which_of}
+use Rattle.right_report.specs.Right.At.{ReportState, NextBound, CurrentRow, which_of}
 use Rattle.drawn.specs.Drawn.{Drawn}
-use Rattle.right_report.specs.Right.Following.{Facts, Reads}
+use Rattle.right_report.specs.Right.Following.{LineClaims, LinesLead}
 use Rattle.right_report.specs.Told.{end_in}
-use Rattle.right_report.specs.Writing.{Stopped}
+use Rattle.right_report.specs.Writing.{WroteFront}
 use Rattle.bounds_report.specs.declared.pair.Pair.{Pair}
 
 -- the verdicts of the lines
@@ -19,20 +19,20 @@ verdicts_in (verdict word ∷ lines) = word ∷ verdicts_in lines
 verdicts_in (line ∷ lines) = verdicts_in lines
 
 -- lines were put whole that lead from a place to another, tell these verdicts, and do not end the report
-pub record Told (facts : Facts) (drawn : Drawn) (here last : At) (words : List Verdict) (old new : SinkTold) : Type 0 where
+pub record WroteVerdicts (facts : LineClaims) (drawn : Drawn) (here last : ReportState) (words : List Verdict) (old new : SinkView) : Type 0 where
   pub lines : List Entry
-  pub reads : Reads facts drawn here lines last
+  pub reads : LinesLead facts drawn here lines last
   pub grew : new ≡ grown old (report_text lines)
   pub words_are : verdicts_in lines ≡ words
   pub no_end : end_in lines ≡ None
 
 -- a step puts lines that lead to a place and tell verdicts that its answer names, or a front of such lines
-abbrev pub Goes : {B E : Type 0} → Facts → Drawn → At → (B → At) → (B → List Verdict) → SinkTold → SinkTold → Result B E → Type 0
-Goes facts drawn here to words old new (Ok x) = Told facts drawn here (to x) (words x) old new
-Goes facts drawn here to words old new (Err e) = Stopped facts drawn here old new
+abbrev pub WritesVerdicts : {B E : Type 0} → LineClaims → Drawn → ReportState → (B → ReportState) → (B → List Verdict) → SinkView → SinkView → Result B E → Type 0
+WritesVerdicts facts drawn here to words old new (Ok x) = WroteVerdicts facts drawn here (to x) (words x) old new
+WritesVerdicts facts drawn here to words old new (Err e) = WroteFront facts drawn here old new
 
 -- a row that is being told is of a pair, and a bound of this sort is next
-pub record IsOf (told : Telling) (side : Side) (pair : Pair) (which : Which) : Type 0 where
+pub record IsOf (told : CurrentRow) (side : NextBound) (pair : Pair) (which : Which) : Type 0 where
   pub from : told.row.from ≡ pair.from
   pub to : told.row.to ≡ pair.to
   pub sort : which_of side ≡ which

@@ -35,7 +35,7 @@ abbrev pub MeetsSome : List ℤ → Splitting → Type 0
 MeetsSome times s = Any (IsEdgeMet times) s.edges
 
 -- the first of some constraints each of whose choice edges the times break has this number
-pub record IsFirstOf (times : List ℤ) (splits : List Splitting) (number : ℕ) : Type 0 where
+pub record IsFirstBrokenSplit (times : List ℤ) (splits : List Splitting) (number : ℕ) : Type 0 where
   pub place : ℕ
   pub within : place < length splits
   pub broken : (d : Splitting) → ((slice_index_or splits place d).number ≡ number) × BreaksEach times (slice_index_or splits place d)

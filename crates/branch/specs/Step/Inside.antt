@@ -1,10 +1,10 @@
 -- What the fields of working memory mean, and what holds of them.
 use Rattle.std.specs.Prelude.{◌≡◌, true, cond, length, All, None, Some}
 use Rattle.diff_bounds.specs.Limits.{IsTimely}
-use Rattle.branch.specs.Work.{View}
+use Rattle.branch.specs.Work.{WorkView}
 use Rattle.branch.specs.declared.work.Work.TheInside.{Inside}
 
-abbrev pub view_in : Inside → View
+abbrev pub view_in : Inside → WorkView
 view_in w = record {
   bounds = w.search.bounds;
   room = w.search.cases.room;
@@ -16,7 +16,7 @@ view_in w = record {
 }
 
 -- there is a place for each event in all lists, and known times are timely
-pub record IsSound (w : Inside) : Type 0 where
+pub record IsSoundWork (w : Inside) : Type 0 where
   pub known : length w.known.items ≡ length w.best.times.items
   pub candidate : length w.trial.candidate.items ≡ length w.best.times.items
   pub ray : length w.trial.ray.items ≡ length w.best.times.items

@@ -10,8 +10,8 @@ abbrev pub IsNearSeparation : ℤ → Type 0
 IsNearSeparation value = (neg_ℤ (pos (3 * reach_limit)) ≤ℤ value) × (value ≤ℤ pos (3 * reach_limit))
 
 -- each event of the set is above each other event by more than the limit of ends
-abbrev pub IsApart : List Bool → List ℤ → Type 0
-IsApart set times = (low high : EventId) → slice_get set low.0 ≡ Some false → slice_get set high.0 ≡ Some true
+abbrev pub IsRaisedApart : List Bool → List ℤ → Type 0
+IsRaisedApart set times = (low high : EventId) → slice_get set low.0 ≡ Some false → slice_get set high.0 ≡ Some true
     → (time_of times low +ℤ pos weight_limit) <ℤ time_of times high
 
 -- where an event is raised to, by its flag
@@ -28,7 +28,7 @@ IsGap set times by = (low high : EventId) → slice_get set low.0 ≡ Some false
 pub record AreRaised (set : List Bool) (from to : EventId) (reach : ℤ) (old new : List ℤ) : Type 0 where
   pub by : ℕ
   pub same : new ≡ raised set by old
-  pub apart : IsApart set new
+  pub apart : IsRaisedApart set new
   pub reached : reach ≤ℤ separation new from to
   pub times : All IsTime new
   pub close : All IsClose new

@@ -3,7 +3,7 @@ use Rattle.std.specs.Prelude.{◌≡◌, ◌+◌, ◌<◌, ◌≤◌, ◌≤ℤ�
 use Rattle.itv_base.specs.declared.names.EventId.{EventId}
 use Rattle.event_graph.specs.Bounds.{IsGreatestAmong, IsRay}
 use Rattle.event_graph.specs.Network.{Net}
-use Rattle.event_graph.specs.Proof.{Bound, Case, Loop, Nothing, Path, ProofGoal, ProofLine, Reads, Split, closing_lines}
+use Rattle.event_graph.specs.Proof.{Bound, Case, Loop, Nothing, Path, ProofGoal, ProofLine, ProofLeaves, Split, closing_lines}
 use Rattle.event_graph.specs.Satisfying.{Breaks, Satisfies}
 use Rattle.event_graph.specs.Times.{separation}
 use Rattle.event_graph.specs.Usable.{MeetsUsable}
@@ -23,8 +23,8 @@ use Rattle.branch.specs.declared.bounding.Ending.{Ending}
 use Rattle.branch.specs.declared.bounding.Ending.TheVariants.{Shown, Ended, Raised}
 use Rattle.branch.specs.declared.look.Look.{Look}
 use Rattle.branch.specs.declared.look.Look.TheVariants.{Beaten, Attained, Splits, Unbounded}
-use Rattle.branch.specs.declared.search.Entry.{Entry}
-use Rattle.branch.specs.declared.search.Entry.TheVariants.{Entered, AllClosed, Stopped}
+use Rattle.branch.specs.declared.search.NextCase.{NextCase}
+use Rattle.branch.specs.declared.search.NextCase.TheVariants.{Entered, AllClosed, Stopped}
 use Rattle.branch.specs.declared.search.Search.{Search}
 use Rattle.branch.specs.declared.trial.Trial.{Trial}
 
@@ -53,13 +53,13 @@ pub record Keeps (net : Net) (before now : Search) : Type 0 where
   pub bounds : AreOfSame net before.bounds now.bounds
 
 -- how an entry ends: the search is at a case, or no case is left, or the budget is used up
-abbrev pub EndsAs : Net → Search → Entry → Type 0
+abbrev pub EndsAs : Net → Search → NextCase → Type 0
 EndsAs net s Entered = IsAtCase net s
 EndsAs net s AllClosed = s.leaves ≤ s.budget
 EndsAs net s Stopped = s.leaves ≡ s.budget
 
 -- the cases that are open after an entry
-abbrev pub left_after : Net → Case → Entry → List Case
+abbrev pub left_after : Net → Case → NextCase → List Case
 left_after net now Entered = open_cases net now
 left_after net now AllClosed = []
 left_after net now Stopped = open_cases net now
@@ -72,7 +72,7 @@ pub record IsNext (net : Net) (before now : Search) : Type 0 where
   pub below : StandsBelow net now.cases.chosen now.bounds
 
 -- how a closed case is left: for a next one, or for good
-abbrev pub LeavesFor : Net → Search → Search → Option Entry → Type 0
+abbrev pub LeavesFor : Net → Search → Search → Option NextCase → Type 0
 LeavesFor net before now None = IsNext net before now × (now.leaves < now.budget)
 LeavesFor net before now (Some Entered) = ⊥
 LeavesFor net before now (Some AllClosed) = siblings net before.cases.chosen ≡ []
@@ -85,24 +85,24 @@ IsClosing (Path names) = Unit {0}
 IsClosing (Loop names) = Unit {0}
 
 -- lines that close cases, one each, and lead from some open cases to others
-pub record Closes (net : Net) (goal : ProofGoal) (cases left : List Case) (lines : List ProofLine) : Type 0 where
-  pub reads : Reads net goal cases lines left
+pub record ClosesCases (net : Net) (goal : ProofGoal) (cases left : List Case) (lines : List ProofLine) : Type 0 where
+  pub reads : ProofLeaves net goal cases lines left
   pub closing : All IsClosing lines
 
 -- what lines close of some cases, up to an entry
-pub record Steps (net : Net) (goal : ProofGoal) (cases : List Case) (before : ℕ) (now : Search) (entry : Entry) (lines : List ProofLine) : Type 0 where
-  pub closes : Closes net goal cases (left_after net now.cases.chosen entry) lines
+pub record SearchSteps (net : Net) (goal : ProofGoal) (cases : List Case) (before : ℕ) (now : Search) (entry : NextCase) (lines : List ProofLine) : Type 0 where
+  pub closes : ClosesCases net goal cases (left_after net now.cases.chosen entry) lines
   pub count : now.leaves ≡ before + closing_lines lines
 
 -- what lines closed of some cases that a failure cut short, at the last line: each of them was right
 pub record StepsShort (net : Net) (goal : ProofGoal) (cases : List Case) (before : ℕ) (now : Search) (lines : List ProofLine) : Type 0 where
   pub left : List Case
-  pub closes : Closes net goal cases left lines
+  pub closes : ClosesCases net goal cases left lines
   pub count : now.leaves ≤ before + closing_lines lines
 
 -- the lines so far leave just these cases open and closed a number of others, and each split was needed
-pub record IsSearched (net : Net) (goal : ProofGoal) (IsNeeded : List ProofLine → Case → ℕ → Type 0) (lines : List ProofLine) (cases : List Case) (closed : ℕ) : Type 0 where
-  pub reads : Reads net goal ([] ∷ []) lines cases
+pub record IsSearchedSoFar (net : Net) (goal : ProofGoal) (IsNeeded : List ProofLine → Case → ℕ → Type 0) (lines : List ProofLine) (cases : List Case) (closed : ℕ) : Type 0 where
+  pub reads : ProofLeaves net goal ([] ∷ []) lines cases
   pub needed : AtEachSplit net IsNeeded lines
   pub count : closing_lines lines ≡ closed
 
@@ -133,10 +133,10 @@ Looks net aim best s trial Unbounded =
 -- a search for a bound of a pair has come to a value
 abbrev pub IsBoundSearched : Net → Aim → ℤ → List ProofLine → List Case → ℕ → Type 0
 IsBoundSearched net aim best lines cases closed =
-    IsSearched net (Bound aim.from aim.to best) (IsNeededToBound net aim.from aim.to aim.known) lines cases closed
+    IsSearchedSoFar net (Bound aim.from aim.to best) (IsNeededToBound net aim.from aim.to aim.known) lines cases closed
 
 -- the best times so far
-pub record AreBest (net : Net) (aim : Aim) (best : Best) : Type 0 where
+pub record IsBestSoFar (net : Net) (aim : Aim) (best : Best) : Type 0 where
   pub satisfies : Satisfies best.times.items net
   pub attained : separation best.times.items aim.from aim.to ≡ best.value
   pub least : aim.known ≤ℤ best.value
@@ -156,9 +156,9 @@ pub record Progress : Type 0 where
   pub best : Best
 
 -- what a step of the search for a bound comes to: the next case stands or the search ends, or the pair is unbounded
-abbrev pub Advances : Net → Aim → Progress → Progress → List Bool → List ProofLine → Option Entry → Type 0
+abbrev pub Advances : Net → Aim → Progress → Progress → List Bool → List ProofLine → Option NextCase → Type 0
 Advances net aim before now ray lines (Some entry) =
-    AreBest net aim now.best
+    IsBestSoFar net aim now.best
     × ((earlier : List ProofLine) → IsBoundSearched net aim before.best.value earlier (open_cases net before.search.cases.chosen) before.search.leaves
     → IsBoundSearched net aim now.best.value (earlier ++ lines) (left_after net now.search.cases.chosen entry) now.search.leaves)
 Advances net aim before now ray lines None =
@@ -178,20 +178,20 @@ IsCutAfter net aim best before leaves now lines =
     (earlier : List ProofLine) → IsBoundSearched net aim best earlier (open_cases net before) leaves → IsBoundCut net aim now (earlier ++ lines)
 
 -- how the search for a bound ends
-abbrev pub EndsWith : Net → Aim → Search → Best → List Bool → List ProofLine → Ending → Type 0
-EndsWith net aim s best ray lines Shown = AreBest net aim best × IsBoundSearched net aim best.value lines [] s.leaves
-EndsWith net aim s best ray lines Ended =
-    AreBest net aim best × (s.leaves ≡ s.budget) × ((chosen : Case) × IsBoundSearched net aim best.value lines (open_cases net chosen) s.leaves)
-EndsWith net aim s best ray lines Raised =
+abbrev pub SearchEnds : Net → Aim → Search → Best → List Bool → List ProofLine → Ending → Type 0
+SearchEnds net aim s best ray lines Shown = IsBestSoFar net aim best × IsBoundSearched net aim best.value lines [] s.leaves
+SearchEnds net aim s best ray lines Ended =
+    IsBestSoFar net aim best × (s.leaves ≡ s.budget) × ((chosen : Case) × IsBoundSearched net aim best.value lines (open_cases net chosen) s.leaves)
+SearchEnds net aim s best ray lines Raised =
     AreRays net aim best.times.items ray
     × ((value : ℤ) × (chosen : Case) × (closed : ℕ) × IsBoundSearched net aim value lines (open_cases net chosen) closed × (s.leaves ≡ closed + 1))
 
 -- a search for satisfying times has come to these lines
 abbrev pub IsFindSearched : Net → List ProofLine → List Case → ℕ → Type 0
-IsFindSearched net lines cases closed = IsSearched net Nothing (IsNeededToFind net) lines cases closed
+IsFindSearched net lines cases closed = IsSearchedSoFar net Nothing (IsNeededToFind net) lines cases closed
 
 -- what a step of the search for satisfying times comes to: the next case stands or the search ends, or the times satisfy
-abbrev pub FindAdvances : Net → Search → Search → List ℤ → List ProofLine → Option Entry → Type 0
+abbrev pub FindAdvances : Net → Search → Search → List ℤ → List ProofLine → Option NextCase → Type 0
 FindAdvances net before now times lines (Some entry) =
     (earlier : List ProofLine) → IsFindSearched net earlier (open_cases net before.cases.chosen) before.leaves
     → IsFindSearched net (earlier ++ lines) (left_after net now.cases.chosen entry) now.leaves

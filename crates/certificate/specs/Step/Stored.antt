@@ -17,15 +17,15 @@ stored_lines start [] edges = []
 stored_lines start (s ∷ stored) edges = stored_line s.kind (take (s.end - start) (drop start edges)) ∷ stored_lines s.end stored edges
 
 -- a split has no edges
-abbrev pub IsEnd : ℕ → StoredKind → ℕ → Type 0
-IsEnd start (kinds.Split constraint) end = end ≡ start
-IsEnd start kinds.Path end = start ≤ end
-IsEnd start kinds.Loop end = start ≤ end
+abbrev pub IsSplitEnd : ℕ → StoredKind → ℕ → Type 0
+IsSplitEnd start (kinds.Split constraint) end = end ≡ start
+IsSplitEnd start kinds.Path end = start ≤ end
+IsSplitEnd start kinds.Loop end = start ≤ end
 
 -- the ends rise from a place to another
-abbrev pub AreEnds : ℕ → List Stored → ℕ → Type 0
-AreEnds start [] last = start ≡ last
-AreEnds start (s ∷ stored) last = IsEnd start s.kind s.end × AreEnds s.end stored last
+abbrev pub EndsRise : ℕ → List Stored → ℕ → Type 0
+EndsRise start [] last = start ≡ last
+EndsRise start (s ∷ stored) last = IsSplitEnd start s.kind s.end × EndsRise s.end stored last
 
 -- where the edges of the line of a number begin
 abbrev pub start_from : ℕ → List Stored → ℕ → ℕ

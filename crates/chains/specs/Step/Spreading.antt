@@ -8,7 +8,7 @@ use Rattle.event_graph.specs.Network.{Net}
 use Rattle.event_graph.specs.Times.{separation}
 use Rattle.chains.specs.declared.spread.Spread.TheInside.{Inside}
 use Rattle.chains.specs.Chain.{IsTight}
-use Rattle.chains.specs.Closed.{Has, IsClosedAt}
+use Rattle.chains.specs.Closed.{Has, DoesNotEnter}
 
 -- a flag for each event that was reached, and an edge that leads from each of them but one, from the event that was reached last on
 pub record Spread : Type 0 where
@@ -67,4 +67,4 @@ pub record LooksAt (net : Net) (times : List ℤ) (IsSeen : EdgeName → Type 0)
   pub events : length new.reached ≡ length old.reached
   pub spreads : (to : EventId) → IsSpread net times to old → IsSpread net times to new
   pub more : length old.found ≤ length new.found
-  pub none : length new.found ≡ length old.found → new ≡ old × ((name : EdgeName) → IsSeen name → IsClosedAt net times old.reached name)
+  pub none : length new.found ≡ length old.found → new ≡ old × ((name : EdgeName) → IsSeen name → DoesNotEnter net times old.reached name)

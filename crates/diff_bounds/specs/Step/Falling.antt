@@ -9,20 +9,20 @@ use Rattle.trail.specs.declared.stamp.Stamp.{Stamp}
 use Rattle.trail.specs.Stack.{Stack, with_stamp}
 use Rattle.diff_bounds.specs.declared.arc.Arc.{Arc}
 use Rattle.diff_bounds.specs.declared.falling.Run.{Run}
-use Rattle.diff_bounds.specs.declared.falling.Step.{Step}
-use Rattle.diff_bounds.specs.declared.falling.Step.TheVariants.{Kept, Fell, Stops}
+use Rattle.diff_bounds.specs.declared.falling.Relaxation.{Relaxation}
+use Rattle.diff_bounds.specs.declared.falling.Relaxation.TheVariants.{Kept, Fell, Stops}
 use Rattle.diff_bounds.specs.Arcs.{IsArc}
-use Rattle.diff_bounds.specs.Labels.{Follows, HasFallen, IsAmong, IsForest, Labels, Parents, Scope, is_lower, labels_from, parents_from, stamp_at}
+use Rattle.diff_bounds.specs.Labels.{Follows, HasFallen, IsAmong, IsForest, GraphLabels, Parents, Scope, is_lower, labels_from, parents_from, stamp_at}
 use Rattle.event_graph.specs.Limits.{weight_limit}
 use Rattle.diff_bounds.specs.Step.Limits.{fall_limit}
-use Rattle.diff_bounds.specs.Settled.{AreNear}
+use Rattle.diff_bounds.specs.Settled.{AreLabelsNear}
 use Rattle.diff_bounds.specs.Step.Waiting.{Waiting, is_waiting}
 
 abbrev pub scope_of : Net → Stack → Run → Scope
 scope_of net stack run = record { net = net; chosen = stack.current.edges; first = run.first }
 
 -- the label at the start of an edge and its weight are less than the label at its end, or the first there
-pub record Undercuts (label : Labels) (e : Edge) : Type 0 where
+pub record Undercuts (label : GraphLabels) (e : Edge) : Type 0 where
   pub near : ℤ
   pub start : label e.from.0 ≡ Some near
   pub lower : is_lower (Some (near +ℤ e.weight)) (label e.to.0) ≡ true
@@ -35,7 +35,7 @@ abbrev pub fallen_stamp : EdgeName → ℤ → Stamp
 fallen_stamp name label = record { label = Some label; parent = Some name }
 
 -- what relaxing an edge does
-abbrev pub Relaxes : Run → Arc → Stack → Stack → Step → Type 0
+abbrev pub Relaxes : Run → Arc → Stack → Stack → Relaxation → Type 0
 Relaxes run a old new Kept = (new ≡ old) × Follows (labels_from old.current.stamps run.base) a.edge
 Relaxes run a old new (Fell by) =
     (u : Undercuts (labels_from old.current.stamps run.base) a.edge) × (run.stop ≡ Some a.edge.to → ⊥)
@@ -47,21 +47,21 @@ abbrev pub IsPotential : Scope → Option EventId → (ℕ → ℤ) → Type 0
 IsPotential s stop potential = (name : EdgeName) (e : Edge) → IsAmong s name e → (stop ≡ Some e.from → ⊥) → potential e.to.0 ≤ℤ (potential e.from.0 +ℤ e.weight)
 
 -- no label of an event is below the greatest weight for each event
-abbrev pub AreAbove : ℕ → Labels → Type 0
+abbrev pub AreAbove : ℕ → GraphLabels → Type 0
 AreAbove events label = (event : ℕ) (number : ℤ) → event < events → label event ≡ Some number → pos 0 ≤ℤ (number +ℤ pos (weight_limit * events))
 
 -- the parents of the labels that have fallen
-abbrev pub fresh : Labels → Labels → Parents → Parents
+abbrev pub fresh : GraphLabels → GraphLabels → Parents → Parents
 fresh old label parent event = cond (is_lower (label event) (old event)) (parent event) None
 
 -- labels that have fallen from old ones by fresh parents, none of them at the stop
-pub record HasRun (s : Scope) (run : Run) (old new : List Stamp) : Type 0 where
+pub record RunHasFallen (s : Scope) (run : Run) (old new : List Stamp) : Type 0 where
   pub count : length new ≡ length old
   pub forest : IsForest s (labels_from old run.base) (labels_from new run.base) (fresh (labels_from old run.base) (labels_from new run.base) (parents_from new run.base))
   pub fallen : (slot : ℕ) → HasFallen (stamp_at old slot) (stamp_at new slot)
   pub before : (slot : ℕ) → slot < run.base → stamp_at new slot ≡ stamp_at old slot
   pub after : (slot : ℕ) → run.base + s.net.events ≤ slot → stamp_at new slot ≡ stamp_at old slot
-  pub near : AreNear new
+  pub near : AreLabelsNear new
   pub stopped : (x : EventId) → run.stop ≡ Some x → labels_from new run.base x.0 ≡ labels_from old run.base x.0
 
 -- labels of a run: those that it began with are not far below 0, and a potential shows that there is no loop but through the stop
@@ -70,12 +70,12 @@ pub record IsRunning (s : Scope) (run : Run) (stamps : List Stamp) : Type 0 wher
   pub above : AreAbove s.net.events (labels_from old run.base)
   pub potential : ℕ → ℤ
   pub meets : IsPotential s run.stop potential
-  pub ran : HasRun s run old stamps
+  pub ran : RunHasFallen s run old stamps
 
 -- whatever the labels ran from, the new ones have too
 abbrev pub KeepsRuns : Scope → Run → List Stamp → List Stamp → Type 0
 KeepsRuns s run mid new =
-    (old : List Stamp) (potential : ℕ → ℤ) → AreAbove s.net.events (labels_from old run.base) → IsPotential s run.stop potential → HasRun s run old mid → HasRun s run old new
+    (old : List Stamp) (potential : ℕ → ℤ) → AreAbove s.net.events (labels_from old run.base) → IsPotential s run.stop potential → RunHasFallen s run old mid → RunHasFallen s run old new
 
 -- an edge is followed, or the event at its start waits
 abbrev pub IsDone : Run → List Stamp → List Bool → Edge → Type 0

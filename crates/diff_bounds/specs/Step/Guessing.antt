@@ -14,6 +14,6 @@ abbrev pub IsBetween : ℕ → Arc → Type 0
 IsBetween limit a = (a.edge.from.0 < limit) × (a.edge.to.0 < limit)
 
 -- there are as many places in the order, and as many counts, as times
-pub record IsKept (g : Inside) : Type 0 where
+pub record HasCounts (g : Inside) : Type 0 where
   pub order : AreEvents (length g.times.items) g.order.items
   pub due : length g.due.items ≡ length g.times.items

@@ -23,7 +23,7 @@ abbrev pub IsPlaceOf : List Arc → EventId → ℕ → Type 0
 IsPlaceOf list to place = (place < length list) × HoldsAt (λ (a : Arc). a.edge.to ≡ to) list place
 
 -- an edge has joined a list: nothing else came, and for each edge that had a light one in the list there still is one
-pub record Joins (arc : Arc) (old new : List Arc) : Type 0 where
+pub record HasJoined (arc : Arc) (old new : List Arc) : Type 0 where
   pub among : All (λ (a : Arc). Contains old a ⊎ (a ≡ arc)) new
   pub kept : (e : Edge) → HasLight old e → HasLight new e
   pub light : HasLight new arc.edge
@@ -32,7 +32,7 @@ pub record Joins (arc : Arc) (old new : List Arc) : Type 0 where
 pub record JoinsAt (arc : Arc) (old new : List (List Arc)) : Type 0 where
   pub list : List Arc
   pub is : new ≡ set old arc.edge.from.0 list
-  pub joins : Joins arc (at_event old arc.edge.from.0) list
+  pub joins : HasJoined arc (at_event old arc.edge.from.0) list
 
 -- lists that have grown by always-edges
 pub record Grows (net : Net) (old new : List (List Arc)) : Type 0 where

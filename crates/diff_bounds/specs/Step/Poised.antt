@@ -9,8 +9,8 @@ use Rattle.trail.specs.Stack.{Stack, empty_stamp}
 use Rattle.diff_bounds.specs.declared.arc.Arc.{Arc}
 use Rattle.diff_bounds.specs.declared.falling.Run.{Run}
 use Rattle.diff_bounds.specs.Arcs.{AreAlwaysArcs, AreChosenArcs, IsArc}
-use Rattle.diff_bounds.specs.Labels.{Follows, IsAmong, IsForest, Labels, Scope, labels_from, parents_from, stamp_at}
-use Rattle.diff_bounds.specs.Settled.{AreNear, IsRoot}
+use Rattle.diff_bounds.specs.Labels.{Follows, IsAmong, IsForest, GraphLabels, Scope, labels_from, parents_from, stamp_at}
+use Rattle.diff_bounds.specs.Settled.{AreLabelsNear, IsRootGraph}
 use Rattle.diff_bounds.specs.Step.Falling.{scope_of}
 use Rattle.diff_bounds.specs.Step.Waiting.{Waiting}
 
@@ -33,32 +33,32 @@ abbrev pub zero_stamp : Stamp
 zero_stamp = record { label = Some (pos 0); parent = None }
 
 -- all edges of a scope are followed, but for those that start at an event
-abbrev pub AreOthersFollowed : Scope → EventId → Labels → Type 0
+abbrev pub AreOthersFollowed : Scope → EventId → GraphLabels → Type 0
 AreOthersFollowed s from label = (name : EdgeName) (e : Edge) → IsAmong s name e → (e.from.0 ≡ from.0) ⊎ Follows label e
 
 -- labels that fell from a start over edges of a scope follow all of these edges but those that start at one event
-pub record IsPoised (s : Scope) (from : EventId) (start : Labels) (stamps : List Stamp) (base : ℕ) : Type 0 where
+pub record IsPoised (s : Scope) (from : EventId) (start : GraphLabels) (stamps : List Stamp) (base : ℕ) : Type 0 where
   pub forest : IsForest s start (labels_from stamps base) (parents_from stamps base)
   pub others : AreOthersFollowed s from (labels_from stamps base)
 
 -- the graph, its edges and the queue are there, and the labels of a run are poised
-pub record IsReady (net : Net) (out : List (List Arc)) (arcs : List Arc) (run : Run) (from : EventId) (start : Labels) (stack : Stack) (waiting : Waiting) : Type 0 where
+pub record IsRunReady (net : Net) (out : List (List Arc)) (arcs : List Arc) (run : Run) (from : EventId) (start : GraphLabels) (stack : Stack) (waiting : Waiting) : Type 0 where
   pub is_net : IsNet net
   pub out_edges : AreAlwaysArcs net out
   pub chosen : AreChosenArcs net stack.current.edges arcs
   pub within : from.0 < net.events
   pub slots : length stack.current.stamps ≡ net.events + net.events
-  pub near : AreNear stack.current.stamps
+  pub near : AreLabelsNear stack.current.stamps
   pub marks : length waiting.marks ≡ net.events
   pub poised : IsPoised (scope_of net stack run) from start stack.current.stamps run.base
 
 -- all edges of a scope are followed, but for one
-abbrev pub AreRestFollowed : Scope → Edge → Labels → Type 0
+abbrev pub AreRestFollowed : Scope → Edge → GraphLabels → Type 0
 AreRestFollowed s added label = (name : EdgeName) (e : Edge) → IsAmong s name e → (e ≡ added) ⊎ Follows label e
 
 -- the same where one edge was added: all the others are followed
-pub record IsAdded (net : Net) (out : List (List Arc)) (arcs : List Arc) (run : Run) (a : Arc) (start : Labels) (stack : Stack) (waiting : Waiting) : Type 0 where
-  pub ready : IsReady net out arcs run a.edge.from start stack waiting
+pub record IsAdded (net : Net) (out : List (List Arc)) (arcs : List Arc) (run : Run) (a : Arc) (start : GraphLabels) (stack : Stack) (waiting : Waiting) : Type 0 where
+  pub ready : IsRunReady net out arcs run a.edge.from start stack waiting
   pub arc : IsArc net a
   pub among : IsAmong (scope_of net stack run) a.name a.edge
   pub rest : AreRestFollowed (scope_of net stack run) a.edge (labels_from stack.current.stamps run.base)
@@ -80,6 +80,6 @@ pub record HasCleared (events : ℕ) (old new : List Stamp) : Type 0 where
   pub others : (slot : ℕ) → events ≤ slot → stamp_at new slot ≡ stamp_at old slot
 
 -- a stack of a first graph alone
-pub record IsFirst (net : Net) (stack : Stack) : Type 0 where
+pub record IsFirstGraph (net : Net) (stack : Stack) : Type 0 where
   pub below : stack.below ≡ []
-  pub root : IsRoot net stack.current
+  pub root : IsRootGraph net stack.current

@@ -5,8 +5,8 @@ use Rattle.event_graph.specs.Network.{Net}
 use Rattle.event_graph.specs.RootBound.{IsRootBound}
 use Rattle.event_graph.specs.Satisfying.{Satisfies}
 use Rattle.event_graph.specs.Times.{IsTime, separation}
-use Rattle.branch.specs.declared.answer.Answer.{Answer}
-use Rattle.branch.specs.declared.answer.Answer.TheVariants as answers
+use Rattle.branch.specs.declared.answer.GreatestAnswer.{GreatestAnswer}
+use Rattle.branch.specs.declared.answer.GreatestAnswer.TheVariants as answers
 use Rattle.requirements.specs.Bounds.{IsAttained}
 use Rattle.requirements.specs.declared.bound.Bound.{Bound}
 use Rattle.requirements.specs.declared.bound.Bound.TheVariants as bounds
@@ -19,7 +19,7 @@ use Rattle.explained.specs.declared.bound.BoundFound.TheVariants.{Closed, Unboun
 use Rattle.explained.specs.declared.pair.Pair.{Pair}
 
 -- the bound that an answer tells
-abbrev pub bound_by : Answer → Bound
+abbrev pub bound_by : GreatestAnswer → Bound
 bound_by (answers.Closed value) = bounds.Closed value
 bound_by answers.Unbounded = bounds.Unbounded
 bound_by (answers.Enclosed upper attained) = bounds.Within upper (Some attained)

@@ -4,8 +4,8 @@ use Rattle.event_graph.specs.Bounds.{IsInconsistent}
 use Rattle.event_graph.specs.Network.{Net}
 use Rattle.event_graph.specs.RootBound.{MeetsAlways}
 use Rattle.event_graph.specs.Satisfying.{Satisfies}
-use Rattle.branch.specs.declared.answer.Found.{Found}
-use Rattle.branch.specs.declared.answer.Found.TheVariants as founds
+use Rattle.branch.specs.declared.answer.SearchFinding.{SearchFinding}
+use Rattle.branch.specs.declared.answer.SearchFinding.TheVariants as founds
 use Rattle.branch.specs.Work.{IsMadeFor}
 use Rattle.slack_report.specs.declared.words.FindingWord.{FindingWord}
 use Rattle.slack_report.specs.declared.words.FindingWord.TheVariants as findings
@@ -16,7 +16,7 @@ use Rattle.explained.specs.declared.desk.Apart.{Apart}
 use Rattle.explained.specs.declared.desk.Desk.{Desk}
 
 -- the word for a finding
-abbrev pub word_of_found : Found → FindingWord
+abbrev pub word_of_found : SearchFinding → FindingWord
 word_of_found founds.Consistent = findings.Consistent
 word_of_found founds.Inconsistent = findings.Inconsistent
 word_of_found founds.Unsettled = findings.Unsettled
@@ -28,10 +28,10 @@ HasFound net findings.Inconsistent known = IsInconsistent net
 HasFound net findings.Unsettled known = (times : List ℤ) × MeetsAlways times net
 
 -- some times satisfy, or meet the always-edges, as a finding says that is not inconsistent
-abbrev pub Allows : Net → FindingWord → Type 0
-Allows net findings.Consistent = (times : List ℤ) × Satisfies times net
-Allows net findings.Inconsistent = ⊥
-Allows net findings.Unsettled = (times : List ℤ) × MeetsAlways times net
+abbrev pub FindingAllows : Net → FindingWord → Type 0
+FindingAllows net findings.Consistent = (times : List ℤ) × Satisfies times net
+FindingAllows net findings.Inconsistent = ⊥
+FindingAllows net findings.Unsettled = (times : List ℤ) × MeetsAlways times net
 
 -- memory that is made for a network, and a search may close some case
 pub record IsFor (net : Net) (searches : Searches) : Type 0 where
@@ -44,10 +44,10 @@ pub record IsFresh (net : Net) (searches : Searches) : Type 0 where
   pub unsettled : searches.word ≡ findings.Unsettled
 
 -- a finding was made that is not inconsistent
-pub record IsSettled (net : Net) (searches : Searches) : Type 0 where
+pub record IsNotInconsistent (net : Net) (searches : Searches) : Type 0 where
   pub made : IsFor net searches
   pub found : HasFound net searches.word searches.work.known
-  pub allows : Allows net searches.word
+  pub allows : FindingAllows net searches.word
 
 -- the network of the memory for one apart from the order of lanes, or else the network itself
 abbrev pub net_in : Net → Option Apart → Net
@@ -62,7 +62,7 @@ pub record IsDeskFor (drawn : Drawn) (desk : Desk) : Type 0 where
 
 -- findings were made in both
 pub record IsReady (drawn : Drawn) (desk : Desk) : Type 0 where
-  pub settled : IsSettled drawn.net desk.searches
+  pub settled : IsNotInconsistent drawn.net desk.searches
   pub chains : desk.chains.events ≡ drawn.net.events
   pub apart : net_in drawn.net desk.apart ≡ net_apart drawn
-  pub settled_apart : IfSome desk.apart (λ (a : Apart). IsSettled a.net a.searches)
+  pub settled_apart : IfSome desk.apart (λ (a : Apart). IsNotInconsistent a.net a.searches)

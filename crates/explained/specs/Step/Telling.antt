@@ -8,6 +8,6 @@ use Rattle.drawn.specs.declared.row.Row.{Row}
 use Rattle.explained.specs.Answers.{IsApart, verdict_by}
 
 -- what is told of a row by its bounds
-abbrev pub IsTold : Net → Row → RowKind → BothBounds → Option BothBounds → Type 0
-IsTold apart row kinds.Ask both told = told ≡ None
-IsTold apart row (kinds.Req range) both told = IsApart apart row range (verdict_by range both) told
+abbrev pub IsRowTold : Net → Row → RowKind → BothBounds → Option BothBounds → Type 0
+IsRowTold apart row kinds.Ask both told = told ≡ None
+IsRowTold apart row (kinds.Req range) both told = IsApart apart row range (verdict_by range both) told

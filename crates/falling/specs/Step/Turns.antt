@@ -14,7 +14,7 @@ use Rattle.falling.specs.declared.line.FallLine.{FallLine}
 use Rattle.falling.specs.declared.line.Reason.{Reason}
 use Rattle.falling.specs.declared.line.Reason.TheVariants.{ByEdge, ByLatest}
 use Rattle.falling.specs.Cap.{IsNearValue}
-use Rattle.falling.specs.Derivation.{IsAllowed, IsLatestHigh}
+use Rattle.falling.specs.Derivation.{IsLineAllowed, IsLatestHigh}
 
 -- a constraint may be looked at: it is there, and each event has a value to which an end can be added
 pub record MayLook (net : Net) (values : List ℤ) (number : ℕ) : Type 0 where
@@ -25,7 +25,7 @@ pub record MayLook (net : Net) (values : List ℤ) (number : ℕ) : Type 0 where
 
 -- no line with this reason is allowed
 abbrev pub IsTried : Net → List ℤ → Reason → Type 0
-IsTried net values reason = (event : EventId) (value : ℤ) → IsAllowed net values (record { event = event; value = value; reason = reason }) → ⊥
+IsTried net values reason = (event : EventId) (value : ℤ) → IsLineAllowed net values (record { event = event; value = value; reason = reason }) → ⊥
 
 -- no edge of a constraint on a side allows a line
 abbrev pub IsSideTried : Net → List ℤ → ℕ → Side → Type 0
@@ -41,8 +41,8 @@ abbrev pub IsConstraintTried : Net → List ℤ → ℕ → Type 0
 IsConstraintTried net values number = (reason : Reason) → constraint_of reason ≡ number → IsTried net values reason
 
 -- the constraint of a number is of a kind
-abbrev pub IsKind : Net → ℕ → RuleKind → Type 0
-IsKind net number kind = option_map (λ (c : Constraint). c.kind) (slice_get net.constraints number) ≡ Some kind
+abbrev pub IsOfKind : Net → ℕ → RuleKind → Type 0
+IsOfKind net number kind = option_map (λ (c : Constraint). c.kind) (slice_get net.constraints number) ≡ Some kind
 
 -- the order of the turn rule among the sides of a constraint of a kind
 abbrev pub side_rank : RuleKind → Side → ℕ
@@ -70,14 +70,14 @@ reason_cause (ByEdge name) = name.cause
 reason_cause (ByLatest number) = 0
 
 -- one reason comes before another of the same constraint, which is of a kind
-abbrev pub IsBefore : RuleKind → Reason → Reason → Type 0
-IsBefore kind first second =
+abbrev pub ReasonBefore : RuleKind → Reason → Reason → Type 0
+ReasonBefore kind first second =
     (reason_rank kind first < reason_rank kind second) ⊎ ((reason_rank kind first ≡ reason_rank kind second) × (reason_cause first < reason_cause second))
 
 -- a line by the constraint of a number, and no line by a reason of it that comes before is allowed
 pub record IsFirstOf (net : Net) (values : List ℤ) (number : ℕ) (line : FallLine) : Type 0 where
   pub is : constraint_of line.reason ≡ number
-  pub earlier : (kind : RuleKind) (reason : Reason) → IsKind net number kind → constraint_of reason ≡ number → IsBefore kind reason line.reason → IsTried net values reason
+  pub earlier : (kind : RuleKind) (reason : Reason) → IsOfKind net number kind → constraint_of reason ≡ number → ReasonBefore kind reason line.reason → IsTried net values reason
 
 -- a line by an edge of the constraint of a number on a side, and no line by an earlier cause on it is allowed
 abbrev pub IsFirstOnSide : Net → List ℤ → ℕ → Side → FallLine → Type 0

@@ -10,7 +10,7 @@ use Rattle.event_graph.specs.Network.{Net}
 use Rattle.minplus.specs.Matrix.{IsSquare, cells}
 use Rattle.minplus.specs.Rows.{IsEntry}
 use Rattle.minplus.specs.declared.rows.TheConstants.{ABSENT}
-use Rattle.minplus.specs.Step.Entries.{BoundsAlways, Entries, IsHeld}
+use Rattle.minplus.specs.Step.Entries.{BoundsAlways, Entries, IsEdgeHeld}
 use Rattle.minplus.specs.Step.Paths.{AreSteps}
 
 -- the always-edge of a name: it is between events, and its weight is an end of a range
@@ -29,7 +29,7 @@ pub record Lowers (e : Edge) (old new : Entries) : Type 0 where
 
 -- a matrix into which always-edges are put: each entry is absent or within the end limit, bounds its separations, and none of the
 -- diagonal is above 0
-pub record AreBounds (net : Net) (rows : List (List ℤ)) : Type 0 where
+pub record BoundSeparations (net : Net) (rows : List (List ℤ)) : Type 0 where
   pub square : IsSquare net.events rows
   pub held : (from to : ℕ) → IsEntry (cells rows from to)
   pub small : AreSteps END_LIMIT (cells rows)
@@ -38,15 +38,15 @@ pub record AreBounds (net : Net) (rows : List (List ℤ)) : Type 0 where
 
 -- the edge of a name is held, if it is an always-edge
 abbrev pub HoldsEdge : Net → Entries → EdgeName → Type 0
-HoldsEdge net entries name = (e : Edge) → IsAlways net name → edge net name ≡ Some e → IsHeld net.events entries e
+HoldsEdge net entries name = (e : Edge) → IsAlways net name → edge net name ≡ Some e → IsEdgeHeld net.events entries e
 
 -- so are the edges of a cause of a constraint on both sides
 abbrev pub HoldsCause : Net → Entries → ℕ → ℕ → Type 0
 HoldsCause net entries constraint cause = (side : Side) → HoldsEdge net entries (record { constraint = constraint; cause = cause; side = side })
 
 -- no entry rose: edges that were held still are
-abbrev pub Falls : Entries → Entries → Type 0
-Falls old new = (from to : ℕ) → new from to ≤ℤ old from to
+abbrev pub NoneRose : Entries → Entries → Type 0
+NoneRose old new = (from to : ℕ) → new from to ≤ℤ old from to
 
 -- so many of the rows of no edges: 0 from an event to itself, and nothing else
 pub record AreEmptyRows (events count : ℕ) (rows : List (List ℤ)) : Type 0 where

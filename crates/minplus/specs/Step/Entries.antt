@@ -14,31 +14,31 @@ abbrev pub Entries : Type 0
 Entries = ℕ → ℕ → ℤ
 
 -- there is a path
-abbrev pub IsThere : ℤ → Type 0
-IsThere entry = entry <ℤ ABSENT
+abbrev pub IsPresent : ℤ → Type 0
+IsPresent entry = entry <ℤ ABSENT
 
 -- an entry is at most the sum of two others, where both are there
-abbrev pub IsWithin : ℤ → ℤ → ℤ → Type 0
-IsWithin entry first second = IsThere first → IsThere second → entry ≤ℤ (first +ℤ second)
+abbrev pub IsAtMostSum : ℤ → ℤ → ℤ → Type 0
+IsAtMostSum entry first second = IsPresent first → IsPresent second → entry ≤ℤ (first +ℤ second)
 
 -- each entry was improved through an event: it is the lesser of itself and the sum over that event
 pub record IsThrough (event : ℕ) (old new : Entries) : Type 0 where
   pub falls : (from to : ℕ) → new from to ≤ℤ old from to
-  pub least : (from to : ℕ) → IsWithin (new from to) (old from event) (old event to)
+  pub least : (from to : ℕ) → IsAtMostSum (new from to) (old from event) (old event to)
   pub made : (from to : ℕ) → (new from to ≡ old from to)
-      ⊎ (IsThere (old from event) × IsThere (old event to) × (new from to ≡ (old from event +ℤ old event to)))
+      ⊎ (IsPresent (old from event) × IsPresent (old event to) × (new from to ≡ (old from event +ℤ old event to)))
 
 -- no detour over an event below a number is shorter
 abbrev pub IsClosedBelow : ℕ → Entries → Type 0
-IsClosedBelow events entries = (over from to : ℕ) → over < events → IsWithin (entries from to) (entries from over) (entries over to)
+IsClosedBelow events entries = (over from to : ℕ) → over < events → IsAtMostSum (entries from to) (entries from over) (entries over to)
 
 -- no times that meet the always-edges separate two events by more than their entry
 abbrev pub BoundsAlways : Net → Entries → Type 0
-BoundsAlways net entries = (times : List ℤ) → MeetsAlways times net → (from to : ℕ) → IsThere (entries from to)
+BoundsAlways net entries = (times : List ℤ) → MeetsAlways times net → (from to : ℕ) → IsPresent (entries from to)
     → separation times (record { 0 = from }) (record { 0 = to }) ≤ℤ entries from to
 
 -- an edge between events below a number, no shorter than the entry of its ends
-pub record IsHeld (events : ℕ) (entries : Entries) (e : Edge) : Type 0 where
+pub record IsEdgeHeld (events : ℕ) (entries : Entries) (e : Edge) : Type 0 where
   pub from : e.from.0 < events
   pub to : e.to.0 < events
   pub small : IsSmall e.weight
@@ -46,7 +46,7 @@ pub record IsHeld (events : ℕ) (entries : Entries) (e : Edge) : Type 0 where
 
 -- so is each always-edge
 abbrev pub HoldsEdges : Net → Entries → Type 0
-HoldsEdges net entries = (name : EdgeName) (e : Edge) → IsAlways net name → edge net name ≡ Some e → IsHeld net.events entries e
+HoldsEdges net entries = (name : EdgeName) (e : Edge) → IsAlways net name → edge net name ≡ Some e → IsEdgeHeld net.events entries e
 
 -- the closure of a network: no path of always-edges is shorter than its entry, and each entry bounds its separations
 pub record IsClosure (net : Net) (entries : Entries) : Type 0 where

@@ -2,7 +2,7 @@
 use Rattle.std.specs.Prelude.{◌≡◌, ◌≢◌, ◌<◌, ◌≤◌, ◌⊎◌, ℕ, ℤ, ◌+ℤ◌, ◌≤ℤ◌, List, length}
 use Rattle.std.specs.Int.{int_min}
 use Rattle.minplus.specs.Rows.{entry_at, improved}
-use Rattle.minplus.specs.Step.Entries.{IsThere, IsWithin}
+use Rattle.minplus.specs.Step.Entries.{IsPresent, IsAtMostSum}
 
 -- the entries at places from a first on up to a last one, and no others, were improved by those of another row
 pub record ImprovesPart (weight : ℤ) (first last : ℕ) (old other new : List ℤ) : Type 0 where
@@ -15,9 +15,9 @@ pub record ImprovesPart (weight : ℤ) (first last : ℕ) (old other new : List 
 pub record RowThrough (event : ℕ) (old through new : List ℤ) : Type 0 where
   pub count : length new ≡ length old
   pub falls : (to : ℕ) → entry_at new to ≤ℤ entry_at old to
-  pub least : (to : ℕ) → IsWithin (entry_at new to) (entry_at old event) (entry_at through to)
+  pub least : (to : ℕ) → IsAtMostSum (entry_at new to) (entry_at old event) (entry_at through to)
   pub made : (to : ℕ) → (entry_at new to ≡ entry_at old to)
-      ⊎ (IsThere (entry_at old event) × IsThere (entry_at through to) × (entry_at new to ≡ (entry_at old event +ℤ entry_at through to)))
+      ⊎ (IsPresent (entry_at old event) × IsPresent (entry_at through to) × (entry_at new to ≡ (entry_at old event +ℤ entry_at through to)))
 
 -- an entry of a row became the lesser of itself and a weight
 pub record LowersEntry (place : ℕ) (weight : ℤ) (old new : List ℤ) : Type 0 where

@@ -7,7 +7,7 @@ use Rattle.minplus.specs.Step.Entries.{BoundsAlways, Entries, HoldsEdges, IsClos
 use Rattle.minplus.specs.Step.Paths.{ArePaths, AreSteps}
 
 -- the matrix was improved through the events below a number, from the steps on, and no event is before itself
-pub record Stage (net : Net) (steps : Entries) (event : ℕ) (entries : Entries) : Type 0 where
+pub record PivotStage (net : Net) (steps : Entries) (event : ℕ) (entries : Entries) : Type 0 where
   pub small : AreSteps END_LIMIT steps
   pub held : (from to : ℕ) → IsEntry (entries from to)
   pub falls : (from to : ℕ) → entries from to ≤ℤ steps from to

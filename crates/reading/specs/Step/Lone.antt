@@ -8,28 +8,28 @@ use Rattle.sheet.specs.Sheet.{sheet_of}
 use Rattle.netlist.specs.Netlist.{lone_netlist}
 use Rattle.compose.specs.declared.sheet_key.SheetKey.{SheetKey}
 use Rattle.plan.specs.Plan.{Planned}
-use Rattle.reading.specs.declared.place.Place.{Place}
-use Rattle.reading.specs.declared.place.Place.TheVariants.{File}
+use Rattle.reading.specs.declared.place.RefusalPlace.{RefusalPlace}
+use Rattle.reading.specs.declared.place.RefusalPlace.TheVariants.{File}
 use Rattle.reading.specs.declared.refusal.Refusal.TheVariants.{Diagram, Sheet}
 use Rattle.reading.specs.Design.{with_sheet}
-use Rattle.reading.specs.Opening.{Opening, gives, ◌>>=◌, at}
+use Rattle.reading.specs.Opening.{FileReading, gives, ◌>>=◌, at}
 
 -- the key of a sheet without a grade
 abbrev pub plain_key : List ℕ → SheetKey
 plain_key name = record { sheet = name; grade = None }
 
 -- the sheet that a tree draws in version 1
-abbrev pub plain_sheet_at : Place → Data → Opening sheet.Contents
+abbrev pub plain_sheet_at : RefusalPlace → Data → FileReading sheet.SheetContents
 plain_sheet_at place tree = do
   drawing ← at place Diagram (diagram_of tree)
   at place Sheet (sheet_of plain drawing)
 
 -- a lone sheet as the one part of a netlist
-abbrev pub lone_plan : List ℕ → sheet.Contents → Planned
+abbrev pub lone_plan : List ℕ → sheet.SheetContents → Planned
 lone_plan name sheet = record { netlist = lone_netlist name; sheets = with_sheet [] (plain_key name) sheet }
 
 -- the plan of a lone sheet, by the sheet
-abbrev pub lone_by_sheet : List ℕ → Data → Opening Planned
+abbrev pub lone_by_sheet : List ℕ → Data → FileReading Planned
 lone_by_sheet name tree = do
   sheet ← plain_sheet_at (File 0) tree
   gives (lone_plan name sheet)

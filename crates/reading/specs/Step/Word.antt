@@ -5,7 +5,7 @@ use Rattle.reading.specs.declared.put.Word.{Word}
 use Rattle.reading.specs.declared.put.Word.TheVariants.{Text, Number, Count}
 
 -- how a word is spelled
-abbrev pub spelled : Word → line.Word
-spelled (Text text) = text.now
-spelled (Number number) = number_text number
-spelled (Count count) = number_text count
+abbrev pub word_spelled : Word → line.Word
+word_spelled (Text text) = text.now
+word_spelled (Number number) = number_text number
+word_spelled (Count count) = number_text count

@@ -7,7 +7,7 @@ use Rattle.branch.specs.declared.answer.Root.{Root}
 use Rattle.branch.specs.declared.answer.Root.TheVariants as roots
 use Rattle.requirements.specs.declared.bound.Bound.{Bound}
 use Rattle.requirements.specs.declared.bound.Bound.TheVariants as bounds
-use Rattle.right_report.specs.Right.At.{Side}
+use Rattle.right_report.specs.Right.At.{NextBound}
 use Rattle.drawn.specs.declared.row.Row.{Row}
 use Rattle.right_report.specs.Shown.{goal_of}
 
@@ -26,7 +26,7 @@ pub record IsBetween (net : Net) (row : Row) : Type 0 where
   pub to : row.to.0 < net.events
 
 -- what lines before a bound are to show: only a closed one is to be shown
-abbrev pub goal_for : Row → Side → Bound → Option ProofGoal
+abbrev pub goal_for : Row → NextBound → Bound → Option ProofGoal
 goal_for r side (bounds.Closed value) = Some (goal_of r side value)
 goal_for r side bounds.Unbounded = None
 goal_for r side (bounds.Within limit attained) = None

@@ -6,12 +6,12 @@ use Rattle.event_graph.specs.Proof as proofs
 use Rattle.cert_checker.specs.declared.goal.Goal.{Goal}
 use Rattle.cert_checker.specs.Checking.{goal_view}
 use Rattle.slack_report.specs.Entry.{Entry, proof}
-use Rattle.right_report.specs.Right.At.{At, at_bound, at_event, at_finding}
+use Rattle.right_report.specs.Right.At.{ReportState, at_bound, at_event, at_finding}
 use Rattle.drawn.specs.Drawn.{Drawn}
 use Rattle.right_report.specs.Wrong.{Takes}
 use Rattle.report_check.specs.Step.Stages.{IsSide, IsTelling, side_told, telling_of}
-use Rattle.report_check.specs.declared.group.Group.{Group}
-use Rattle.report_check.specs.declared.group.Group.TheVariants as groups
+use Rattle.report_check.specs.declared.group.ProofGroup.{ProofGroup}
+use Rattle.report_check.specs.declared.group.ProofGroup.TheVariants as groups
 
 -- the lines of a proof that some lines begin with
 abbrev pub proof_front : List Entry → List ProofLine
@@ -20,22 +20,22 @@ proof_front (proof line ∷ rest) = line ∷ proof_front rest
 proof_front (line ∷ rest) = []
 
 -- behind lines of a proof that stand behind the events
-abbrev pub found_behind : ℕ → List ProofLine → At
+abbrev pub found_behind : ℕ → List ProofLine → ReportState
 found_behind number [] = at_event number []
 found_behind number (line ∷ lines) = at_finding (line ∷ lines)
 
 -- where a report stands behind lines of a proof
-abbrev pub behind_lines : Drawn → Group → List ProofLine → At
+abbrev pub behind_lines : Drawn → ProofGroup → List ProofLine → ReportState
 behind_lines drawn (groups.Finding number) lines = found_behind number lines
 behind_lines drawn (groups.Bound told side) lines = at_bound (telling_of drawn told) (side_told side) lines
 
-abbrev pub IsGroup : Drawn → Group → Type 0
+abbrev pub IsGroup : Drawn → ProofGroup → Type 0
 IsGroup drawn (groups.Finding number) = number ≡ length drawn.names
 IsGroup drawn (groups.Bound told side) = IsTelling drawn told × IsSide side
 
 -- reading lines for one goal is reading them for the other
 abbrev pub ReadsAlike : Net → ProofGoal → ProofGoal → Type 0
-ReadsAlike net goal other = (cases left : List Case) (lines : List ProofLine) → proofs.Reads net goal cases lines left ↔ proofs.Reads net other cases lines left
+ReadsAlike net goal other = (cases left : List Case) (lines : List ProofLine) → proofs.ProofLeaves net goal cases lines left ↔ proofs.ProofLeaves net other cases lines left
 
 -- what a checker is begun with in place of a goal
 abbrev pub StandsForGoal : Net → Option ProofGoal → Option Goal → Type 0
@@ -47,7 +47,7 @@ StandsForGoal net (Some goal) (Some begun) = ReadsAlike net goal (goal_view begu
 -- all lines are taken, and it is told whether they are a whole proof
 pub record AreTaken (net : Net) (goal : ProofGoal) (lines : List ProofLine) (whole : Bool) : Type 0 where
   pub cases : List Case
-  pub reads : proofs.Reads net goal ([] ∷ []) lines cases
+  pub reads : proofs.ProofLeaves net goal ([] ∷ []) lines cases
   pub is_whole : IsTrue whole ↔ (cases ≡ [])
 
 -- a line, of a number among all lines, is not taken behind those before it

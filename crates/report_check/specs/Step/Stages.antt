@@ -5,30 +5,30 @@ use Rattle.requirements.specs.Bounds.{HasTimes}
 use Rattle.requirements.specs.declared.bound.BothBounds.{BothBounds}
 use Rattle.slack_report.specs.Entry.{Entry, proof}
 use Rattle.right_report.specs.Right.At as places
-use Rattle.right_report.specs.Right.At.{At, at_heading, at_budget, at_events, at_event, at_known, at_rows, at_row, at_bound, at_times, at_raise, at_verdict, at_past, at_slack, at_end, at_last}
+use Rattle.right_report.specs.Right.At.{ReportState, at_heading, at_budget, at_events, at_event, at_known, at_rows, at_row, at_bound, at_times, at_raise, at_verdict, at_past, at_slack, at_end, at_last}
 use Rattle.drawn.specs.Drawn.{Drawn}
 use Rattle.right_report.specs.Right.Following.{MayFollow}
 use Rattle.right_report.specs.Checked.{checked}
-use Rattle.report_check.specs.declared.stage.Course.{Course}
-use Rattle.report_check.specs.declared.stage.Side.{Side}
-use Rattle.report_check.specs.declared.stage.Side.TheVariants.{Greatest, LeastBy}
+use Rattle.report_check.specs.declared.stage.ReportTally.{ReportTally}
+use Rattle.report_check.specs.declared.stage.NextBound.{NextBound}
+use Rattle.report_check.specs.declared.stage.NextBound.TheVariants.{Greatest, LeastBy}
 use Rattle.report_check.specs.declared.stage.Stage.{Stage}
 use Rattle.report_check.specs.declared.stage.Stage.TheVariants as stages
-use Rattle.report_check.specs.declared.stage.Telling.{Telling}
+use Rattle.report_check.specs.declared.stage.CurrentRow.{CurrentRow}
 
 -- ---- the place of a stage
 
-abbrev pub course_told : Course → places.Course
+abbrev pub course_told : ReportTally → places.ReportTally
 course_told course = record { found = course.found; fails = course.fails; within = course.within }
 
-abbrev pub side_told : Side → places.Side
+abbrev pub side_told : NextBound → places.NextBound
 side_told Greatest = places.greatest
 side_told (LeastBy most) = places.least_by most
 
-abbrev pub telling_of : Drawn → Telling → places.Telling
+abbrev pub telling_of : Drawn → CurrentRow → places.CurrentRow
 telling_of drawn told = record { course = course_told told.course; number = told.number; row = told.row; later = drop (told.number + 1) drawn.rows }
 
-abbrev pub at_of : Drawn → Stage → At
+abbrev pub at_of : Drawn → Stage → ReportState
 at_of drawn stages.Heading = at_heading
 at_of drawn stages.Budget = at_budget
 at_of drawn stages.Events = at_events
@@ -48,13 +48,13 @@ at_of drawn stages.Done = at_last
 -- ---- what a stage keeps
 
 -- the row is one of the network's
-pub record IsTelling (drawn : Drawn) (told : Telling) : Type 0 where
+pub record IsTelling (drawn : Drawn) (told : CurrentRow) : Type 0 where
   pub from : told.row.from.0 < drawn.net.events
   pub to : told.row.to.0 < drawn.net.events
   pub number : told.number < length drawn.rows
   pub small : told.number < 2 ^ 32
 
-abbrev pub IsSide : Side → Type 0
+abbrev pub IsSide : NextBound → Type 0
 IsSide Greatest = Unit {0}
 IsSide (LeastBy most) = HasTimes most
 
@@ -86,8 +86,8 @@ is_proof (proof line) = true
 is_proof other = false
 
 -- a line that is none of a proof leads from a place to that of a stage, or may not follow
-abbrev pub Decides : Drawn → At → Entry → Option Stage → Type 0
-Decides drawn here line None = (next : At) → MayFollow (checked drawn.net) drawn here line next → ⊥
+abbrev pub Decides : Drawn → ReportState → Entry → Option Stage → Type 0
+Decides drawn here line None = (next : ReportState) → MayFollow (checked drawn.net) drawn here line next → ⊥
 Decides drawn here line (Some stage) = MayFollow (checked drawn.net) drawn here line (at_of drawn stage) × (is_proof line ≡ false) × Fits drawn stage
 
 -- no line of a proof may stand at the stage

@@ -18,45 +18,45 @@ use Rattle.slack_report.specs.declared.words.Which.TheVariants as sorts
 use Rattle.drawn.specs.declared.row.Row.{Row}
 
 -- what the end word goes by: the finding, whether some verdict was a fail, and whether some bound was left open
-pub record Course : Type 0 where
+pub record ReportTally : Type 0 where
   pub found : FindingWord
   pub fails : Bool
   pub within : Bool
 
 -- a row that is being told, by its number, behind what came before and before the later rows
-pub record Telling : Type 0 where
-  pub course : Course
+pub record CurrentRow : Type 0 where
+  pub course : ReportTally
   pub number : ℕ
   pub row : Row
   pub later : List Row
 
 -- which bound of a row comes: the greatest, or the least behind the greatest
-pub data Side : Type 0 where
-  greatest : Side
-  least_by : Bound → Side
+pub data NextBound : Type 0 where
+  greatest : NextBound
+  least_by : Bound → NextBound
 
 -- where a report stands between two lines
-pub data At : Type 0 where
-  at_heading : At
-  at_budget : At
-  at_events : At
-  at_event : ℕ → List Name → At
-  at_finding : List ProofLine → At
-  at_known : At
-  at_rows : FindingWord → At
-  at_row : Course → ℕ → List Row → At
-  at_bound : Telling → Side → List ProofLine → At
-  at_times : Telling → Side → Bound → At
-  at_raise : Telling → Side → List ℤ → At
-  at_verdict : Telling → Ends → Bound → Bound → At
-  at_past : Telling → Ends → Bound → Bound → At
-  at_slack : Course → ℕ → List Row → Ends → Bound → Bound → At
-  at_end : EndWord → At
-  at_last : At
+pub data ReportState : Type 0 where
+  at_heading : ReportState
+  at_budget : ReportState
+  at_events : ReportState
+  at_event : ℕ → List Name → ReportState
+  at_finding : List ProofLine → ReportState
+  at_known : ReportState
+  at_rows : FindingWord → ReportState
+  at_row : ReportTally → ℕ → List Row → ReportState
+  at_bound : CurrentRow → NextBound → List ProofLine → ReportState
+  at_times : CurrentRow → NextBound → Bound → ReportState
+  at_raise : CurrentRow → NextBound → List ℤ → ReportState
+  at_verdict : CurrentRow → Ends → Bound → Bound → ReportState
+  at_past : CurrentRow → Ends → Bound → Bound → ReportState
+  at_slack : ReportTally → ℕ → List Row → Ends → Bound → Bound → ReportState
+  at_end : EndWord → ReportState
+  at_last : ReportState
 
 -- ---- where lines lead
 
-abbrev pub which_of : Side → Which
+abbrev pub which_of : NextBound → Which
 which_of greatest = sorts.Max
 which_of (least_by most) = sorts.Min
 
@@ -71,48 +71,48 @@ is_fail verdicts.FailHigh = true
 is_fail verdicts.FailLow = true
 is_fail verdicts.Undecided = false
 
-abbrev pub with_bounds : Course → Bound → Bound → Course
+abbrev pub with_bounds : ReportTally → Bound → Bound → ReportTally
 with_bounds course least most = record course { within = course.within || (is_within least || is_within most) }
 
-abbrev pub with_verdict : Course → Verdict → Course
+abbrev pub with_verdict : ReportTally → Verdict → ReportTally
 with_verdict course word = record course { fails = course.fails || is_fail word }
 
 -- behind both bounds of a row
-abbrev pub judged : RowKind → Telling → Bound → Bound → At
+abbrev pub judged : RowKind → CurrentRow → Bound → Bound → ReportState
 judged kinds.Ask row least most = at_row (with_bounds row.course least most) (row.number + 1) row.later
 judged (kinds.Req range) row least most = at_verdict row range least most
 
 -- behind a bound and its lines
-abbrev pub bounded : Telling → Side → Bound → At
+abbrev pub bounded : CurrentRow → NextBound → Bound → ReportState
 bounded row greatest value = at_bound row (least_by value) []
 bounded row (least_by most) value = judged row.row.kind row value most
 
 -- behind the line of a bound
-abbrev pub behind_bound : Telling → Side → Bound → At
+abbrev pub behind_bound : CurrentRow → NextBound → Bound → ReportState
 behind_bound row side (bounds.Within limit None) = bounded row side (bounds.Within limit None)
 behind_bound row side (bounds.Within limit (Some found)) = at_times row side (bounds.Within limit (Some found))
 behind_bound row side (bounds.Closed value) = at_times row side (bounds.Closed value)
 behind_bound row side bounds.Unbounded = at_times row side bounds.Unbounded
 
 -- behind the times of a bound
-abbrev pub behind_times : Telling → Side → Bound → List ℤ → At
+abbrev pub behind_times : CurrentRow → NextBound → Bound → List ℤ → ReportState
 behind_times row side bounds.Unbounded list = at_raise row side list
 behind_times row side (bounds.Closed value) list = bounded row side (bounds.Closed value)
 behind_times row side (bounds.Within limit attained) list = bounded row side (bounds.Within limit attained)
 
 -- behind a verdict and the times that break the requirement
-abbrev pub behind_past : Telling → Ends → Bound → Bound → Verdict → At
+abbrev pub behind_past : CurrentRow → Ends → Bound → Bound → Verdict → ReportState
 behind_past row range least most word = at_slack (with_verdict (with_bounds row.course least most) word) (row.number + 1) row.later range least most
 
 -- behind a verdict
-abbrev pub behind_verdict : Telling → Ends → Bound → Bound → Verdict → At
+abbrev pub behind_verdict : CurrentRow → Ends → Bound → Bound → Verdict → ReportState
 behind_verdict row range least most word = if is_fail word then at_past row range least most else behind_past row range least most word
 
-abbrev pub course_of : FindingWord → Course
+abbrev pub course_of : FindingWord → ReportTally
 course_of word = record { found = word; fails = false; within = false }
 
 -- behind a finding
-abbrev pub behind_finding : FindingWord → At
+abbrev pub behind_finding : FindingWord → ReportState
 behind_finding findings.Consistent = at_known
 behind_finding findings.Inconsistent = at_end endings.Inconsistent
 behind_finding findings.Unsettled = at_rows findings.Unsettled
@@ -124,5 +124,5 @@ undecided_or_pass findings.Inconsistent within = endings.Inconsistent
 undecided_or_pass findings.Unsettled within = endings.Undecided
 
 -- the word at the end
-abbrev pub end_word : Course → EndWord
+abbrev pub end_word : ReportTally → EndWord
 end_word course = if course.fails then endings.Fail else undecided_or_pass course.found course.within

@@ -15,8 +15,8 @@ use Rattle.slack_report.specs.declared.words.FindingWord.TheVariants as findings
 use Rattle.slack_report.specs.Entry.{Entry}
 use Rattle.drawn.specs.Drawn.{AreTimes, Drawn}
 use Rattle.drawn.specs.declared.row.Row.{Row}
-use Rattle.right_report.specs.Right.At.{At, Side, at_heading, at_last, greatest, least_by}
-use Rattle.right_report.specs.Right.Following.{Facts, Reads}
+use Rattle.right_report.specs.Right.At.{ReportState, NextBound, at_heading, at_last, greatest, least_by}
+use Rattle.right_report.specs.Right.Following.{LineClaims, LinesLead}
 
 -- an unsettled finding leaves times that meet the always-edges
 abbrev pub IsFinding : Net → FindingWord → Type 0
@@ -25,12 +25,12 @@ IsFinding net findings.Inconsistent = IsInconsistent net
 IsFinding net findings.Unsettled = (list : List ℤ) × MeetsAlways list net
 
 -- a closed bound is the greatest or the least separation
-abbrev pub IsClosed : Net → Row → Side → ℤ → Type 0
+abbrev pub IsClosed : Net → Row → NextBound → ℤ → Type 0
 IsClosed net r greatest value = IsGreatest net r.from r.to value
 IsClosed net r (least_by most) value = IsLeast net r.from r.to value
 
 -- a limit is the root bound, and for a least separation minus that of the reversed pair
-abbrev pub IsLimit : Net → Row → Side → Option ℤ → Type 0
+abbrev pub IsLimit : Net → Row → NextBound → Option ℤ → Type 0
 IsLimit net r greatest limit = IsRootBound net r.from r.to limit
 IsLimit net r (least_by most) limit = IsRootBound net r.to r.from (option_map neg_ℤ limit)
 
@@ -40,7 +40,7 @@ HasAttained findings.Consistent attained = IsSome attained
 HasAttained findings.Inconsistent attained = ⊥
 HasAttained findings.Unsettled attained = IsNone attained
 
-abbrev pub IsBoundOf : Net → FindingWord → Row → Side → Bound → Type 0
+abbrev pub IsBoundOf : Net → FindingWord → Row → NextBound → Bound → Type 0
 IsBoundOf net found r side (bounds.Closed value) = (found ≡ findings.Consistent) × IsClosed net r side value
 IsBoundOf net found r side bounds.Unbounded = found ≡ findings.Consistent
 IsBoundOf net found r side (bounds.Within limit attained) = IsLimit net r side limit × HasAttained found attained
@@ -52,32 +52,32 @@ Attains r bounds.Unbounded list = Unit {0}
 Attains r (bounds.Within limit attained) list = IfSome attained (λ value. separation list r.from r.to ≡ value)
 
 -- the set can be raised by any number: for a greatest separation with the to-event, and for a least one with the from-event
-abbrev pub CanRise : Net → Row → Side → List ℤ → List Bool → Type 0
+abbrev pub CanRise : Net → Row → NextBound → List ℤ → List Bool → Type 0
 CanRise net r greatest list set = IsRay net r.from r.to list set
 CanRise net r (least_by most) list set = IsRay net r.to r.from list set
 
 -- the times break the end that a verdict names
-abbrev pub Breaks : Row → Ends → Verdict → List ℤ → Type 0
-Breaks r range verdicts.FailHigh list = IsSomeAnd range.high (λ high. high <ℤ separation list r.from r.to)
-Breaks r range verdicts.FailLow list = IsSomeAnd range.low (λ low. separation list r.from r.to <ℤ low)
-Breaks r range verdicts.Pass list = ⊥
-Breaks r range verdicts.Undecided list = ⊥
+abbrev pub BreaksEnd : Row → Ends → Verdict → List ℤ → Type 0
+BreaksEnd r range verdicts.FailHigh list = IsSomeAnd range.high (λ high. high <ℤ separation list r.from r.to)
+BreaksEnd r range verdicts.FailLow list = IsSomeAnd range.low (λ low. separation list r.from r.to <ℤ low)
+BreaksEnd r range verdicts.Pass list = ⊥
+BreaksEnd r range verdicts.Undecided list = ⊥
 
 -- what is asked of a right report
-abbrev pub right : Net → Facts
+abbrev pub right : Net → LineClaims
 right net = record {
   finding = λ lines word. IsFinding net word;
   known = λ list. Satisfies list net × (time_of list (record { 0 = 0 }) ≡ pos 0);
   bound = λ found r side lines value. IsBoundOf net found r side value;
   times = λ r value list. AreTimes net r list × Attains r value list;
   raise = λ r side list set. CanRise net r side list set;
-  past = λ r range word list. AreTimes net r list × Breaks r range word list;
+  past = λ r range word list. AreTimes net r list × BreaksEnd r range word list;
 }
 
 -- a right report: whole, with each line right by those before it
 abbrev pub IsRightReport : Drawn → List Entry → Type 0
-IsRightReport drawn lines = Reads (right drawn.net) drawn at_heading lines at_last
+IsRightReport drawn lines = LinesLead (right drawn.net) drawn at_heading lines at_last
 
 -- lines that begin a right report, each right by those before it
 abbrev pub BeginsRightReport : Drawn → List Entry → Type 0
-BeginsRightReport drawn lines = (at : At) × Reads (right drawn.net) drawn at_heading lines at
+BeginsRightReport drawn lines = (at : ReportState) × LinesLead (right drawn.net) drawn at_heading lines at

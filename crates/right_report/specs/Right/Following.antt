@@ -12,31 +12,31 @@ use Rattle.slack_report.specs.declared.words.FindingWord.TheVariants as findings
 use Rattle.slack_report.specs.Entry.{Entry, heading, budget, events, event, proof, finding, times, rows, row, bound, raise, verdict, slack, ending}
 use Rattle.drawn.specs.Drawn.{Drawn, name_of}
 use Rattle.drawn.specs.declared.row.Row.{Row}
-use Rattle.right_report.specs.Right.At.{At, Course, Side, Telling, at_heading, at_budget, at_events, at_event, at_finding, at_known, at_rows, at_row, at_bound, at_times, at_raise, at_verdict, at_past, at_slack, at_end, at_last, behind_bound, behind_finding, behind_past, behind_times, behind_verdict, bounded, course_of, end_word, greatest, which_of}
+use Rattle.right_report.specs.Right.At.{ReportState, ReportTally, NextBound, CurrentRow, at_heading, at_budget, at_events, at_event, at_finding, at_known, at_rows, at_row, at_bound, at_times, at_raise, at_verdict, at_past, at_slack, at_end, at_last, behind_bound, behind_finding, behind_past, behind_times, behind_verdict, bounded, course_of, end_word, greatest, which_of}
 
 -- What is asked of the lines that say something of the network. Several readers of a report ask several things.
-pub record Facts : Type 1 where
+pub record LineClaims : Type 1 where
   pub finding : List ProofLine → FindingWord → Type 0
   pub known : List ℤ → Type 0
-  pub bound : FindingWord → Row → Side → List ProofLine → Bound → Type 0
+  pub bound : FindingWord → Row → NextBound → List ProofLine → Bound → Type 0
   pub times : Row → Bound → List ℤ → Type 0
-  pub raise : Row → Side → List ℤ → List Bool → Type 0
+  pub raise : Row → NextBound → List ℤ → List Bool → Type 0
   pub past : Row → Ends → Verdict → List ℤ → Type 0
 
 -- a line of a proof, or the finding behind the lines of its proof
-abbrev pub MayFind : Facts → List ProofLine → Entry → At → Type 0
+abbrev pub MayFind : LineClaims → List ProofLine → Entry → ReportState → Type 0
 MayFind facts lines line next =
     ((more : ProofLine) × (line ≡ proof more) × (next ≡ at_finding (lines ++ more ∷ [])))
     ⊎ ((word : FindingWord) × (line ≡ finding word) × facts.finding lines word × (next ≡ behind_finding word))
 
 -- a line of a proof, or the bound behind the lines of its proof
-abbrev pub MayBound : Facts → Telling → Side → List ProofLine → Entry → At → Type 0
+abbrev pub MayBound : LineClaims → CurrentRow → NextBound → List ProofLine → Entry → ReportState → Type 0
 MayBound facts told side lines line next =
     ((more : ProofLine) × (line ≡ proof more) × (next ≡ at_bound told side (lines ++ more ∷ [])))
     ⊎ ((value : Bound) × (line ≡ bound (which_of side) value) × facts.bound told.course.found told.row side lines value × (next ≡ behind_bound told side value))
 
 -- a line leads from a place to another
-abbrev pub MayFollow : Facts → Drawn → At → Entry → At → Type 0
+abbrev pub MayFollow : LineClaims → Drawn → ReportState → Entry → ReportState → Type 0
 MayFollow facts drawn at_heading line next = (line ≡ heading) × (next ≡ at_budget)
 MayFollow facts drawn at_budget line next = (most : ℕ) × (line ≡ budget most) × (next ≡ at_events)
 MayFollow facts drawn at_events line next = (line ≡ events (length drawn.names)) × (next ≡ at_event 0 drawn.names)
@@ -62,15 +62,15 @@ MayFollow facts drawn (at_end word) line next = (line ≡ ending word) × (next 
 MayFollow facts drawn at_last line next = ⊥
 
 -- lines lead one after another from a place to another
-abbrev pub Reads : Facts → Drawn → At → List Entry → At → Type 0
-Reads facts drawn at [] last = at ≡ last
-Reads facts drawn at (line ∷ lines) last = (next : At) × MayFollow facts drawn at line next × Reads facts drawn next lines last
+abbrev pub LinesLead : LineClaims → Drawn → ReportState → List Entry → ReportState → Type 0
+LinesLead facts drawn at [] last = at ≡ last
+LinesLead facts drawn at (line ∷ lines) last = (next : ReportState) × MayFollow facts drawn at line next × LinesLead facts drawn next lines last
 
 -- what one reader asks gives what another does
-pub record Implies (facts other : Facts) : Type 0 where
+pub record Implies (facts other : LineClaims) : Type 0 where
   pub finding : (lines : List ProofLine) (word : FindingWord) → facts.finding lines word → other.finding lines word
   pub known : (list : List ℤ) → facts.known list → other.known list
-  pub bound : (found : FindingWord) (r : Row) (side : Side) (lines : List ProofLine) (value : Bound) → facts.bound found r side lines value → other.bound found r side lines value
+  pub bound : (found : FindingWord) (r : Row) (side : NextBound) (lines : List ProofLine) (value : Bound) → facts.bound found r side lines value → other.bound found r side lines value
   pub times : (r : Row) (value : Bound) (list : List ℤ) → facts.times r value list → other.times r value list
-  pub raise : (r : Row) (side : Side) (list : List ℤ) (set : List Bool) → facts.raise r side list set → other.raise r side list set
+  pub raise : (r : Row) (side : NextBound) (list : List ℤ) (set : List Bool) → facts.raise r side list set → other.raise r side list set
   pub past : (r : Row) (range : Ends) (word : Verdict) (list : List ℤ) → facts.past r range word list → other.past r range word list

@@ -9,7 +9,7 @@ use Rattle.slack_report.specs.Entry.{Entry}
 use Rattle.slack_report.specs.Order.{before_event, before_row, is_required, next}
 use Rattle.drawn.specs.Drawn.{Drawn}
 use Rattle.drawn.specs.declared.row.Row.{Row}
-use Rattle.right_report.specs.Right.At.{At, Telling, at_heading, at_budget, at_events, at_event, at_finding, at_known, at_rows, at_row, at_bound, at_times, at_raise, at_verdict, at_past, at_slack, at_end, at_last, which_of}
+use Rattle.right_report.specs.Right.At.{ReportState, CurrentRow, at_heading, at_budget, at_events, at_event, at_finding, at_known, at_rows, at_row, at_bound, at_times, at_raise, at_verdict, at_past, at_slack, at_end, at_last, which_of}
 use Rattle.right_report.specs.Right.Facts.{right}
 use Rattle.right_report.specs.Right.Following.{MayFollow}
 
@@ -22,10 +22,10 @@ is_unbounded (bounds.Within limit attained) = false
 abbrev pub spot_behind : Drawn → ℕ → List Row → Bool → Spot
 spot_behind drawn number later required = record { events = length drawn.names; next = number; left = length later; is_required = required }
 
-abbrev pub spot_of : Drawn → Telling → Spot
+abbrev pub spot_of : Drawn → CurrentRow → Spot
 spot_of drawn row = spot_behind drawn (row.number + 1) row.later (is_required row.row.kind)
 
-abbrev pub place_of : Drawn → At → Place
+abbrev pub place_of : Drawn → ReportState → Place
 place_of drawn at_heading = at.Heading
 place_of drawn at_budget = at.Budget
 place_of drawn at_events = at.Events
@@ -45,5 +45,5 @@ place_of drawn at_last = at.Nothing
 
 -- a line that may follow in a right report may stand there in the order of texts, and leads to the same place
 abbrev pub RightLinesKeepOrder : Type 0
-RightLinesKeepOrder = (drawn : Drawn) (here : At) (line : Entry) (behind : At) → MayFollow (right drawn.net) drawn here line behind
+RightLinesKeepOrder = (drawn : Drawn) (here : ReportState) (line : Entry) (behind : ReportState) → MayFollow (right drawn.net) drawn here line behind
     → next (place_of drawn here) line ≡ Some (place_of drawn behind)

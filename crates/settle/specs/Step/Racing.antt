@@ -12,21 +12,21 @@ use Rattle.falling.specs.Course.{AreLimits}
 use Rattle.falling.specs.Kinds.{negated}
 use Rattle.clauses.specs.Lines.{IsOver}
 use Rattle.settle.specs.declared.best.Best.{Best}
-use Rattle.settle.specs.declared.line.ProofLine.{ProofLine}
-use Rattle.settle.specs.declared.race.Ending.{Ending}
-use Rattle.settle.specs.declared.race.Ending.TheVariants.{Closed, Unbounded, Inconsistent}
+use Rattle.settle.specs.declared.line.StoredLine.{StoredLine}
+use Rattle.settle.specs.declared.race.RaceEnd.{RaceEnd}
+use Rattle.settle.specs.declared.race.RaceEnd.TheVariants.{Closed, Unbounded, Inconsistent}
 use Rattle.settle.specs.declared.race.Race.{Race}
 use Rattle.settle.specs.Proofs.{IsProving}
 
 -- times within the greatest cap that satisfy and have a separation
-pub record AreTimes (net : Net) (from to : EventId) (value : ℤ) (times : List ℤ) : Type 0 where
+pub record AreRaceTimes (net : Net) (from to : EventId) (value : ℤ) (times : List ℤ) : Type 0 where
   pub satisfies : Satisfies times net
   pub attained : separation times from to ≡ value
   pub near : All IsNearValue times
 
 -- the best times found attain the claim, and where none were found the claim is one that shows that no times satisfy
 pub record IsBest (net : Net) (from to : EventId) (best : Best) : Type 0 where
-  pub found : IfSome best.times (λ times. AreTimes net from to best.claim.value times.items)
+  pub found : IfSome best.times (λ times. AreRaceTimes net from to best.claim.value times.items)
   pub none : IfNone best.times (best.claim.value <ℤ neg_ℤ (pos (far_line net)))
 
 -- how many lines both searches have taken
@@ -45,7 +45,7 @@ pub record IsRacing (net : Net) (race : Race) : Type 0 where
   pub best : IsBest net race.from race.to race.best
 
 -- the lines of the search of a view
-abbrev pub lines_as : View → Race → List ProofLine
+abbrev pub lines_as : View → Race → List StoredLine
 lines_as Plain race = race.plain.lines
 lines_as Negated race = race.turned.lines
 
@@ -55,14 +55,14 @@ IsOverAs Plain net race = IsOver net race.plain.check.goal race.plain.check.stat
 IsOverAs Negated net race = IsOver (negated net) race.turned.check.goal race.turned.check.state
 
 -- an ending with a ray of these times
-abbrev pub IsRayEnding : Net → EventId → EventId → List ℤ → Ending → Type 0
+abbrev pub IsRayEnding : Net → EventId → EventId → List ℤ → RaceEnd → Type 0
 IsRayEnding net from to times (Closed view) = ⊥
 IsRayEnding net from to times (Unbounded ray) = IsRay net from to times ray.items
 IsRayEnding net from to times (Inconsistent view) = ⊥
 
 -- with what a race ends: the lines of a view prove that nothing exceeds the best times, or that no times satisfy, or the best times and a ray show
 -- that every number is exceeded
-abbrev pub IsEnding : Net → Race → Ending → Type 0
+abbrev pub IsEnding : Net → Race → RaceEnd → Type 0
 IsEnding net race (Closed view) = IsOverAs view net race × IsSome race.best.times × (race.best.claim.value <ℤ pos (far_line net))
 IsEnding net race (Unbounded ray) = IsSomeAnd race.best.times (λ times. IsRay net race.from race.to times.items ray.items)
 IsEnding net race (Inconsistent view) = IsOverAs view net race × (race.best.times ≡ None)

@@ -3,11 +3,11 @@ use Rattle.std.specs.Prelude.{◌≡◌, Option, Some, None, Result, Ok, Err}
 use Rattle.certificate.specs.declared.fault.LineFault.{LineFault}
 use Rattle.certificate.specs.declared.fault.LineFault.TheVariants.{BadLine, NoMemory}
 use Rattle.clauses.specs.Lines.{ClauseLine}
-use Rattle.settle.specs.declared.line.ProofLine.{ProofLine}
+use Rattle.settle.specs.declared.line.StoredLine.{StoredLine}
 use Rattle.settle.specs.Proofs.{line_of}
 
 -- what was read is what reading gives, unless memory ran out
-abbrev pub IsClauseRead : Result ProofLine LineFault → Option ClauseLine → Type 0
+abbrev pub IsClauseRead : Result StoredLine LineFault → Option ClauseLine → Type 0
 IsClauseRead (Ok line) read = read ≡ Some (line_of line)
 IsClauseRead (Err BadLine) read = read ≡ None
 IsClauseRead (Err NoMemory) read = Unit {0}

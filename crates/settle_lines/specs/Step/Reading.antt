@@ -10,7 +10,7 @@ use Rattle.falling.specs.declared.view.View.{View}
 use Rattle.falling.specs.declared.view.View.TheVariants.{Plain, Negated}
 use Rattle.clauses.specs.declared.basis.Basis.{Basis}
 use Rattle.clauses.specs.declared.basis.Basis.TheVariants.{ByEdge, BySide, ByLatest, ByEarliest, ByKept}
-use Rattle.clauses.specs.declared.basis.Step.{Step}
+use Rattle.clauses.specs.declared.basis.WalkStep.{WalkStep}
 use Rattle.clauses.specs.declared.claim.Claim.{Claim}
 use Rattle.clauses.specs.declared.literal.Literal.{Literal}
 use Rattle.clauses.specs.Lines.{Assume, ClauseLine, Close, Fall, Know, Loop}
@@ -48,21 +48,21 @@ first_number [] = None
 first_number (word ∷ words) = short_in word >>= λ n. Some (n, words)
 
 -- such a number, and what the words behind it are
-abbrev pub numbered : {A : Type 0} → (List Word → Option A) → List Word → Option (ℕ × A)
-numbered read words = first_number words >>= λ p. read p.1 >>= λ x. Some (p.0, x)
+abbrev pub number_then : {A : Type 0} → (List Word → Option A) → List Word → Option (ℕ × A)
+number_then read words = first_number words >>= λ p. read p.1 >>= λ x. Some (p.0, x)
 
 -- a step, by the words of its basis and of its way
-abbrev pub step_in : Word → Word → Option Step
+abbrev pub step_in : Word → Word → Option WalkStep
 step_in word way = basis_in word >>= λ basis. short_in way >>= λ through. Some (record { basis = basis; through = through })
 
 -- the step that the first two words are
-abbrev pub first_step : List Word → Option Step
+abbrev pub first_step : List Word → Option WalkStep
 first_step [] = None
 first_step (word ∷ []) = None
 first_step (word ∷ way ∷ words) = step_in word way
 
 -- a step at each two words
-abbrev pub steps_in : List Word → Option (List Step)
+abbrev pub steps_in : List Word → Option (List WalkStep)
 steps_in [] = Some []
 steps_in (word ∷ []) = None
 steps_in (word ∷ way ∷ words) = step_in word way >>= λ step. steps_in words >>= λ steps. Some (step ∷ steps)
@@ -73,7 +73,7 @@ abbrev pub fall_of : ℕ × (ℤ × Basis) → ClauseLine
 fall_of p = Fall (record { 0 = p.0 }) p.1.0 p.1.1
 
 abbrev pub fall_in : List Word → Option ClauseLine
-fall_in words = option_map fall_of (keyed (codes "fall") (numbered (two long_in basis_in)) words)
+fall_in words = option_map fall_of (keyed (codes "fall") (number_then (two long_in basis_in)) words)
 
 abbrev pub know_of : Literal × Basis → ClauseLine
 know_of p = Know p.0 p.1
@@ -81,11 +81,11 @@ know_of p = Know p.0 p.1
 abbrev pub know_in : List Word → Option ClauseLine
 know_in words = option_map know_of (keyed (codes "know") (two literal_in basis_in) words)
 
-abbrev pub loop_of : ℕ × List Step → ClauseLine
+abbrev pub loop_of : ℕ × List WalkStep → ClauseLine
 loop_of p = Loop (record { 0 = p.0 }) p.1
 
 abbrev pub loop_in : List Word → Option ClauseLine
-loop_in words = option_map loop_of (keyed (codes "loop") (numbered steps_in) words)
+loop_in words = option_map loop_of (keyed (codes "loop") (number_then steps_in) words)
 
 abbrev pub assume_in : List Word → Option ClauseLine
 assume_in words = option_map Assume (keyed (codes "assume") (many literal_in) words)

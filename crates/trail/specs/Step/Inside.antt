@@ -2,9 +2,9 @@
 use Rattle.std.specs.Prelude.{◌*◌, ◌^◌, ◌<◌, ◌≤◌, length, reverse, vec_capacity}
 use Rattle.trail.specs.declared.trail.Trail.TheInside.{Inside}
 use Rattle.trail.specs.Stack.{Stack}
-use Rattle.trail.specs.Step.Undo.{State, graph_of, graphs_at, IsUndoable}
+use Rattle.trail.specs.Step.Undo.{TrailState, graph_of, graphs_at, IsUndoable}
 
-abbrev pub state_in : Inside → State
+abbrev pub state_in : Inside → TrailState
 state_in t = record { edges = t.edges.items; slots = t.slots.items; saved = t.saved.items }
 
 -- the stack that the fields stand for
@@ -16,7 +16,7 @@ stack_in t = record {
 }
 
 -- no more edges are there and no more levels began than there may be levels, there is room for all that may come, and every level can be taken back
-pub record IsSound (t : Inside) : Type 0 where
+pub record IsSoundTrail (t : Inside) : Type 0 where
   pub few_levels : t.levels < 2 ^ 32
   pub few_edges : length t.edges.items ≤ t.levels
   pub few_starts : length t.starts.items ≤ t.levels

@@ -7,7 +7,7 @@ use Rattle.trail.specs.declared.undo.LevelStart.{LevelStart}
 use Rattle.trail.specs.Stack.{Graph}
 
 -- the edges and the slots as they are, and the log of saved slots, the oldest first
-pub record State : Type 0 where
+pub record TrailState : Type 0 where
   pub edges : List EdgeName
   pub slots : List Slot
   pub saved : List Saved
@@ -18,25 +18,25 @@ slots_before [] slots = slots
 slots_before (e ∷ saved) slots = slice_set (slots_before saved slots) e.slot e.was
 
 -- the state in which a level began
-abbrev pub state_at : State → LevelStart → State
+abbrev pub state_at : TrailState → LevelStart → TrailState
 state_at s m = record {
   edges = take m.edges s.edges;
   slots = slots_before (drop m.saved s.saved) s.slots;
   saved = take m.saved s.saved;
 }
 
-abbrev pub graph_of : State → Graph
+abbrev pub graph_of : TrailState → Graph
 graph_of s = record { edges = s.edges; stamps = map (λ slot. slot.stamp) s.slots }
 
 -- the graphs in which levels began, the last level first
-abbrev pub graphs_at : State → List LevelStart → List Graph
+abbrev pub graphs_at : TrailState → List LevelStart → List Graph
 graphs_at s [] = []
 graphs_at s (m ∷ starts) = graph_of (state_at s m) ∷ graphs_at (state_at s m) starts
 
 -- The log of the last level: where it began lies within the state; the log names slots that are there; no
 -- slot was set by a later level; each slot that this level set is in the log; and those in the log and those that this level
 -- hasn't set are no more than all slots, since a level logs a slot once.
-pub record IsLogged (s : State) (m : LevelStart) (level : ℕ) : Type 0 where
+pub record IsLogged (s : TrailState) (m : LevelStart) (level : ℕ) : Type 0 where
   pub edges_within : m.edges ≤ length s.edges
   pub saved_within : m.saved ≤ length s.saved
   pub present : All (λ e. e.slot < length s.slots) (drop m.saved s.saved)
@@ -45,6 +45,6 @@ pub record IsLogged (s : State) (m : LevelStart) (level : ℕ) : Type 0 where
   pub once : length (drop m.saved s.saved) + count_by (λ slot. nat_lt slot.level level) s.slots ≤ length s.slots
 
 -- the state can be taken back level by level, the last one first; before the first level no slot was set by one
-abbrev pub IsUndoable : State → List LevelStart → Type 0
+abbrev pub IsUndoable : TrailState → List LevelStart → Type 0
 IsUndoable s [] = All (λ slot. slot.level ≡ 0) s.slots × (s.saved ≡ [])
 IsUndoable s (m ∷ starts) = IsLogged s m (suc (length starts)) × IsUndoable (state_at s m) starts

@@ -1,12 +1,12 @@
 -- The numbers of the first marks of parts.
 use Rattle.std.specs.Prelude.{◌≡◌, ◌≤◌, ℕ, ◌+◌, List, [], ◌∷◌, length}
 use Rattle.itv_base.specs.declared.limits.TheConstants.{MAX_EVENTS}
-use Rattle.sheet.specs.Contents.{Contents}
+use Rattle.sheet.specs.Contents.{SheetContents}
 use Rattle.compose.specs.Design.{Composed, IsDesign}
 use Rattle.compose.specs.Numbers.{mark_count}
 
 -- where the first part has so many marks before it
-abbrev pub firsts_of : ℕ → List Contents → List ℕ
+abbrev pub firsts_of : ℕ → List SheetContents → List ℕ
 firsts_of first [] = []
 firsts_of first (sheet ∷ sheets) = first ∷ firsts_of (first + length sheet.marks) sheets
 

@@ -2,12 +2,12 @@
 use Rattle.std.specs.Prelude.{ℕ, ◌+◌, List, [], ◌∷◌, ◌++◌, map}
 use Rattle.drawn.specs.declared.event_label.EventLabel.{EventLabel}
 use Rattle.sheet.specs.declared.mark.Mark.{Mark}
-use Rattle.sheet.specs.Contents.{Contents}
+use Rattle.sheet.specs.Contents.{SheetContents}
 
 abbrev pub label_of : ℕ → ℕ → Mark → EventLabel
 label_of part cycle mark = record { part = part; mark = mark.name; cycle = cycle }
 
 -- those of the marks of parts in a cycle, of which the first has this number
-abbrev pub labels_from : ℕ → ℕ → List Contents → List EventLabel
+abbrev pub labels_from : ℕ → ℕ → List SheetContents → List EventLabel
 labels_from cycle part [] = []
 labels_from cycle part (sheet ∷ sheets) = map (label_of part cycle) sheet.marks ++ labels_from cycle (part + 1) sheets

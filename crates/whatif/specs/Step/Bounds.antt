@@ -5,16 +5,16 @@ use Rattle.event_graph.specs.Proof.{ProofLine}
 use Rattle.event_graph.specs.Reading.{AtEachSplit}
 use Rattle.event_graph.specs.Satisfying.{Satisfies}
 use Rattle.event_graph.specs.Times.{separation}
-use Rattle.branch.specs.Answers.{Answers, Evidence}
+use Rattle.branch.specs.Answers.{IsGreatestAnswer, Evidence}
 use Rattle.branch.specs.Needed.{IsNeededToBound}
 use Rattle.branch.specs.Work.{IsClose, IsStart}
-use Rattle.branch.specs.declared.answer.Answer.{Answer}
-use Rattle.branch.specs.declared.answer.Answer.TheVariants.{Closed, Unbounded, Enclosed}
+use Rattle.branch.specs.declared.answer.GreatestAnswer.{GreatestAnswer}
+use Rattle.branch.specs.declared.answer.GreatestAnswer.TheVariants.{Closed, Unbounded, Enclosed}
 use Rattle.whatif.specs.declared.pair.Pair.{Pair}
 use Rattle.whatif.specs.Session.{IsPairOf, KeptBound, pair_search}
 
 -- what is kept of the lines of a search, by its answer: those of a closed bound
-abbrev pub kept_of : Answer → Option (List ProofLine) → Option (List ProofLine)
+abbrev pub kept_of : GreatestAnswer → Option (List ProofLine) → Option (List ProofLine)
 kept_of (Closed value) lines = lines
 kept_of Unbounded lines = None
 kept_of (Enclosed upper attained) lines = None
@@ -35,10 +35,10 @@ pub record IsBetterStart (net : Net) (pair : Pair) (known times : List ℤ) : Ty
   pub least : separation known pair.from pair.to ≤ℤ separation times pair.from pair.to
 
 -- a search for the bound of a pair left this, where it started from satisfying times whose separation is no less than that of the known ones
-pub record IsPairSearched (net : Net) (pair : Pair) (budget : ℕ) (known : List ℤ) (left : Evidence) (answer : Answer) : Type 0 where
+pub record IsPairSearched (net : Net) (pair : Pair) (budget : ℕ) (known : List ℤ) (left : Evidence) (answer : GreatestAnswer) : Type 0 where
   pub start : List ℤ
   pub started : Satisfies start net
-  pub answers : Answers (pair_search net pair budget) left answer
+  pub answers : IsGreatestAnswer (pair_search net pair budget) left answer
   pub needed : AtEachSplit net (IsNeededToBound net pair.from pair.to (separation start pair.from pair.to)) left.lines
   pub satisfies : Satisfies left.times net
   pub close : All IsClose left.times

@@ -1,7 +1,7 @@
 use Rattle.std.proofs.Common.{◌≡◌, ◌<◌, ℕ, ℤ, [], sym, subst}
-use Rattle.branch.specs.Answers.{Answers, evidence}
+use Rattle.branch.specs.Answers.{IsGreatestAnswer, evidence}
 use Rattle.branch.specs.Needed.{IsNeededToBound}
-use Rattle.branch.specs.Work.{IsReached}
+use Rattle.branch.specs.Work.{IsKnownReach}
 use Rattle.event_graph.specs.Reading.{AtEachSplit}
 use Rattle.event_graph.specs.Times.{separation}
 use Rattle.right_report.proofs.Leading.{reads_bound_proof, stopped_proof}
@@ -10,7 +10,7 @@ use Rattle.right_report.specs.Right.At.{at_bound}
 use Rattle.bounds_report.specs.declared.pair.Pair.{Pair}
 use Rattle.slack_report.specs.declared.words.Which.{Which}
 use Rattle.slack_report.specs.declared.words.Which.TheVariants as sorts
-use Rattle.bounds_report.specs.Step.Kept.{IsKept, searched_pair}
+use Rattle.bounds_report.specs.Step.Kept.{IsWitness, searched_pair}
 use Rattle.bounds_report.specs.Step.Searched.{search_of, sized}
 use Rattle.bounds_report.specs.Written.{printed}
 use Rattle.bounds_report.proofs.Answering.{has_times}
@@ -27,10 +27,10 @@ pair_within sorts.Min pair searched events is from to = subst (λ (p : Pair). (p
 pub keep-requires-clause-answers : goal.keep-requires-clause-answers
 keep-requires-clause-answers g c =
     let told = c.in_ok-answer.ensures.answers in
-    (c.args.wanted.budget, told.0, subst (λ (p : Pair). Answers (search_of c.args.net.now p c.args.wanted.budget) (evidence told.0 c.greatest_of.new.work) c.in_ok-answer.answer) c.searched.ensures.pair told.2.says)
+    (c.args.wanted.budget, told.0, subst (λ (p : Pair). IsGreatestAnswer (search_of c.args.net.now p c.args.wanted.budget) (evidence told.0 c.greatest_of.new.work) c.in_ok-answer.answer) c.searched.ensures.pair told.2.says)
 
 pub keep-requires-clause-reached : goal.keep-requires-clause-reached
-keep-requires-clause-reached g c = subst (λ (p : Pair). IsReached (separation c.greatest_of.new.work.times p.from p.to)) c.searched.ensures.pair c.in_ok-answer.ensures.reached
+keep-requires-clause-reached g c = subst (λ (p : Pair). IsKnownReach (separation c.greatest_of.new.work.times p.from p.to)) c.searched.ensures.pair c.in_ok-answer.ensures.reached
 
 pub bound_of-value-requires : goal.bound_of-value-requires
 bound_of-value-requires g c = record { times = has_times _ _ _ c.in_ok-answer.ensures.answers.2.says c.in_ok-answer.ensures.close }
@@ -56,7 +56,7 @@ returns-in_err-put_bound-clause-goes g c = λ basis drawn told side known found 
     (c.in_err-put_bound.ensures.goes c.args.net.now c.args.wanted.budget c.args.wanted.cert basis drawn told side lines c.args.extreme.pair of
     (answer_fact c.args.net.now c.args.wanted.budget c.args.wanted.cert basis told side c.args.extreme.pair c.args.extreme.which (evidence answers.0 c.greatest_of.new.work) c.in_ok-answer.answer c.bound_of-value.result c.searched.result found of
     c.searched.ensures.pair answers.2.says needed c.in_ok-answer.ensures.count.within_budget c.bound_of-value.ensures.bound c.in_ok-answer.ensures.close)
-    (subst (λ (v : Bound). IsKept c.args.net.now c.args.extreme.pair c.args.extreme.which v c.keep.new.kept.times.items c.keep.new.kept.set.items) (sym c.bound_of-value.ensures.bound) c.keep.ensures.kept)))
+    (subst (λ (v : Bound). IsWitness c.args.net.now c.args.extreme.pair c.args.extreme.which v c.keep.new.kept.times.items c.keep.new.kept.set.items) (sym c.bound_of-value.ensures.bound) c.keep.ensures.kept)))
 
 pub returns-clause-goes : goal.returns-clause-goes
 returns-clause-goes g c = λ basis drawn told side known found of.
@@ -71,4 +71,4 @@ returns-clause-goes g c = λ basis drawn told side known found of.
     (c.in_ok-put_bound.ensures.goes c.args.net.now c.args.wanted.budget c.args.wanted.cert basis drawn told side lines c.args.extreme.pair of
     (answer_fact c.args.net.now c.args.wanted.budget c.args.wanted.cert basis told side c.args.extreme.pair c.args.extreme.which (evidence answers.0 c.greatest_of.new.work) c.in_ok-answer.answer c.bound_of-value.result c.searched.result found of
     c.searched.ensures.pair answers.2.says needed c.in_ok-answer.ensures.count.within_budget c.bound_of-value.ensures.bound c.in_ok-answer.ensures.close)
-    (subst (λ (v : Bound). IsKept c.args.net.now c.args.extreme.pair c.args.extreme.which v c.keep.new.kept.times.items c.keep.new.kept.set.items) (sym c.bound_of-value.ensures.bound) c.keep.ensures.kept))
+    (subst (λ (v : Bound). IsWitness c.args.net.now c.args.extreme.pair c.args.extreme.which v c.keep.new.kept.times.items c.keep.new.kept.set.items) (sym c.bound_of-value.ensures.bound) c.keep.ensures.kept))

@@ -1,6 +1,6 @@
 use Rattle.std.proofs.Common.{◌+◌, [], Bool, ◌||◌, ap, refl, sym}
 use Rattle.slack_report.specs.Entry.{row}
-use Rattle.right_report.specs.Right.At.{Telling, at_bound, at_row, greatest}
+use Rattle.right_report.specs.Right.At.{CurrentRow, at_bound, at_row, greatest}
 use Rattle.right_report.proofs.Leading.{stopped_line}
 use Rattle.drawn.specs.Drawn.{name_of}
 use Rattle.bounds_report.specs.Step.Ready.{course_with}
@@ -10,14 +10,14 @@ use Rattle.bounds_report.proofs.row.tell_row.Goals as goal
 pub returns-in_err-put_row-clause-goes : goal.returns-in_err-put_row-clause-goes
 returns-in_err-put_row-clause-goes g c = λ basis course later known found.
     let asked = c.args.row.now in
-    let told : Telling = record { course = course; number = c.args.number; row = asked; later = later } in
+    let told : CurrentRow = record { course = course; number = c.args.number; row = asked; later = later } in
     goes_up _ _ c.from_residual.result c.from_residual.ensures.0
     (stopped_line (at_bound told greatest []) (row c.args.number asked.kind (name_of c.args.drawn.now asked.from) (name_of c.args.drawn.now asked.to)) (refl, refl) c.in_err-put_row.ensures.puts)
 
 pub returns-in_err-both-clause-goes : goal.returns-in_err-both-clause-goes
 returns-in_err-both-clause-goes g c = λ basis course later known found.
     let asked = c.args.row.now in
-    let told : Telling = record { course = course; number = c.args.number; row = asked; later = later } in
+    let told : CurrentRow = record { course = course; number = c.args.number; row = asked; later = later } in
     goes_up _ _ c.from_residual-in_err-both.result c.from_residual-in_err-both.ensures.0
     (stops_then (told_line (row c.args.number asked.kind (name_of c.args.drawn.now asked.from) (name_of c.args.drawn.now asked.to)) (refl, refl) c.in_ok-put_row.ensures.puts refl)
     (stopped_net c.args.wanted.budget c.args.wanted.cert basis c.network.ensures.network (c.in_err-both.ensures.goes basis c.args.drawn.now told known found refl refl)))
@@ -25,7 +25,7 @@ returns-in_err-both-clause-goes g c = λ basis course later known found.
 pub returns-in_err-verdict-clause-goes : goal.returns-in_err-verdict-clause-goes
 returns-in_err-verdict-clause-goes g c = λ basis course later known found.
     let asked = c.args.row.now in
-    let told : Telling = record { course = course; number = c.args.number; row = asked; later = later } in
+    let told : CurrentRow = record { course = course; number = c.args.number; row = asked; later = later } in
     goes_up _ _ c.from_residual-in_err-verdict.result c.from_residual-in_err-verdict.ensures.0
     (stops_then (told_then (told_line (row c.args.number asked.kind (name_of c.args.drawn.now asked.from) (name_of c.args.drawn.now asked.to)) (refl, refl) c.in_ok-put_row.ensures.puts refl)
     (told_net c.args.wanted.budget c.args.wanted.cert basis c.network.ensures.network (c.in_ok-both.ensures.goes basis c.args.drawn.now told known found refl refl)))
@@ -34,7 +34,7 @@ returns-in_err-verdict-clause-goes g c = λ basis course later known found.
 pub returns-clause-goes : goal.returns-clause-goes
 returns-clause-goes g c = λ basis course later known found.
     let asked = c.args.row.now in
-    let told : Telling = record { course = course; number = c.args.number; row = asked; later = later } in
+    let told : CurrentRow = record { course = course; number = c.args.number; row = asked; later = later } in
     told_at (ap (λ (left : Bool). at_row (course_with (record course { within = course.within || left }) c.in_ok-verdict.verdict) (c.args.number + 1) later) (sym c.is_left_open.ensures))
     (told_then (told_then (told_line (row c.args.number asked.kind (name_of c.args.drawn.now asked.from) (name_of c.args.drawn.now asked.to)) (refl, refl) c.in_ok-put_row.ensures.puts refl)
     (told_net c.args.wanted.budget c.args.wanted.cert basis c.network.ensures.network (c.in_ok-both.ensures.goes basis c.args.drawn.now told known found refl refl)))

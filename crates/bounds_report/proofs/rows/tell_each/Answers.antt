@@ -1,7 +1,7 @@
 use Rattle.std.proofs.Common.{◌+◌, ◌++◌, [], drop, length, ap, refl, sym, ◌∙◌, arith}
 use Rattle.std.specs.Option.{option_to_list}
 use Rattle.slack_report.specs.Entry.{rows}
-use Rattle.right_report.specs.Right.At.{Course, at_row, course_of}
+use Rattle.right_report.specs.Right.At.{ReportTally, at_row, course_of}
 use Rattle.right_report.proofs.Leading.{stopped_line}
 use Rattle.bounds_report.specs.Step.Ready.{tally_course}
 use Rattle.bounds_report.specs.Step.Searched.{printed_known}
@@ -21,7 +21,7 @@ loop-number-init g c = record {
   known = refl;
   words = [];
   counted = c.start-tally.ensures.counted;
-  lines = told_at (ap (λ (course : Course). at_row course 0 c.args.drawn.now.rows) (sym (c.start-tally.ensures.course c.args.found)))
+  lines = told_at (ap (λ (course : ReportTally). at_row course 0 c.args.drawn.now.rows) (sym (c.start-tally.ensures.course c.args.found)))
       (told_line (rows _) (ap rows (c.len-count.ensures.count ∙ ap length c.rows.ensures.rows), refl) c.in_ok-write_item.ensures.puts refl);
   most = omega (arith, c.start-tally.ensures.none);
 }
@@ -43,7 +43,7 @@ loop-number-preserved g c =
       known = c.in_ok-end.ensures.known ∙ c.loop-number.invariant.known;
       words = c.loop-number.invariant.words ++ option_to_list c.in_ok-end.end.verdict;
       counted = c.after-tally.ensures.counted c.loop-number.invariant.words c.loop-number.invariant.counted;
-      lines = told_at (ap (λ (behind : Course). at_row behind (number + 1) later) (sym (c.after-tally.ensures.course c.args.found)))
+      lines = told_at (ap (λ (behind : ReportTally). at_row behind (number + 1) later) (sym (c.after-tally.ensures.course c.args.found)))
           (told_then (told_at (ap (at_row course number) (rows_more c.args.drawn.now.rows number c.row_at-row.result.now c.row_at-row.ensures.row)) c.loop-number.invariant.lines)
           (c.in_ok-end.ensures.goes _ course later (ap printed_known (sym c.loop-number.invariant.known)) refl));
       most = omega (arith, c.after-tally.ensures.most, c.loop-number.invariant.most);

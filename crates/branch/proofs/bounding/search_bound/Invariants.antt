@@ -2,7 +2,7 @@ use Rattle.std.proofs.Common.{◌≡◌, List, Some}
 use Rattle.event_graph.specs.Proof.{ProofLine}
 use Rattle.event_graph.specs.Cases.{open_cases}
 use Rattle.branch.specs.Step.Cases.{work_left}
-use Rattle.branch.specs.Step.Searched.{AreBest, IsAtCase, IsBoundSearched, IsTrialFor, Keeps}
+use Rattle.branch.specs.Step.Searched.{IsBestSoFar, IsAtCase, IsBoundSearched, IsTrialFor, Keeps}
 use Rattle.branch.proofs.bounding.search_bound.Given as goal
 
 -- the lines so far leave just the case at hand, on which the bounds stand, and the others of the choices
@@ -12,7 +12,7 @@ invariant-cases g l = record {
       × IsBoundSearched l.net l.aim l.best.value lines (open_cases l.net l.search.cases.chosen) l.search.leaves;
   at : IsAtCase l.net l.search;
   source : l.search.bounds.source ≡ Some l.aim.from;
-  best : AreBest l.net l.aim l.best;
+  best : IsBestSoFar l.net l.aim l.best;
   trial : IsTrialFor l.net l.trial;
   same : Keeps l.net l.fn.search l.search;
 }

@@ -6,7 +6,7 @@ use Rattle.event_graph.specs.Times.{separation}
 use Rattle.branch.specs.Step.Raising.{IsNearSeparation}
 use Rattle.branch.specs.Work.{IsClose}
 use Rattle.branch.proofs.RaisingSets.{near_close}
-use Rattle.branch.specs.Step.Searched.{AreBest, AreRays, IsOpen}
+use Rattle.branch.specs.Step.Searched.{IsBestSoFar, AreRays, IsOpen}
 use Rattle.branch.specs.declared.best.Best.{Best}
 use Rattle.branch.proofs.Advancing.{path_cut, path_goes, split_cut, split_goes}
 use Rattle.branch.proofs.Looking.{near_separation}
@@ -110,7 +110,7 @@ returns-in_ok-close_case-in-Attained-clause-advances g c =
     let is_times : best.times.items ≡ candidate = c.take.ensures.times ∙ c.deref.ensures.value in
     let up : was ≤ℤ best.value = subst (λ (v : ℤ). was ≤ℤ v) (sym is_value) (omega (arith, ints, past)) in
     let upper : value ≤ℤ best.value = subst (λ (v : ℤ). value ≤ℤ v) (sym is_value) (omega (arith, ints)) in
-    let are_best : AreBest net aim best = record {
+    let are_best : IsBestSoFar net aim best = record {
       satisfies = subst (λ (times : List ℤ). Satisfies times net) (sym is_times) looked.2;
       attained = subst (λ (times : List ℤ). separation times aim.from aim.to ≡ best.value) (sym is_times) (looked.3 ∙ sym is_value);
       least = omega (arith, ints, c.requires.best.least, up);

@@ -2,7 +2,7 @@ use Rattle.std.proofs.Common.{◌≡◌, ◌<◌, [], ap, length, refl, subst, a
 use Rattle.event_graph.specs.Proof.{Case}
 use Rattle.event_graph.specs.Cases.{Chosen, first_of, open_cases}
 use Rattle.branch.specs.Step.Cases.{work_left}
-use Rattle.branch.specs.Step.Searched.{Steps, StepsShort}
+use Rattle.branch.specs.Step.Searched.{SearchSteps, StepsShort}
 use Rattle.event_graph.proofs.Choices.{others_free}
 use Rattle.branch.proofs.CaseCounts.{free_within, split_falls}
 use Rattle.branch.proofs.Entering.{short_none}
@@ -25,7 +25,7 @@ returns-clause-lines g c =
     (λ entry more. (
       more.0,
       g.met.S.Scribe.grew_more _ _ _ _ _ c.in_ok-split.ensures.grew more.1,
-      λ goal. subst (λ (chosen : Case). Steps net goal (open_cases net chosen) c.args.search.now.leaves c.enter_case.new.search entry more.0) same (more.2 goal),
+      λ goal. subst (λ (chosen : Case). SearchSteps net goal (open_cases net chosen) c.args.search.now.leaves c.enter_case.new.search entry more.0) same (more.2 goal),
     ))
 
 pub returns-clause-cut : goal.returns-clause-cut

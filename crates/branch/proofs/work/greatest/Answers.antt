@@ -5,7 +5,7 @@ use Rattle.event_graph.specs.Satisfying.{Satisfies}
 use Rattle.event_graph.specs.Times.{separation}
 use Rattle.branch.specs.Needed.{IsNeededToBound}
 use Rattle.branch.specs.Step.Raising.{IsNearSeparation}
-use Rattle.branch.specs.Work.{IsClose, View, known_separation}
+use Rattle.branch.specs.Work.{IsClose, WorkView, known_separation}
 use Rattle.branch.proofs.KnownTimes.{known_has, known_separation_is}
 use Rattle.branch.proofs.RaisingSets.{near_close}
 use Rattle.branch.proofs.Results.{if_ok_then, on_err_then, on_ok_then}
@@ -21,12 +21,12 @@ known_is g c =
     let to = c.args.to in
     let inside = c.work.inside in
     let Satisfying : List ℤ → Type 0 = λ times. Satisfies times c.args.net.now in
-    let known = subst (λ (w : View). IsSomeAnd w.known Satisfying) (sym c.work.view_is) c.requires.known in
+    let known = subst (λ (w : WorkView). IsSomeAnd w.known Satisfying) (sym c.work.view_is) c.requires.known in
     let read : c.separation_of-known.result ≡ separation inside.known.items from to =
     c.separation_of-known.ensures.value ∙ ap (λ (xs : List ℤ). separation xs from to) c.deref.ensures.value in
     let passed : to_z w64 (of_z w64 c.separation_of-known.result) ≡ c.separation_of-known.result =
     passed_separation c.separation_of-known.result c.separation_of-known.ensures.near in
-    subst (λ (w : View). known_separation w from to ≡ to_z w64 (of_z w64 c.separation_of-known.result)) c.work.view_is
+    subst (λ (w : WorkView). known_separation w from to ≡ to_z w64 (of_z w64 c.separation_of-known.result)) c.work.view_is
     (known_separation_is inside.has_known inside.known.items Satisfying from to known ∙ sym read ∙ sym passed)
 
 pub returns-clause-lines : goal.returns-clause-lines
@@ -69,7 +69,7 @@ pub bound_pair-requires-clause-best : goal.bound_pair-requires-clause-best
 bound_pair-requires-clause-best g c =
     let inside = c.work.inside in
     let Satisfying : List ℤ → Type 0 = λ times. Satisfies times c.args.net.now in
-    let known = subst (λ (w : View). IsSomeAnd w.known Satisfying) (sym c.work.view_is) c.requires.known in
+    let known = subst (λ (w : WorkView). IsSomeAnd w.known Satisfying) (sym c.work.view_is) c.requires.known in
     let has : inside.has_known ≡ true = known_has inside.has_known inside.known.items Satisfying known in
     let close : All IsClose inside.known.items = near_close inside.known.items (c.work.invariant.near has) in
     let is_times : c.take.new.self.times.items ≡ inside.known.items = c.take.ensures.times ∙ c.deref-2.ensures.value in

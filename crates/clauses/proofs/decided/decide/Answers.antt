@@ -1,7 +1,7 @@
 use Rattle.std.proofs.Common.{◌≡◌, ◌<ℤ◌, ap, ◌∙◌, sym, refl, subst}
 use Rattle.falling.specs.declared.limits.Limits.{Limits}
-use Rattle.clauses.specs.declared.decided.Verdict.{Verdict}
-use Rattle.clauses.specs.declared.decided.Verdict.TheVariants.{Closed}
+use Rattle.clauses.specs.declared.decided.ProofVerdict.{ProofVerdict}
+use Rattle.clauses.specs.declared.decided.ProofVerdict.TheVariants.{Closed}
 use Rattle.clauses.specs.Checking.{IsVerdict}
 use Rattle.clauses.proofs.Deciding.{closed_by, inconsistent_by}
 use Rattle.clauses.proofs.decided.decide.Goals as goal
@@ -21,7 +21,7 @@ returns c =
     let is : c.closed_at.result ≡ Closed c.args.checker.now.goal.claim = c.closed_at.ensures ∙ ap Closed c.claim-3.ensures.claim in
     let attains = c.if-not-attains.ensures.attains.0 refl in
     record {
-      verdict = subst (λ (v : Verdict). IsVerdict c.args.net.now c.args.checker.now.goal c.args.times.now v) (sym is)
+      verdict = subst (λ (v : ProofVerdict). IsVerdict c.args.net.now c.args.checker.now.goal c.args.times.now v) (sym is)
           (closed_by c.args.net.now c.args.checker.now c.args.times.now c.events-events.ensures.net c.requires.checking (c.if-not-is_over.ensures.over.0 refl) below attains);
       nothing = λ e. absurd (cc (is, e));
     }

@@ -1,7 +1,7 @@
 use Rattle.std.proofs.Common.{subst, sym}
 use Rattle.std.proofs.lemmas.Option.{IfSome_then}
 use Rattle.trail.specs.Stack.{Stack}
-use Rattle.diff_bounds.specs.Step.Falling.{HasRun}
+use Rattle.diff_bounds.specs.Step.Falling.{RunHasFallen}
 use Rattle.diff_bounds.specs.Step.Poised.{feasible_run, scope_from}
 use Rattle.diff_bounds.specs.Step.Walking.{HasLoop}
 use Rattle.diff_bounds.proofs.Poising.{feasible_after, feasible_ran, feasible_running, if_none_then, loop_of}
@@ -15,7 +15,7 @@ fall_over-requires-clause-running c =
 pub fall_over-requires-clause-rest : goal.fall_over-requires-clause-rest
 fall_over-requires-clause-rest c = rw c.events.ensures.count c.requires.added.rest
 
-ran : (c : After-fall_over) → HasRun (scope_from c.args.net.now c.args.trail.now 0) (feasible_run c.args.net.now c.args.arc.edge.from 0) c.args.trail.now.current.stamps c.fall_over.new.trail.current.stamps
+ran : (c : After-fall_over) → RunHasFallen (scope_from c.args.net.now c.args.trail.now 0) (feasible_run c.args.net.now c.args.arc.edge.from 0) c.args.trail.now.current.stamps c.fall_over.new.trail.current.stamps
 ran c =
     let runs = rw c.events.ensures.count at c.fall_over.ensures.runs in
     feasible_ran c.args.net.now c.args.out.now c.args.chosen.now.arcs c.args.arc.edge.from 0 c.args.trail.now c.fall_over.new.trail c.args.pending.now c.args.pending.now c.fall_over.new.pending c.requires.added.ready runs

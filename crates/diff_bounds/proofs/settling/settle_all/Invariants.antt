@@ -1,5 +1,5 @@
 use Rattle.std.proofs.Common.{◌≡◌, ◌≤◌, length}
-use Rattle.diff_bounds.specs.Settled.{AreNear, IsFeasible}
+use Rattle.diff_bounds.specs.Settled.{AreLabelsNear, IsFeasible}
 use Rattle.diff_bounds.specs.Step.Falling.{with_stamps}
 use Rattle.diff_bounds.specs.Step.Poised.{scope_from}
 use Rattle.diff_bounds.proofs.settling.settle_all.Given as goal
@@ -9,7 +9,7 @@ invariant-loop-first l = record {
   within : l.first ≤ l.net.events;
   stack : l.trail ≡ with_stamps l.fn.trail l.trail.current.stamps;
   slots : length l.trail.current.stamps ≡ length l.fn.trail.current.stamps;
-  near : AreNear l.trail.current.stamps;
+  near : AreLabelsNear l.trail.current.stamps;
   feasible : IsFeasible (scope_from l.net l.trail l.first) l.trail.current.stamps;
   marks : length l.pending.marks ≡ l.net.events;
 }

@@ -1,7 +1,7 @@
 use Rattle.std.proofs.Common.{subst, sym}
 use Rattle.std.proofs.lemmas.Option.{IfSome_then}
 use Rattle.trail.specs.Stack.{Stack}
-use Rattle.diff_bounds.specs.Step.Falling.{HasRun}
+use Rattle.diff_bounds.specs.Step.Falling.{RunHasFallen}
 use Rattle.diff_bounds.specs.Step.Poised.{feasible_run, scope_from}
 use Rattle.diff_bounds.specs.Step.Walking.{HasLoop}
 use Rattle.diff_bounds.proofs.Poising.{feasible_after, feasible_ran, feasible_running, if_none_then, loop_of}
@@ -15,7 +15,7 @@ fall_from-requires-clause-running c =
 pub fall_from-requires-clause-others : goal.fall_from-requires-clause-others
 fall_from-requires-clause-others c = rw c.events.ensures.count c.requires.ready.poised.others
 
-ran : (c : After-fall_from) → HasRun (scope_from c.args.net.now c.args.trail.now c.args.first) (feasible_run c.args.net.now c.args.from c.args.first) c.args.trail.now.current.stamps c.fall_from.new.trail.current.stamps
+ran : (c : After-fall_from) → RunHasFallen (scope_from c.args.net.now c.args.trail.now c.args.first) (feasible_run c.args.net.now c.args.from c.args.first) c.args.trail.now.current.stamps c.fall_from.new.trail.current.stamps
 ran c =
     let runs = rw c.events.ensures.count at c.fall_from.ensures.runs in
     feasible_ran c.args.net.now c.args.out.now c.args.chosen.now.arcs c.args.from c.args.first c.args.trail.now c.fall_from.new.trail c.args.pending.now c.args.pending.now c.fall_from.new.pending c.requires.ready runs

@@ -8,7 +8,7 @@ use Rattle.falling.proofs.course.derive.Given as goal
 -- the lines so far are a derivation of as many lines as turns were taken, which has not ended, and a constraint without a flag allows none
 abbrev pub invariant-turns : goal.invariant-turns
 invariant-turns g l = record {
-  lines : (lines : List FallLine) × g.N.Notes.Grew l.fn.notes lines l.notes × IsUnderWay l.net l.from lines l.values l.taken;
+  lines : (lines : List FallLine) × g.N.FallScribe.Grew l.fn.notes lines l.notes × IsUnderWay l.net l.from lines l.values l.taken;
   left : l.taken ≤ l.turns;
   agenda : IsAgendaFor l.net l.agenda;
   tried : AreOthersTried l.net l.values l.agenda.pending;

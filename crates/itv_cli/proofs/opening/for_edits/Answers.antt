@@ -1,5 +1,5 @@
 use Rattle.std.proofs.Common.{◌≡◌, Ok, subst}
-use Rattle.itv_base.specs.Reading.{HasFault}
+use Rattle.itv_base.specs.Reading.{IsReadingFault}
 use Rattle.event_graph.specs.Network.{Net}
 use Rattle.edits.specs.EditsFile.{edits_of, is_memory}
 use Rattle.itv_cli.proofs.Editing.{edits_read, edits_refused}
@@ -14,4 +14,4 @@ pub returns-in-Err-clause-reads : goal.returns-in-Err-clause-reads
 returns-in-Err-clause-reads c told =
     rw c.edits_stop.ensures.stop
     (edits_refused told c.args.drawn c.args.budget c.args.bytes.now c.in-Err.fault
-    (subst (λ (n : Net). HasFault is_memory (edits_of n c.args.bytes.now) c.in-Err.fault) c.network.ensures.network c.in-Err.ensures.read))
+    (subst (λ (n : Net). IsReadingFault is_memory (edits_of n c.args.bytes.now) c.in-Err.fault) c.network.ensures.network c.in-Err.ensures.read))

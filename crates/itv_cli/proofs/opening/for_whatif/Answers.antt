@@ -1,5 +1,5 @@
 use Rattle.std.proofs.Common.{◌≡◌, ◌≤◌, ◌∙◌, ℕ, nat_lt, List, length, Result, false, sym, ap, rules}
-use Rattle.itv_base.specs.Outside.{ShelfTold}
+use Rattle.itv_base.specs.Outside.{ShelfView}
 use Rattle.drawn.specs.Drawn.{Drawn}
 use Rattle.unroll.specs.declared.limit.TheConstants.{MAX_SESSION_ROWS}
 use Rattle.reading.specs.Step.{Opens}
@@ -12,7 +12,7 @@ not_above : (limit n : ℕ) → n ≤ limit → nat_lt limit n ≡ false
 not_above limit n h = search rules
 
 -- where there are few rows the edits are read
-few_rows : (told told' : ShelfTold) (edits : List ℕ) (budget count : ℕ) (drawn : Drawn) (result : Result Ready Stop) → count ≡ length drawn.rows → count ≤ MAX_SESSION_ROWS
+few_rows : (told told' : ShelfView) (edits : List ℕ) (budget count : ℕ) (drawn : Drawn) (result : Result Ready Stop) → count ≡ length drawn.rows → count ≤ MAX_SESSION_ROWS
     → Opens (λ (given : Ready). given) told told' (edits_at edits budget drawn) result → Opens (λ (given : Ready). given) told told' (whatif_at edits budget drawn) result
 few_rows told told' edits budget count drawn result is few h = rw (sym is, not_above MAX_SESSION_ROWS count few) h
 

@@ -1,8 +1,8 @@
 use Rattle.std.proofs.Common.{List, ℕ, Ok, refl}
 use Rattle.itv_base.specs.declared.limits.TheConstants.{REPORT_LIMIT}
 use Rattle.drawn.specs.Drawn.{Drawn}
-use Rattle.reading.specs.declared.place.Place.TheVariants.{Report}
-use Rattle.reading.specs.Opening.{Opening, gives, ◌>>=◌, file_at}
+use Rattle.reading.specs.declared.place.RefusalPlace.TheVariants.{Report}
+use Rattle.reading.specs.Opening.{FileReading, gives, ◌>>=◌, file_at}
 use Rattle.reading.proofs.Opens.{opens_then, opens_up}
 use Rattle.itv_cli.specs.declared.ready.Ready.{Ready}
 use Rattle.itv_cli.specs.declared.ready.Ready.TheVariants.{Check}
@@ -10,7 +10,7 @@ use Rattle.itv_cli.proofs.Steps.{design_up, design_then}
 use Rattle.itv_cli.proofs.opening.open_check.Goals as goal
 
 -- the report is read behind the design
-abbrev with_report : List ℕ → Drawn → Opening Ready
+abbrev with_report : List ℕ → Drawn → FileReading Ready
 with_report report drawn = file_at Report report REPORT_LIMIT >>= (λ bytes. gives (Check drawn bytes))
 
 pub returns-in_err-drawn-clause-opens : goal.returns-in_err-drawn-clause-opens

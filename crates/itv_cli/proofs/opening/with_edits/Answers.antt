@@ -1,6 +1,6 @@
 use Rattle.std.proofs.Common.{List, ℕ}
 use Rattle.edits.specs.declared.file.TheConstants.{MAX_EDITS_BYTES}
-use Rattle.reading.specs.declared.place.Place.TheVariants.{Edits}
+use Rattle.reading.specs.declared.place.RefusalPlace.TheVariants.{Edits}
 use Rattle.reading.specs.Opening.{file_at}
 use Rattle.reading.proofs.Opens.{opens_then, opens_up}
 use Rattle.itv_cli.specs.declared.ready.Ready.{Ready}

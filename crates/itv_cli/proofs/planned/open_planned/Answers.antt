@@ -2,18 +2,18 @@ use Rattle.std.proofs.Common.{◌≡◌, ℕ, List, IsOk, Ok, refl}
 use Rattle.drawn.specs.Drawn.{Drawn}
 use Rattle.plan.specs.Plan.{Planned}
 use Rattle.reading.specs.Design.{drawn_at, plan_at}
-use Rattle.reading.specs.Opening.{Opening, gives, ◌>>=◌}
+use Rattle.reading.specs.Opening.{FileReading, gives, ◌>>=◌}
 use Rattle.reading.proofs.Opens.{opens_then, opens_up}
-use Rattle.itv_cli.specs.declared.planned.Planned as code
+use Rattle.itv_cli.specs.declared.planned.PlannedNetwork as code
 use Rattle.itv_cli.proofs.Composing.{drawn_composed}
 use Rattle.itv_cli.proofs.planned.open_planned.Goals as goal
 
 -- a plan with what it draws, without where they lie in memory
-abbrev both : code.Planned → Planned × Drawn
+abbrev both : code.PlannedNetwork → Planned × Drawn
 both p = (p.plan, p.drawn)
 
 -- what a plan draws, beside it
-abbrev with_drawn : Planned → Opening (Planned × Drawn)
+abbrev with_drawn : Planned → FileReading (Planned × Drawn)
 with_drawn plan = drawn_at plan.netlist plan.sheets >>= (λ drawn. gives (plan, drawn))
 
 pub returns-in_err-plan-clause-opens : goal.returns-in_err-plan-clause-opens

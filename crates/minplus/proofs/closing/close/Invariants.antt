@@ -1,6 +1,6 @@
 use Rattle.std.proofs.Common.{◌≡◌, length}
 use Rattle.minplus.specs.Matrix.{IsSquare, cells}
-use Rattle.minplus.specs.Step.Stage.{Stage}
+use Rattle.minplus.specs.Step.Stage.{PivotStage}
 use Rattle.minplus.proofs.closing.close.Given as goal
 
 abbrev pub invariant-loop-event : goal.invariant-loop-event
@@ -8,5 +8,5 @@ invariant-loop-event l = record {
   square : IsSquare (length l.fn.rows) l.rows;
   count : length l.rows ≡ length l.fn.rows;
   room : length l.through ≡ length l.fn.rows;
-  stage : Stage l.net (cells l.fn.rows) l.event (cells l.rows);
+  stage : PivotStage l.net (cells l.fn.rows) l.event (cells l.rows);
 }

@@ -1,7 +1,7 @@
 use Rattle.std.proofs.Common.{◌∙◌, sym}
 use Rattle.serde_json.specs.View.{view}
 use Rattle.plan.specs.Plan.{Planned}
-use Rattle.reading.specs.declared.place.Place.TheVariants.{File}
+use Rattle.reading.specs.declared.place.RefusalPlace.TheVariants.{File}
 use Rattle.reading.specs.Design.{tree_planned, tree_in}
 use Rattle.reading.proofs.Opens.{opens_then, opens_up}
 use Rattle.reading.proofs.Drawing.{lone_on, netlist_tree_on}

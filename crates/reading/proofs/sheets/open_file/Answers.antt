@@ -1,6 +1,6 @@
 use Rattle.std.specs.Prelude.{⊤}
 use Rattle.serde_json.specs.View.{view}
-use Rattle.reading.specs.declared.place.Place.TheVariants.{File}
+use Rattle.reading.specs.declared.place.RefusalPlace.TheVariants.{File}
 use Rattle.reading.specs.Design.{sheets_at, tree_in}
 use Rattle.reading.proofs.Opens.{opens_then, opens_up}
 use Rattle.reading.proofs.sheets.open_file.Goals as goal

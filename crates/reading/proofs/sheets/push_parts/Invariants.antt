@@ -1,5 +1,5 @@
 use Rattle.std.proofs.Common.{drop}
-use Rattle.itv_base.specs.Outside.{ShelfTold}
+use Rattle.itv_base.specs.Outside.{ShelfView}
 use Rattle.reading.specs.Design.{with_part}
 use Rattle.reading.specs.Opening.{each}
 use Rattle.reading.proofs.Opens.{Resumes}
@@ -8,5 +8,5 @@ use Rattle.reading.proofs.sheets.push_parts.Given as goal
 -- the parts that are left lead on to the sheets of all
 abbrev pub invariant-loop-part : goal.invariant-loop-part
 invariant-loop-part l =
-    (told : ShelfTold) → Resumes told told (each (with_part l.place l.name l.grades l.diagram) 0 l.fn.sheets.entries l.parts)
+    (told : ShelfView) → Resumes told told (each (with_part l.place l.name l.grades l.diagram) 0 l.fn.sheets.entries l.parts)
     (each (with_part l.place l.name l.grades l.diagram) l.part-index l.sheets.entries (drop l.part-index l.parts))

@@ -1,7 +1,7 @@
 use Rattle.std.proofs.Common.{◌∙◌, refl, sym, ap}
 use Rattle.event_graph.specs.Network.{Net}
 use Rattle.jobs.specs.declared.answer.Answer.TheVariants.{DesignRefused, SomeFail}
-use Rattle.reading.specs.declared.place.Place.TheVariants.{Design}
+use Rattle.reading.specs.declared.place.RefusalPlace.TheVariants.{Design}
 use Rattle.reading.specs.declared.refusal.Refusal.TheVariants.{Wide}
 use Rattle.reading.specs.Refusal.{refusal_text}
 use Rattle.redraw.specs.Text.{redrawn}

@@ -3,7 +3,7 @@ use Rattle.std.proofs.lemmas.Result.{err_from_is_err_and}
 use Rattle.sheet.specs.Fault.{is_memory, sheet_fault}
 use Rattle.sheet.specs.Step.{labels_view, link_view}
 use Rattle.sheet.proofs.EdgeWalk.{edge-fault, edge-comment, edge-link, edge-full, link_rows-push, ArePlaces-from_StandsFor}
-use Rattle.itv_base.proofs.Faults.{HasFault-first}
+use Rattle.itv_base.proofs.Faults.{IsReadingFault-first}
 use Rattle.sheet.proofs.edges.read_edges.Goals as goal
 
 pub push_link-requires : goal.push_link-requires
@@ -24,14 +24,14 @@ loop-n-preserved-in-Ok-None c =
 pub returns-in-Err : goal.returns-in-Err
 returns-in-Err c =
     let before = c.loop-n.invariant in
-    rw (← before.left) (HasFault-first is_memory _ _ c.in-Err.fault (edge-fault (labels_view c.args.labels) c.args.marks.now c.args.edges.now before.links c.loop-n.n c.as_text.result.now (rw c.as_text.ensures.text c.get.ensures.item) c.in-Err.fault c.in-Err.ensures))
+    rw (← before.left) (IsReadingFault-first is_memory _ _ c.in-Err.fault (edge-fault (labels_view c.args.labels) c.args.marks.now c.args.edges.now before.links c.loop-n.n c.as_text.result.now (rw c.as_text.ensures.text c.get.ensures.item) c.in-Err.fault c.in-Err.ensures))
 
 pub returns-in_err-push_link : goal.returns-in_err-push_link
 returns-in_err-push_link c =
     let p = err_from_is_err_and c.from_residual.result c.from_residual.ensures.1 in
     let before = c.loop-n.invariant in
     rw (p.1, p.2, ← before.left)
-    (HasFault-first is_memory _ _ (sheet_fault c.in_err-push_link.field-0.0) (edge-full (labels_view c.args.labels) c.args.marks.now c.args.edges.now before.links c.loop-n.n c.as_text.result.now (rw c.as_text.ensures.text c.get.ensures.item) (link_view c.in-Ok-Some.link) c.in_err-push_link.field-0.0
+    (IsReadingFault-first is_memory _ _ (sheet_fault c.in_err-push_link.field-0.0) (edge-full (labels_view c.args.labels) c.args.marks.now c.args.edges.now before.links c.loop-n.n c.as_text.result.now (rw c.as_text.ensures.text c.get.ensures.item) (link_view c.in-Ok-Some.link) c.in_err-push_link.field-0.0
     (rw c.in-Ok-Some.field-0-is at c.in-Ok-Some.ensures) (c.in_err-push_link.ensures.adds c.args.rules.items before.links before.stands)))
 
 pub loop-n-preserved : goal.loop-n-preserved

@@ -4,7 +4,7 @@ use Rattle.std.proofs.lemmas.Result.{err_from_is_err_and}
 use Rattle.sheet.specs.declared.mark.TheConstants.{MAX_MARKS}
 use Rattle.sheet.specs.Fault.{is_memory}
 use Rattle.sheet.specs.Sheet.{read_marks}
-use Rattle.itv_base.proofs.Faults.{HasFault-on}
+use Rattle.itv_base.proofs.Faults.{IsReadingFault-on}
 use Rattle.sheet.proofs.LaneLists.{AreMarks-none, length-le_from_AreMarks, lanes-fault, lanes-more, lanes-end, marks-grew, spans-step, read_marks-bad, read_marks-good}
 use Rattle.sheet.proofs.lanes.read_marks.Goals as goal
 
@@ -18,7 +18,7 @@ loop-k-init c =
 pub returns-in_err-push_marks-clause-answer : goal.returns-in_err-push_marks-clause-answer
 returns-in_err-push_marks-clause-answer c =
     let p = err_from_is_err_and c.from_residual.result c.from_residual.ensures.1 in
-    rw (p.1, p.2) (HasFault-on is_memory _ (read_marks c.args.lanes.now) c.in_err-push_marks.field-0.0
+    rw (p.1, p.2) (IsReadingFault-on is_memory _ (read_marks c.args.lanes.now) c.in_err-push_marks.field-0.0
     (λ d is. read_marks-good c.args.lanes.now (sym c.in_default.ensures) ∙ sym c.loop-k.invariant.answer ∙ lanes-fault c.loop-k.marks c.args.lanes.now c.loop-k.k c.get.result.now c.get.ensures.lane d is)
     c.in_err-push_marks.ensures.answer)
 

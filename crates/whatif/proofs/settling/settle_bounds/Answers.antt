@@ -3,7 +3,7 @@ use Rattle.std.specs.Prelude.{unwrap_or}
 use Rattle.std.proofs.lemmas.Bool.{both_ways}
 use Rattle.std.proofs.lemmas.List.{length-set}
 use Rattle.std.proofs.lemmas.List.Elements.{All-set}
-use Rattle.whatif.specs.Session.{HasPlaces, IsSearched, KeptBound, MayKeepFrom}
+use Rattle.whatif.specs.Session.{HasPlaces, IsSearchedAnew, KeptBound, MayKeepFrom}
 use Rattle.whatif.specs.Step.Bounds.{IsCloseBound, IsPairIn}
 use Rattle.whatif.proofs.Settled.{as_before, same_here, settles, settles_kept}
 use Rattle.whatif.proofs.settling.settle_bounds.Goals as goal
@@ -12,28 +12,28 @@ use Rattle.whatif.proofs.settling.settle_bounds.Goals.{then-keeps, else-keeps}
 pub keeps-requires-clause-pair : goal.keeps-requires-clause-pair
 keeps-requires-clause-pair c =
     let within : c.loop-k.k < length c.args.bounds.now = omega (arith, c.loop-k-test.true, c.loop-k.invariant.3) in
-    subst (IsPairIn c.args.net.now.events) (sym (as_before (MayKeepFrom c.args.was c.args.net.now) (IsSearched c.args.net.now c.args.budget (unwrap_or c.args.work.now.known []))
+    subst (IsPairIn c.args.net.now.events) (sym (as_before (MayKeepFrom c.args.was c.args.net.now) (IsSearchedAnew c.args.net.now c.args.budget (unwrap_or c.args.work.now.known []))
     c.args.bounds.now c.loop-k.bounds c.loop-k.k c.loop-k.change.kept c.loop-k.change.searched c.index-bounds-k.result c.loop-k.invariant.6))
     (c.requires.pairs c.loop-k.k c.index-bounds-k.result within)
 
 pub keeps-requires-clause-close : goal.keeps-requires-clause-close
 keeps-requires-clause-close c consistent =
     let within : c.loop-k.k < length c.args.bounds.now = omega (arith, c.loop-k-test.true, c.loop-k.invariant.3) in
-    subst IsCloseBound (sym (as_before (MayKeepFrom c.args.was c.args.net.now) (IsSearched c.args.net.now c.args.budget (unwrap_or c.args.work.now.known []))
+    subst IsCloseBound (sym (as_before (MayKeepFrom c.args.was c.args.net.now) (IsSearchedAnew c.args.net.now c.args.budget (unwrap_or c.args.work.now.known []))
     c.args.bounds.now c.loop-k.bounds c.loop-k.k c.loop-k.change.kept c.loop-k.change.searched c.index-bounds-k.result c.loop-k.invariant.6))
     (c.requires.close consistent c.loop-k.k c.index-bounds-k.result within)
 
 pub search-requires-clause-pair : goal.search-requires-clause-pair
 search-requires-clause-pair c =
     let within : c.loop-k.k < length c.args.bounds.now = omega (arith, c.loop-k-test.true, c.loop-k.invariant.3) in
-    subst (IsPairIn c.args.net.now.events) (sym (as_before (MayKeepFrom c.args.was c.args.net.now) (IsSearched c.args.net.now c.args.budget (unwrap_or c.args.work.now.known []))
+    subst (IsPairIn c.args.net.now.events) (sym (as_before (MayKeepFrom c.args.was c.args.net.now) (IsSearchedAnew c.args.net.now c.args.budget (unwrap_or c.args.work.now.known []))
     c.args.bounds.now c.loop-k.bounds c.loop-k.k c.loop-k.change.kept c.loop-k.change.searched c.index-bounds-k-else-keeps.result c.loop-k.invariant.6))
     (c.requires.pairs c.loop-k.k c.index-bounds-k-else-keeps.result within)
 
 pub search-requires-clause-close : goal.search-requires-clause-close
 search-requires-clause-close c consistent =
     let within : c.loop-k.k < length c.args.bounds.now = omega (arith, c.loop-k-test.true, c.loop-k.invariant.3) in
-    subst IsCloseBound (sym (as_before (MayKeepFrom c.args.was c.args.net.now) (IsSearched c.args.net.now c.args.budget (unwrap_or c.args.work.now.known []))
+    subst IsCloseBound (sym (as_before (MayKeepFrom c.args.was c.args.net.now) (IsSearchedAnew c.args.net.now c.args.budget (unwrap_or c.args.work.now.known []))
     c.args.bounds.now c.loop-k.bounds c.loop-k.k c.loop-k.change.kept c.loop-k.change.searched c.index-bounds-k-else-keeps.result c.loop-k.invariant.6))
     (c.requires.close consistent c.loop-k.k c.index-bounds-k-else-keeps.result within)
 
@@ -41,7 +41,7 @@ pub loop-k-preserved : goal.loop-k-preserved
 loop-k-preserved c =
     let May : KeptBound → Type 0 = MayKeepFrom c.args.was c.args.net.now in
     let known : List ℤ = unwrap_or c.args.work.now.known [] in
-    let Searched : KeptBound → KeptBound → Type 0 = IsSearched c.args.net.now c.args.budget known in
+    let Searched : KeptBound → KeptBound → Type 0 = IsSearchedAnew c.args.net.now c.args.budget known in
     let inv = c.loop-k.invariant in
     let within : c.loop-k.k < length c.args.bounds.now = omega (arith, c.loop-k-test.true, c.loop-k.invariant.3) in
     let within_now : c.loop-k.k < length c.loop-k.bounds = omega (arith, c.loop-k-test.true, c.loop-k.invariant.3) in
@@ -63,10 +63,10 @@ loop-k-preserved c =
           (let a : KeptBound = w.index-bounds-k-else-keeps.result in
           let same : a ≡ c.index-bounds-k.result = same_here c.loop-k.bounds c.loop-k.k a c.index-bounds-k.result within_now w.index-bounds-k-else-keeps.is c.index-bounds-k.is in
           let no : May a → ⊥ = λ may. both_ways c.keeps.result w.if-keeps.false (c.keeps.ensures.keeps.1 (subst May (same ∙ c.index-bounds-k.is) may)) in
-          let raw : IsSearched c.args.net.now c.args.budget (unwrap_or c.loop-k.work.known []) (get_or c.loop-k.bounds c.loop-k.k a) w.search.new.self = w.search.ensures.searched in
+          let raw : IsSearchedAnew c.args.net.now c.args.budget (unwrap_or c.loop-k.work.known []) (get_or c.loop-k.bounds c.loop-k.k a) w.search.new.self = w.search.ensures.searched in
           let searched : Searched a w.search.new.self =
-          subst (λ o. IsSearched c.args.net.now c.args.budget (unwrap_or o []) a w.search.new.self) inv.1
-          (subst (λ x. IsSearched c.args.net.now c.args.budget (unwrap_or c.loop-k.work.known []) x w.search.new.self) (sym w.index-bounds-k-else-keeps.is) raw) in
+          subst (λ o. IsSearchedAnew c.args.net.now c.args.budget (unwrap_or o []) a w.search.new.self) inv.1
+          (subst (λ x. IsSearchedAnew c.args.net.now c.args.budget (unwrap_or c.loop-k.work.known []) x w.search.new.self) (sym w.index-bounds-k-else-keeps.is) raw) in
           let count : c.loop-k.change.kept + (c.loop-k.change.searched + 1) ≡ c.loop-k.k + 1 = omega (arith, c.loop-k.invariant.4) in
           rw (w.work-is, w.bounds-is, w.change-is) (
             w.search.ensures.made,

@@ -2,8 +2,8 @@ use Rattle.std.proofs.Common.{◌≡◌, IfOk, sym, subst}
 use Rattle.event_graph.specs.Network.{Net}
 use Rattle.falling.specs.declared.view.View.{View}
 use Rattle.clauses.specs.Lines.{IsOver}
-use Rattle.settle.specs.declared.prover.Told.{Told}
-use Rattle.settle.specs.declared.prover.Told.TheVariants.{Over}
+use Rattle.settle.specs.declared.prover.SearchState.{SearchState}
+use Rattle.settle.specs.declared.prover.SearchState.TheVariants.{Over}
 use Rattle.settle.specs.Step.Racing.{IsOverAs}
 use Rattle.settle.proofs.race.Race.step.Goals as goal
 
@@ -11,7 +11,7 @@ pub returns-in-Negated-clause-over : goal.returns-in-Negated-clause-over
 returns-in-Negated-clause-over c =
     subst
     (λ (v : View). IfOk c.step-in-Negated.result
-    (λ (told : Told). told ≡ Over
+    (λ (told : SearchState). told ≡ Over
     → IsOverAs v c.args.net.now
     (record {
       from = c.args.self.now.from;
@@ -24,5 +24,5 @@ returns-in-Negated-clause-over c =
       blocks = c.args.self.now.blocks;
     })))
     (sym c.in-Negated.is)
-    (subst (λ (n : Net). IfOk c.step-in-Negated.result (λ (told : Told). told ≡ Over → IsOver n c.step-in-Negated.new.self.check.goal c.step-in-Negated.new.self.check.state))
+    (subst (λ (n : Net). IfOk c.step-in-Negated.result (λ (told : SearchState). told ≡ Over → IsOver n c.step-in-Negated.new.self.check.goal c.step-in-Negated.new.self.check.state))
     c.requires.negation c.step-in-Negated.ensures.over)

@@ -3,8 +3,8 @@ use Rattle.std.specs.Vec.{with_item}
 use Rattle.trail.specs.declared.trail.Trail.TheInside.{Inside}
 use Rattle.trail.specs.declared.undo.Slot.{Slot}
 use Rattle.trail.specs.Stack.{Stack, with_stamp}
-use Rattle.trail.specs.Step.Inside.{stack_in, IsSound}
-use Rattle.trail.proofs.Steps.{slot_in, depth_in, IsSound-slot, stack_in-slot, IsSound-saved, stack_in-saved, room-saved_slot}
+use Rattle.trail.specs.Step.Inside.{stack_in, IsSoundTrail}
+use Rattle.trail.proofs.Steps.{slot_in, depth_in, IsSoundTrail-slot, stack_in-slot, IsSoundTrail-saved, stack_in-saved, room-saved_slot}
 use Rattle.trail.proofs.trail.Trail.set_label.Goals as goal
 use Rattle.trail.proofs.trail.Trail.set_label.Goals.{then-was-level, else-was-level}
 
@@ -22,10 +22,10 @@ invariant_of-self c =
     let there = slot_in t c.args.self.now c.self.view_is c.args.slot c.requires in
     let depth = depth_in t c.args.self.now c.self.view_is c.depth-level.result c.depth-level.ensures.count in
     let slots = with_item t.slots c.args.slot x in
-    let P = λ (s : Inside). IsSound (record s { slots = with_item s.slots c.args.slot x }) in
+    let P = λ (s : Inside). IsSoundTrail (record s { slots = with_item s.slots c.args.slot x }) in
     elim c.if-was-level.branch [
-      | then-was-level w ↦ subst P (sym w.self-inside-is) (IsSound-saved t c.self.invariant slots c.args.slot c.index-was.result.now x refl there c.index-was.ensures depth w.push_reserved.new.self w.push_reserved.ensures.items (omega (arith, depth)) w.push_reserved.ensures.capacity)
-      | else-was-level w ↦ subst P (sym w.self-inside-is) (IsSound-slot t c.self.invariant slots c.args.slot c.index-was.result.now x refl there c.index-was.ensures depth (omega (arith, depth)))
+      | then-was-level w ↦ subst P (sym w.self-inside-is) (IsSoundTrail-saved t c.self.invariant slots c.args.slot c.index-was.result.now x refl there c.index-was.ensures depth w.push_reserved.new.self w.push_reserved.ensures.items (omega (arith, depth)) w.push_reserved.ensures.capacity)
+      | else-was-level w ↦ subst P (sym w.self-inside-is) (IsSoundTrail-slot t c.self.invariant slots c.args.slot c.index-was.result.now x refl there c.index-was.ensures depth (omega (arith, depth)))
     ]
 
 pub returns : goal.returns

@@ -2,8 +2,8 @@ use Rattle.std.proofs.Common.{◌≡◌, List, Bool, ℤ, Some, [], length, ◌�
 use Rattle.std.specs.Prelude.{unwrap_or}
 use Rattle.std.specs.Vec.{with_items}
 use Rattle.std.proofs.lemmas.List.{with_items_is}
-use Rattle.branch.specs.declared.answer.Answer.TheVariants.{Unbounded}
-use Rattle.whatif.specs.Session.{IsSearched, KeptBound}
+use Rattle.branch.specs.declared.answer.GreatestAnswer.TheVariants.{Unbounded}
+use Rattle.whatif.specs.Session.{IsSearchedAnew, KeptBound}
 use Rattle.whatif.specs.Step.Keeping.{Keeping}
 use Rattle.whatif.proofs.Bounds.{searched_is}
 use Rattle.whatif.proofs.bound.KeptBound.search.Goals as goal
@@ -31,12 +31,12 @@ returns-clause-searched c =
     let left = c.search_pair-answer.ensures.searched in
     let searched = searched_is c.args.net.now c.args.budget work.leaves old known work.times work.ray ray answer c.begin.new.self c.search_pair-answer.new.keeper
     c.keep_by.new.keeper left.0 empty lines_fit edges_fit left.1 left.2 same c.keep_by.ensures in
-    subst (λ (o : KeptBound). IsSearched c.args.net.now c.args.budget known o (record {
+    subst (λ (o : KeptBound). IsSearchedAnew c.args.net.now c.args.budget known o (record {
       pair = c.self.inside.pair;
       answer = answer;
       times = c.copy_from_slice.new.self.items;
       ray = ray;
       proof = c.keep_by.new.keeper.lines;
     })) c.self.view_is
-    (subst (λ ts. IsSearched c.args.net.now c.args.budget known old (record { pair = c.self.inside.pair; answer = answer; times = ts; ray = ray; proof = c.keep_by.new.keeper.lines }))
+    (subst (λ ts. IsSearchedAnew c.args.net.now c.args.budget known old (record { pair = c.self.inside.pair; answer = answer; times = ts; ray = ray; proof = c.keep_by.new.keeper.lines }))
     (sym times) searched)

@@ -1,7 +1,7 @@
 use Rattle.std.proofs.Common.{◌≡◌, length, All, ◌∙◌, ap, sym, subst, arith}
 use Rattle.std.proofs.lemmas.List.{with_items_is}
 use Rattle.event_graph.specs.Network.{Net}
-use Rattle.whatif.specs.Session.{IsPairOf, View}
+use Rattle.whatif.specs.Session.{IsPairOf, SessionView}
 use Rattle.whatif.specs.Step.Bounds.{IsPairIn}
 use Rattle.whatif.proofs.Sessions.{count_bounds, pairs_in, sound_behind}
 use Rattle.whatif.proofs.session.Session.edit.Goals as goal
@@ -20,7 +20,7 @@ settle_by-requires-clause-pairs c =
 
 pub invariant_of-self-2 : goal.invariant_of-self-2
 invariant_of-self-2 c =
-    let old : View = record { net = c.self.inside.net; budget = c.self.inside.budget; pairs = c.self.inside.pairs.items; found = c.self.inside.found; bounds = c.self.inside.bounds.items } in
+    let old : SessionView = record { net = c.self.inside.net; budget = c.self.inside.budget; pairs = c.self.inside.pairs.items; found = c.self.inside.found; bounds = c.self.inside.bounds.items } in
     sound_behind old c.args.constraint c.args.cause c.args.range c.work_for.new.net c.settle_by.new.found c.deref_mut.result.now c.settle_by.new.bounds _ c.settle_by.result
     c.self.inside.checker.room c.settle_by.new.checker.room c.self.invariant c.in_ok-work.ensures.set c.in_ok-work.ensures.made.is_net c.settle_by.ensures.finding c.settle_by.ensures.settled
     c.settle_by.ensures.room c.settle_by.ensures.places c.deref_mut.ensures.value
@@ -28,7 +28,7 @@ invariant_of-self-2 c =
 
 pub returns-clause-right : goal.returns-clause-right
 returns-clause-right c =
-    let old : View = record { net = c.self.inside.net; budget = c.self.inside.budget; pairs = c.self.inside.pairs.items; found = c.self.inside.found; bounds = c.self.inside.bounds.items } in
+    let old : SessionView = record { net = c.self.inside.net; budget = c.self.inside.budget; pairs = c.self.inside.pairs.items; found = c.self.inside.found; bounds = c.self.inside.bounds.items } in
     (sound_behind old c.args.constraint c.args.cause c.args.range c.work_for.new.net c.settle_by.new.found c.deref_mut.result.now c.settle_by.new.bounds _ c.settle_by.result
     c.self.inside.checker.room c.settle_by.new.checker.room c.self.invariant c.in_ok-work.ensures.set c.in_ok-work.ensures.made.is_net c.settle_by.ensures.finding c.settle_by.ensures.settled
     c.settle_by.ensures.room c.settle_by.ensures.places c.deref_mut.ensures.value

@@ -2,7 +2,7 @@ use Rattle.std.proofs.Common.{◌≡◌, ◌∙◌, length, ap, arith}
 use Rattle.compose.specs.Design.{Composed}
 use Rattle.unroll.specs.Step.Firsts.{firsts_of}
 use Rattle.unroll.proofs.PartLists.{first_read, length-firsts_of}
-use Rattle.unroll.proofs.numbered.Numbered.first_of.Goals as goal
+use Rattle.unroll.proofs.numbered.NumberedDesign.first_of.Goals as goal
 
 pub index-requires : goal.index-requires
 index-requires c =

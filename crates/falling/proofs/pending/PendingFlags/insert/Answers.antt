@@ -1,5 +1,5 @@
 use Rattle.falling.proofs.Flags.{start_kept}
-use Rattle.falling.proofs.pending.Pending.insert.Goals as goal
+use Rattle.falling.proofs.pending.PendingFlags.insert.Goals as goal
 
 pub invariant_of-self : goal.invariant_of-self
 invariant_of-self c =
