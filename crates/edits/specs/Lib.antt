@@ -1,3 +1,4 @@
+-- The modules of definitions of this crate.
 pub mod EditLine
 pub mod EditsFile
 pub mod Laws

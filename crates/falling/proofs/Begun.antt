@@ -57,7 +57,7 @@ begun_after net check line values ended is_net begun goes_on allowed is ends =
       most = fallen_most net check.values line begun.most (omega (arith, begun.made.count)) allowed.lower;
     })
 
--- the same of a checker whose parts are told apart
+-- the same of a checker that is given by its parts
 pub begun_at : (net : Net) (check before : Checking) (line : FallLine) (values given : List ℤ) (ended : Bool) → before ≡ check → IsNet net → IsBegun net check → before.ended ≡ false
     → given ≡ before.values → IsLineAllowed net given line → values ≡ fallen given line → (IsTrue ended ↔ EndsDerivation line before.source before.limits.lowest)
     → IsBegun net (checking before.limits before.source values ended)

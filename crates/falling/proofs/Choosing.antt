@@ -33,7 +33,7 @@ met kind constraints number within is_one = go kind constraints number number wi
     go kind (c ∷ cs) zero at within is_one = rw (sym is_one) refl
     go kind (c ∷ cs) (suc number) at within is_one = go kind cs number at (omega arith) is_one
 
--- behind the last constraint there is none
+-- behind the last constraint there is no constraint
 pub none_left : (kind : RuleKind) (constraints : List Constraint) (number : ℕ) → length constraints ≤ number → position_from (is_choice_of kind) number (drop number constraints) ≡ None
 none_left kind constraints number past = go kind constraints number number past
   where
@@ -60,7 +60,7 @@ not_choice kind (c ∷ cs) at (suc k) d within none = not_choice kind cs (at + 1
 
 -- ---- the negation
 
--- a choice of the negation is one of the negated kind
+-- a choice of the negation is a choice of the negated kind
 choice-negated : (kind other : RuleKind) (count : ℕ) → is_choice kind (negated_kind other) count ≡ is_choice (negated_kind kind) other count
 choice-negated Lin other count = refl
 choice-negated Late Lin count = refl

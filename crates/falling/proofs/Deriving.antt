@@ -61,7 +61,7 @@ set_here [] i x d within = absurd (omega arith)
 set_here (y ∷ xs) zero x d within = refl
 set_here (y ∷ xs) (suc i) x d within = set_here xs i x d (omega arith)
 
--- one that ends it ends it
+-- a line that ends a derivation brings it to its end
 pub ended_after : (net : Net) (from : EventId) (values : List ℤ) (line : FallLine) (lowest : ℤ) → lowest ≡ neg_ℤ (pos (far_line net)) → line.event.0 < length values
     → EndsDerivation line from lowest → IsEnded net from (fallen values line)
 ended_after net from values line lowest is_lowest within (inl (same, low)) =

@@ -44,7 +44,7 @@ constraints-negated : (ks : List Constraint) → widest_of (map negated_constrai
 constraints-negated [] = refl
 constraints-negated (k ∷ ks) = rw (causes-negated k.causes, constraints-negated ks) refl
 
--- the widest end, and so the cap and the far line, are those of the network
+-- the negation has the widest end of the network, and so its cap and its far line
 pub widest-negated : (net : Net) → widest_end (negated net) ≡ widest_end net
 widest-negated net = constraints-negated net.constraints
 
@@ -63,7 +63,7 @@ limits_negated net limits are =
 pub plain_negated : (net : Net) → IsNegatable net → IsPlain (negated net)
 plain_negated net negatable = first_choice-negated Early net ∙ negatable
 
--- no times of the negation: none of the network
+-- where no times satisfy the negation, none satisfy the network
 pub inconsistent_from : (net : Net) → IsInconsistent (negated net) → IsInconsistent net
 inconsistent_from net none times h = none (negated_times times) (satisfies_turns net times h)
 
@@ -91,7 +91,7 @@ raised_none [] values = refl
 raised_none (b ∷ set) [] = refl
 raised_none (b ∷ set) (value ∷ values) = ap suc (raised_none set values)
 
--- a ray of the negation is one of the network with the other events
+-- a ray of the negation gives a ray of the network, with the other events
 pub ray_from : (net : Net) (from to : EventId) (values : List ℤ) (set : List Bool) → IsNet net → IsRay (negated net) to from values set
     → IsRay net from to (negated_times values) (map not set)
 ray_from net from to values set is_net ray =

@@ -12,7 +12,7 @@ use Rattle.falling.specs.declared.line.Reason.{Reason}
 use Rattle.falling.specs.declared.line.Reason.TheVariants.{ByEdge, ByLatest}
 use Rattle.falling.specs.Step.Turns.{ReasonBefore, IsFirstOf, IsFirstOnSide, IsOfKind, IsSideTried, IsTried, constraint_of, latest_rank, side_rank}
 
--- two sides of a constraint have two places, and neither is that of the latest line
+-- two sides of a constraint have two places, and neither is the place of the latest line
 same_side : (kind : RuleKind) (a b : Side) → side_rank kind a ≡ side_rank kind b → a ≡ b
 same_side Lin Lower Lower e = refl
 same_side Lin Lower Upper e = absurd (omega arith)

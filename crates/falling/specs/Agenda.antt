@@ -11,11 +11,11 @@ pub record AreLists (net : Net) (lists : List (List ℕ)) : Type 0 where
   pub count : length lists ≡ net.events
   pub within : (event : ℕ) → All (λ (number : ℕ). number < length net.constraints) (at_event lists event)
 
--- where there is an edge of the name, its constraint follows the event where it starts
+-- where there is an edge of the name, its constraint follows the event where the edge starts
 abbrev pub HasName : Net → List (List ℕ) → EdgeName → Type 0
 HasName net lists name = (e : Edge) → edge net name ≡ Some e → Contains (at_event lists e.from.0) name.constraint
 
--- for each event the constraints of which some edge starts there
+-- for each event the constraints with an edge that starts there
 pub record AreFollowers (net : Net) (followers : List (List ℕ)) : Type 0 where
   pub lists : AreLists net followers
   pub edges : (name : EdgeName) → HasName net followers name

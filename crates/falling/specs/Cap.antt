@@ -10,17 +10,17 @@ abbrev pub end_size : Option ℤ → ℕ
 end_size None = 0
 end_size (Some end) = unsigned_abs end
 
--- the greatest absolute value of the finite ends of some causes, 0 where there is none
+-- the greatest absolute value of the finite ends of some causes, 0 where no end is finite
 abbrev pub widest_of_causes : List Cause → ℕ
 widest_of_causes [] = 0
 widest_of_causes (c ∷ cs) = max (max (end_size c.range.low) (end_size c.range.high)) (widest_of_causes cs)
 
--- the same of some constraints
+-- the greatest absolute value of the finite ends of some constraints, 0 where no end is finite
 abbrev pub widest_of : List Constraint → ℕ
 widest_of [] = 0
 widest_of (k ∷ ks) = max (widest_of_causes k.causes) (widest_of ks)
 
--- the greatest absolute value of a finite end of a network
+-- the greatest absolute value of a finite end of a network, 0 where no end is finite
 abbrev pub widest_end : Net → ℕ
 widest_end net = widest_of net.constraints
 
@@ -28,7 +28,7 @@ widest_end net = widest_of net.constraints
 abbrev pub cap : Net → ℕ
 cap net = 2 * net.events * (widest_end net + 1)
 
--- a value at least as great shows that a pair is unbounded, and one as far below 0 that no times satisfy
+-- a value of at least this shows that a pair is unbounded, and a value below minus this shows that no times satisfy
 abbrev pub far_line : Net → ℕ
 far_line net = net.events * (widest_end net + 1)
 
@@ -36,7 +36,7 @@ far_line net = net.events * (widest_end net + 1)
 abbrev pub enough_turns : Net → ℕ
 enough_turns net = net.events * (3 * net.events * (widest_end net + 1) + 1)
 
--- no cap is greater, and so no value
+-- no cap is greater, and so no value is
 abbrev pub cap_limit : ℕ
 cap_limit = 2 * MAX_EVENTS * (weight_limit + 1)
 
@@ -44,6 +44,6 @@ cap_limit = 2 * MAX_EVENTS * (weight_limit + 1)
 abbrev pub IsNearValue : ℤ → Type 0
 IsNearValue value = (neg_ℤ (pos cap_limit) ≤ℤ value) × (value ≤ℤ pos cap_limit)
 
--- no number of turns that is enough is greater
+-- `enough_turns` of no network is greater
 abbrev pub enough_limit : ℕ
 enough_limit = MAX_EVENTS * (3 * MAX_EVENTS * (weight_limit + 1) + 1)

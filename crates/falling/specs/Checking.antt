@@ -24,7 +24,7 @@ IsEdgeTo net event name = IsAlways net name × IsSomeAnd (edge net name) (λ (e 
 abbrev pub IsLatestTo : Net → EventId → ℕ → Type 0
 IsLatestTo net event number = IsSomeAnd (slice_get net.constraints number) (IsLatestOf event)
 
--- the reason is one of a kind that the event has not
+-- the reason names no always-edge to the event, or no latest constraint that can lower it; the fault says which
 abbrev pub IsNoReason : Net → EventId → Reason → FallCheckFault → Type 0
 IsNoReason net event (ByEdge name) fault = (fault ≡ NoEdge) × (IsEdgeTo net event name → ⊥)
 IsNoReason net event (ByLatest number) fault = (fault ≡ NoLate) × (IsLatestTo net event number → ⊥)
@@ -50,7 +50,7 @@ IsCheckFault net from values line NoEdge = (IsEnded net from values → ⊥) × 
 IsCheckFault net from values line NoLate = (IsEnded net from values → ⊥) × IsFallCheckFault net values line NoLate
 IsCheckFault net from values line (WrongValue due) = (IsEnded net from values → ⊥) × IsFallCheckFault net values line (WrongValue due)
 
--- what a checker is at: its limits, its source, the values, and whether the derivation has ended
+-- the state of a checker: its limits, its source, the values, and whether the derivation has ended
 pub record Checking : Type 0 where
   pub limits : Limits
   pub source : EventId
@@ -62,7 +62,7 @@ pub record IsCheckerFor (net : Net) (check : Checking) : Type 0 where
   pub limits : AreLimits net check.limits
   pub count : length check.values ≡ net.events
 
--- a checker that was begun: the values are those of a derivation from its source
+-- a checker that was begun: a derivation from its source gives the values
 pub record IsBegun (net : Net) (check : Checking) : Type 0 where
   pub made : IsCheckerFor net check
   pub source : check.source.0 < net.events

@@ -8,7 +8,7 @@ use Rattle.falling.specs.declared.line.FallLine.{FallLine}
 use Rattle.falling.specs.Cap.{cap, cap_limit, far_line, widest_end}
 use Rattle.falling.specs.Derivation.{IsLineAllowed, IsDerivation, IsEnded}
 
--- the cap and the far line of a network, and the limits that they keep to
+-- the limits of a network, with the cap and the widest end no greater than they can be
 pub record AreLimits (net : Net) (limits : Limits) : Type 0 where
   pub cap_is : limits.cap ≡ pos (cap net)
   pub far_is : limits.far ≡ pos (far_line net)
@@ -17,7 +17,7 @@ pub record AreLimits (net : Net) (limits : Limits) : Type 0 where
   pub small : cap net ≤ cap_limit
   pub small_width : widest_end net ≤ weight_limit
 
--- the lines are a derivation of as many lines as turns that has not ended, and one more is allowed
+-- the lines are a derivation of as many lines as turns; it has not ended, and one more line is allowed
 pub record IsSpent (net : Net) (from : EventId) (turns : ℕ) (lines : List FallLine) (values : List ℤ) : Type 0 where
   pub derivation : IsDerivation net from lines values
   pub not_ended : IsEnded net from values → ⊥

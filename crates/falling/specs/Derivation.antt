@@ -17,23 +17,23 @@ use Rattle.falling.specs.Cap.{cap, far_line}
 abbrev pub starting_values : Net → EventId → List ℤ
 starting_values net from = set (replicate net.events (pos (cap net))) from.0 (pos 0)
 
--- an always-edge to the event gives it the value: that of the from-event and the weight
+-- an always-edge to the event gives it the value: the value of the from-event plus the weight
 abbrev pub IsDueByEdge : Net → List ℤ → EventId → ℤ → EdgeName → Type 0
 IsDueByEdge net values event value name =
     IsAlways net name × IsSomeAnd (edge net name) (λ (e : Edge). (e.to ≡ event) × (value ≡ (time_of values e.from +ℤ e.weight)))
 
--- the greatest of the values of some causes, each with its high end
+-- the greatest of the values of some causes, each plus its high end
 pub record IsLatestHigh (values : List ℤ) (causes : List Cause) (value : ℤ) : Type 0 where
   pub most : All (λ (c : Cause). IfSome c.range.high (λ high. (time_of values c.event +ℤ high) ≤ℤ value)) causes
   pub attained : Any (λ (c : Cause). IsSomeAnd c.range.high (λ high. value ≡ (time_of values c.event +ℤ high))) causes
 
--- a latest constraint that can lower an event: it is the target, and each high end is finite
+-- a latest constraint that can lower an event: the event is the target, and each high end is finite
 pub record IsLatestOf (event : EventId) (c : Constraint) : Type 0 where
   pub kind : c.kind ≡ Late
   pub target : c.target ≡ event
   pub finite : All (λ (cause : Cause). IsSome cause.range.high) c.causes
 
--- a latest constraint gives the event the value: the greatest of its causes' values with their high ends
+-- a latest constraint gives the event the value: the greatest of its causes' values, each plus its high end
 abbrev pub IsDueByLatest : Net → List ℤ → EventId → ℤ → ℕ → Type 0
 IsDueByLatest net values event value number =
     IsSomeAnd (slice_get net.constraints number) (λ (c : Constraint). IsLatestOf event c × IsLatestHigh values c.causes value)
@@ -43,7 +43,7 @@ abbrev pub IsDue : Net → List ℤ → EventId → ℤ → Reason → Type 0
 IsDue net values event value (ByEdge name) = IsDueByEdge net values event value name
 IsDue net values event value (ByLatest number) = IsDueByLatest net values event value number
 
--- a line gives the event what is due, which is below its value
+-- a line gives the event the value that is due, which is below its value so far
 pub record IsLineAllowed (net : Net) (values : List ℤ) (line : FallLine) : Type 0 where
   pub due : IsDue net values line.event line.value line.reason
   pub lower : line.value <ℤ time_of values line.event

@@ -32,12 +32,12 @@ pub record IsShownInconsistent (net : Net) (from : EventId) (lines : List FallLi
   pub none : IsInconsistent net
   pub derivation : (values : List ℤ) × IsDerivation net from lines values × IsEnded net from values
 
--- the lines are a derivation of as many lines as turns, which are not enough, and one more is allowed
+-- the lines are a derivation of as many lines as turns, and one more line is allowed; the turns are fewer than enough
 pub record HasSpentTurns (net : Net) (from : EventId) (turns : ℕ) (lines : List FallLine) (values : List ℤ) : Type 0 where
   pub spent : IsSpent net from turns lines values
   pub few : turns < enough_turns net
 
--- a pair of events and so many lines are asked
+-- a pair of events is asked for, and the derivation may have so many lines
 abbrev pub asked_of : EventId → EventId → ℕ → Asked
 asked_of from to turns = record { from = from; to = to; turns = turns }
 

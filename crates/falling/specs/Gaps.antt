@@ -15,13 +15,13 @@ pub record IsGapBeyond (width : ℕ) (times : List ℤ) (lower upper : ℤ) : Ty
 abbrev pub with_gap : List ℤ → ℤ → ℤ → ℤ → List ℤ
 with_gap times lower upper gap = map (λ time. if int_le upper time then time +ℤ (gap -ℤ (upper -ℤ lower)) else time) times
 
--- times that satisfy, with an event at 0, none above the cap
+-- times that satisfy, with an event at 0 and no time above the cap
 pub record IsWithinCap (net : Net) (from : EventId) (times : List ℤ) : Type 0 where
   pub satisfies : Satisfies times net
   pub source : time_of times from ≡ pos 0
   pub most : All (λ (time : ℤ). time ≤ℤ pos (cap net)) times
 
--- some times within the cap have this separation, or one of at least the far line
+-- some times within the cap have this separation, or a separation of at least the far line
 abbrev pub HasWithinCap : Net → EventId → EventId → ℤ → Type 0
 HasWithinCap net from to value =
     (times : List ℤ) × IsWithinCap net from times × ((separation times from to ≡ value) ⊎ (pos (far_line net) ≤ℤ separation times from to))

@@ -7,7 +7,8 @@ use Rattle.itv_base.specs.declared.names.RuleKind.TheVariants.{Lin, Late, Early}
 use Rattle.event_graph.specs.declared.cause.Cause.{Cause}
 use Rattle.event_graph.specs.Network.{Constraint, Net}
 
--- whether a constraint of the second kind with so many causes is a choice of the first, latest or earliest: of that kind, with two or more causes
+-- whether a constraint of the second kind with so many causes is a choice of the first kind: both kinds are latest or both earliest, and it has two or
+-- more causes
 abbrev pub is_choice : RuleKind → RuleKind → ℕ → Bool
 is_choice Late Late causes = nat_le 2 causes
 is_choice Early Early causes = nat_le 2 causes

@@ -19,7 +19,7 @@ abbrev pub GapCanBeSet : Type 0
 GapCanBeSet = (net : Net) (times : List ℤ) (lower upper gap : ℤ) → IsNet net → Satisfies times net → IsGapBeyond (widest_end net) times lower upper
     → pos (widest_end net) ≤ℤ gap → Satisfies (with_gap times lower upper gap) net
 
--- where satisfying times have a separation, some times within the cap have it too, or one of at least the far line
+-- where satisfying times have a separation, some times within the cap have it too, or have a separation of at least the far line
 abbrev pub SeparationWithinCap : Type 0
 SeparationWithinCap = (net : Net) (from to : EventId) (times : List ℤ) → IsNet net → from.0 < net.events → to.0 < net.events → Satisfies times net
     → HasWithinCap net from to (separation times from to)
@@ -58,15 +58,15 @@ abbrev pub NotEndedIsShort : Type 0
 NotEndedIsShort = (net : Net) (from : EventId) (lines : List FallLine) (values : List ℤ) → IsNet net → from.0 < net.events → IsDerivation net from lines values
     → (IsEnded net from values → ⊥) → length lines < enough_turns net
 
--- times satisfy a network exactly where the negated times satisfy the negated network
+-- times satisfy a network if and only if the negated times satisfy the negated network
 abbrev pub NegationKeepsSatisfying : Type 0
 NegationKeepsSatisfying = (net : Net) (times : List ℤ) → IsNet net → (Satisfies times net ↔ Satisfies (negated_times times) (negated net))
 
--- the greatest separation of a pair is that of the reversed pair in the negated network
+-- the greatest separation of a pair is the greatest separation of the reversed pair in the negated network
 abbrev pub NegationReversesGreatest : Type 0
 NegationReversesGreatest = (net : Net) (from to : EventId) (value : ℤ) → IsNet net → (IsGreatest net from to value ↔ IsGreatest (negated net) to from value)
 
--- and so is whether it is unbounded
+-- a pair is unbounded if and only if the reversed pair is unbounded in the negated network
 abbrev pub NegationReversesUnbounded : Type 0
 NegationReversesUnbounded = (net : Net) (from to : EventId) → IsNet net → (IsUnbounded net from to ↔ IsUnbounded (negated net) to from)
 

@@ -1,3 +1,4 @@
+-- The modules of definitions of this crate.
 pub mod Cap
 pub mod Kinds
 pub mod View

@@ -1,4 +1,4 @@
--- What a solver made for a network is at, and what it says of a pair.
+-- The state of a solver that is made for a network, and what the solver says of a pair.
 use Rattle.std.specs.Prelude.{◌≤◌, ◌≡◌, ◌<◌, ℕ, ℤ, Bool, List, length, Option, Some, None}
 use Rattle.itv_base.specs.declared.names.EventId.{EventId}
 use Rattle.event_graph.specs.Bounds.{IsGreatest, IsInconsistent, IsRay}
@@ -19,8 +19,8 @@ use Rattle.falling.specs.Fallen.{IsFallenAnswer}
 use Rattle.falling.specs.Kinds.{negated, negated_times}
 use Rattle.falling.specs.View.{IsViewOf}
 
--- what a solver is at: the negation that it solves, if that is the view of the network, its limits, a number of turns that is enough,
--- its agenda, the times, the ray, and the turns of the last answer
+-- the state of a solver: the negation, if it is the network that is solved; the limits; a number of turns that is enough; the agenda; the times, the ray
+-- and the turns of the last answer
 pub record Solving : Type 0 where
   pub negation : Option Net
   pub limits : Limits
@@ -30,7 +30,7 @@ pub record Solving : Type 0 where
   pub ray : List Bool
   pub turns : ℕ
 
--- a network of the plain view is solved itself, and one of the negated view by its negation
+-- a network of the plain view is solved itself, and a network of the negated view by its negation
 abbrev pub IsNegationOf : Net → Option Net → Type 0
 IsNegationOf net None = IsViewOf net Plain
 IsNegationOf net (Some negation) = (negation ≡ negated net) × IsViewOf net Negated
@@ -50,15 +50,16 @@ pub record IsMadeFor (net : Net) (solving : Solving) : Type 0 where
   pub times : length solving.times ≡ net.events
   pub ray : length solving.ray ≡ net.events
 
--- the value is the greatest separation, the times satisfy and attain it, and the lines are a derivation in the negation from the to-event,
--- which gives it to the from-event and gives each event minus its time
+-- the value is the greatest separation, the times satisfy and attain it, and the lines are a derivation in the negation from the to-event, which gives the
+-- value to the from-event and gives each event minus its time
 pub record IsClosedByNegation (net : Net) (from to : EventId) (value : ℤ) (lines : List FallLine) (times : List ℤ) : Type 0 where
   pub greatest : IsGreatest net from to value
   pub satisfies : Satisfies times net
   pub attained : separation times from to ≡ value
   pub derivation : (values : List ℤ) × IsDerivation (negated net) to lines values × (times ≡ negated_times values) × (time_of values from ≡ value)
 
--- the times satisfy, and the events of the ray can be raised from them without end; the derivation is one in the negation from the to-event
+-- the times satisfy, and the events of the ray can be raised from them without end; the lines are a derivation in the negation from the to-event, which
+-- gives each event minus its time
 pub record IsUnboundedByNegation (net : Net) (from to : EventId) (lines : List FallLine) (times : List ℤ) (ray : List Bool) : Type 0 where
   pub satisfies : Satisfies times net
   pub raised : IsRay net from to times ray
@@ -69,7 +70,7 @@ pub record IsInconsistentByNegation (net : Net) (to : EventId) (lines : List Fal
   pub none : IsInconsistent net
   pub derivation : (values : List ℤ) × IsDerivation (negated net) to lines values × IsEnded (negated net) to values
 
--- the lines are a derivation in the negation from the to-event of as many lines as turns, which are not enough, and one more is allowed
+-- the lines are a derivation in the negation from the to-event of as many lines as turns, and one more line is allowed; the turns are fewer than enough
 pub record HasSpentTurnsByNegation (net : Net) (to : EventId) (turns : ℕ) (lines : List FallLine) : Type 0 where
   pub spent : (values : List ℤ) × IsSpent (negated net) to turns lines values
   pub few : turns < enough_turns net

@@ -19,7 +19,7 @@ use itv_base::{EventId, MAX_EVENTS, NoMemory};
 use std::alloc::Global;
 use std::marker::Model;
 
-/// The constraints that may be able to lower a value, each by its flag, and those that follow each event.
+/// A flag for each constraint that may be able to lower a value, and the constraints that follow each event.
 #[derive(Debug, Drop)]
 pub struct Agenda {
     followers: ByEvent<u32>,
@@ -54,7 +54,7 @@ impl Agenda {
         self.pending.fill();
     }
 
-    /// The first line of the constraint of least number that allows one. Each that is looked at in vain loses its flag.
+    /// The first line of the constraint of least number that allows a line. A constraint that is looked at in vain loses its flag.
     pub fn next_line(&mut self, net: &Network, values: &[i64]) -> Option<FallLine>
         requires made { IsAgendaFor net.now self.old }
         requires count { length values.now ≡ net.now.events }

@@ -1,4 +1,4 @@
-//! What a line of a derivation is due.
+//! Which line the values of a derivation allow, and which value is due.
 
 ghost use Rattle.std.specs.Prelude.{◌≡◌, ◌<◌, All, OnOk, IfOk, IfErr, IfSome, IfNone, length};
 ghost use Rattle.event_graph.specs.Network.{IsNet};
@@ -12,7 +12,7 @@ use crate::turn::{Due, latest_value, moved};
 use event_graph::Network;
 use itv_base::{EdgeName, EventId, RuleKind};
 
-/// Whether the values allow a line, or the first fault of it.
+/// Whether the values allow a line, or else the first fault of the line.
 pub fn judge(net: &Network, values: &[i64], line: FallLine) -> Result<(), FallCheckFault>
     requires net { IsNet net.now }
     requires event { line.event.0 < net.now.events }
@@ -55,7 +55,7 @@ fn due_of(net: &Network, values: &[i64], line: FallLine) -> Result<Due, FallChec
     }
 }
 
-// The value that an edge gives an event, if it is an always-edge to it.
+// The value that an edge gives an event, if the edge is an always-edge to the event.
 fn due_by_edge(net: &Network, values: &[i64], event: EventId, name: EdgeName) -> Option<Due>
     requires count { length values.now ≡ net.now.events }
     requires near { All IsNearValue values.now }
@@ -74,7 +74,7 @@ fn due_by_edge(net: &Network, values: &[i64], event: EventId, name: EdgeName) ->
     })
 }
 
-// The value that a latest constraint gives an event, if it is its target and all high ends are finite.
+// The value that a latest constraint gives an event, if the event is its target and all high ends are finite.
 fn due_by_latest(net: &Network, values: &[i64], event: EventId, number: u32) -> Option<Due>
     requires net { IsNet net.now }
     requires count { length values.now ≡ net.now.events }

@@ -19,9 +19,8 @@ use std::marker::Model;
 
 /// Checks the lines of derivations over one network, one after another.
 ///
-/// It is made for a network, and every later call is given the same one. After [`FallChecker::begin`] the source
-/// is at 0 and every other event at the cap; each line that is taken lowers the value of an event. No call but
-/// `new` takes memory.
+/// It is made for a network, and every later call gets the same network. After [`FallChecker::begin`] the source is at 0 and every other event
+/// at the cap; each line that is taken lowers the value of an event. No call but `new` takes memory.
 #[derive(Debug, Drop)]
 pub struct FallChecker {
     limits: Limits,
@@ -64,8 +63,8 @@ impl FallChecker {
         self.is_ended = false;
     }
 
-    /// Takes a line by which an event falls to a value, in picoseconds, by an always-edge, or tells its first
-    /// fault and changes nothing.
+    /// Takes a line by which an event falls to a value, in picoseconds, by an always-edge. A line that is refused gives its first fault and
+    /// changes nothing.
     pub fn take_fall(
         &mut self,
         net: &Network,
@@ -96,8 +95,8 @@ impl FallChecker {
         )
     }
 
-    /// Takes a line by which an event falls to a value, in picoseconds, by the latest constraint of a number, or
-    /// tells its first fault and changes nothing.
+    /// Takes a line by which an event falls to a value, in picoseconds, by the latest constraint of a number. A line that is refused gives its
+    /// first fault and changes nothing.
     pub fn take_late(
         &mut self,
         net: &Network,
@@ -128,7 +127,7 @@ impl FallChecker {
         )
     }
 
-    // Takes a line that is allowed, or tells its first fault.
+    // Takes a line that is allowed. A line that is refused gives its first fault and changes nothing.
     fn take(&mut self, net: &Network, line: FallLine) -> Result<(), FallCheckFault>
         requires begun { IsBegun net.now self.old }
         requires event { line.event.0 < net.now.events }

@@ -15,7 +15,7 @@ use crate::notes::{FallScribe, FallScribeFailed};
 use event_graph::Network;
 use itv_base::EventId;
 
-/// How a derivation went: no line is allowed any more, it has ended, or its turns were spent.
+/// How a derivation went: no line is allowed any more, the derivation has ended, or its turns were spent.
 #[derive(Clone, Copy, Debug, PartialEq, Eq)]
 pub enum DerivationEnd {
     Settled,

@@ -30,8 +30,8 @@ use std::marker::Model;
 
 /// Finds greatest separations over one network whose choices are all of one kind.
 ///
-/// It is made for a network, and every later call is given the same one. A network that is not plain is solved
-/// by its negation: the pair is turned round, and the times are negated. No call but `new` takes memory.
+/// It is made for a network, and every later call gets the same network. A network that is not plain is solved by its negation: the pair is
+/// turned round, and the times are negated. No call but `new` takes memory.
 #[derive(Debug, Drop)]
 pub struct Falling {
     negation: Option<Network>,
@@ -78,9 +78,8 @@ impl Falling {
         self.enough
     }
 
-    /// The greatest separation of a pair of events, in picoseconds, by a derivation of at most so many lines,
-    /// which are noted. Over a plain network it is a derivation from the from-event. Else it is one in the
-    /// negation from the to-event.
+    /// The greatest separation of a pair of events, in picoseconds, by a derivation of at most so many lines, which are noted. Over a plain
+    /// network it is a derivation from the from-event. Else it is a derivation in the negation from the to-event.
     pub fn greatest<N: FallScribe>(
         &mut self,
         net: &Network,
@@ -121,8 +120,8 @@ impl Falling {
         }
     }
 
-    /// The times of the last answer, in picoseconds, one per event. After [`Fallen::Closed`] they satisfy and
-    /// attain it, after [`Fallen::Unbounded`] they satisfy.
+    /// The times of the last answer, in picoseconds, one per event. After [`Fallen::Closed`] they satisfy and attain the separation. After
+    /// [`Fallen::Unbounded`] they satisfy.
     pub fn times(&self) -> &[i64]
         ensures times { result.now ≡ self.now.times }
     {
@@ -269,7 +268,7 @@ fn turn_round(times: &mut [i64], ray: &mut [bool])
     complement(ray);
 }
 
-// Puts minus each time in its place.
+// Makes each time its negative.
 fn negate(times: &mut [i64])
     requires near { All IsNearValue times.old }
     ensures { times.new ≡ negated_times times.old }
@@ -279,7 +278,7 @@ fn negate(times: &mut [i64])
     }
 }
 
-// Puts minus the time of one event in its place.
+// Makes the time of one event its negative.
 fn negate_at(times: &mut [i64], event: usize)
     requires event { event < length times.old }
     requires near { IsNearValue (slice_index_or times.old event (pos 0)) }
@@ -288,7 +287,7 @@ fn negate_at(times: &mut [i64], event: usize)
     times[event] = -times[event];
 }
 
-// Turns each flag.
+// Makes each flag its opposite.
 fn complement(flags: &mut [bool])
     ensures { flags.new ≡ map not flags.old }
 {

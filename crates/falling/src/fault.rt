@@ -22,8 +22,7 @@ impl fmt::Display for Mixed {
 
 impl Error for Mixed {}
 
-/// The first fault of a line of a derivation, in the order in which they are looked for. Values are in
-/// picoseconds.
+/// The first fault of a line of a derivation. The checker looks for faults in the order below. Values are in picoseconds.
 #[derive(Clone, Copy, Debug, PartialEq, Eq)]
 pub enum FallCheckFault {
     /// The lines before have ended the derivation already.
@@ -32,9 +31,9 @@ pub enum FallCheckFault {
     NotLower(i64),
     /// The edge is no always-edge to the event.
     NoEdge,
-    /// The constraint is no latest one with this target whose high ends are all finite.
+    /// The constraint is not a latest constraint with this target and with all high ends finite.
     NoLate,
-    /// The reason gives this value, which is another one.
+    /// The reason gives this value, and the line has another.
     WrongValue(i64),
 }
 

@@ -9,9 +9,8 @@ use event_graph::{ByEvent, Network};
 use itv_base::{EdgeName, NoMemory, Side};
 use std::alloc::Global;
 
-/// The followers of each event of a network: the constraints of which some edge starts at the event, by their
-/// numbers from the least on, each once. Only these can lower a value by the fall of the event. Takes all the
-/// memory that is ever needed.
+/// The followers of each event of a network: the constraints with an edge that starts at the event. They stand by number, the least first, each
+/// once. When the event falls, only its followers can become able to lower a value. Takes all the memory that is ever needed.
 pub fn followers(alloc: Global, net: &Network) -> Result<ByEvent<u32>, NoMemory>
     ensures { IfOk result (AreFollowers net.now) }
 {
@@ -53,8 +52,8 @@ fn push_constraint(net: &Network, number: u32, lists: &mut ByEvent<u32>) -> Resu
     Ok(())
 }
 
-// Adds the constraint of an edge to the followers of the event where it starts, if there is an edge of the name and
-// the constraint is not the last of them.
+// Adds the constraint of an edge to the followers of the event where the edge starts. Changes nothing if there is no edge of the name, or if the
+// constraint is the last follower already.
 fn push_edge(net: &Network, name: EdgeName, lists: &mut ByEvent<u32>) -> Result<(), NoMemory>
     requires lists { AreLists net.now lists.old }
     requires number { name.constraint < length net.now.constraints }
@@ -70,7 +69,7 @@ fn push_edge(net: &Network, name: EdgeName, lists: &mut ByEvent<u32>) -> Result<
     Ok(())
 }
 
-// Whether a number is the last of some.
+// Whether a number is the last of a list.
 fn is_last(numbers: &[u32], number: u32) -> bool
     ensures { IsTrue result → Contains numbers.now number }
 {

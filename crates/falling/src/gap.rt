@@ -10,14 +10,14 @@ ghost use Rattle.falling.specs.Step.Rays.{IsClimbed, IsStepTo, above};
 use crate::limits::Limits;
 use event_graph::Network;
 
-/// A number of picoseconds, with values at most it and beyond it.
+/// A number of picoseconds. Each value is at most the level or beyond it.
 #[derive(Clone, Copy, Debug, PartialEq, Eq)]
 pub struct Level {
     pub value: i64,
 }
 
-/// A level that no value is beyond by at most the widest end. It is reached from 0 in steps of at most that
-/// width, each to a value, by passes over the values.
+/// A level with a gap above it: each value is at most the level, or beyond it by more than the widest end. Passes over the values reach the
+/// level from 0, in steps of at most the widest end, each to a value.
 pub fn gap_level(net: &Network, values: &[i64], limits: Limits) -> Level
     requires limits { AreLimits net.now limits }
     requires count { length values.now ≡ net.now.events }
@@ -35,7 +35,7 @@ pub fn gap_level(net: &Network, values: &[i64], limits: Limits) -> Level
     }
 }
 
-// The level after a pass over the values, in which each becomes the level that is beyond it by at most the width.
+// The level after a pass over the values. Each value that is beyond the level so far by at most the widest end becomes the level.
 fn climb(net: &Network, values: &[i64], level: Level, limits: Limits) -> Level
     requires limits { AreLimits net.now limits }
     requires count { length values.now ≡ net.now.events }
@@ -52,7 +52,7 @@ fn climb(net: &Network, values: &[i64], level: Level, limits: Limits) -> Level
     best
 }
 
-// The level that comes a width above another.
+// The level that is the widest end above another.
 fn widened(level: Level, limits: Limits) -> Level
     requires low { pos 0 ≤ℤ level.value }
     requires high { level.value ≤ℤ pos cap_limit }
@@ -65,7 +65,7 @@ fn widened(level: Level, limits: Limits) -> Level
     }
 }
 
-// The other level, where it is beyond the first and at most the greatest that is allowed, or else the first.
+// The other level if it is beyond the first and at most `most`, or else the first.
 fn step(level: Level, most: Level, other: Level) -> Level
     ensures { IsStepTo level.value most.value other.value result.value }
 {

@@ -24,8 +24,8 @@ use crate::notes::{FallScribe, FallScribeFailed};
 use event_graph::Network;
 use itv_base::EventId;
 
-/// The greatest separation of a pair over a plain network, by a derivation of at most so many lines. The values
-/// are the times that attain it or show it unbounded with the ray.
+/// The greatest separation of a pair over a plain network, by a derivation of at most so many lines. The values of a closed answer are times
+/// that attain it. The values and the ray of an unbounded answer show that it is unbounded.
 pub fn greatest<N: FallScribe>(
     net: &Network,
     guide: &mut Guide,
@@ -77,8 +77,8 @@ pub fn greatest<N: FallScribe>(
     })
 }
 
-// The answer about settled values: closed below the far line, and from it on unbounded, with the events beyond a
-// gap as the ray.
+// The answer about settled values. The pair is closed where its value is below the far line. From the far line on the pair is unbounded, and the
+// ray has the events beyond a gap.
 fn settled(net: &Network, to: EventId, limits: Limits, values: &[i64], ray: &mut [bool]) -> Fallen
     requires plain { IsPlain net.now }
     requires to { to.0 < net.now.events }
@@ -109,7 +109,7 @@ fn mark_above(values: &[i64], level: Level, ray: &mut [bool])
     }
 }
 
-// The answer that a pair has the value of its to-event.
+// The answer that the greatest separation of a pair is the value of its to-event.
 fn closed_at(values: &[i64], event: EventId) -> Fallen
     requires { event.0 < length values.now }
     ensures { result ≡ Closed (time_of values.now event) }

@@ -7,7 +7,7 @@ ghost use Rattle.falling.specs.Kinds.{first_choice, is_choice};
 use event_graph::Network;
 use itv_base::RuleKind;
 
-/// The least number of a constraint of a kind with two or more causes. There is none of the linear kind.
+/// The least number of a constraint of a kind with two or more causes. No linear constraint has two causes.
 pub fn first_choice(net: &Network, kind: RuleKind) -> Option<u32>
     ensures first { result ≡ first_choice kind net.now }
 {

@@ -7,12 +7,12 @@ pub fn gap_can_be_set()
     ensures law { GapCanBeSet }
 {}
 
-/// Where satisfying times have a separation, some within the cap have it too, or one of at least the far line.
+/// Where satisfying times have a separation, some times within the cap have it too, or have a separation of at least the far line.
 pub fn separation_within_cap()
     ensures law { SeparationWithinCap }
 {}
 
-/// Where times satisfy, some within the cap are not below minus the far line.
+/// Where times satisfy, some times within the cap are not below minus the far line.
 pub fn times_near_source()
     ensures law { TimesNearSource }
 {}
@@ -32,8 +32,7 @@ pub fn settled_satisfies()
     ensures law { SettledSatisfies }
 {}
 
-/// Settled values of a derivation that has not ended satisfy, and one below the far line is the greatest
-/// separation from the source.
+/// Settled values of a derivation that has not ended satisfy, and a value below the far line is the greatest separation from the source.
 pub fn settled_closes()
     ensures law { SettledCloses }
 {}
@@ -48,22 +47,22 @@ pub fn not_ended_is_short()
     ensures law { NotEndedIsShort }
 {}
 
-/// Times satisfy a network exactly where the negated times satisfy its negation.
+/// Times satisfy a network if and only if the negated times satisfy its negation.
 pub fn negation_keeps_satisfying()
     ensures law { NegationKeepsSatisfying }
 {}
 
-/// The greatest separation of a pair is that of the reversed pair in the negation.
+/// The greatest separation of a pair is the greatest separation of the reversed pair in the negation.
 pub fn negation_reverses_greatest()
     ensures law { NegationReversesGreatest }
 {}
 
-/// A pair is unbounded exactly where the reversed pair is in the negation.
+/// A pair is unbounded if and only if the reversed pair is unbounded in the negation.
 pub fn negation_reverses_unbounded()
     ensures law { NegationReversesUnbounded }
 {}
 
-/// A line for which a checker tells a fault is not allowed.
+/// A line for which a checker reports a fault is not allowed.
 pub fn fault_forbids()
     ensures law { FaultForbids }
 {}

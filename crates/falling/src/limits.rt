@@ -10,9 +10,8 @@ ghost use Rattle.falling.specs.Course.{AreLimits};
 
 use event_graph::Network;
 
-/// The numbers of a network, in picoseconds: where a derivation starts the events other than its source, from
-/// which value on a pair is unbounded, the least value that does not end a derivation, and the greatest absolute
-/// value of an end.
+/// The numbers of a network, in picoseconds. A derivation starts the events other than its source at `cap`. A pair is unbounded from the value
+/// `far` on. `lowest` is the least value that does not end a derivation. `width` is the greatest absolute value of a finite end.
 #[derive(Clone, Copy, Debug, PartialEq, Eq)]
 pub struct Limits {
     pub cap: i64,
@@ -36,7 +35,7 @@ pub fn limits_of(net: &Network) -> Limits
     }
 }
 
-// The greatest absolute value of a finite end, 0 where there is none.
+// The greatest absolute value of a finite end, 0 where no end is finite.
 fn widest(net: &Network) -> u64
     requires net { IsNet net.now }
     ensures width { result ≡ widest_end net.now }

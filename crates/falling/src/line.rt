@@ -2,8 +2,7 @@
 
 use itv_base::{EdgeName, EventId};
 
-/// Why an event has a value: by an always-edge to it, or by the latest constraint of a number from 0 of which it
-/// is the target.
+/// Why an event has a value: by an always-edge to it, or by a latest constraint, counted from 0, that has the event as its target.
 #[derive(Clone, Copy, Debug, PartialEq, Eq)]
 pub enum Reason {
     ByEdge(EdgeName),

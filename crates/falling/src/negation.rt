@@ -10,7 +10,7 @@ use event_graph::{Cause, Network, PushFault};
 use itv_base::{NoMemory, Range, RuleKind};
 use std::alloc::Global;
 
-/// The negation of a network: each range is that of the negated numbers, and latest and earliest change places.
+/// The negation of a network: each range has the negated numbers, and latest and earliest change places.
 pub fn negation_of(alloc: Global, net: &Network) -> Result<Network, NoMemory>
     ensures { IfOk result (λ negation. negation ≡ negated net.now) }
 {
@@ -24,7 +24,7 @@ pub fn negation_of(alloc: Global, net: &Network) -> Result<Network, NoMemory>
     Ok(negation)
 }
 
-// Adds the negation of the constraint of a number, behind those of the constraints before it.
+// Adds the negation of the constraint of a number, behind the negations of the constraints before it.
 fn push_negated(
     alloc: Global,
     net: &Network,

@@ -24,13 +24,13 @@ impl Error for FallScribeFailed {}
 /// Takes the lines of a derivation, one after another. Each call notes its line, or fails: then the notes have
 /// some front of the line at their end, and their count of faults rose.
 pub trait FallScribe {
-    /// How often they have failed. The count never falls.
+    /// How often the notes have failed. The count never falls.
     ghost faults: { Self → ℕ };
 
     /// The notes grew by just these lines.
     ghost Grew: { Self → List FallLine → Self → Type 0 };
 
-    /// The notes failed in the last of these lines, and have those before it.
+    /// The notes failed in the last of these lines, and have the lines before it.
     ghost WasCut: { Self → List FallLine → Self → Type 0 };
 
     /// Notes that an event falls to a value, in picoseconds, by an always-edge.
@@ -49,13 +49,13 @@ pub trait FallScribe {
             ((record { event = event; value = value; reason = ByLatest constraint }) ∷ []) self.new) }
         ensures rose { OnErr result (FaultCounted (faults self.old) (faults self.new)) };
 
-    /// They grow by no lines where nothing is noted.
+    /// Notes that stay as they are grew by no lines.
     ghost grew_none: { (s : Self) → Grew s [] s };
 
-    /// Lines and then more of them.
+    /// Notes that grew by some lines and then by more grew by all of them, in this order.
     ghost grew_more: { (s t u : Self) (xs ys : List FallLine) → Grew s xs t → Grew t ys u → Grew s (xs ++ ys) u };
 
-    /// Lines, and then some in which they failed.
+    /// Notes that grew by some lines and then failed in the last of more failed in the last of all of them.
     ghost cut_after: { (s t u : Self) (xs ys : List FallLine) → Grew s xs t → WasCut t ys u → WasCut s (xs ++ ys) u };
 
     /// Lines that are noted leave the count of faults as it is.

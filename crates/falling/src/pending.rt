@@ -62,7 +62,7 @@ impl PendingFlags {
         Some(first_bit(&self.words, self.start))
     }
 
-    /// Takes the flag of a number that has it.
+    /// Takes the flag from a number that has it.
     pub fn remove(&mut self, number: u32)
         requires within { number < 64 * length self.old }
         requires there { IsPending self.old number }
@@ -98,7 +98,7 @@ pub fn insert_all(pending: &mut PendingFlags, numbers: &[u32])
     }
 }
 
-// The place of the first word with a flag, from one on before which there is none, or the number of words.
+// The place of the first word with a flag, or the number of words if none has a flag. The words before `start` have none.
 fn first_used(words: &[u64], start: usize) -> usize
     requires start { start ≤ length words.now }
     requires empty { AreEmpty words.now start }
@@ -114,7 +114,7 @@ fn first_used(words: &[u64], start: usize) -> usize
     words.len()
 }
 
-// The least number that has its flag, in the first word that has one.
+// The least number that has its flag. It is in the word at the place, the first word with a flag.
 fn first_bit(words: &[u64], place: usize) -> u32
     requires within { place < length words.now }
     requires empty { AreEmpty words.now place }
@@ -136,7 +136,7 @@ fn set_bit(words: &mut [u64], number: u32)
     words[(number / 64) as usize] |= 1 << (number % 64);
 }
 
-// Takes the flag of a number.
+// Takes the flag from a number that has it.
 fn clear_bit(words: &mut [u64], number: u32)
     requires within { number < 64 * length words.old }
     requires there { IsPending words.old number }

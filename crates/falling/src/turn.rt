@@ -1,4 +1,4 @@
-//! The line of a turn: that of the constraint of least number that can lower a value.
+//! The line of a turn: the first line of the constraint of least number that can lower a value.
 
 ghost use Rattle.std.specs.Prelude.{◌≡◌, ◌⊎◌, ◌+ℤ◌, ◌≤ℤ◌, All, IsSome, Some, IfSome, IfNone, length, option_map};
 ghost use Rattle.itv_base.specs.Range.{IsEnd};
@@ -16,8 +16,8 @@ use crate::pending::PendingFlags;
 use event_graph::Network;
 use itv_base::{EdgeName, RuleKind, Side};
 
-/// The first line of the constraint of least number that allows one, where a constraint without a flag allows none.
-/// Each that is looked at in vain loses its flag.
+/// The first line of the constraint of least number that allows a line. A constraint without a flag allows none. A constraint that is looked at
+/// in vain loses its flag.
 pub fn next_line(net: &Network, values: &[i64], pending: &mut PendingFlags) -> Option<FallLine>
     requires count { length values.now ≡ net.now.events }
     requires near { All IsNearValue values.now }
@@ -83,7 +83,7 @@ fn early_line(net: &Network, number: u32, values: &[i64]) -> Option<FallLine>
     side_line(net, number, Side::Upper, values)
 }
 
-// The line by the lower side of an earliest constraint, which is always met where there is a single cause.
+// The line by the lower side of an earliest constraint with a single cause, which is always met. With more causes there is no such line.
 fn single_line(net: &Network, number: u32, values: &[i64]) -> Option<FallLine>
     requires look { MayLook net.now values.now number }
     requires kind { IsOfKind net.now number RuleKind.Early }
@@ -193,7 +193,7 @@ pub fn latest_value(net: &Network, number: u32, values: &[i64]) -> Option<Due>
     Some(due)
 }
 
-// The value that a cause gives a target with its high end, if that is not open.
+// The value that a cause gives a target with its high end, if the high end is not open.
 fn high_of(net: &Network, number: u32, cause: u32, values: &[i64]) -> Option<Due>
     requires net { IsNet net.now }
     requires cause { IsSome (cause_at net.now number cause) }
@@ -215,7 +215,7 @@ pub struct Due {
 }
 
 impl Due {
-    // The greater one of two values.
+    // The greater of two values.
     fn or_greater(self, other: Due) -> Due
         ensures first { self.value ≤ℤ result.value }
         ensures second { other.value ≤ℤ result.value }
@@ -229,7 +229,7 @@ impl Due {
     }
 }
 
-// The value that comes an end after another.
+// A value plus an end.
 pub fn moved(value: i64, end: i64) -> i64
     requires value { IsNearValue value }
     requires end { IsEnd (Some end) }

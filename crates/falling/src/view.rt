@@ -8,18 +8,18 @@ use crate::kinds::first_choice;
 use event_graph::Network;
 use itv_base::RuleKind;
 
-/// Which network is solved for one whose choices, its constraints with two or more causes, are all of one kind.
+/// Which network is solved. The choices of the network, its constraints with two or more causes, are all of one kind.
 #[derive(Clone, Copy, Debug, PartialEq, Eq)]
 pub enum View {
     /// The network itself, which has no earliest choice.
     Plain,
-    /// Its negation, since it has an earliest choice and no latest one.
+    /// The negation: the network has an earliest choice and no latest choice.
     Negated,
 }
 
 impl View {
-    /// The view of a network. The answer is [`Mixed`] exactly where there are choices of both kinds, with the first of each. Takes no
-    /// memory.
+    /// The view of a network. The answer is [`Mixed`], with the first choice of each kind, if and only if there are choices of both kinds. Takes
+    /// no memory.
     pub fn of(net: &Network) -> Result<View, Mixed>
         ensures view { result ≡ view_of net.now }
     {

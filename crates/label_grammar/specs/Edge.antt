@@ -7,14 +7,13 @@ use Rattle.itv_base.specs.Characters.{is_mark}
 use Rattle.itv_base.specs.Cuts.{is_space}
 use Rattle.label_grammar.specs.Label.{is_timing_label}
 
--- What an edge says, without where it lies in memory: of a timing edge the mark that it comes from, the mark that it goes
--- to, and its label.
+-- What an edge says, apart from where it lies in memory. A timing edge has the mark that it comes from, the mark that it goes to, and its label.
 pub data EdgeSeen : Type 0 where
   comment : EdgeSeen
   timing : ℕ → ℕ → List ℕ → EdgeSeen
   malformed : EdgeSeen
 
--- what is read of an edge, without where it lies in memory
+-- what is read of an edge, apart from where it lies in memory
 abbrev pub edge_view : EdgeText → EdgeSeen
 edge_view Comment = comment
 edge_view (Timing from to label) = timing from to label.now
@@ -24,8 +23,7 @@ edge_view Malformed = malformed
 abbrev pub last_byte : List ℕ → ℕ
 last_byte word = slice_index word (length word - 1)
 
--- At least three characters, the first and the last of which are marks. The ends are ASCII, so three characters are a byte,
--- at least one byte and a byte.
+-- At least three characters, and the first and the last are marks. These two are ASCII, so three characters are a byte, at least one byte and a byte.
 abbrev pub is_shape : List ℕ → Bool
 is_shape word = nat_le 3 (length word) && (is_mark (slice_index word 0) && is_mark (last_byte word))
 

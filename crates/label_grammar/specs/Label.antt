@@ -12,8 +12,8 @@ use Rattle.label_grammar.specs.declared.label2.Label2.{Label2}
 use Rattle.label_grammar.specs.declared.label2.Span as code
 use Rattle.label_grammar.specs.declared.label2.Span.TheVariants.{Fixed, Named}
 
--- A label. What tells its ends is in version 1 the two ends, and in version 2 a span. Ends are whole numbers of any size, and
--- not yet known to be a range. An end that is `None` is open.
+-- A label. In version 1 the two ends stand in it, and in version 2 a span does. Ends are whole numbers of any size, and are not yet known to be a range.
+-- An end that is `None` is open.
 pub record LooseLabel (E : Type 0) : Type 0 where
   pub kind : Kind
   pub shift : ℕ
@@ -30,7 +30,7 @@ pub data Span : Type 0 where
 abbrev pub is_timing_label : List ℕ → Bool
 is_timing_label label = slice_index label 0 == 64
 
--- a label without where its texts lie in memory
+-- a label, apart from where its texts lie in memory
 abbrev pub label_view : Label → LooseLabel Ends
 label_view l = record { kind = l.kind; shift = l.shift; tag = option_copied l.tag; ends = l.range; note = option_copied l.note }
 
@@ -38,7 +38,7 @@ abbrev pub span_view : code.Span → Span
 span_view (Fixed range) = fixed range
 span_view (Named name) = named name.now
 
--- a label of version 2 without where its texts lie in memory
+-- a label of version 2, apart from where its texts lie in memory
 abbrev pub label2_view : Label2 → LooseLabel Span
 label2_view l = record { kind = l.kind; shift = l.shift; tag = option_copied l.tag; ends = option_map span_view l.span; note = option_copied l.note }
 
@@ -49,8 +49,8 @@ is_ask kind = false
 
 -- ---- versions
 
--- How the labels of a version tell their ends: whether what tells them can be spelled, how it is spelled, and the ends that it
--- tells outright.
+-- How the labels of a version give their ends, by what stands in them of type `E`: whether it can be spelled, how it is spelled, and the ends, if they are
+-- known from the label itself.
 pub record Version (E : Type 0) : Type 0 where
   pub has_form : E → Bool
   pub text : E → List ℕ
@@ -75,23 +75,23 @@ abbrev pub fixed_ends : Span → Option Ends
 fixed_ends (fixed ends) = Some ends
 fixed_ends (named name) = None
 
--- in version 1 a label tells its ends itself
+-- in version 1 a label gives its ends itself
 abbrev pub version_1 : Version Ends
 version_1 = record { has_form = λ ends. true; text = ends_text; outright = λ ends. Some ends }
 
--- in version 2 a label may name a parameter in their place
+-- in version 2 a label may name a parameter in place of its ends
 abbrev pub version_2 : Version Span
 version_2 = record { has_form = has_span_form; text = span_text; outright = fixed_ends }
 
--- what has a spelling: the shift is within the limit, a tag is a name, there are ends exactly where the kind is no ask, and what
--- tells them can be spelled
+-- a label that has a spelling: the shift is within the limit, a tag is a name, there are ends or a parameter if and only if the kind is no ask, and these
+-- can be spelled
 pub record IsLoose {E : Type 0} (v : Version E) (l : LooseLabel E) : Type 0 where
   pub shift : l.shift ≤ MAX_SHIFT
   pub tag : IfSome l.tag (λ tag. IsTrue (is_name tag))
   pub ends : is_some l.ends ≡ not (is_ask l.kind)
   pub form : IfSome l.ends (λ told. IsTrue (v.has_form told))
 
--- the ends that a label tells outright
+-- the ends of a label, if they are known from the label itself
 abbrev pub outright_ends : {E : Type 0} → Version E → LooseLabel E → Option Ends
 outright_ends v l = option_and_then v.outright l.ends
 
@@ -103,7 +103,7 @@ has_wide_end v l = option_map_or has_wide (outright_ends v l) false
 abbrev pub has_reversed_ends : {E : Type 0} → Version E → LooseLabel E → Bool
 has_reversed_ends v l = option_map_or is_reversed (outright_ends v l) false
 
--- a label whose ends, where it tells them outright, are a range
+-- a label that has a spelling, and whose ends, if they are known from the label itself, are a range
 pub record IsProper {E : Type 0} (v : Version E) (l : LooseLabel E) : Type 0 where
   pub loose : IsLoose v l
   pub narrow : has_wide_end v l ≡ false
@@ -132,7 +132,7 @@ abbrev pub tag_text : Option (List ℕ) → List ℕ
 tag_text None = []
 tag_text (Some tag) = codes ":" ++ tag
 
--- what tells the ends is spelled as its version has it
+-- the ends or the parameter are spelled as the version has them
 abbrev pub told_text : {E : Type 0} → (E → List ℕ) → Option E → List ℕ
 told_text text None = []
 told_text text (Some told) = text told
@@ -142,7 +142,7 @@ abbrev pub note_text : Option (List ℕ) → List ℕ
 note_text None = []
 note_text (Some note) = codes " " ++ note
 
--- the text of a label, of which the ends are told by such a text
+-- the text of a label, with such a text for its ends
 abbrev pub spelled : {E : Type 0} → (E → List ℕ) → LooseLabel E → List ℕ
 spelled text l = kind_text l.kind ++ (shift_text l.shift ++ (tag_text l.tag ++ (told_text text l.ends ++ note_text l.note)))
 

@@ -1,5 +1,4 @@
--- Reading a label from the front of a text. That what is read is spelled so, and the other way round, is the law
--- `reading_inverts_spelling`.
+-- Reading a label from the front of a text. The law `reading_inverts_spelling` says that reading and spelling invert each other.
 use Rattle.std.specs.Prelude.{ℕ, ℤ, pos, Bool, true, false, ◌&&◌, nat_lt, nat_le, if◌then◌else◌, List, [], ◌∷◌, codes, Option, Some, None, neg_ℤ}
 use Rattle.std.specs.Option.{option_and_then}
 use Rattle.std.specs.List.{take_while}
@@ -13,12 +12,12 @@ use Rattle.label_grammar.specs.declared.label.Kind.{Kind}
 use Rattle.label_grammar.specs.declared.label.Kind.TheVariants.{Lin, Late, Early, Req, Ask}
 use Rattle.label_grammar.specs.Label.{LooseLabel, Span, fixed, named, is_ask, kind_text}
 
--- one thing read after another, where both can be
+-- one thing is read after another, where both can be read
 infixl 10 ◌>>=◌
 abbrev pub ◌>>=◌ : {A B : Type 0} → Option A → (A → Option B) → Option B
 o >>= f = option_and_then f o
 
--- Each of these answers what was read and the text behind it.
+-- Each of these gives what was read and the text behind it.
 
 -- the first of these kinds whose word stands first
 abbrev pub first_kind : List Kind → List ℕ → Option (Kind × List ℕ)
@@ -54,7 +53,7 @@ number_from true digits rest = if is_numeral digits && nat_lt 0 (value_of digits
 abbrev pub number_of : Bool → List ℕ → Option (Option ℤ × List ℕ)
 number_of is_negative text = number_from is_negative (take_while is_ascii_digit text) (after_while is_ascii_digit text)
 
--- a star for an open end, or a number with a minus or none
+-- a star for an open end, or a number with or without a minus
 unfoldable pub end_of : List ℕ → Option (Option ℤ × List ℕ)
 end_of text = after (stripped (codes "*") text) (λ rest. Some (None, rest)) (after (stripped (codes "-") text) (number_of true) (number_of false text))
 
@@ -78,7 +77,7 @@ span_of text =
     after (stripped (codes " $") text) (λ rest. name_from (take_while is_name_byte rest) (after_while is_name_byte rest))
     (ends_of text >>= λ ends. Some (fixed ends.0, ends.1))
 
--- what tells the ends, as a version reads it; an ask has nothing that does
+-- the ends or the parameter, as a version reads them; an ask has neither
 unfoldable pub told_of : {E : Type 0} → (List ℕ → Option (E × List ℕ)) → Bool → List ℕ → Option (Option E × List ℕ)
 told_of tell true text = Some (None, text)
 told_of tell false text = tell text >>= λ told. Some (Some told.0, told.1)
@@ -88,7 +87,7 @@ unfoldable pub note_of : List ℕ → Option (Option (List ℕ))
 note_of [] = Some None
 note_of (b ∷ note) = if is_space b then Some (Some note) else None
 
--- The label that a whole text spells, if it does. Version 1 reads what tells the ends by `ends_of`, and version 2 by `span_of`.
+-- The label that a whole text spells, if it spells one. Version 1 reads the ends by `ends_of`, and version 2 by `span_of`.
 unfoldable pub label_of : {E : Type 0} → (List ℕ → Option (E × List ℕ)) → List ℕ → Option (LooseLabel E)
 label_of tell text = do
   kind ← kind_of text

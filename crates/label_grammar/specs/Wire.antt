@@ -12,14 +12,13 @@ pub record PartMark : Type 0 where
   pub part : List ℕ
   pub mark : ℕ
 
--- What a wire says, without where it lies in memory: of a timing wire the mark that it comes from, the mark that it goes
--- to, and its label.
+-- What a wire says, apart from where it lies in memory. A timing wire has the mark that it comes from, the mark that it goes to, and its label.
 pub data WireSeen : Type 0 where
   comment : WireSeen
   timing : PartMark → PartMark → List ℕ → WireSeen
   malformed : WireSeen
 
--- what is read of a wire, without where it lies in memory
+-- what is read of a wire, apart from where it lies in memory
 abbrev pub wire_view : WireText → WireSeen
 wire_view Comment = comment
 wire_view (Timing from_part from_mark to_part to_mark label) =
@@ -31,7 +30,7 @@ abbrev pub part_mark_from : List ℕ → List ℕ → Option PartMark
 part_mark_from part mark =
     if is_name part && (length mark == 1 && is_mark (slice_index mark 0)) then Some (record { part = part; mark = slice_index mark 0 }) else None
 
--- A word is cut at its first full stop: a name has none in it, and no mark is one.
+-- A word is cut at its first full stop: a name has no full stop in it, and no mark is a full stop.
 unfoldable pub part_mark_of : List ℕ → Option PartMark
 part_mark_of word = part_mark_from (before_first is_full_stop word) (after_first is_full_stop word)
 

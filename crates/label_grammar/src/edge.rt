@@ -16,8 +16,8 @@ pub enum EdgeText<'a> {
     Malformed,
 }
 
-/// Cuts the text of an edge, as `a~>b @lin [0,250]`, at its first space into a shape word and a label. The shape word has at
-/// least three characters. The first and the last are the marks that it joins, and those between are not looked at.
+/// Cuts the text of an edge, as `a~>b @lin [0,250]`, at its first space into a shape word and a label. The shape word has at least three
+/// characters. The first and the last are the marks that the edge joins. The characters between them may be any.
 #[tactic(auto, unfolding(crate::specs::Edge::edge_of))]
 pub fn read_edge<'a>(text: &'a str) -> EdgeText<'a>
     ensures says { edge_view result ≡ edge_of text.now }

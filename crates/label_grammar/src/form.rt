@@ -13,21 +13,21 @@ pub struct Number<'a> {
     ghost well_written: { IsTrue (is_numeral digits.now) },
 }
 
-/// The two ends of a label, `None` being an open one.
+/// The two ends of a label. An open end is `None`.
 #[derive(Clone, Copy)]
 pub struct EndPair<'a> {
     pub low: Option<Number<'a>>,
     pub high: Option<Number<'a>>,
 }
 
-/// What tells the ends of a label of version 2: the two ends, or the name of a parameter.
+/// What gives the ends of a label of version 2: the two ends, or the name of a parameter.
 #[derive(Clone, Copy)]
 pub enum WrittenSpan<'a> {
     Fixed(EndPair<'a>),
     Named(&'a str),
 }
 
-/// A label as it is written, its ends of any size and in any order. What tells them is of type `T`.
+/// A label as it is written. Its ends may be of any size and in any order. `T` is the type of what gives the ends.
 #[derive(Clone, Copy)]
 pub struct Form<'a, T> {
     pub kind: Kind,

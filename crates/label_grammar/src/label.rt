@@ -41,15 +41,15 @@ pub struct Label<'a> {
     pub kind: Kind,
     /// How many cycles the from-event is before the to-event, at most [`MAX_SHIFT`](itv_base::MAX_SHIFT).
     pub shift: u32,
-    /// What tells apart the groups of causes of one target, as [`is_name`](itv_base::is_name) has it.
+    /// The group of the cause, if its target has several groups. A tag has the form that [`is_name`](itv_base::is_name) takes.
     pub tag: Option<&'a str>,
-    /// The range of the separation in picoseconds. An ask alone has none.
+    /// The range of the separation in picoseconds. Only an ask has no range.
     pub range: Option<Range>,
     /// A remark, which means nothing.
     pub note: Option<&'a str>,
 }
 
-/// Why a text is no label. The first of these that applies is told.
+/// Why a text is no label. A reader reports the first of these that applies.
 #[derive(Clone, Copy, Debug, PartialEq, Eq)]
 pub enum LabelFault {
     /// The text has not the form of a label.

@@ -3,12 +3,12 @@
 use crate::label::Kind;
 use itv_base::Range;
 
-/// What tells the ends of a label of version 2. A name is a slice of the text that it was read from.
+/// What gives the ends of a label of version 2. A name is a slice of the text that it was read from.
 #[derive(Clone, Copy, Debug, PartialEq, Eq)]
 pub enum Span<'a> {
     /// The range of the separation in picoseconds.
     Fixed(Range),
-    /// The name of a parameter that stands for the range, as [`is_name`](itv_base::is_name) has it.
+    /// The name of a parameter that stands for the range. It has the form that [`is_name`](itv_base::is_name) takes.
     Named(&'a str),
 }
 
@@ -19,9 +19,9 @@ pub struct Label2<'a> {
     pub kind: Kind,
     /// How many cycles the from-event is before the to-event, at most [`MAX_SHIFT`](itv_base::MAX_SHIFT).
     pub shift: u32,
-    /// What tells apart the groups of causes of one target, as [`is_name`](itv_base::is_name) has it.
+    /// The group of the cause, if its target has several groups. A tag has the form that [`is_name`](itv_base::is_name) takes.
     pub tag: Option<&'a str>,
-    /// What tells the range of the separation. An ask alone has nothing that does.
+    /// What gives the range of the separation. Only an ask has none.
     pub span: Option<Span<'a>>,
     /// A remark, which means nothing.
     pub note: Option<&'a str>,

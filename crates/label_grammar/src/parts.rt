@@ -1,4 +1,4 @@
-//! Reading the form of a label from the front of a text. Each function answers what it read and the text behind it.
+//! Reading the form of a label from the front of a text. Each function but the last two gives what it read and the text behind it.
 
 ghost use Rattle.std.specs.Prelude.{◌≡◌, option_map};
 ghost use Rattle.std.specs.Option.{option_copied};
@@ -25,7 +25,7 @@ pub fn read_kind(text: &str) -> Option<(Kind, &str)>
     None
 }
 
-/// `+` and a number of at least 1 within the limit, or nothing, which is a shift of 0.
+/// `+` and a number from 1 to `MAX_SHIFT`, or nothing, which is a shift of 0.
 #[tactic(auto, unfolding(crate::specs::Reading::shift_of))]
 pub fn read_shift(text: &str) -> Option<(u32, &str)>
     ensures { option_map (λ x. (x.0, x.1.now)) result ≡ shift_of text.now }
@@ -70,7 +70,7 @@ fn read_number(is_negative: bool, text: &str) -> Option<(Option<Number<'_>>, &st
     ))
 }
 
-// `*` for an open end, or a number with a minus or none.
+// `*` for an open end, or a number with or without a minus.
 #[tactic(auto, unfolding(crate::specs::Reading::end_of))]
 fn read_end(text: &str) -> Option<(Option<Number<'_>>, &str)>
     ensures { option_map (λ x. (option_map number_value x.0, x.1.now)) result ≡ end_of text.now }
@@ -97,7 +97,7 @@ pub fn read_ends(text: &str) -> Option<(EndPair<'_>, &str)>
     Some((EndPair { low, high }, rest))
 }
 
-// What tells the ends of a label of a kind. An ask has nothing that does: what follows it is a note.
+// The ends of a label of a kind. An ask has none: what follows it is a note.
 #[tactic(auto, unfolding(crate::specs::Reading::told_of))]
 fn read_told(kind: Kind, text: &str) -> Option<(Option<EndPair<'_>>, &str)>
     ensures { option_map (λ x. (option_map ends_view x.0, x.1.now)) result ≡ told_of ends_of (is_ask kind) text.now }
@@ -120,7 +120,7 @@ pub fn read_note(text: &str) -> Option<Option<&str>>
     Some(Some(strip(text, " ")?))
 }
 
-/// The form of the label that the whole text is.
+/// The form of the label that the whole text spells.
 #[tactic(auto, unfolding(crate::specs::Reading::label_of))]
 pub fn read_form(text: &str) -> Option<Form<'_, EndPair<'_>>>
     ensures { option_map (λ x. form_view ends_view x) result ≡ label_of ends_of text.now }

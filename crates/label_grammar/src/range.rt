@@ -11,7 +11,7 @@ use crate::parts::read_ends;
 use crate::reading::range_of;
 use itv_base::Range;
 
-// What `read_range` answers, by the reading of texts. Its other clauses follow from this one.
+// What `read_range` gives, by the definitions of reading. The other clauses of `read_range` follow from this clause.
 fn read_judged(text: &str) -> Result<Range, LabelFault>
     ensures { result ≡ judged_alone (only_ends (ends_of text.now)) }
 {
@@ -22,16 +22,16 @@ fn read_judged(text: &str) -> Result<Range, LabelFault>
     range_of(ends)
 }
 
-/// Reads the two ends of a range as they stand in a label: a space and `[low,high]`, in picoseconds, `*` where open, and nothing
-/// else. The faults and their order are those of [`read_label`](crate::read_label): a text that has not this form, an end that is
-/// too wide, ends that are the wrong way round.
+/// Reads the two ends of a range as they stand in a label: a space and `[low,high]`, in picoseconds, `*` where open, and nothing else. It
+/// reports the first of these faults: the text does not have this form, an end is too wide, the ends are the wrong way round.
+/// [`read_label`](crate::read_label) has the same faults in the same order.
 pub fn read_range(text: &str) -> Result<Range, LabelFault>
     // The text is the spelling of what is read.
     ensures ok { IfOk result (λ r. text.now ≡ ends_text r) }
-    // What makes a range and is spelled by the text is read.
+    // Two ends that make a range, and that the text spells, are read.
     ensures only { (ends : Ends) → has_wide ends ≡ false → is_reversed ends ≡ false → text.now ≡ ends_text ends
         → result ≡ Ok ends }
-    // The same by the reading of texts, as definitions above this crate name it.
+    // The same by the definitions of reading, for the definitions of crates above this one.
     ensures exact { result ≡ judged_alone (only_ends (ends_of text.now)) }
 {
     read_judged(text)

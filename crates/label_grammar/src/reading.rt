@@ -12,7 +12,7 @@ use crate::label::{Label, LabelFault};
 use crate::parts::read_form;
 use itv_base::{END_LIMIT, Range, RangeFault, value_up_to};
 
-// The number, or the next one beyond the limit of an end on its side where it is further out.
+// The number. A number beyond the limit of an end becomes the first number beyond the limit, with the same sign.
 fn capped(number: Number<'_>) -> i64
     ensures { result ≡ capped (number_value number.entry) }
 {
@@ -44,7 +44,7 @@ fn range_between(ends: Option<EndPair<'_>>) -> Result<Option<Range>, LabelFault>
     }
 }
 
-// What `read_label` answers, by the reading of texts. Its other clauses follow from this one.
+// What `read_label` gives, by the definitions of reading. The other clauses of `read_label` follow from this clause.
 fn read_judged(text: &str) -> Result<Label<'_>, LabelFault>
     ensures { LabelAgrees label_view result (judged_label (λ ends. Some ends) (label_of ends_of text.now)) }
 {
@@ -59,20 +59,20 @@ fn read_judged(text: &str) -> Result<Label<'_>, LabelFault>
     })
 }
 
-/// Reads a label, as `@late+1:rd [500,700] tAA`: `@` and the kind, `+` and a shift of 1 to 64 cycles or nothing, `:` and a tag
-/// or nothing, for every kind but `ask` a space and the two ends in picoseconds (`*` where open), and a space and a note or
-/// nothing. Numbers are decimal without a zero in front. A text that has not this form is told before an end that is too wide,
-/// and that before ends that are the wrong way round.
+/// Reads a label, as `@late+1:rd [500,700] tAA`: `@` and the kind, `+` and a shift of 1 to 64 cycles or nothing, `:` and a tag or nothing, for
+/// every kind but `ask` a space and the two ends in picoseconds (`*` where open), and a space and a note or nothing. Numbers are decimal without
+/// a zero in front. It reports the first of these faults: the text does not have this form, an end is too wide, the ends are the wrong way
+/// round.
 pub fn read_label<'a>(text: &'a str) -> Result<Label<'a>, LabelFault>
-    // What is read is proper, and the text is its spelling: so its tag and its note stand in the text.
+    // The label that is read is proper, and the text is its spelling: so its tag and its note stand in the text.
     ensures ok { IfOk result (λ l. IsProper version_1 (label_view l) × (text.now ≡ spelling version_1 (label_view l))) }
-    // What is proper and spelled by the text is read.
+    // A proper label that the text spells is read.
     ensures only { (l : LooseLabel Ends) → IsProper version_1 l → text.now ≡ spelling version_1 l
         → IsOkAnd result (λ found. label_view found ≡ l) }
     ensures bad { IsErrOf result LabelFault.BadLabel ↔ IsUnspelled version_1 text.now }
     ensures wide { IsErrOf result LabelFault.TooWide ↔ SpellsWideEnd version_1 text.now }
     ensures empty { IsErrOf result LabelFault.EmptyRange ↔ SpellsReversedEnds version_1 text.now }
-    // The same by the reading of texts, as definitions above this crate name it.
+    // The same by the definitions of reading, for the definitions of crates above this one.
     ensures exact { LabelAgrees label_view result (judged_label (λ ends. Some ends) (label_of ends_of text.now)) }
 {
     read_judged(text)

@@ -12,7 +12,7 @@ use crate::label2::{Label2, Span};
 use crate::reading::range_of;
 use crate::span::read_form2;
 
-// The span that is written, its ends made a range.
+// The span that is written, with its ends made a range.
 fn made_span<'a>(written: WrittenSpan<'a>) -> Result<Span<'a>, LabelFault>
     ensures { MatchResult result
         (λ span. judged_span (Some (written_view written.entry)) ≡ Ok (Some (span_view span)))
@@ -27,7 +27,7 @@ fn made_span<'a>(written: WrittenSpan<'a>) -> Result<Span<'a>, LabelFault>
     }
 }
 
-// What tells the range, if something does.
+// The span of a label, if it has one.
 fn judged_span<'a>(written: Option<WrittenSpan<'a>>) -> Result<Option<Span<'a>>, LabelFault>
     ensures { MatchResult result
         (λ span. judged_span (option_map written_view written.entry) ≡ Ok (option_map span_view span))
@@ -42,7 +42,7 @@ fn judged_span<'a>(written: Option<WrittenSpan<'a>>) -> Result<Option<Span<'a>>,
     }
 }
 
-// What `read_label2` answers, by the reading of texts. Its other clauses follow from this one.
+// What `read_label2` gives, by the definitions of reading. The other clauses of `read_label2` follow from this clause.
 fn read_judged2(text: &str) -> Result<Label2<'_>, LabelFault>
     ensures { LabelAgrees label2_view result (judged_label fixed_ends (label_of span_of text.now)) }
 {
@@ -59,20 +59,20 @@ fn read_judged2(text: &str) -> Result<Label2<'_>, LabelFault>
     }
 }
 
-/// Reads a label of version 2. It is a label as [`read_label`](crate::read_label) reads it, or one that has a space, `$` and the name
-/// of a parameter in place of the space and the two ends, as `@late+1:rd $tAA`. A name is 1 to 16 letters of ASCII, digits or `_`. A
-/// text that has neither form is told before an end that is too wide, and that before ends that are the wrong way round. Whether there
-/// is such a parameter is not asked here.
+/// Reads a label of version 2. It is a label as [`read_label`](crate::read_label) reads it, or has a space, `$` and the name of a parameter in
+/// place of the space and the two ends, as `@late+1:rd $tAA`. A name is 1 to 16 letters of ASCII, digits or `_`. It reports the first of these
+/// faults: the text has neither form, an end is too wide, the ends are the wrong way round. The reader does not ask whether there is such a
+/// parameter.
 pub fn read_label2<'a>(text: &'a str) -> Result<Label2<'a>, LabelFault>
-    // What is read is proper, and the text is its spelling: so its tag, its parameter and its note stand in the text.
+    // The label that is read is proper, and the text is its spelling: so its tag, its parameter and its note stand in the text.
     ensures ok { IfOk result (λ l. IsProper version_2 (label2_view l) × (text.now ≡ spelling version_2 (label2_view l))) }
-    // What is proper and spelled by the text is read.
+    // A proper label that the text spells is read.
     ensures only { (l : LooseLabel SpanSeen) → IsProper version_2 l → text.now ≡ spelling version_2 l
         → IsOkAnd result (λ found. label2_view found ≡ l) }
     ensures bad { IsErrOf result LabelFault.BadLabel ↔ IsUnspelled version_2 text.now }
     ensures wide { IsErrOf result LabelFault.TooWide ↔ SpellsWideEnd version_2 text.now }
     ensures empty { IsErrOf result LabelFault.EmptyRange ↔ SpellsReversedEnds version_2 text.now }
-    // The same by the reading of texts, as definitions above this crate name it.
+    // The same by the definitions of reading, for the definitions of crates above this one.
     ensures exact { LabelAgrees label2_view result (judged_label fixed_ends (label_of span_of text.now)) }
 {
     read_judged2(text)

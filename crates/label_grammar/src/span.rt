@@ -23,7 +23,7 @@ fn read_span(text: &str) -> Option<(WrittenSpan<'_>, &str)>
     is_name(name).then_some((WrittenSpan::Named(name), rest))
 }
 
-// What tells the ends of a label of a kind. An ask has nothing that does: what follows it is a note.
+// The span of a label of a kind. An ask has none: what follows it is a note.
 #[tactic(auto, unfolding(crate::specs::Reading::told_of))]
 fn read_told(kind: Kind, text: &str) -> Option<(Option<WrittenSpan<'_>>, &str)>
     ensures { option_map (λ x. (option_map written_view x.0, x.1.now)) result ≡ told_of span_of (is_ask kind) text.now }
@@ -35,7 +35,7 @@ fn read_told(kind: Kind, text: &str) -> Option<(Option<WrittenSpan<'_>>, &str)>
     Some((Some(span), rest))
 }
 
-/// The form of the label of version 2 that the whole text is.
+/// The form of the label of version 2 that the whole text spells.
 #[tactic(auto, unfolding(crate::specs::Reading::label_of))]
 pub fn read_form2(text: &str) -> Option<Form<'_, WrittenSpan<'_>>>
     ensures { option_map (λ x. form_view written_view x) result ≡ label_of span_of text.now }

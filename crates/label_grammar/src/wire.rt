@@ -19,7 +19,7 @@ pub enum WireText<'a> {
         to_mark: u8,
         label: &'a str,
     },
-    /// The label begins with `@`, and one of the words before it does not name a mark of a part.
+    /// The label begins with `@`, and a word before it does not name a mark of a part.
     Malformed,
 }
 

@@ -1,2 +1,3 @@
+-- Words of contracts within this crate.
 pub mod Undo
 pub mod Inside

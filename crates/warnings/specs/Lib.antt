@@ -1,3 +1,4 @@
+-- The modules of definitions of this crate, and modules of other crates that its contracts need.
 pub use Rattle.plan.specs.Notes
 pub use Rattle.plan.specs.Plan
 pub use Rattle.compose.specs.Compose

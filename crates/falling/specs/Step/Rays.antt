@@ -8,12 +8,12 @@ abbrev pub above : ℤ → List ℤ → ℕ
 above level [] = 0
 above level (value ∷ values) = (if int_lt level value then 1 else 0) + above level values
 
--- a level that is 0 or more and was reached in steps of at most the widest end, no more than values are not above it
+-- a level of at least 0 that was reached in steps of at most the widest end, no more steps than values are above 0 and not above the level
 pub record IsClimbed (net : Net) (values : List ℤ) (level : ℤ) : Type 0 where
   pub low : pos 0 ≤ℤ level
   pub high : level ≤ℤ pos ((above (pos 0) values - above level values) * widest_end net)
 
--- a step from a level to another that is beyond it and at most the greatest that is allowed, or none where the other is not
+-- a step from a level to the other, if the other is beyond it and at most the greatest that is allowed; else the level stays
 abbrev pub IsStepTo : ℤ → ℤ → ℤ → ℤ → Type 0
 IsStepTo level most other result =
     ((result ≡ other) × (level <ℤ other) × (other ≤ℤ most)) ⊎ ((result ≡ level) × ((other ≤ℤ level) ⊎ (most <ℤ other)))

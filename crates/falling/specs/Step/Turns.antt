@@ -53,13 +53,13 @@ side_rank Late Upper = 2
 side_rank Early Lower = 0
 side_rank Early Upper = 1
 
--- the place of the latest line in it, which none but a latest constraint has
+-- the place of the latest line in this order; only a latest constraint has such a line
 abbrev pub latest_rank : RuleKind → ℕ
 latest_rank Lin = 3
 latest_rank Late = 1
 latest_rank Early = 3
 
--- the place of a reason in it
+-- the place of a reason in this order
 abbrev pub reason_rank : RuleKind → Reason → ℕ
 reason_rank kind (ByEdge name) = side_rank kind name.side
 reason_rank kind (ByLatest number) = latest_rank kind
@@ -69,17 +69,17 @@ abbrev pub reason_cause : Reason → ℕ
 reason_cause (ByEdge name) = name.cause
 reason_cause (ByLatest number) = 0
 
--- one reason comes before another of the same constraint, which is of a kind
+-- one reason comes before another of the same constraint, where the constraint is of this kind
 abbrev pub ReasonBefore : RuleKind → Reason → Reason → Type 0
 ReasonBefore kind first second =
     (reason_rank kind first < reason_rank kind second) ⊎ ((reason_rank kind first ≡ reason_rank kind second) × (reason_cause first < reason_cause second))
 
--- a line by the constraint of a number, and no line by a reason of it that comes before is allowed
+-- a line by the constraint of a number; no line is allowed by a reason of this constraint that comes before
 pub record IsFirstOf (net : Net) (values : List ℤ) (number : ℕ) (line : FallLine) : Type 0 where
   pub is : constraint_of line.reason ≡ number
   pub earlier : (kind : RuleKind) (reason : Reason) → IsOfKind net number kind → constraint_of reason ≡ number → ReasonBefore kind reason line.reason → IsTried net values reason
 
--- a line by an edge of the constraint of a number on a side, and no line by an earlier cause on it is allowed
+-- a line by an edge of the constraint of a number on a side; no line by an earlier cause on this side is allowed
 abbrev pub IsFirstOnSide : Net → List ℤ → ℕ → Side → FallLine → Type 0
 IsFirstOnSide net values number side line =
     (cause : ℕ) × (line.reason ≡ ByEdge (record { constraint = number; cause = cause; side = side }))
@@ -94,12 +94,12 @@ pub record IsTurnLine (net : Net) (values : List ℤ) (line : FallLine) : Type 0
 abbrev pub HoldsSide : Net → ℕ → Side → Type 0
 HoldsSide net number side = IsSomeAnd (slice_get net.constraints number) (λ (c : Constraint). IsTrue (holds_always c.kind (length c.causes) side))
 
--- the value of a cause that is there with its high end, or none where that is open
+-- the value of a cause plus its high end, or none where the high end is open
 abbrev pub IsHighOf : Net → List ℤ → ℕ → ℕ → Option ℤ → Type 0
 IsHighOf net values number cause value =
     (c : Cause) → cause_at net number cause ≡ Some c → value ≡ option_map (λ high. time_of values c.event +ℤ high) c.range.high
 
--- no high end of the constraint of a number is open, and this is the greatest value of its causes with them
+-- no high end of the constraint of a number is open, and the value is the greatest of its causes' values, each plus its high end
 abbrev pub IsLatestValue : Net → List ℤ → ℕ → ℤ → Type 0
 IsLatestValue net values number value =
     IsSomeAnd (slice_get net.constraints number)

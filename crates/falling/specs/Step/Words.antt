@@ -7,7 +7,7 @@ use Rattle.falling.specs.declared.pending.PendingFlags.TheInside.{Inside}
 abbrev pub AreEmpty : List ℕ → ℕ → Type 0
 AreEmpty words start = (place : ℕ) → place < start → slice_index_or words place 0 ≡ 0
 
--- the words before the start have no flag, and there are not too many
+-- the words before the start have no flag, and the number of words is within its limit
 pub record HasStart (p : Inside) : Type 0 where
   pub start : p.start ≤ length p.words.items
   pub empty : AreEmpty p.words.items p.start

@@ -30,7 +30,7 @@ written_view (Named name) = named name.now
 abbrev pub form_view : {T E : Type 0} → (T → E) → Form T → LooseLabel E
 form_view told f = record { kind = f.kind; shift = f.shift; tag = option_copied f.tag; ends = option_map told f.told; note = option_copied f.note }
 
--- a number, or the next one beyond the limit on its side where it is further out
+-- a number; a number beyond the limit becomes the first number beyond the limit, with the same sign
 abbrev pub capped : ℤ → ℤ
 capped (pos n) = pos (min n (unsigned_abs END_LIMIT + 1))
 capped (negsuc n) = negsuc (min n (unsigned_abs END_LIMIT))
@@ -44,7 +44,7 @@ abbrev pub judged_range : Option Ends → Result (Option Ends) LabelFault
 judged_range None = Ok None
 judged_range (Some ends) = if has_wide ends then Err TooWide else (if is_reversed ends then Err EmptyRange else Ok (Some ends))
 
--- what tells the range of a label of version 2, if something does
+-- the span of a label of version 2, if it has one, or what is wrong with its ends
 abbrev pub judged_span : Option Span → Result (Option Span) LabelFault
 judged_span None = Ok None
 judged_span (Some (fixed ends)) = if has_wide ends then Err TooWide else (if is_reversed ends then Err EmptyRange else Ok (Some (fixed ends)))
