@@ -17,7 +17,7 @@ infixl 10 ◌>>=◌
 abbrev pub ◌>>=◌ : {A B : Type 0} → Option A → (A → Option B) → Option B
 o >>= f = option_and_then f o
 
--- Each of these gives what was read and the text behind it.
+-- Each of these but the last two gives what was read and the text behind it.
 
 -- the first of these kinds whose word stands first
 abbrev pub first_kind : List Kind → List ℕ → Option (Kind × List ℕ)

@@ -19,7 +19,7 @@ pub struct Label2<'a> {
     pub kind: Kind,
     /// How many cycles the from-event is before the to-event, at most [`MAX_SHIFT`](itv_base::MAX_SHIFT).
     pub shift: u32,
-    /// The group of the cause, if its target has several groups. A tag has the form that [`is_name`](itv_base::is_name) takes.
+    /// The tag, which says to which group of causes of its target the label belongs. It has the form that [`is_name`](itv_base::is_name) takes.
     pub tag: Option<&'a str>,
     /// What gives the range of the separation. Only an ask has none.
     pub span: Option<Span<'a>>,

@@ -3,7 +3,7 @@ use Rattle.std.specs.Prelude.{Bool, true, false}
 use Rattle.netlist.specs.declared.fault.NetlistFault.{NetlistFault}
 use Rattle.netlist.specs.declared.fault.NetlistFault.TheVariants.{NotObject, Version, Cycles, PartsNotList, TooManyParts, Part, DoublePart, TooManySheets, NetsNotList, Net, Delay, EdgesNotList, Edge, Label, NoMemory}
 
--- memory was wanted and not found, which says nothing of the tree
+-- memory ran out, which says nothing of the tree
 abbrev pub is_memory : NetlistFault → Bool
 is_memory NotObject = false
 is_memory Version = false

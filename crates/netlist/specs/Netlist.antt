@@ -31,7 +31,7 @@ abbrev pub list_if : Option Data → NetlistFault → Result (List Data) Netlist
 list_if None fault = Ok []
 list_if (Some d) fault = ok_or (list_of d) fault
 
--- nothing where a test is met, and else a fault
+-- no fault where a test is met, and else this fault
 abbrev pub demand : Bool → NetlistFault → Result ⊤ NetlistFault
 demand true fault = Ok tt
 demand false fault = Err fault
@@ -58,12 +58,12 @@ cycles_of tree = ok_or (option_and_then cycles_from (whole_at (codes "cycles") t
 
 -- ---- parts
 
--- a name, if there is something; nothing where this has not the form of a name
+-- a name, if something stands there; nothing where it does not have the form of a name
 abbrev pub name_if : Option Data → Option (Option (List ℕ))
 name_if None = Some None
 name_if (Some d) = option_map (λ name. Some name) (name_of d)
 
--- the grade of a part; in version 1 whatever stands there is passed over
+-- the grade of a part; in version 1 what stands under its key is passed over
 abbrev pub grade_of : ℕ → Data → Option (Option (List ℕ))
 grade_of version d = if version == 2 then name_if (get (codes "grade") d) else Some None
 
@@ -71,7 +71,7 @@ abbrev pub part_by : Option (List ℕ) → Option (List ℕ) → Option (Option 
 part_by (Some name) (Some sheet) (Some grade) = if is_name name then Some (record { name = name; sheet = sheet; grade = grade }) else None
 part_by name sheet grade = None
 
--- an object with a name of a part's form, a text for its sheet and, in version 2, a grade of a name's form or none
+-- a part is an object with a name of a part's form, a text for its sheet and, in version 2, no grade or a grade of a name's form
 unfoldable pub part_of : ℕ → Data → Option code.Part
 part_of version d = part_by (text_at (codes "name") d) (text_at (codes "sheet") d) (grade_of version d)
 
@@ -88,7 +88,7 @@ with_part version n done d = do
 abbrev pub with_name : List (List ℕ) → List ℕ → List (List ℕ)
 with_name names name = if list_any (bytes_eq name) names then names else names ++ name ∷ []
 
--- the distinct names of sheets in the order in which they are first mentioned, behind others
+-- the distinct names of sheets in the order of first mention, behind others
 abbrev pub names_from : List (List ℕ) → List code.Part → List (List ℕ)
 names_from names [] = names
 names_from names (part ∷ parts) = names_from (with_name names part.sheet) parts
@@ -109,7 +109,7 @@ parts_of version tree = do
 abbrev pub pin_by : List ℕ → List ℕ → Option PinText
 pin_by part lane = if is_name part && nat_le 1 (length lane) then Some (record { part = part; lane = lane }) else None
 
--- a text that is cut at its first full stop into the name of a part and a lane name that is not empty
+-- a pin is a text that its first full stop cuts into the name of a part and a lane name that is not empty
 unfoldable pub pin_of : List ℕ → Option PinText
 pin_of text = pin_by (before_first is_full_stop text) (after_first is_full_stop text)
 
@@ -124,12 +124,12 @@ pin_at d = option_and_then pin_of (as_str d)
 abbrev pub pins_of : Data → Option (List PinText)
 pins_of d = option_and_then unless_empty (option_and_then (all_of pin_at) (list_at (codes "pins") d))
 
--- the two ends of a delay, which is 0 where it is missing
+-- the two ends of a delay; a missing delay is 0
 abbrev pub delay_of : Option Data → Option Ends
 delay_of None = Some (record { low = Some (pos 0); high = Some (pos 0) })
 delay_of (Some d) = option_and_then ends_by (list_of d)
 
--- ends that are a range; one that is beyond the limit is told before ends that are the wrong way round
+-- the range of the ends of net n; an end beyond the limit is reported before ends that are the wrong way round
 abbrev pub range_of : ℕ → Ends → Result Ends NetlistFault
 range_of n ends = if has_wide ends then Err (Delay n TooWide) else (if is_reversed ends then Err (Delay n EmptyRange) else Ok ends)
 
@@ -183,8 +183,7 @@ edges_of tree = list_if (get (codes "edges") tree) EdgesNotList >>= λ listed. O
 
 -- ---- the whole
 
--- The netlist of a tree, or its first fault. No other key of the tree, of a part or of a net is read, and of those only the near ones
--- are told.
+-- The netlist of a tree, or its first fault. No other key of the tree, of a part or of a net is read, and of the others only the near keys are kept.
 unfoldable pub netlist_of : Data → Result NetlistContents NetlistFault
 netlist_of tree = do
   version ← version_of tree
@@ -195,7 +194,7 @@ netlist_of tree = do
   edges ← edges_of tree
   Ok (record { version = version; cycles = cycles; parts = parts; nets = nets; wires = wires; edges = edges; near = near_in_netlist tree })
 
--- the netlist that the sheet of a name stands for: one part in one cycle, of version 1; it has no keys
+-- the netlist that stands for the sheet of a name: one part in one cycle, of version 1; it has no keys
 abbrev pub lone_netlist : List ℕ → NetlistContents
 lone_netlist sheet = record {
   version = 1;

@@ -16,7 +16,7 @@ pub record IsWholeWire (wire : Wire) : Type 0 where
   pub shift : wire.shift ≤ MAX_SHIFT
   pub ends : IfSome wire.range IsRange
 
--- there are some cycles, not too many of them nor of the parts and their sheets, and nets and wires are whole
+-- there is a cycle or more; the numbers of cycles, of parts and of sheet names are within their limits; and nets and wires are whole
 pub record IsNetlist (n : NetlistContents) : Type 0 where
   pub some : 1 ≤ n.cycles
   pub few : n.cycles ≤ MAX_CYCLES

@@ -11,7 +11,7 @@ use itv_base::MAX_CYCLES;
 use json_tree::whole_at;
 use serde_json::Value;
 
-/// The version of an object, if it is one that is read here, or the first fault of this.
+/// The version of an object, or the first fault: the tree is no object, or its version is not 1 or 2.
 #[tactic(auto, unfolding(crate::specs::Netlist::version_of))]
 pub fn read_version(tree: &Value) -> Result<u32, NetlistFault>
     ensures { AgreesWith is_memory (λ version. version) result (version_of (view tree.now)) }
@@ -34,7 +34,7 @@ pub fn read_cycles(tree: &Value) -> Result<u32, NetlistFault>
         .ok_or(NetlistFault::Cycles)
 }
 
-// The version that a number stands for, if it is read here.
+// The version that a number stands for, if it is 1 or 2.
 fn version_from(number: i64) -> Option<u32>
     ensures { result ≡ version_from number }
 {
@@ -45,7 +45,7 @@ fn version_from(number: i64) -> Option<u32>
     }
 }
 
-// A number of cycles that may be drawn.
+// The number of cycles, if so many may be drawn.
 fn cycles_from(number: i64) -> Option<u32>
     ensures { result ≡ cycles_from number }
 {

@@ -8,8 +8,8 @@ use label_grammar::LabelFault;
 use std::alloc::AllocFailed;
 use thiserror::Error;
 
-/// The first fault of a tree: those of the whole before those of parts, of parts before those of nets, and of nets before those
-/// of wires, and in each the order below. Parts, nets and wires are told by their number from 0, comments among the wires too.
+/// The first fault of a tree. Faults of the whole come before faults of parts, these before faults of nets, and these before faults of wires.
+/// Within each the order is as below. A fault has the number of its part, net or wire, counted from 0. Comments count among the wires.
 #[derive(Clone, Copy, Debug, PartialEq, Eq, Error)]
 pub enum NetlistFault {
     /// The tree is no object.
@@ -24,23 +24,23 @@ pub enum NetlistFault {
     /// `parts` is missing or no list.
     #[error("the netlist has no list `parts`")]
     PartsNotList,
-    /// There are more parts than [`MAX_PARTS`](itv_base::MAX_PARTS), so many.
+    /// There are so many parts, more than [`MAX_PARTS`](itv_base::MAX_PARTS).
     #[error("{0} parts are too many")]
     TooManyParts(u64),
-    /// The part is no object with a name of 1 to 16 letters of ASCII, digits or `_` and a text for its sheet, or it has, in version 2,
-    /// a grade that has not the form of a name.
+    /// The part is no object with a name of 1 to 16 letters of ASCII, digits or `_` and a text for its sheet. Or, in version 2, it has a grade
+    /// that does not have the form of a name.
     #[error("part {0} has no name and sheet, or a grade that is no name")]
     Part(u64),
     /// The part has the name of an earlier part.
     #[error("part {0} has the name of an earlier part")]
     DoublePart(u64),
-    /// There are more distinct sheet names than [`MAX_SHEET_NAMES`](itv_base::MAX_SHEET_NAMES), so many.
+    /// There are so many distinct sheet names, more than [`MAX_SHEET_NAMES`](itv_base::MAX_SHEET_NAMES).
     #[error("{0} sheets are too many")]
     TooManySheets(u64),
     /// `nets` is there and no list.
     #[error("`nets` is no list")]
     NetsNotList,
-    /// The net has no list of pin texts, or its delay is there and not two ends, each a whole number or null.
+    /// The net has no list of pin texts, or it has a delay that is not two ends, each a whole number or null.
     #[error("net {0} has no pins and delay")]
     Net(u64),
     /// The delay of the net is no range.

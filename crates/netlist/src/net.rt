@@ -22,14 +22,14 @@ impl Model for PinNet {
 }
 
 impl PinNet {
-    /// The pins in order, one at least.
+    /// The pins in order, at least one.
     pub fn pins(&self) -> &PinTexts
         ensures pins { result.now ≡ self.now.pins }
     {
         &self.pins
     }
 
-    /// The range of the delay from the first pin to each other one, in picoseconds.
+    /// The range of the delay from the first pin to each other pin, in picoseconds.
     pub fn delay(&self) -> Range
         ensures delay { result ≡ self.now.delay }
     {

@@ -39,7 +39,7 @@ impl Model for Netlist {
 }
 
 impl Netlist {
-    /// The netlist that the sheet of a name stands for: one part, `U`, in one cycle, of version 1.
+    /// The netlist that stands for the sheet of a name: one part, `U`, in one cycle, of version 1.
     pub fn lone(alloc: Global, sheet: &str) -> Result<Netlist, NoMemory>
         ensures lone { IfOk result (λ netlist. netlist ≡ lone_netlist sheet.now) }
     {
@@ -85,8 +85,7 @@ impl Netlist {
         &self.parts
     }
 
-    /// The distinct names of the parts' sheets in the order in which they are first mentioned, at most
-    /// [`MAX_SHEET_NAMES`](itv_base::MAX_SHEET_NAMES).
+    /// The distinct names of the parts' sheets in the order of first mention, at most [`MAX_SHEET_NAMES`](itv_base::MAX_SHEET_NAMES).
     pub fn sheet_names(&self) -> &Texts
         ensures names { result.now ≡ sheet_names self.now.parts }
     {
@@ -114,8 +113,8 @@ impl Netlist {
         &self.edges
     }
 
-    /// The keys of the tree that are passed over and nearly are keys which are read: its own, and then those of its parts and of its
-    /// nets in order. A lone netlist has none.
+    /// The keys that are passed over and nearly are keys that are read: keys of the tree itself, then keys of its parts, and then keys of its
+    /// nets, in order. A lone netlist has none.
     pub fn near(&self) -> &Texts
         ensures near { result.now ≡ self.now.near }
     {

@@ -47,7 +47,7 @@ fn read_net(alloc: Global, n: u64, element: &Value) -> Result<PinNet, NetlistFau
     Ok(PinNet { pins, delay })
 }
 
-// The two ends of a delay, which is 0 where it is missing.
+// The two ends of a delay. A missing delay is 0.
 fn delay_of(delay: Option<&Value>) -> Option<EndPair>
     ensures { option_map ends_view result
         ≡ delay_of (option_map (λ d. view d.now) delay.entry) }

@@ -2,8 +2,8 @@
 
 use itv_base::{Listing, Text};
 
-/// A part: its name, 1 to 16 letters of ASCII, digits or `_`, the name of the sheet that it is drawn on, and in version 2 its speed
-/// grade, of the form of its name, or none.
+/// A part. Its name is 1 to 16 letters of ASCII, digits or `_`. Its sheet is the name of the sheet that it is drawn on. Its speed grade, which
+/// only a part of version 2 may have, has the form of a name.
 #[derive(Debug, Drop)]
 pub struct Part {
     pub name: Text,

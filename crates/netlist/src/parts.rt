@@ -26,7 +26,7 @@ pub fn read_parts(alloc: Global, version: u32, list: &[Value]) -> Result<Parts, 
     Ok(parts)
 }
 
-// Puts part n at the end, if it is one and none before has its name.
+// Puts part n at the end, if the element is a part and no part before has its name.
 fn push_part(
     alloc: Global,
     version: u32,
@@ -46,7 +46,7 @@ fn push_part(
     Ok(())
 }
 
-// The part of an element, if it is one.
+// The part that an element is, if it is a part.
 #[tactic(auto, unfolding(crate::specs::Netlist::part_of))]
 fn read_part(alloc: Global, version: u32, element: &Value) -> Result<Option<Part>, NoMemory>
     ensures { IfOk result (λ part. part ≡ part_of version (view element.now)) }
@@ -70,7 +70,7 @@ fn read_part(alloc: Global, version: u32, element: &Value) -> Result<Option<Part
     }))
 }
 
-// The grade of a part, which in version 1 is passed over: nothing where one stands there that has not the form of a name.
+// The grade of a part, or no grade. In version 1 it is passed over. Nothing where the grade does not have the form of a name.
 fn grade_of(version: u32, element: &Value) -> Option<Option<&str>>
     ensures { option_map (λ grade. option_copied grade) result ≡ grade_of version (view element.now) }
 {

@@ -2,7 +2,7 @@
 
 use itv_base::{Listing, Text};
 
-/// A pin as a net names it: the name of a part, and the name of a lane of its sheet, which is not empty.
+/// A pin as a net names it: the name of a part, and the name of a lane of its sheet. The name of a lane is not empty.
 #[derive(Debug, Drop)]
 pub struct PinText {
     pub part: Text,

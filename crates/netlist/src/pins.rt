@@ -15,7 +15,7 @@ use json_tree::list_at;
 use serde_json::Value;
 use std::alloc::Global;
 
-/// The pins of net n, one at least, or its fault where it has no list of pin texts.
+/// The pins of net n, at least one, or its fault where it has no list of pin texts.
 pub fn read_pins(alloc: Global, n: u64, net: &Value) -> Result<PinTexts, NetlistFault>
     ensures { AgreesWith is_memory (λ pins. pins) result (ok_or (pins_of (view net.now)) (faults.Net n)) }
 {
@@ -28,7 +28,7 @@ pub fn read_pins(alloc: Global, n: u64, net: &Value) -> Result<PinTexts, Netlist
     }
 }
 
-// The pins of the elements of a list, if each of them is one.
+// The pins of the elements of a list, if each element is a pin.
 fn pins_in(alloc: Global, list: &[Value]) -> Result<Option<PinTexts>, NoMemory>
     ensures { IfOk result (λ pins. pins ≡ all_of pin_at (map view list.now)) }
 {
@@ -42,7 +42,7 @@ fn pins_in(alloc: Global, list: &[Value]) -> Result<Option<PinTexts>, NoMemory>
     Ok(Some(pins))
 }
 
-// The pin of an element, if it is a text that names one.
+// The pin of an element, if the element is a text that names a pin.
 fn read_pin(alloc: Global, element: &Value) -> Result<Option<PinText>, NoMemory>
     ensures { IfOk result (λ pin. pin ≡ pin_at (view element.now)) }
 {
@@ -58,7 +58,7 @@ fn read_pin(alloc: Global, element: &Value) -> Result<Option<PinText>, NoMemory>
     }))
 }
 
-// The name of a part and the name of a lane, which stand before and behind the first full stop of a text.
+// The name of a part, before the first full stop of a text, and the name of a lane, behind it.
 #[tactic(auto, unfolding(crate::specs::Netlist::pin_of))]
 fn cut_pin(text: &str) -> Option<(&str, &str)>
     ensures { option_map (λ pin. record { part = pin.0.now; lane = pin.1.now }) result ≡ pin_of text.now }

@@ -24,12 +24,12 @@ use std::alloc::Global;
 
 /// The netlist of a tree, or its first fault in the order of [`NetlistFault`].
 ///
-/// A netlist is an object. `itv` is its version, 1 or 2, and `cycles` a whole number from 1 on. `parts` is a list of objects, each
-/// with a `name` and a `sheet`, and in version 2 with a `grade` or none. `nets` may be missing; it is a list of objects, each with `pins`, a list of texts as `U1.ADDR`, and with a
-/// `delay` of two ends in picoseconds (null is open), which is 0 where it is missing. `edges` may be missing; it is a list of
-/// wires as `U1.a U2.b @lin [0,250]`, and a text without two spaces or without a label that begins with `@` is a comment.
-/// Every other key is passed over unread, in version 1 the `grade` of a part too. Of these keys those are kept that nearly are known:
-/// [`near_in_netlist`] says which.
+/// A netlist is an object. `itv` is its version, 1 or 2, and `cycles` a whole number from 1 on. `parts` is a list of objects. Each has a `name`
+/// and a `sheet`, and in version 2 may have a `grade`. `nets` may be missing. It is a list of objects. Each has `pins`, a list of texts as
+/// `U1.ADDR`, and may have a `delay`, two ends in picoseconds (null is open). A missing `delay` is 0. `edges` may be missing. It is a list of
+/// wires as `U1.a U2.b @lin [0,250]`. A text without two spaces, or without a label that begins with `@`, is a comment. Every other key is
+/// passed over unread, in version 1 the `grade` of a part too. Of these keys only the near keys are kept: [`near_in_netlist`] says which keys
+/// are near.
 ///
 /// `NoMemory` may come in place of a netlist or a fault. After any fault no netlist was made.
 pub fn read_netlist(alloc: Global, tree: &Value) -> Result<Netlist, NetlistFault>
@@ -61,7 +61,7 @@ struct NamedParts {
     sheet_names: Texts,
 }
 
-// The parts of a tree, or the first fault of them.
+// The parts of a tree, or their first fault.
 fn parts_of(alloc: Global, version: u32, tree: &Value) -> Result<NamedParts, NetlistFault>
     ensures parts { AgreesWith is_memory (λ read. read.parts) result (parts_of version (view tree.now)) }
     ensures names { IfOk result (λ read. read.sheet_names ≡ sheet_names read.parts) }
@@ -81,7 +81,7 @@ fn parts_of(alloc: Global, version: u32, tree: &Value) -> Result<NamedParts, Net
     Ok(NamedParts { parts, sheet_names })
 }
 
-// The nets of a tree, none where it has no such key, or the first fault of them.
+// The nets of a tree, none where the tree has no key `nets`, or their first fault.
 fn nets_of(alloc: Global, tree: &Value) -> Result<Nets, NetlistFault>
     ensures { AgreesWith is_memory (λ nets. nets) result (nets_of (view tree.now)) }
 {
@@ -89,7 +89,7 @@ fn nets_of(alloc: Global, tree: &Value) -> Result<Nets, NetlistFault>
     read_nets(alloc, list)
 }
 
-// The wires of a tree, none where it has no such key, or the first fault of them.
+// The wires of a tree, none where the tree has no key `edges`, or their first fault.
 fn wires_of(alloc: Global, tree: &Value) -> Result<Wires, NetlistFault>
     ensures { AgreesWith is_memory (λ wires. wires) result (wires_of (view tree.now)) }
 {
@@ -97,7 +97,7 @@ fn wires_of(alloc: Global, tree: &Value) -> Result<Wires, NetlistFault>
     read_wires(alloc, list)
 }
 
-// The texts of the wires of a tree, none where it has no such key, or the fault of what stands there.
+// The texts of the wires of a tree, none where the tree has no key `edges`, or a fault where no list stands there.
 fn edges_of(alloc: Global, tree: &Value) -> Result<Texts, NetlistFault>
     ensures { AgreesWith is_memory (λ edges. edges) result (edges_of (view tree.now)) }
 {

@@ -9,7 +9,7 @@ use crate::part::Part;
 use itv_base::{NoMemory, Text, Texts};
 use std::alloc::Global;
 
-/// The distinct names of the parts' sheets in the order in which they are first mentioned.
+/// The distinct names of the parts' sheets in the order of first mention.
 pub fn names_of_sheets(alloc: Global, parts: &[Part]) -> Result<Texts, NoMemory>
     ensures { IfOk result (λ names. names ≡ sheet_names parts.now) }
 {

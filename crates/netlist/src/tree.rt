@@ -12,7 +12,7 @@ use json_tree::list_of;
 use serde_json::Value;
 use std::alloc::Global;
 
-/// The elements of the list under a key, none where the key is missing; or a fault where no list stands there.
+/// The elements of the list under a key, none where the key is missing, or the fault where something else stands there.
 pub fn list_if<'v>(
     tree: &'v Value,
     key: &str,
@@ -28,7 +28,7 @@ pub fn list_if<'v>(
     }
 }
 
-/// The texts of a list. What is no text is passed over.
+/// The texts of a list. An element that is no text is passed over.
 pub fn texts_of(alloc: Global, list: &[Value]) -> Result<Texts, NoMemory>
     ensures { IfOk result (λ texts. texts ≡ filter_map as_str (map view list.now)) }
 {

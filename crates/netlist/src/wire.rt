@@ -3,8 +3,8 @@
 use itv_base::{Listing, Range, Text};
 use label_grammar::Kind;
 
-/// A wire: it goes from a mark of a part to a mark of a part, each mark a visible character of ASCII, and says what its timing
-/// label says. The shift is in cycles and the range in picoseconds; an ask alone has no range.
+/// A wire, from a mark of a part to a mark of a part, with what its timing label says. Each mark is a visible character of ASCII. The shift is
+/// in cycles and the range in picoseconds. Only an ask has no range.
 #[derive(Debug, Drop)]
 pub struct Wire {
     pub from_part: Text,
@@ -17,5 +17,5 @@ pub struct Wire {
     pub range: Option<Range>,
 }
 
-/// One element for each text of `edges`; one that is a comment is `None`.
+/// One element for each text of `edges`. A comment is `None`.
 pub type Wires = Listing<Option<Wire>>;

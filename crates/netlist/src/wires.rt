@@ -52,7 +52,7 @@ fn wire_of(alloc: Global, n: u64, text: &str) -> Result<Option<Wire>, NetlistFau
             label,
         } => (from_part, from_mark, to_part, to_mark, label),
     };
-    // A `?` on a value that holds a text beside a range gets no proof.
+    // A `match`, since a `?` on a value that holds a text beside a range gets no proof.
     let label = match read_label(label) {
         Ok(label) => label,
         Err(fault) => return Err(NetlistFault::Label(n, fault)),

@@ -27,7 +27,7 @@ use Rattle.reading.specs.Opening.{FileReading, gives, ◌>>=◌, at, each, file_
 
 -- ---- files
 
--- the tree of a file's bytes: bytes that are no text have none
+-- the tree of a file's bytes: bytes that are no text have no tree
 abbrev pub tree_of : List ℕ → Option Data
 tree_of bytes = if is_utf8 bytes then read bytes else None
 
@@ -42,30 +42,30 @@ tree_in place name = do
 
 -- ---- sheets by their names and speed grades
 
--- with one more sheet
+-- sheets with one more
 abbrev pub with_sheet : NamedSheets → SheetKey → sheet.SheetContents → NamedSheets
 with_sheet sheets key sheet = insert_entry same_key sheets key sheet
 
 -- ---- the sheets of files
 
--- the speed grades of a file; in version 1 there are none, and what stands there is passed over
+-- the speed grades of a file; in version 1 there are none, and what stands under their key is passed over
 abbrev pub grades_in : ℕ → RefusalPlace → Data → FileReading (Option (List Grade))
 grades_in version place tree =
     if version == 2 then (at place Grades (grades_of tree) >>= λ grades. gives (Some grades)) else gives None
 
--- the part is drawn on the sheet of this name, and this is not read yet at the grade of the part
+-- the part is drawn on the sheet of this name, and this sheet is not read yet at the grade of the part
 abbrev pub is_unread : NamedSheets → List ℕ → Part → Bool
 is_unread sheets name part = bytes_eq name part.sheet && is_none (sheet_among sheets (key_of part))
 
--- The sheets with that of one part more, if it is drawn on this file at a grade, or at none, that no part before it named.
+-- The sheets with the sheet of one more part, if the part is drawn on this file at a grade, or at none, that no part before it named.
 abbrev pub with_part : RefusalPlace → List ℕ → Option (List Grade) → Drawing → ℕ → NamedSheets → Part → FileReading NamedSheets
 with_part place name grades drawing n sheets part =
     if is_unread sheets name part
     then (at place Sheet (sheet_by grades part.grade drawing) >>= λ sheet. gives (with_sheet sheets (key_of part) sheet))
     else gives sheets
 
--- The sheets that the tree of a file draws, behind those that are read: one for each grade or none, in the order in which the parts
--- first mention them. The grades are read before the sheets, also where no part has one.
+-- The sheets that the tree of a file draws, behind the sheets that are read already: one for each grade or none, in the order in which the parts first
+-- mention them. The grades are read before the sheets, also where no part has a grade.
 abbrev pub sheets_at : NetlistContents → ℕ → NamedSheets → List ℕ → Data → FileReading NamedSheets
 sheets_at netlist number sheets name tree = do
   drawing ← at (File number) Diagram (diagram_of tree)
@@ -90,14 +90,14 @@ lone_at name tree = do
   sheets ← sheets_at (lone_netlist name) 0 [] name tree
   gives (record { netlist = lone_netlist name; sheets = sheets })
 
--- The plan of a netlist: the sheets that it names are fetched in the order in which they are first mentioned, as files 1, 2 and so on.
+-- The plan of a netlist. The sheets that it names are fetched in the order of first mention, as files 1, 2 and so on.
 abbrev pub netlist_at : Data → FileReading Planned
 netlist_at tree = do
   netlist ← at (File 0) Netlist (netlist_of tree)
   sheets ← sheets_of_files netlist (sheet_names netlist.parts)
   gives (record { netlist = netlist; sheets = sheets })
 
--- An object without the key `itv` is a lone sheet. Any other tree is a netlist, or refused as one.
+-- An object without the key `itv` is a lone sheet. Any other tree is read, or refused, as a netlist.
 abbrev pub tree_planned : List ℕ → Data → FileReading Planned
 tree_planned name tree = if is_some (as_object tree) && is_none (get (codes "itv") tree) then lone_at name tree else netlist_at tree
 

@@ -19,12 +19,12 @@ abbrev pub ◌>>=◌ : {A B : Type 0} → FileReading A → (A → FileReading B
 (refuses place why) >>= f = refuses place why
 (fetches place name most next) >>= f = fetches place name most (λ bytes. next bytes >>= f)
 
--- the elements of a list in order, numbered from n on, each with what came of those before it
+-- a step for each element of a list in order, numbered from n on, with what the elements before it came to
 abbrev pub each : {A X : Type 0} → (ℕ → A → X → FileReading A) → ℕ → A → List X → FileReading A
 each step n done [] = gives done
 each step n done (x ∷ xs) = step n done x >>= λ more. each step (n + 1) more xs
 
--- what was read already, or its fault as a refusal at a place
+-- what was read already, or its fault, which becomes a refusal at a place
 abbrev pub at : {A F : Type 0} → RefusalPlace → (F → Refusal) → Result A F → FileReading A
 at place why (Ok x) = gives x
 at place why (Err fault) = refuses place (why fault)
@@ -33,7 +33,7 @@ at place why (Err fault) = refuses place (why fault)
 abbrev pub within_limit : RefusalPlace → ℕ → List ℕ → FileReading (List ℕ)
 within_limit place limit bytes = if nat_lt limit (length bytes) then refuses place TooLong else gives bytes
 
--- The bytes of a file, which is refused if it is longer than a limit. One byte more than the limit is asked for, which tells.
+-- The bytes of a file, which is refused if it is longer than a limit. One byte more than the limit is asked for: it shows that the file is too long.
 abbrev pub file_at : RefusalPlace → List ℕ → ℕ → FileReading (List ℕ)
 file_at place name limit = fetches place name (limit + 1) (within_limit place limit)
 
@@ -43,15 +43,15 @@ pub data End (A : Type 0) : Type 0 where
   refused : RefusalPlace → Refusal → End A
   unread : RefusalPlace → List ℕ → End A
 
--- A reading over a shelf comes to an end: each file that it asked for before was had, where the shelf tells files with its told
--- bytes, and at any file that it asks for it may end.
+-- A reading over a shelf comes to an end. It had each file that it asked for before. Where it is known which files the shelf has, the bytes are the first
+-- of the file. At any file that it asks for the reading may end.
 abbrev pub RunsTo : {A : Type 0} → ShelfView → FileReading A → End A → Type 0
 RunsTo shelf (gives x) end = end ≡ ready x
 RunsTo shelf (refuses place why) end = end ≡ refused place why
 RunsTo shelf (fetches place name most next) end =
     (end ≡ unread place name) ⊎ ((bytes : List ℕ) × HasFront shelf.files name most bytes × RunsTo shelf (next bytes) end)
 
--- what an end leaves of the shelf: a fault is counted and named, and else nothing changes
+-- what an end leaves of the shelf: a failed fetch is counted and its name kept, and else nothing changes
 abbrev pub LeavesShelf : {A : Type 0} → ShelfView → ShelfView → End A → Type 0
 LeavesShelf old new (ready x) = new ≡ old
 LeavesShelf old new (refused place why) = new ≡ old
@@ -61,7 +61,7 @@ LeavesShelf old new (unread place name) = FailedFor name old new
 abbrev pub RunsToEnd : {A : Type 0} → ShelfView → ShelfView → FileReading A → End A → Type 0
 RunsToEnd old new opening end = RunsTo old opening end × LeavesShelf old new end
 
--- how a reading ends over told files that are all had
+-- how a reading ends over files that are known, where each fetch of a file that is there succeeds
 abbrev pub told_end : {A : Type 0} → Files → FileReading A → End A
 told_end files (gives x) = ready x
 told_end files (refuses place why) = refused place why

@@ -28,8 +28,8 @@ use Rattle.reading.specs.declared.refusal.Refusal.{Refusal}
 use Rattle.reading.specs.declared.refusal.Refusal.TheVariants.{TooLong, NotJson, Diagram, Grades, Sheet, Netlist, Joins, Limits, Mixed, Wide, Edits}
 use Rattle.reading.specs.Place.{place_words}
 
--- The words of a fault are its name and then what it keeps: a number in decimal, a mark as its character, and a fault within by its
--- name. Want of memory is no refusal.
+-- The words of a fault are its name and then what it keeps: a number in decimal, a mark as its character, and an inner fault by its name. Want of memory
+-- is no refusal.
 
 abbrev pub range_fault_name : RangeFault → Word
 range_fault_name range.TooWide = codes "TooWide"
@@ -49,7 +49,7 @@ limit_name limit.SearchCells = codes "SearchCells"
 limit_name limit.MatrixEvents = codes "MatrixEvents"
 limit_name limit.SessionRows = codes "SessionRows"
 
--- The words of the fault of a refusal. A line of a file of edits is told by its number from 1.
+-- The words of the fault of a refusal. A line of a file of edits has its number, counted from 1.
 abbrev pub fault_words : Refusal → List Word
 fault_words TooLong = codes "TooLong" ∷ []
 fault_words NotJson = codes "NotJson" ∷ []

@@ -9,15 +9,15 @@ use Rattle.reading.specs.Opening.{FileReading, ready, refused, unread, RunsToEnd
 pub mod Lone
 pub mod Word
 
--- What a step of a reading answers, seen by a view: the end that its reading came to, with what this leaves of the shelf. Want of
--- memory may come in place of any end, and leaves the shelf as it was.
+-- What a step of a reading answers, seen by a view: the end that its reading came to, with what this end leaves of the shelf. Want of memory may come in
+-- place of any end, and leaves the shelf as it was.
 abbrev pub Opens : {A B : Type 0} → (B → A) → ShelfView → ShelfView → FileReading A → Result B Stop → Type 0
 Opens view old new opening (Ok x) = RunsToEnd old new opening (ready (view x))
 Opens view old new opening (Err (Refused place why)) = RunsToEnd old new opening (refused place why)
 Opens view old new opening (Err (ReadFault place)) = (name : List ℕ) × RunsToEnd old new opening (unread place name)
 Opens view old new opening (Err NoMemory) = new ≡ old
 
--- what a step answers that asks for no file
+-- what a step that asks for no file answers
 abbrev pub ReadsAs : {A B : Type 0} → (B → A) → FileReading A → Result B Stop → Type 0
 ReadsAs view opening result = (told : ShelfView) → Opens view told told opening result
 

@@ -15,10 +15,10 @@ use unroll::unroll;
 
 /// What the design of a file draws.
 ///
-/// The plan of the design is read as [`open_plan`] does it; behind all files come the joins of the design, and then its limits. The
-/// first refusal ends the reading. A fetch that failed ends the reading where it stands, and the shelf keeps its name.
+/// [`open_plan`] reads the plan of the design. Behind all files come the joins of the design, and then its limits. The first refusal ends the
+/// reading. A fetch that failed ends the reading where it stands, and the shelf keeps the name of the file.
 ///
-/// `NoMemory` may come in place of any answer. It and a refusal leave the shelf as it was.
+/// `NoMemory` may come in place of any answer. `NoMemory` and a refusal leave the shelf as it was.
 pub fn open_design<H: Shelf>(alloc: Global, name: &str, shelf: &mut H) -> Result<DrawnNetwork, Stop>
     ensures opens { Opens (λ drawn. drawn) (H.told shelf.old) (H.told shelf.new)
         (design_at name.now) result }
@@ -27,7 +27,7 @@ pub fn open_design<H: Shelf>(alloc: Global, name: &str, shelf: &mut H) -> Result
     draw_plan(alloc, &plan)
 }
 
-/// What a plan draws; or the first fault of its joins, and then the first limit that it passes.
+/// What a plan draws, or the first fault of its joins, or else the first limit that it passes.
 ///
 /// `NoMemory` may come in place of any answer.
 pub fn draw_plan(alloc: Global, plan: &Plan) -> Result<DrawnNetwork, Stop>

@@ -13,7 +13,7 @@ use itv_base::{FILE_LIMIT, FetchFault, Listing, Shelf};
 use serde_json::Value;
 use std::alloc::Global;
 
-/// The tree of a file. A file that is longer than [`FILE_LIMIT`] or no JSON is refused.
+/// The tree of a file. A file is refused if it is longer than [`FILE_LIMIT`] or no JSON.
 pub fn open_tree<H: Shelf>(
     alloc: Global,
     place: RefusalPlace,
@@ -26,10 +26,10 @@ pub fn open_tree<H: Shelf>(
     read_tree(alloc, place, bytes.as_slice())
 }
 
-/// The bytes of a file. One that is longer than a limit of bytes is refused.
+/// The bytes of a file. A file that is longer than a limit, in bytes, is refused.
 ///
-/// One byte more than the limit is fetched, which tells. `NoMemory` may come in place of any answer. A fetch that failed leaves
-/// its name with the shelf, and any other answer leaves the shelf as it was.
+/// One byte more than the limit is fetched: it shows that the file is too long. `NoMemory` may come in place of any answer. A fetch that failed
+/// leaves the name of the file with the shelf, and any other answer leaves the shelf as it was.
 pub fn fetch_file<H: Shelf>(
     alloc: Global,
     place: RefusalPlace,

@@ -1,6 +1,6 @@
-//! Where something is refused or could not be read.
+//! Where something is refused, or could not be read.
 
-/// Where something is refused or could not be read.
+/// Where something is refused, or could not be read.
 #[derive(Clone, Copy, Debug, PartialEq, Eq)]
 pub enum RefusalPlace {
     /// A file: 0 is the design file, and the files of the sheets follow in the order in which the netlist first mentions them.

@@ -21,13 +21,12 @@ use std::alloc::Global;
 
 /// The plan of the design of a file.
 ///
-/// The file is file 0. It is a lone sheet, an object without the key `itv`, or else a netlist, whose sheets are fetched in the
-/// order in which they are first mentioned, as files 1, 2 and so on. The first refusal ends the
-/// reading: for each file its length, its JSON, its drawing, in version 2 its speed grades, and then its sheet, in version 2 once for
-/// each grade, or none, that its parts name, in the order of first mention. A fetch that failed ends the reading where it stands, and
-/// the shelf keeps its name.
+/// The file is file 0. An object without the key `itv` is a lone sheet, and anything else is a netlist. The sheets of a netlist are fetched in
+/// the order of first mention, as files 1, 2 and so on. Each file is judged by its length, its JSON, its drawing, in version 2 its speed grades,
+/// and then its sheet. In version 2 its sheet is judged once for each grade, or none, that its parts name, in the order of first mention. The
+/// first refusal ends the reading. A fetch that failed ends the reading where it stands, and the shelf keeps the name of the file.
 ///
-/// `NoMemory` may come in place of any answer. It and a refusal leave the shelf as it was.
+/// `NoMemory` may come in place of any answer. `NoMemory` and a refusal leave the shelf as it was.
 pub fn open_plan<H: Shelf>(alloc: Global, name: &str, shelf: &mut H) -> Result<Plan, Stop>
     ensures opens { Opens (λ plan. plan) (H.told shelf.old) (H.told shelf.new)
         (plan_at name.now) result }

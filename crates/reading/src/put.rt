@@ -23,7 +23,7 @@ use sheet::{GradesFault, SheetFault};
 use unroll::{Limit, UnrollFault};
 use wavejson::DiagramFault;
 
-/// Writes the line of a refusal: `refused`, the place, and the fault with what it keeps.
+/// Writes the line of a refusal: `refused`, the place, and the fault with the numbers, marks and names that it keeps.
 pub fn put_refusal<K: Sink>(
     place: RefusalPlace,
     why: Refusal,
@@ -56,7 +56,7 @@ enum Word<'a> {
     Count(u128),
 }
 
-// Writes each of some words behind a space.
+// Writes some words, each behind a space.
 fn put_words<K: Sink>(words: &[Word], sink: &mut K) -> Result<(), PutFailed>
     ensures { Puts (K.told sink.old) (K.told sink.new) (flat_map spaced (map word_spelled words.now)) result }
 {

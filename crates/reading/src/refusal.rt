@@ -7,7 +7,7 @@ use sheet::{GradesFault, SheetFault};
 use unroll::UnrollFault;
 use wavejson::DiagramFault;
 
-/// The first refusal of files. None of its faults is want of memory, which is no refusal.
+/// The first refusal of files. Want of memory is no refusal, so no fault in a refusal is `NoMemory`.
 #[derive(Clone, Copy, Debug, PartialEq, Eq)]
 pub enum Refusal {
     /// The file is longer than its limit.
@@ -16,7 +16,7 @@ pub enum Refusal {
     NotJson,
     /// The tree of the file is no diagram.
     Diagram(DiagramFault),
-    /// The speed grades of the file are none.
+    /// What the file gives as speed grades is no speed grades.
     Grades(GradesFault),
     /// The diagram is no sheet.
     Sheet(SheetFault),
@@ -26,11 +26,11 @@ pub enum Refusal {
     Joins(JoinFault),
     /// The design draws more than a limit allows.
     Limits(UnrollFault),
-    /// What the design draws has choices of both kinds: these are the least numbers of a latest and of an earliest constraint with
+    /// What the design draws has choices of both kinds. The numbers are the least of a latest constraint, and of an earliest constraint, with
     /// two or more causes.
     Mixed(u32, u32),
-    /// The row of this number fails at an end that is the limit of a finite end, or minus that on the low side: no drawing of it is past
-    /// the end.
+    /// The row of this number fails at an end that is the limit of a finite end, or minus this limit on the low side. No drawing of the row is
+    /// past the end.
     Wide(u32),
     /// The file of edits has a fault.
     Edits(EditsFault),

@@ -25,7 +25,7 @@ use sheet::{Grades, Sheet, SheetFault, read_grades, read_sheet, read_sheet_at};
 use std::alloc::Global;
 use wavejson::{Diagram, read_diagram};
 
-/// The sheets of the files that the parts of a netlist are drawn on, which are files 1, 2 and so on: of each file one for each speed
+/// The sheets of the files that the parts of a netlist are drawn on. These are files 1, 2 and so on. Each file gives one sheet for each speed
 /// grade, or none, that its parts name.
 pub fn open_sheets<H: Shelf>(
     alloc: Global,
@@ -50,7 +50,7 @@ pub fn open_sheets<H: Shelf>(
     Ok(sheets)
 }
 
-// Puts the sheets of the file with a number in.
+// Adds the sheets of the file with a number.
 fn open_file<H: Shelf>(
     alloc: Global,
     netlist: &Netlist,
@@ -66,7 +66,7 @@ fn open_file<H: Shelf>(
     read_sheets(alloc, netlist, number, name, &tree, sheets)
 }
 
-// Puts the sheets in that the tree of the file with a number draws.
+// Adds the sheets that the tree of the file with a number draws.
 fn read_sheets(
     alloc: Global,
     netlist: &Netlist,
@@ -88,7 +88,7 @@ fn read_sheets(
     push_parts(alloc, place, name, &grades, &diagram, parts, sheets)
 }
 
-// The speed grades of a file. In version 1 there are none, and what stands there is passed over.
+// The speed grades of a file. In version 1 there are none, and what stands under their key is passed over.
 fn grades_in(
     alloc: Global,
     version: u32,
@@ -106,7 +106,7 @@ fn grades_in(
     }
 }
 
-// Puts the sheets of all parts of a file in.
+// Adds the sheets of all parts of a file.
 fn push_parts(
     alloc: Global,
     place: RefusalPlace,
@@ -125,7 +125,7 @@ fn push_parts(
     Ok(())
 }
 
-// Puts the sheet of a part in, if the part is drawn on this file, and no part before it has its speed grade.
+// Adds the sheet of a part, if the part is drawn on this file and no part of the file before it has its speed grade.
 fn push_part(
     alloc: Global,
     place: RefusalPlace,
@@ -157,7 +157,7 @@ fn is_on(name: &str, part: &Part) -> bool
     name == part.sheet.as_text()
 }
 
-/// Puts a sheet in by a key.
+/// Adds a sheet under a key.
 pub fn push_sheet(sheets: &mut Sheets, key: SheetKey, sheet: Sheet) -> Result<(), NoMemory>
     ensures entries { OnOk result (sheets.new.entries ≡ with_sheet sheets.old.entries key sheet) }
 {
@@ -165,7 +165,7 @@ pub fn push_sheet(sheets: &mut Sheets, key: SheetKey, sheet: Sheet) -> Result<()
     Ok(())
 }
 
-// The sheet of a drawing for a place.
+// The sheet of a drawing, with a fault as a refusal at a place.
 fn read_sheet_by(
     alloc: Global,
     place: RefusalPlace,
@@ -181,7 +181,7 @@ fn read_sheet_by(
     }
 }
 
-// The sheet of a drawing in version 1, where there are no grades, or in version 2 at a grade of these or at none.
+// The sheet of a drawing. Without grades it is read as in version 1. With grades it is read as in version 2, at one of them or at none.
 fn sheet_by(
     alloc: Global,
     grades: &Option<Grades>,

@@ -1,4 +1,4 @@
--- How a lone sheet is read, before it is the one part of a netlist.
+-- How a lone sheet is read, before it becomes the one part of a netlist.
 use Rattle.std.specs.Prelude.{ℕ, List, [], None}
 use Rattle.serde_json.specs.Data.{Data}
 use Rattle.wavejson.specs.Drawing.{diagram_of}
