@@ -16,7 +16,7 @@ pub enum Refusal {
     NotJson,
     /// The tree of the file is no diagram.
     Diagram(DiagramFault),
-    /// What the file gives as speed grades is no speed grades.
+    /// The speed grades of the file are refused.
     Grades(GradesFault),
     /// The diagram is no sheet.
     Sheet(SheetFault),

@@ -1,5 +1,5 @@
--- What of a design may say something else than was meant. Parts, edges, lanes, nets and pins are numbered from 0, and a rule is told by its
--- first cause.
+-- What in a design may say something else than was meant. Parts, edges, lanes, nets and pins are numbered from 0, and a warning names a rule by what draws
+-- its first cause.
 use Rattle.std.specs.Prelude.{ℕ, ◌+◌, ◌-◌, ◌==◌, ◌&&◌, ◌||◌, nat_le, Bool, true, false, not, if◌then◌else◌, List, [], ◌∷◌, ◌++◌, length, map, find, codes, Option, Some, None, is_some, option_map, unwrap_or, slice_get, slice_index}
 use Rattle.std.specs.List.{before_first, flat_map, list_any}
 use Rattle.std.specs.Option.{option_map_or, option_to_list}
@@ -31,17 +31,17 @@ use Rattle.warnings.specs.declared.warning.Warning.TheVariants.{Rows, Comment, N
 
 -- ---- lists
 
--- what each element of a list gives, with its number, which for the first one is this
+-- what each element of a list gives with its number; the first element has this number
 abbrev pub each_from : {X : Type 0} → (ℕ → X → List Warning) → ℕ → List X → List Warning
 each_from gives number [] = []
 each_from gives number (x ∷ xs) = gives number x ++ each_from gives (number + 1) xs
 
--- what each element of a list gives, with those before it, where these stand before
+-- what each element of a list gives with the elements before it; before the list stand others
 abbrev pub each_behind : {X : Type 0} → (List X → X → List Warning) → List X → List X → List Warning
 each_behind gives before [] = []
 each_behind gives before (x ∷ xs) = gives before x ++ each_behind gives (before ++ x ∷ []) xs
 
--- one warning, where it is given
+-- one warning where it is given, and else none
 abbrev pub warned : Bool → Warning → List Warning
 warned true warning = warning ∷ []
 warned false warning = []
@@ -49,7 +49,7 @@ warned false warning = []
 abbrev pub spot : ℕ → Origin → DrawnPlace
 spot part origin = record { part = part; origin = origin }
 
--- what draws a part has this part; what a netlist draws has part 0
+-- a place on the sheet of a part has the number of the part; a place in the netlist has part 0
 abbrev pub netlist_part : ℕ
 netlist_part = 0
 
@@ -154,7 +154,7 @@ same_mark None b = true
 same_mark (Some a) None = true
 same_mark (Some a) (Some b) = a == b
 
--- two such rules go to one mark from different marks
+-- two such rules lead to one mark from different marks
 abbrev pub meet : SheetRule → SheetRule → Bool
 meet a b = is_upper a && (is_upper b && (a.target == b.target && not (same_mark (from_mark a) (from_mark b))))
 
@@ -166,7 +166,7 @@ abbrev pub of_two : ℕ → SheetRule → Option SheetRule → List Warning
 of_two part rule None = []
 of_two part rule (Some earlier) = option_to_list (option_map (λ origin. Both (spot part origin) (spot part (unwrap_or (drawn_by rule) origin))) (drawn_by earlier))
 
--- a rule that meets one of those before it, with the first such one
+-- the warning of a rule that meets a rule before it, with the first that it meets
 abbrev pub rule_both : ℕ → List SheetRule → SheetRule → List Warning
 rule_both part before rule = of_two part rule (find (meet rule) before)
 
@@ -195,9 +195,9 @@ sheet_single part sheet = single_in part sheet.rules
 abbrev pub single_warnings : Composed → List Warning
 single_warnings d = each_from sheet_single 0 d.sheets ++ single_in netlist_part d.rules
 
--- ---- rules and rows that are in no cycle: their shifts reach before the first cycle even from the last one
+-- ---- rules and rows that are in no cycle: their shifts reach before the first cycle even from the last cycle
 
--- the order of a lane draws the rule: it also stands from the last mark of a cycle to the first one of the next, where there is one
+-- the order of a lane draws the rule; it also leads from the last mark of a cycle to the first mark of the next cycle, where there is one
 abbrev pub keeps_order : SheetRule → Bool
 keeps_order rule = option_map_or is_lane (drawn_by rule) false
 
@@ -232,14 +232,14 @@ two_drivers join (Some earlier) = Drivers join.to earlier.origin join.origin ∷
 abbrev pub is_into : DesignMark → Join → Bool
 is_into mark join = is_at join.to mark
 
--- a join into a mark that one of those before it goes into, with the first such one
+-- the warning of a join into a mark that a join before it goes into, with the first join that does
 abbrev pub join_drivers : List Join → Join → List Warning
 join_drivers before join = two_drivers join (find (is_into join.to) before)
 
 abbrev pub driver_warnings : Composed → List Warning
 driver_warnings d = each_behind join_drivers [] d.joins
 
--- the rule holds this mark of its sheet from above; the order of a lane does not
+-- the rule holds this mark of its sheet from above; a rule of the order of a lane holds no mark from above
 abbrev pub holds : ℕ → SheetRule → Bool
 holds mark rule = rule.target == mark && list_any is_high rule.causes
 
@@ -247,7 +247,7 @@ abbrev pub own_by : Join → Option SheetRule → List Warning
 own_by join None = []
 own_by join (Some rule) = option_to_list (option_map (Own join.to join.origin) (drawn_by rule))
 
--- the first rule of the sheet of a part that holds a mark of it from above
+-- the first rule of the sheet of a part that holds a mark of the sheet from above
 abbrev pub own_rule : List SheetContents → DesignMark → Option SheetRule
 own_rule sheets mark = find (holds mark.mark) (unwrap_or (option_map (λ (sheet : SheetContents). sheet.rules) (slice_get sheets mark.part)) [])
 

@@ -37,7 +37,7 @@ pub fn warnings_of(
     Ok(warnings)
 }
 
-// Those of the texts of edges, and of keys.
+// Puts the warnings of the texts of edges, and of keys, at the end.
 fn push_texts(warnings: &mut Vec<Warning>, plan: &Plan, design: &Design<'_>) -> Result<(), NoMemory>
     ensures pushed { OnOk result (warnings.new.items ≡ warnings.old.items ++ text_warnings plan.now design.now) }
 {
@@ -46,7 +46,7 @@ fn push_texts(warnings: &mut Vec<Warning>, plan: &Plan, design: &Design<'_>) -> 
     push_keys(warnings, plan, design)
 }
 
-// Those of rules and rows.
+// Puts the warnings of rules and rows at the end.
 fn push_rules(warnings: &mut Vec<Warning>, design: &Design<'_>) -> Result<(), NoMemory>
     ensures pushed { OnOk result (warnings.new.items ≡ warnings.old.items ++ rule_warnings design.now) }
 {
@@ -55,7 +55,7 @@ fn push_rules(warnings: &mut Vec<Warning>, design: &Design<'_>) -> Result<(), No
     push_never(warnings, design)
 }
 
-// Those of marks that follow drivers.
+// Puts the warnings of marks that follow drivers at the end.
 fn push_joins(warnings: &mut Vec<Warning>, design: &Design<'_>) -> Result<(), NoMemory>
     ensures pushed { OnOk result (warnings.new.items ≡ warnings.old.items ++ join_warnings design.now) }
 {

@@ -11,7 +11,7 @@ use compose::Design;
 use itv_base::NoMemory;
 use sheet::Rule;
 
-/// Puts the warnings of two rules for one mark at the end: those of the sheets, and then those of the wires.
+/// Puts the warnings of two rules for one mark at the end, first for the sheets, and then for the wires.
 pub fn push_both(warnings: &mut Vec<Warning>, design: &Design<'_>) -> Result<(), NoMemory>
     ensures pushed { OnOk result (warnings.new.items ≡ warnings.old.items ++ both_warnings design.now) }
 {
@@ -19,7 +19,7 @@ pub fn push_both(warnings: &mut Vec<Warning>, design: &Design<'_>) -> Result<(),
     push_rules(warnings, 0, design.wire_rules().as_slice())
 }
 
-// Those of the sheets.
+// Puts the warnings of the sheets at the end.
 fn push_sheets(warnings: &mut Vec<Warning>, design: &Design<'_>) -> Result<(), NoMemory>
     ensures pushed { OnOk result (warnings.new.items ≡ warnings.old.items ++ each_from sheet_both 0 design.now.sheets) }
 {
@@ -29,7 +29,7 @@ fn push_sheets(warnings: &mut Vec<Warning>, design: &Design<'_>) -> Result<(), N
     Ok(())
 }
 
-// Those of rules.
+// Puts the warnings of some rules at the end.
 fn push_rules(warnings: &mut Vec<Warning>, part: u32, rules: &[Rule]) -> Result<(), NoMemory>
     ensures pushed { OnOk result (warnings.new.items ≡ warnings.old.items ++ both_in part rules.now) }
 {
@@ -39,7 +39,7 @@ fn push_rules(warnings: &mut Vec<Warning>, part: u32, rules: &[Rule]) -> Result<
     Ok(())
 }
 
-// That of a rule behind others, if it has one.
+// Puts the warning of a rule behind others at the end, if the rule has one.
 fn push_rule(
     warnings: &mut Vec<Warning>,
     part: u32,
@@ -51,7 +51,7 @@ fn push_rule(
     push_two(warnings, part, rule, first_met(rule, before))
 }
 
-// That of a rule and of an earlier one that it meets, if there is one.
+// Puts the warning of a rule and an earlier rule that it meets at the end, if there is an earlier rule.
 fn push_two(
     warnings: &mut Vec<Warning>,
     part: u32,

@@ -15,7 +15,7 @@ use label_grammar::{EdgeText, WireText, read_edge, read_wire};
 use origin::Origin;
 use plan::Plan;
 
-/// Puts the warnings of comments at the end: those of the sheets, and then those of the netlist.
+/// Puts the warnings of comments at the end, first for the sheets, and then for the netlist.
 pub fn push_comments(
     warnings: &mut Vec<Warning>,
     plan: &Plan,
@@ -27,7 +27,7 @@ pub fn push_comments(
     push_wires(warnings, plan.netlist().edges())
 }
 
-// Those of the sheets.
+// Puts the warnings of the sheets at the end.
 fn push_sheets(warnings: &mut Vec<Warning>, design: &Design<'_>) -> Result<(), NoMemory>
     ensures pushed { OnOk result (warnings.new.items ≡ warnings.old.items ++ each_from sheet_comments 0 design.now.sheets) }
 {
@@ -37,7 +37,7 @@ fn push_sheets(warnings: &mut Vec<Warning>, design: &Design<'_>) -> Result<(), N
     Ok(())
 }
 
-// Those of the edges of the sheet of a part.
+// Puts the warnings of the edges of the sheet of a part at the end.
 fn push_edges(warnings: &mut Vec<Warning>, part: u32, edges: &Texts) -> Result<(), NoMemory>
     ensures pushed { OnOk result (warnings.new.items ≡ warnings.old.items ++ each_from (edge_comment part) 0 edges.now) }
 {
@@ -47,7 +47,7 @@ fn push_edges(warnings: &mut Vec<Warning>, part: u32, edges: &Texts) -> Result<(
     Ok(())
 }
 
-// That of an edge, if it has one.
+// Puts the warning of an edge at the end, if the edge has one.
 fn push_edge(warnings: &mut Vec<Warning>, part: u32, n: u64, text: &str) -> Result<(), NoMemory>
     ensures pushed { OnOk result (warnings.new.items ≡ warnings.old.items ++ edge_comment part n text.now) }
 {
@@ -60,7 +60,7 @@ fn push_edge(warnings: &mut Vec<Warning>, part: u32, n: u64, text: &str) -> Resu
     )
 }
 
-// Those of the edges of the netlist.
+// Puts the warnings of the edges of the netlist at the end.
 fn push_wires(warnings: &mut Vec<Warning>, edges: &Texts) -> Result<(), NoMemory>
     ensures pushed { OnOk result (warnings.new.items ≡ warnings.old.items ++ each_from wire_comment 0 edges.now) }
 {
@@ -70,7 +70,7 @@ fn push_wires(warnings: &mut Vec<Warning>, edges: &Texts) -> Result<(), NoMemory
     Ok(())
 }
 
-// That of an edge of the netlist, if it has one.
+// Puts the warning of an edge of the netlist at the end, if the edge has one.
 fn push_wire(warnings: &mut Vec<Warning>, n: u64, text: &str) -> Result<(), NoMemory>
     ensures pushed { OnOk result (warnings.new.items ≡ warnings.old.items ++ wire_comment n text.now) }
 {

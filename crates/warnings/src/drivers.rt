@@ -24,7 +24,7 @@ pub fn push_drivers(warnings: &mut Vec<Warning>, design: &Design<'_>) -> Result<
     Ok(())
 }
 
-// Those of the marks of a pin, behind other pins.
+// Puts the warnings of the marks of a pin, behind other pins, at the end.
 fn push_pin(
     warnings: &mut Vec<Warning>,
     pin: &PinJoins,
@@ -41,7 +41,7 @@ fn push_pin(
     Ok(())
 }
 
-// That of a mark, by what draws the first join into it, if there is one, and another.
+// Puts the warning of a mark at the end, by what draws the first join into it and another. Without a first join there is none.
 fn push_mark(
     warnings: &mut Vec<Warning>,
     mark: DesignMark,

@@ -1,4 +1,4 @@
-//! Keys that are passed over, and nearly are keys which are read.
+//! Keys that are passed over, and nearly are keys that are read.
 
 ghost use Rattle.std.specs.Prelude.{◌≡◌, ◌++◌, OnOk};
 ghost use Rattle.warnings.specs.Warnings.{each_from, key_warnings, netlist_key, sheet_key, sheet_key_warnings};
@@ -9,7 +9,7 @@ use compose::Design;
 use itv_base::{NoMemory, Texts};
 use plan::Plan;
 
-/// Puts the warnings of near keys at the end: those of the sheets, and then those of the netlist.
+/// Puts the warnings of near keys at the end, first for the sheets, and then for the netlist.
 pub fn push_keys(
     warnings: &mut Vec<Warning>,
     plan: &Plan,
@@ -21,7 +21,7 @@ pub fn push_keys(
     push_netlist(warnings, plan.netlist().near())
 }
 
-// Those of the sheets.
+// Puts the warnings of the sheets at the end.
 fn push_sheets(warnings: &mut Vec<Warning>, design: &Design<'_>) -> Result<(), NoMemory>
     ensures pushed { OnOk result (warnings.new.items ≡ warnings.old.items ++ each_from sheet_key_warnings 0 design.now.sheets) }
 {
@@ -31,7 +31,7 @@ fn push_sheets(warnings: &mut Vec<Warning>, design: &Design<'_>) -> Result<(), N
     Ok(())
 }
 
-// Those of the keys of the sheet of a part.
+// Puts the warnings of the keys of the sheet of a part at the end.
 fn push_sheet(warnings: &mut Vec<Warning>, part: u32, near: &Texts) -> Result<(), NoMemory>
     ensures pushed { OnOk result (warnings.new.items ≡ warnings.old.items ++ each_from (sheet_key part) 0 near.now) }
 {
@@ -41,7 +41,7 @@ fn push_sheet(warnings: &mut Vec<Warning>, part: u32, near: &Texts) -> Result<()
     Ok(())
 }
 
-// Those of the keys of the netlist.
+// Puts the warnings of the keys of the netlist at the end.
 fn push_netlist(warnings: &mut Vec<Warning>, near: &Texts) -> Result<(), NoMemory>
     ensures pushed { OnOk result (warnings.new.items ≡ warnings.old.items ++ each_from netlist_key 0 near.now) }
 {

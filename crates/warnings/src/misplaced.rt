@@ -14,7 +14,7 @@ use itv_base::{NoMemory, Texts};
 use origin::Origin;
 use plan::{Plan, edge_note, wire_note};
 
-/// Puts the warnings of notes at the end: those of the sheets, and then those of the netlist.
+/// Puts the warnings of notes at the end, first for the sheets, and then for the netlist.
 pub fn push_notes(
     warnings: &mut Vec<Warning>,
     plan: &Plan,
@@ -26,7 +26,7 @@ pub fn push_notes(
     push_wires(warnings, plan.netlist().edges())
 }
 
-// Those of the sheets.
+// Puts the warnings of the sheets at the end.
 fn push_sheets(
     warnings: &mut Vec<Warning>,
     version: u32,
@@ -40,7 +40,7 @@ fn push_sheets(
     Ok(())
 }
 
-// Those of the edges of the sheet of a part.
+// Puts the warnings of the edges of the sheet of a part at the end.
 fn push_edges(
     warnings: &mut Vec<Warning>,
     version: u32,
@@ -55,7 +55,7 @@ fn push_edges(
     Ok(())
 }
 
-// That of an edge, if it has one.
+// Puts the warning of an edge at the end, if the edge has one.
 fn push_edge(
     warnings: &mut Vec<Warning>,
     version: u32,
@@ -70,7 +70,7 @@ fn push_edge(
     push_where(given, Warning::Note(DrawnPlace { part, origin }), warnings)
 }
 
-// Those of the edges of the netlist.
+// Puts the warnings of the edges of the netlist at the end.
 fn push_wires(warnings: &mut Vec<Warning>, edges: &Texts) -> Result<(), NoMemory>
     ensures pushed { OnOk result (warnings.new.items ≡ warnings.old.items ++ each_from wire_note_warning 0 edges.now) }
 {
@@ -80,7 +80,7 @@ fn push_wires(warnings: &mut Vec<Warning>, edges: &Texts) -> Result<(), NoMemory
     Ok(())
 }
 
-// That of an edge of the netlist, if it has one.
+// Puts the warning of an edge of the netlist at the end, if the edge has one.
 fn push_wire(warnings: &mut Vec<Warning>, n: u64, text: &str) -> Result<(), NoMemory>
     ensures pushed { OnOk result (warnings.new.items ≡ warnings.old.items ++ wire_note_warning n text.now) }
 {
@@ -116,7 +116,7 @@ fn is_unit(word: &[u8]) -> bool
     }
 }
 
-// Whether a letter in front of that of a second makes a smaller unit.
+// Whether a letter makes a smaller unit in front of the `s` of a second.
 fn is_scale(letter: u8) -> bool
     ensures { result ≡ is_scale letter }
 {

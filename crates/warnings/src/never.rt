@@ -12,18 +12,18 @@ use compose::Design;
 use itv_base::NoMemory;
 use sheet::{Rule, Sheet, SheetRow};
 
-/// Puts the warnings of rules and rows that are in no cycle at the end: those of the sheets, and then those of the wires.
+/// Puts the warnings of rules and rows that are in no cycle at the end, first for the sheets, and then for the wires.
 pub fn push_never(warnings: &mut Vec<Warning>, design: &Design<'_>) -> Result<(), NoMemory>
     ensures pushed { OnOk result (warnings.new.items ≡ warnings.old.items ++ never_warnings design.now) }
 {
-    // A rule whose shifts reach before the first cycle from the last one does so from each.
+    // If a shift of a rule reaches before the first cycle from the last cycle, it does so from each cycle.
     let last = design.cycles() - 1;
     push_sheets(warnings, last, design)?;
     push_rules(warnings, last, 0, design.wire_rules().as_slice())?;
     push_rows(warnings, last, 0, design.wire_rows().as_slice())
 }
 
-// Those of the sheets.
+// Puts the warnings of the sheets at the end.
 fn push_sheets(warnings: &mut Vec<Warning>, last: u32, design: &Design<'_>) -> Result<(), NoMemory>
     ensures pushed { OnOk result (warnings.new.items ≡ warnings.old.items ++ each_from (sheet_never last) 0 design.now.sheets) }
 {
@@ -33,7 +33,7 @@ fn push_sheets(warnings: &mut Vec<Warning>, last: u32, design: &Design<'_>) -> R
     Ok(())
 }
 
-// Those of the sheet of a part.
+// Puts the warnings of the sheet of a part at the end.
 fn push_sheet(
     warnings: &mut Vec<Warning>,
     last: u32,
@@ -46,7 +46,7 @@ fn push_sheet(
     push_rows(warnings, last, part, sheet.rows().as_slice())
 }
 
-// Those of rules.
+// Puts the warnings of some rules at the end.
 fn push_rules(
     warnings: &mut Vec<Warning>,
     last: u32,
@@ -61,7 +61,7 @@ fn push_rules(
     Ok(())
 }
 
-// That of a rule, if it has one.
+// Puts the warning of a rule at the end, if the rule has one.
 fn push_rule(warnings: &mut Vec<Warning>, last: u32, part: u32, rule: &Rule) -> Result<(), NoMemory>
     ensures pushed { OnOk result (warnings.new.items ≡ warnings.old.items ++ rule_never last part rule.now) }
 {
@@ -83,7 +83,7 @@ fn keeps_order(rule: &Rule) -> bool
     }
 }
 
-// Whether every cause of a rule stands in some cycle.
+// Whether each cause of a rule in a cycle is in a cycle from 0 on.
 fn exists_in(cycle: u32, rule: &Rule) -> bool
     ensures { result ≡ rule_exists cycle rule.now }
 {
@@ -93,7 +93,7 @@ fn exists_in(cycle: u32, rule: &Rule) -> bool
         .all(|cause| cause.shift <= cycle)
 }
 
-// Those of rows.
+// Puts the warnings of some rows at the end.
 fn push_rows(
     warnings: &mut Vec<Warning>,
     last: u32,
@@ -108,7 +108,7 @@ fn push_rows(
     Ok(())
 }
 
-// That of a row, if it has one.
+// Puts the warning of a row at the end, if the row has one.
 fn push_row(
     warnings: &mut Vec<Warning>,
     last: u32,

@@ -1,4 +1,4 @@
-//! Marks that follow a driver, and that an edge of their sheet holds from above.
+//! Marks that follow a driver, and that an edge of their own sheet holds from above.
 
 ghost use Rattle.std.specs.Prelude.{◌≡◌, ◌<◌, ◌++◌, OnOk, find};
 ghost use Rattle.std.specs.List.{flat_map};
@@ -26,7 +26,7 @@ pub fn push_own(warnings: &mut Vec<Warning>, design: &Design<'_>) -> Result<(), 
     Ok(())
 }
 
-// Those of the marks of a pin.
+// Puts the warnings of the marks of a pin at the end.
 fn push_pin(
     warnings: &mut Vec<Warning>,
     pin: &PinJoins,
@@ -41,7 +41,7 @@ fn push_pin(
     Ok(())
 }
 
-// That of mark k of a pin, if it has one.
+// Puts the warning of mark k of a pin at the end, if the mark has one.
 fn push_mark(
     warnings: &mut Vec<Warning>,
     pin: &PinJoins,

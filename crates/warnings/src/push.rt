@@ -6,7 +6,7 @@ ghost use Rattle.warnings.specs.Warnings.{warned};
 use crate::warning::Warning;
 use itv_base::NoMemory;
 
-/// Puts a warning at the end of some, where it is given.
+/// Puts a warning at the end, where it is given.
 pub fn push_where(
     given: bool,
     warning: Warning,

@@ -9,7 +9,7 @@ use itv_base::RuleKind;
 use origin::Origin;
 use sheet::{Rule, Source};
 
-/// What draws the first cause of a rule, where it has one.
+/// What draws the first cause of a rule, if the rule has one.
 pub fn drawn_by(rule: &Rule) -> Option<Origin>
     ensures { result ≡ drawn_by rule.now }
 {
@@ -17,7 +17,7 @@ pub fn drawn_by(rule: &Rule) -> Option<Origin>
     Some(first.origin)
 }
 
-/// What draws the first cause of a rule of a part, where it has one.
+/// What draws the first cause of a rule of a part, if the rule has one.
 pub fn spot_of(part: u32, rule: &Rule) -> Option<DrawnPlace>
     ensures { result ≡ option_map (spot part) (drawn_by rule.now) }
 {
@@ -25,7 +25,7 @@ pub fn spot_of(part: u32, rule: &Rule) -> Option<DrawnPlace>
     Some(DrawnPlace { part, origin })
 }
 
-/// The mark of the first cause of a rule, where it has one.
+/// The mark of the first cause of a rule, if the rule has one.
 pub fn from_mark(rule: &Rule) -> Option<u32>
     ensures { result ≡ from_mark rule.now }
 {

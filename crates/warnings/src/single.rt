@@ -1,4 +1,4 @@
-//! Latest and earliest rules of one cause.
+//! Latest and earliest rules with one cause.
 
 ghost use Rattle.std.specs.Prelude.{◌≡◌, ◌++◌, OnOk};
 ghost use Rattle.warnings.specs.Warnings.{each_from, is_single, rule_single, sheet_single, single_in, single_warnings};
@@ -10,7 +10,7 @@ use compose::Design;
 use itv_base::NoMemory;
 use sheet::Rule;
 
-/// Puts the warnings of single causes at the end: those of the sheets, and then those of the wires.
+/// Puts the warnings of single causes at the end, first for the sheets, and then for the wires.
 pub fn push_single(warnings: &mut Vec<Warning>, design: &Design<'_>) -> Result<(), NoMemory>
     ensures pushed { OnOk result (warnings.new.items ≡ warnings.old.items ++ single_warnings design.now) }
 {
@@ -18,7 +18,7 @@ pub fn push_single(warnings: &mut Vec<Warning>, design: &Design<'_>) -> Result<(
     push_rules(warnings, 0, design.wire_rules().as_slice())
 }
 
-// Those of the sheets.
+// Puts the warnings of the sheets at the end.
 fn push_sheets(warnings: &mut Vec<Warning>, design: &Design<'_>) -> Result<(), NoMemory>
     ensures pushed { OnOk result (warnings.new.items ≡ warnings.old.items ++ each_from sheet_single 0 design.now.sheets) }
 {
@@ -28,7 +28,7 @@ fn push_sheets(warnings: &mut Vec<Warning>, design: &Design<'_>) -> Result<(), N
     Ok(())
 }
 
-// Those of rules.
+// Puts the warnings of some rules at the end.
 fn push_rules(warnings: &mut Vec<Warning>, part: u32, rules: &[Rule]) -> Result<(), NoMemory>
     ensures pushed { OnOk result (warnings.new.items ≡ warnings.old.items ++ single_in part rules.now) }
 {
@@ -38,7 +38,7 @@ fn push_rules(warnings: &mut Vec<Warning>, part: u32, rules: &[Rule]) -> Result<
     Ok(())
 }
 
-// That of a rule, if it has one.
+// Puts the warning of a rule at the end, if the rule has one.
 fn push_rule(warnings: &mut Vec<Warning>, part: u32, rule: &Rule) -> Result<(), NoMemory>
     ensures pushed { OnOk result (warnings.new.items ≡ warnings.old.items ++ rule_single part rule.now) }
 {
@@ -50,7 +50,7 @@ fn push_rule(warnings: &mut Vec<Warning>, part: u32, rule: &Rule) -> Result<(), 
     Ok(())
 }
 
-// Whether a rule is a latest or earliest one of one cause.
+// Whether a rule is a latest or earliest rule with one cause.
 fn is_single(rule: &Rule) -> bool
     ensures { result ≡ is_single rule.now }
 {

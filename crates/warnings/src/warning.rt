@@ -7,8 +7,8 @@ ghost use Rattle.warnings.specs.Warnings.{netlist_part, spot};
 use compose::DesignMark;
 use origin::Origin;
 
-/// What draws something: an edge or a lane of the sheet of a part, by the number of the part from 0; or a pin of a net or an edge of the
-/// netlist, and then the part is not looked at.
+/// What draws something. It is an edge or a lane of the sheet of a part, and `part` is the number of the part, from 0. Or it is a pin of a net
+/// or an edge of the netlist, and then `part` has no meaning.
 #[derive(Clone, Copy, Debug, PartialEq, Eq)]
 pub struct DrawnPlace {
     pub part: u32,
@@ -36,12 +36,13 @@ pub enum Warning {
     Comment(DrawnPlace),
     /// The note of an edge begins with a unit of time or with a bracket.
     Note(DrawnPlace),
-    /// A key of the sheet of a part is passed over, and nearly is a key that is read: the number of the key among those of the sheet.
+    /// A key of the sheet of a part is passed over, and nearly is a key that is read. `key` is its number, from 0, among the near keys of the
+    /// sheet.
     SheetKey {
         part: u32,
         key: u64,
     },
-    /// A key of the netlist is passed over, and nearly is a key that is read: its number among those of the netlist.
+    /// A key of the netlist is passed over, and nearly is a key that is read. It has its number, from 0, among the near keys of the netlist.
     NetlistKey(u64),
     /// Two linear rules from different marks hold one mark from above.
     Both(DrawnPlace, DrawnPlace),
@@ -49,13 +50,13 @@ pub enum Warning {
     Single(DrawnPlace),
     /// A rule or a row is in no cycle.
     Never(DrawnPlace),
-    /// A mark follows two drivers: the pins by which it does.
+    /// A mark follows two drivers, by the pins `first` and `other`.
     Drivers {
         mark: DesignMark,
         first: Origin,
         other: Origin,
     },
-    /// A mark follows a driver by a pin, and an edge of its sheet holds it from above.
+    /// A mark follows a driver by a pin, and an edge of its own sheet holds it from above.
     Own {
         mark: DesignMark,
         pin: Origin,
