@@ -9,7 +9,7 @@ use Rattle.explained.specs.Answers.{AreFound, IsFindingFound, SettlesWithin}
 use Rattle.why_report.specs.Text.{Noted, ending_of}
 use Rattle.brief_report.specs.Text.{brief_text}
 
--- The text tells what is found of the network and of each row, all of which is right; the answer is by the word at its end.
+-- The text says what is found of the network and of each row, and all that is found is right. The word at the end of the text gives the answer.
 pub record AnswersBrief (noted : Noted) (drawn : Drawn) (budget : ℕ) (answer : Answer) (text : List ℕ) : Type 0 where
   pub finding : Finding
   pub found : List RowFound
@@ -19,6 +19,6 @@ pub record AnswersBrief (noted : Noted) (drawn : Drawn) (budget : ℕ) (answer :
   pub is_text : text ≡ brief_text noted drawn finding found
   pub is_answer : answer ≡ answer_of (ending_of drawn.rows finding found)
 
--- What may have been begun: all is found before anything is put, so it is a front of a whole text.
+-- The text that a failed put may have begun. All is found before anything is put, so what was written is a front of a whole text.
 abbrev pub BeginsBrief : Noted → Drawn → ℕ → List ℕ → Type 0
 BeginsBrief noted drawn budget text = (answer : Answer) × AnswersBrief noted drawn budget answer text

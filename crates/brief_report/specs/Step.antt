@@ -19,9 +19,9 @@ use Rattle.brief_report.specs.declared.line.RowLine.{RowLine}
 use Rattle.brief_report.specs.declared.place.RowRank.{RowRank}
 use Rattle.brief_report.specs.Text.{NumberedRow, is_worse, lesser, rank_of, told_from, verdict_rank, worst_of}
 
--- ---- what becomes of rows
+-- ---- the judgement of rows
 
--- the verdict on a requirement and its slacks; nothing becomes of an ask
+-- the verdict on a requirement and its slacks; an ask has no verdict
 abbrev pub judged_in : RowKind → RowFound → Option Judged
 judged_in kinds.Ask found = None
 judged_in (kinds.Req range) found =
@@ -33,16 +33,16 @@ judged_in (kinds.Req range) found =
 abbrev pub place_of : NumberedRow → RowRank
 place_of told = record { number = told.number; rank = rank_of told; worst = worst_of told }
 
--- the place of a row of a number, by what becomes of it
+-- the place of a row with a number, by its judgement
 abbrev pub place_by : ℕ → Option Judged → RowRank
 place_by number None = record { number = number; rank = 3; worst = None }
 place_by number (Some judged) = record { number = number; rank = verdict_rank judged.word; worst = lesser judged.slack.low judged.slack.high }
 
--- a row of a place stands before one of another place
+-- a row of one place stands before a row of another place
 abbrev pub stands_before : RowRank → RowRank → Bool
 stands_before a b = nat_lt a.rank b.rank || ((a.rank == b.rank) && is_worse a.worst b.worst)
 
--- a place among others: behind all that it is not before
+-- places with one more, behind all places that it is not before
 abbrev pub put_in : RowRank → List RowRank → List RowRank
 put_in place [] = place ∷ []
 put_in place (other ∷ others) = if stands_before place other then place ∷ other ∷ others else other ∷ put_in place others
@@ -57,7 +57,7 @@ numbered_rows drawn found = told_from 0 drawn.rows found
 
 -- ---- lines
 
--- the words of what becomes of a row
+-- the words of the judgement of a row
 abbrev pub judgement_words : Option Judged → List Word
 judgement_words None = []
 judgement_words (Some judged) = verdict_words judged.word ++ (end_text judged.slack.low ∷ end_text judged.slack.high ∷ [])

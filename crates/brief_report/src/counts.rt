@@ -14,7 +14,7 @@ pub struct RowCounts {
     pub undecided: u64,
 }
 
-/// What rows of some places come to.
+/// How many rows of some places are of each rank.
 pub fn counts_of(places: &[RowRank]) -> RowCounts
     ensures rows { result.rows ≡ length places.now }
     ensures pass { result.pass ≡ place_count 2 places.now }

@@ -1,4 +1,4 @@
-//! What becomes of a row.
+//! The judgement of a row.
 
 ghost use Rattle.std.specs.Prelude.{◌≡◌};
 ghost use Rattle.explained.specs.Answers.{HasRowTimes};
@@ -16,7 +16,7 @@ pub struct Judged {
     pub slack: Slack,
 }
 
-/// What becomes of a row, by what is found of it; nothing becomes of an ask.
+/// The judgement of a row, by what is found of it. An ask has none.
 pub fn judged_of(kind: RowKind, found: &RowFound) -> Option<Judged>
     requires times { HasRowTimes found.now }
     ensures judged { result ≡ judged_in kind found.now }

@@ -14,7 +14,7 @@ pub struct RowLine<'a> {
     pub from: EventName<'a>,
     pub to: EventName<'a>,
     pub both: BothBounds,
-    /// What becomes of a requirement.
+    /// The judgement of a requirement, or `None` for an ask.
     pub judged: Option<Judged>,
     /// What draws the row.
     pub by: DrawnBy<'a>,

@@ -17,7 +17,7 @@ use line_words::LineBuffer;
 use requirements::{BothBounds, Slack};
 use why_report::{put_asked, put_bound_words, put_by, put_verdict_words};
 
-/// Puts a line and its end: by one put where it fits the buffer, and else piece by piece. What the buffer held before is forgotten.
+/// Puts a line and its end. A line that fits the buffer is put at once, and any other line piece by piece. What the buffer held before is lost.
 pub fn put_line<K: Sink>(
     line: &Line<'_>,
     buffer: &mut LineBuffer,
@@ -49,7 +49,7 @@ fn put_row<K: Sink>(row: &RowLine<'_>, sink: &mut K) -> Result<(), PutFailed>
     put_back(row, sink)
 }
 
-// The line of a row up to its bounds.
+// The line of a row up to and with its bounds.
 fn put_front<K: Sink>(row: &RowLine<'_>, sink: &mut K) -> Result<(), PutFailed>
     ensures { Puts (K.told sink.old) (K.told sink.new) (line_of (codes "row" ∷ number_text row.now.number ∷ front_words row.now)) result }
 {
@@ -75,7 +75,7 @@ fn put_back<K: Sink>(row: &RowLine<'_>, sink: &mut K) -> Result<(), PutFailed>
     put_order(row.rests_on_order, sink)
 }
 
-// What becomes of a requirement.
+// The judgement of a row, nothing for an ask.
 fn put_judged<K: Sink>(judged: Option<Judged>, sink: &mut K) -> Result<(), PutFailed>
     ensures { Puts (K.told sink.old) (K.told sink.new) (flat_map spaced (judgement_words judged)) result }
 {
@@ -128,7 +128,7 @@ fn put_counts<K: Sink>(counts: &RowCounts, sink: &mut K) -> Result<(), PutFailed
     put_fails(counts.fail, counts.undecided, sink)
 }
 
-// The line of counts up to those that pass.
+// The line of counts up to the requirements that pass.
 fn put_passes<K: Sink>(rows: u64, pass: u64, sink: &mut K) -> Result<(), PutFailed>
     ensures { Puts (K.told sink.old) (K.told sink.new)
         (line_of (codes "rows" ∷ number_text rows ∷ codes "pass" ∷ number_text pass ∷ [])) result }
@@ -146,7 +146,7 @@ fn put_passes<K: Sink>(rows: u64, pass: u64, sink: &mut K) -> Result<(), PutFail
     )
 }
 
-// The line of counts behind those that pass, and its end.
+// The line of counts behind the requirements that pass, and its end.
 fn put_fails<K: Sink>(fail: u64, undecided: u64, sink: &mut K) -> Result<(), PutFailed>
     ensures { Puts (K.told sink.old) (K.told sink.new)
         (flat_map spaced (codes "fail" ∷ number_text fail ∷ codes "undecided" ∷ number_text undecided ∷ []) ++ 10 ∷ []) result }

@@ -23,8 +23,9 @@ use slack_report::{EndWord, Item, LINE_ROOM, write_item};
 use std::alloc::Global;
 use why_report::{ending_of, finding_word};
 
-/// Writes each row of a drawn network on one line: broken requirements first, then those that are left undecided, those that pass, and
-/// questions; in each of these the worst slack first. Each search closes at most `budget` cases. All is found before the first put.
+/// Writes each row of a drawn network on one line: broken requirements first, then requirements that are left undecided, then requirements that
+/// pass, and then questions. Within each of these the worst slack stands first. Each search closes at most `budget` cases. All is found before
+/// the first put.
 pub fn write_brief<N: Notes, K: Sink>(
     alloc: Global,
     notes: &N,
@@ -43,7 +44,7 @@ pub fn write_brief<N: Notes, K: Sink>(
     Ok(put_found(notes, drawn, &found, &places, &mut buffer, sink)?)
 }
 
-// Puts the whole text. The answer is by the word at its end.
+// Puts the whole text. The word at its end gives the answer.
 fn put_found<N: Notes, K: Sink>(
     notes: &N,
     drawn: &DrawnNetwork,

@@ -38,7 +38,7 @@ with_stamp g slot stamp = record g { stamps = slice_set g.stamps slot stamp }
 abbrev pub after_push : Stack → Stack
 after_push s = record s { below = s.current ∷ s.below }
 
--- the stack of these graphs, the top first; with none of them it stays
+-- the stack of these graphs, the top first; without any graph it stays as it is
 abbrev pub with_graphs : Stack → List Graph → Stack
 with_graphs s [] = s
 with_graphs s (g ∷ graphs) = record s { current = g; below = graphs }

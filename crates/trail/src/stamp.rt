@@ -5,8 +5,8 @@ use itv_base::EdgeName;
 /// The label of a slot, and the edge that it came over.
 #[derive(Clone, Copy, Debug, PartialEq, Eq, Hash)]
 pub struct Stamp {
-    /// The label in picoseconds, or `None` where there is none yet.
+    /// The label in picoseconds, or `None` where there is no label yet.
     pub label: Option<i64>,
-    /// The edge over which the label came, or `None` where it came over none.
+    /// The edge over which the label came, or `None` where it came over no edge.
     pub parent: Option<EdgeName>,
 }

@@ -9,11 +9,11 @@ use itv_base::{EdgeName, NoMemory};
 use std::alloc::Global;
 use std::marker::Model;
 
-/// A stack of graphs, which is never empty. A graph is a list of edges and a stamp for each slot. Contracts see how many graphs
-/// may be pushed, the current graph, and the graphs below it, the nearest one first.
+/// A stack of graphs, which is never empty. A graph is a list of edges and a stamp for each slot. Contracts see how many graphs may be pushed,
+/// the current graph, and the graphs below it, the nearest first.
 ///
-/// There is one graph in memory, and an undo log as constraint solvers keep it: each level saves a slot before it first sets it,
-/// and never again. So a push takes the same time whatever the graph is, and a pop takes time for each slot that its level set.
+/// There is one graph in memory, and an undo log as constraint solvers keep it. A level saves a slot before it first sets the slot, and never
+/// again. So a push takes the same time whatever the graph is, and a pop takes time for each slot that its level set.
 #[derive(Debug, Drop)]
 pub struct Trail {
     levels: u32,
@@ -38,8 +38,8 @@ impl Model for Trail {
 }
 
 impl Trail {
-    /// One graph, without edges and with empty stamps. Each graph has `slots` stamps; at most `levels` graphs may be pushed, and
-    /// a graph may have at most `levels` edges. Takes all the memory that the trail ever needs, or answers `NoMemory`.
+    /// One graph, without edges and with empty stamps. Each graph has `slots` stamps; at most `levels` graphs may be pushed, and a graph may
+    /// have at most `levels` edges. Takes all the memory that the trail ever needs, or gives `NoMemory`.
     pub fn new(alloc: Global, slots: u32, levels: u32) -> Result<Trail, NoMemory>
         ensures { IfOk result (λ t. t ≡ new_stack slots levels) }
     {
@@ -64,7 +64,7 @@ impl Trail {
         self.slots.fill(Slot::UNSET);
     }
 
-    /// Puts a copy of the current graph on top of it, which is then the current one.
+    /// Puts a copy of the current graph on top of it. The copy is then the current graph.
     pub fn push_level(&mut self)
         requires { length self.old.below < self.old.levels }
         ensures { self.new ≡ after_push self.old }
@@ -103,14 +103,14 @@ impl Trail {
     {
         let level = self.depth();
         let was = self.slots[slot as usize];
-        // A slot that this level set is saved already, and below the first graph there is none to go back to.
+        // A slot that this level set is saved already. Below the first graph there is no graph to go back to.
         if was.level < level {
             self.saved.push_reserved(Saved { slot, was });
         }
         self.slots[slot as usize] = Slot { stamp, level };
     }
 
-    /// How many graphs lie below the current one.
+    /// How many graphs lie below the current graph.
     pub fn depth(&self) -> u32
         ensures count { result ≡ length self.now.below }
         ensures within { result ≤ self.now.levels }

@@ -37,7 +37,7 @@ pub struct LevelStart {
     pub saved: usize,
 }
 
-/// Puts saved slots back, the one that was saved last first.
+/// Puts saved slots back, the last saved first.
 pub fn put_back(slots: &mut [Slot], saved: &[Saved])
     requires { All (λ e. e.slot < length slots.old) saved.now }
     ensures { slots.new ≡ slots_before saved.now slots.old }

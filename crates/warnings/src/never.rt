@@ -83,7 +83,7 @@ fn keeps_order(rule: &Rule) -> bool
     }
 }
 
-// Whether each cause of a rule in a cycle is in a cycle from 0 on.
+// Whether a rule is in a cycle: no shift of its causes reaches before cycle 0.
 fn exists_in(cycle: u32, rule: &Rule) -> bool
     ensures { result ≡ rule_exists cycle rule.now }
 {

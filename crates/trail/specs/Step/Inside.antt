@@ -15,7 +15,7 @@ stack_in t = record {
   below = graphs_at (state_in t) (reverse t.starts.items);
 }
 
--- no more edges are there and no more levels began than there may be levels, there is room for all that may come, and every level can be taken back
+-- there are no more edges, and no more begun levels, than there may be levels; there is room for all that may come; and every level can be taken back
 pub record IsSoundTrail (t : Inside) : Type 0 where
   pub few_levels : t.levels < 2 ^ 32
   pub few_edges : length t.edges.items ≤ t.levels

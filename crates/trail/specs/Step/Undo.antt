@@ -33,9 +33,9 @@ abbrev pub graphs_at : TrailState → List LevelStart → List Graph
 graphs_at s [] = []
 graphs_at s (m ∷ starts) = graph_of (state_at s m) ∷ graphs_at (state_at s m) starts
 
--- The log of the last level: where it began lies within the state; the log names slots that are there; no
--- slot was set by a later level; each slot that this level set is in the log; and those in the log and those that this level
--- hasn't set are no more than all slots, since a level logs a slot once.
+-- The log of the last level. The place where the level began lies within the state. The log names slots that are there. No later level set a slot. Each
+-- slot that this level set is in the log. The entries of the log and the slots of earlier levels are together no more than all slots, since a level logs a
+-- slot once.
 pub record IsLogged (s : TrailState) (m : LevelStart) (level : ℕ) : Type 0 where
   pub edges_within : m.edges ≤ length s.edges
   pub saved_within : m.saved ≤ length s.saved
@@ -44,7 +44,7 @@ pub record IsLogged (s : TrailState) (m : LevelStart) (level : ℕ) : Type 0 whe
   pub logged : (i : ℕ) (d : Slot) → i < length s.slots → (slice_index_or s.slots i d).level ≡ level → Contains (map (λ e. e.slot) (drop m.saved s.saved)) i
   pub once : length (drop m.saved s.saved) + count_by (λ slot. nat_lt slot.level level) s.slots ≤ length s.slots
 
--- the state can be taken back level by level, the last one first; before the first level no slot was set by one
+-- the state can be taken back level by level, the last level first; before the first level began, no level had set a slot
 abbrev pub IsUndoable : TrailState → List LevelStart → Type 0
 IsUndoable s [] = All (λ slot. slot.level ≡ 0) s.slots × (s.saved ≡ [])
 IsUndoable s (m ∷ starts) = IsLogged s m (suc (length starts)) × IsUndoable (state_at s m) starts
