@@ -21,7 +21,7 @@ abbrev pub design_files : ℕ → Files
 design_files n =
     with_tree (with_tree (with_tree (with_tree map.empty (codes "bus.json") (bus n)) (codes "master.json") master) (codes "slave.json") slave) (codes "merge.json") merge
 
--- a new shelf with the files of the design, no call of which is to fail
+-- a new shelf with the files of the design; no call of the shelf is to fail
 abbrev pub IsDesignShelf : ℕ → MemShelf → Type 0
 IsDesignShelf n shelf = shelf ≡ record { files = design_files n; failing = []; calls = 0; faults = 0; last = [] }
 
@@ -30,7 +30,7 @@ pub record IsSize (n : ℕ) : Type 0 where
   pub low : 1 ≤ n
   pub high : n ≤ MAX_SELF_SIZE
 
--- why no design was made of a size: there is none of it, or else memory is wanted
+-- why no design of a size was made: there is no design of this size, or there is one and memory ran out
 abbrev pub IsGenFault : ℕ → GenFault → Type 0
 IsGenFault n (OutOfRange size) = (size ≡ n) × ((n < 1) ⊎ (MAX_SELF_SIZE < n))
 IsGenFault n NoMemory = IsSize n
@@ -42,7 +42,7 @@ pub record ReadsBack (tree : Data) : Type 0 where
   pub utf8 : IsUtf8 (compact_text tree)
   pub reads : read (compact_text tree) ≡ Some tree
 
--- the text of each tree of a size does so
+-- the text of each tree of a size reads back as the tree
 abbrev pub ReadBack : ℕ → Type 0
 ReadBack n = ReadsBack (bus n) × ReadsBack master × ReadsBack slave × ReadsBack merge
 

@@ -26,17 +26,17 @@ sheet lanes edges = object (member (codes "edge") (text_list edges) (member (cod
 abbrev pub clock_lane : Data
 clock_lane = lane (codes "clk") (codes "p") (codes "c")
 
--- the sheet that asks
+-- the sheet of the master, which asks
 abbrev pub master : Data
 master = sheet (clock_lane ∷ lane (codes "req") (codes "01") (codes ".r") ∷ [])
     (codes "c->c @lin+1 [100000,100000]" ∷ codes "c->r @lin [1000,8000]" ∷ [])
 
--- the sheet of each that answers
+-- the sheet of each slave, which answers
 abbrev pub slave : Data
 slave = sheet (clock_lane ∷ lane (codes "req") (codes "01") (codes ".q") ∷ lane (codes "ack") (codes "01") (codes ".a") ∷ [])
     (codes "q->a @late [2000,9000]" ∷ codes "c->a @late [3000,7000]" ∷ codes "c->a @ask" ∷ [])
 
--- the sheet that waits for all answers
+-- the sheet of the part that waits for all answers
 abbrev pub merge : Data
 merge = sheet (clock_lane ∷ lane (codes "done") (codes "01") (codes ".d") ∷ []) (codes "d->c @req+1 [5000,*]" ∷ [])
 

@@ -14,10 +14,9 @@ use itv_base::{MAX_SELF_SIZE, NoMemory, ShelfMem};
 use serde_json::Value;
 use std::alloc::Global;
 
-/// The files of the generated design of a size from 1 to [`MAX_SELF_SIZE`], on a new shelf: the netlist
-/// `bus.json` of that many slaves, and the sheets `master.json`, `slave.json` and `merge.json`. Each is the text
-/// of its tree without spaces, which reads as the tree. For any other size the answer is `OutOfRange`, and takes
-/// no memory.
+/// The files of the generated design of a size from 1 to [`MAX_SELF_SIZE`], on a new shelf: the netlist `bus.json` with as many slaves, and the
+/// sheets `master.json`, `slave.json` and `merge.json`. Each file is the text of its tree without spaces, which reads back as the tree. Any
+/// other size gives `OutOfRange`, and takes no memory.
 pub fn make(alloc: Global, n: u32) -> Result<ShelfMem, GenFault>
     ensures design { IfOk result (IsDesignShelf n) }
     ensures reads_back { OnOk result (ReadBack n) }

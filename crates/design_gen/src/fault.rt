@@ -6,13 +6,13 @@ ghost use Rattle.design_gen.specs.declared.fault.GenFault.TheVariants.{NoMemory}
 use itv_base::NoMemory as OutOfMemory;
 use thiserror::Error;
 
-/// Why no design was made of a size.
+/// Why no design of a size was made.
 #[derive(Clone, Copy, Debug, PartialEq, Eq, Error)]
 pub enum GenFault {
-    /// There is no design of the size, which this is.
+    /// There is no design of this size.
     #[error("there is no design of size {0}")]
     OutOfRange(u32),
-    /// Memory was wanted and not found.
+    /// Memory ran out.
     #[error("out of memory")]
     NoMemory,
 }

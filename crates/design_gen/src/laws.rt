@@ -1,4 +1,4 @@
-//! Laws of the generated design. The functions do nothing; what they ensure holds of every size.
+//! Laws of the generated design. The functions do nothing. What they ensure holds for every size.
 
 ghost use Rattle.design_gen.specs.Files.{FilesFit};
 

@@ -8,7 +8,7 @@ ghost use Rattle.design_gen.specs.Trees.{bus, clock_pins, list, net, netlist, ne
 use serde_json::{Map, Value, json, put};
 use std::alloc::{AllocError, Global};
 
-/// The netlist of a master, n slaves and what waits for them.
+/// The netlist of a master, n slaves and a part that waits for their answers.
 pub fn bus(alloc: Global, n: u32) -> Result<Value, AllocError>
     ensures tree { IfOk result (λ tree. view tree ≡ bus n) }
 {
@@ -129,7 +129,7 @@ fn slave_text(alloc: Global, slave: u32, end: &str) -> Result<String, AllocError
     format!(in alloc; "S{slave}{end}")
 }
 
-// Trees, as one.
+// A list of trees, as a tree.
 fn listed(trees: Vec<Value>) -> Value
     ensures { view result ≡ list (map view trees.items) }
 {

@@ -7,7 +7,7 @@ ghost use Rattle.design_gen.specs.Trees.{clock_lane, lane, master, merge, slave}
 use serde_json::{Value, json};
 use std::alloc::{AllocError, Global};
 
-/// The sheet that asks.
+/// The sheet of the master, which asks.
 pub fn master(alloc: Global) -> Result<Value, AllocError>
     ensures tree { IfOk result (λ tree. view tree ≡ master) }
 {
@@ -19,7 +19,7 @@ pub fn master(alloc: Global) -> Result<Value, AllocError>
     })
 }
 
-/// The sheet of each that answers.
+/// The sheet of each slave, which answers.
 pub fn slave(alloc: Global) -> Result<Value, AllocError>
     ensures tree { IfOk result (λ tree. view tree ≡ slave) }
 {
@@ -32,7 +32,7 @@ pub fn slave(alloc: Global) -> Result<Value, AllocError>
     })
 }
 
-/// The sheet that waits for all answers.
+/// The sheet of the part that waits for all answers.
 pub fn merge(alloc: Global) -> Result<Value, AllocError>
     ensures tree { IfOk result (λ tree. view tree ≡ merge) }
 {

@@ -30,7 +30,7 @@ IsThere net e = IsSome (cause_at net e.constraint e.cause)
 abbrev pub edit_line : RangeEdit → List ℕ
 edit_line e = codes "set " ++ (number_text e.constraint ++ (codes "." ++ (number_text e.cause ++ ends_text e.range)))
 
--- the line spells the edit, whose numbers fit 32 bits, whose ends make a range, and whose cause is there
+-- the line spells the edit; its numbers fit 32 bits, its ends make a range, and its cause is there
 pub record IsEditOf (net : Net) (line : List ℕ) (e : RangeEdit) : Type 0 where
   pub text : line ≡ edit_line e
   pub constraint : e.constraint < 2 ^ 32
@@ -41,7 +41,7 @@ pub record IsEditOf (net : Net) (line : List ℕ) (e : RangeEdit) : Type 0 where
 
 -- ---- its reading
 
--- one thing read after another, where both can be
+-- one thing is read after another, where both can be read
 infixl 10 ◌>>◌
 abbrev pub ◌>>◌ : {A B : Type 0} → Option A → (A → Option B) → Option B
 o >> f = option_and_then f o
@@ -53,23 +53,23 @@ cause_of text =
     stripped (codes ".") (after_while is_ascii_digit named) >> λ dotted. number_in (2 ^ 32 - 1) (take_while is_ascii_digit dotted) >> λ cause.
     Some (constraint, cause, after_while is_ascii_digit dotted)
 
--- the range that was judged on a line of a number
+-- the range on the line of a number, as it was judged
 abbrev pub range_judged : ℕ → Result Ends LabelFault → Result Ends EditsFault
 range_judged n (Ok range) = Ok range
 range_judged n (Err labels.BadLabel) = Err (Line n)
 range_judged n (Err labels.TooWide) = Err (Range n ranges.TooWide)
 range_judged n (Err labels.EmptyRange) = Err (Range n ranges.EmptyRange)
 
--- the edit, where the network has its cause
+-- the edit, where the network has its cause, or else the fault of the line
 abbrev pub edit_there : Net → ℕ → RangeEdit → Result RangeEdit EditsFault
 edit_there net n e = if is_some (cause_at net e.constraint e.cause) then Ok e else Err (NoSuch n)
 
--- the edit of the line of a number that names a cause: the form comes before the range, and the range before the cause
+-- the edit of the line of a number, by the cause that it names: the form is judged before the range, and the range before the cause
 abbrev pub edit_named : Net → ℕ → Option (ℕ × ℕ × List ℕ) → Result RangeEdit EditsFault
 edit_named net n None = Err (Line n)
 edit_named net n (Some x) =
     range_judged n (judged_alone (only_ends (ends_of x.2))) >>= λ range. edit_there net n (record { constraint = x.0; cause = x.1; range = range })
 
--- the edit of the line of a number, counted from 1: bytes that are no text are not of the form
+-- the edit of the line of a number, counted from 1; a line that is no text is not of the form
 abbrev pub edit_at : Net → ℕ → List ℕ → Result RangeEdit EditsFault
 edit_at net n line = if is_utf8 line then edit_named net n (cause_of line) else Err (Line n)

@@ -11,8 +11,7 @@ use Rattle.edits.specs.declared.fault.EditsFault.{EditsFault}
 use Rattle.edits.specs.declared.fault.EditsFault.TheVariants.{Line, NoMemory, NoSuch, Range, TooLong, TooMany}
 use Rattle.edits.specs.declared.file.TheConstants.{MAX_EDITS, MAX_EDITS_BYTES}
 
--- the edits of a file that was cut at its line ends, from a line of a number on: what stands behind the last line end is nothing or a line
--- that is not of the form
+-- the edits of a file that was cut at its line ends, from the line of a number on; bytes behind the last line end are a line that is not of the form
 abbrev pub edits_from : Net → ℕ → List (List ℕ) → Result (List RangeEdit) EditsFault
 edits_from net n [] = Ok []
 edits_from net n (rest ∷ []) = if length rest == 0 then Ok [] else Err (Line n)
@@ -33,7 +32,7 @@ edits_of net bytes =
     if nat_lt MAX_EDITS_BYTES (length bytes) then Err TooLong
     else (if nat_lt MAX_EDITS (line_count bytes) then Err (TooMany (line_count bytes)) else edits_from net 1 (slice_split is_feed bytes))
 
--- memory was wanted, which is no fault of the file
+-- memory ran out, which is no fault of the file
 abbrev pub is_memory : EditsFault → Bool
 is_memory TooLong = false
 is_memory (TooMany count) = false

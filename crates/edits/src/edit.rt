@@ -2,7 +2,8 @@
 
 use itv_base::{Listing, Range};
 
-/// Another range for a cause of a constraint, both by their numbers from 0. Cause 0 of a linear constraint is its from-event.
+/// Another range, in picoseconds, for a cause of a constraint. The numbers of both count from 0. Cause 0 of a linear constraint is its
+/// from-event.
 #[derive(Clone, Copy, Debug, PartialEq, Eq)]
 pub struct RangeEdit {
     pub constraint: u32,

@@ -7,13 +7,13 @@ use itv_base::RangeFault;
 use std::alloc::AllocFailed;
 use thiserror::Error;
 
-/// The first fault of a file of edits. Lines are told by their number from 1.
+/// The first fault of a file of edits. A line has its number, counted from 1.
 #[derive(Clone, Copy, Debug, PartialEq, Eq, Error)]
 pub enum EditsFault {
     /// There are more bytes than [`MAX_EDITS_BYTES`](crate::MAX_EDITS_BYTES).
     #[error("the file is too long")]
     TooLong,
-    /// There are more lines than [`MAX_EDITS`](crate::MAX_EDITS), so many.
+    /// There are so many lines, more than [`MAX_EDITS`](crate::MAX_EDITS).
     #[error("{0} lines are too many")]
     TooMany(u64),
     /// The line is not of the form, or has no end.
@@ -22,10 +22,10 @@ pub enum EditsFault {
     /// The ends on the line make no range.
     #[error("the ends of line {0} make no range")]
     Range(u64, RangeFault),
-    /// The network has not the cause that the line names.
+    /// The network does not have the cause that the line names.
     #[error("the cause of line {0} is not there")]
     NoSuch(u64),
-    /// Memory was wanted and not found.
+    /// Memory ran out.
     #[error("out of memory")]
     NoMemory,
 }

@@ -21,10 +21,10 @@ pub const MAX_EDITS_BYTES: usize = 1_048_576;
 /// The most lines of a file of edits.
 pub const MAX_EDITS: u64 = 1_000;
 
-/// Reads a file of edits of a network: for each a line `set C.I [l,u]` with a line end, where C is the number of a constraint, I
-/// that of one of its causes, both from 0, and `[l,u]` the range that this cause is to have, in picoseconds, `*` where open. A file
-/// that is too long is told first, then one of too many lines, then the first line with a fault. Of a line the form comes first,
-/// then its range, and then whether the network has the cause. Bytes behind the last line end are a line that is not of the form.
+/// Reads a file of edits of a network. Each edit is a line `set C.I [l,u]` with a line end. C is the number of a constraint and I the number of
+/// one of its causes, both from 0. `[l,u]` is the range that this cause is to have, in picoseconds, `*` where open. The first of these faults is
+/// reported: the file is too long, it has too many lines, or a line has a fault, and then the first such line. Within a line the form is judged
+/// first, then its range, and then whether the network has the cause. Bytes behind the last line end are a line that is not of the form.
 pub fn read_edits(alloc: Global, net: &Network, bytes: &[u8]) -> Result<Edits, EditsFault>
     ensures read { AgreesWith is_memory (λ (edits : List RangeEdit). edits) result (edits_of net.now bytes.now) }
     ensures there { IfOk result (All (IsThere net.now)) }
@@ -64,7 +64,7 @@ fn is_ended(bytes: &[u8]) -> bool
     }
 }
 
-// The edits of bytes without limits.
+// The edits of bytes of any number, in lines of any number.
 fn read_lines(alloc: Global, net: &Network, bytes: &[u8]) -> Result<Edits, EditsFault>
     ensures { AgreesWith is_memory (λ (edits : List RangeEdit). edits) result (edits_from net.now 1 (slice_split is_feed bytes.now)) }
 {
@@ -81,7 +81,7 @@ fn read_lines(alloc: Global, net: &Network, bytes: &[u8]) -> Result<Edits, Edits
     Ok(Edits::from(edits))
 }
 
-// The first line of a text, and the text behind its end.
+// The first line of a text, and the text behind the end of this line, or `None` where no line ends.
 fn cut_line(text: &[u8]) -> Option<(&[u8], &[u8])>
     ensures { Cuts text.now result }
 {

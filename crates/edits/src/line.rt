@@ -12,7 +12,7 @@ use itv_base::{Range, RangeFault, split_digits, strip};
 use label_grammar::{LabelFault, read_range};
 use line_words::short_in;
 
-/// The edit of the line of a number, which need be no text.
+/// The edit of the line with a number, counted from 1. Bytes that are no text are refused as a line that is not of the form.
 pub fn read_edit(net: &Network, n: u64, line: &[u8]) -> Result<RangeEdit, EditsFault>
     ensures { result ≡ edit_at net.now n line.now }
 {

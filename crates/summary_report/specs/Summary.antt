@@ -16,8 +16,7 @@ use Rattle.bounds_report.specs.declared.summary.Summary.{Summary}
 abbrev pub words_text : List Word → List ℕ
 words_text words = ended (line_of words)
 
--- the words of the lines of numbers: the size, how many events, constraints and rows there are, and how many verdicts are passes, fails
--- and undecided ones
+-- the words of the lines of numbers: the size, how many events, constraints and rows there are, and how many verdicts pass, fail and are undecided
 abbrev pub number_lines : Drawn → ℕ → Summary → List (List Word)
 number_lines drawn size summary =
     (codes "self" ∷ number_text size ∷ [])
@@ -33,19 +32,19 @@ number_lines drawn size summary =
 abbrev pub summary_text : Drawn → ℕ → Summary → List ℕ
 summary_text drawn size summary = flat_map words_text (number_lines drawn size summary) ++ words_text (codes "end" ∷ ending_word summary.end ∷ [])
 
--- a report of the budget, without lines of proofs, comes to a summary
+-- a report that a budget allows, without lines of proofs, comes to a summary
 pub record ComesTo (drawn : Drawn) (most : ℕ) (summary : Summary) : Type 0 where
   pub lines : List Entry
   pub is_written : IsWrittenReport drawn most false lines
   pub sums : Sums summary lines
 
--- what the job answers and writes: what such a report comes to; the answer is that of its end
+-- what the job answers and writes: what such a report comes to; the end of the report gives the answer
 pub record AnswersSummary (drawn : Drawn) (size most : ℕ) (answer : Answer) (text : List ℕ) : Type 0 where
   pub summary : Summary
   pub comes : ComesTo drawn most summary
   pub is_answer : answer ≡ answer_of summary.end
   pub is_text : text ≡ summary_text drawn size summary
 
--- what it may have begun to write
+-- what the job may have begun to write
 abbrev pub BeginsSummary : Drawn → ℕ → ℕ → List ℕ → Type 0
 BeginsSummary drawn size most text = (answer : Answer) × AnswersSummary drawn size most answer text

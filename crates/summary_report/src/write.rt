@@ -19,11 +19,11 @@ use line_words::{LineBuffer, put_words};
 use slack_report::EndWord;
 use std::alloc::Global;
 
-/// Room for the bytes of a line: the longest has a word of eleven letters and a number of ten digits.
+/// Room for the bytes of a line: the longest line has a word of eleven letters and a number of ten digits.
 const ROOM: u32 = 32;
 
-/// Writes what the report of a drawn network comes to, which is that of a generated design of a size. Each search of the report
-/// closes at most `budget` cases. All memory is taken before the first put, and each line is written by one put.
+/// Writes what the report of a drawn network comes to. The network is drawn by the generated design of a size. Each search of the report closes
+/// at most `budget` cases. All memory is taken before the first put, and each line is written by one put.
 pub fn write_summary<K: Sink>(
     alloc: Global,
     drawn: &DrawnNetwork,
@@ -162,7 +162,7 @@ fn put_count<K: Sink>(
     put_line(count.word, number.as_bytes(), buffer, sink)
 }
 
-// A line of two words, by one put where it fits the buffer.
+// A line of two words. A line that fits the buffer is put at once.
 fn put_line<K: Sink>(
     word: &[u8],
     other: &[u8],

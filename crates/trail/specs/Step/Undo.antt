@@ -34,8 +34,8 @@ graphs_at s [] = []
 graphs_at s (m ∷ starts) = graph_of (state_at s m) ∷ graphs_at (state_at s m) starts
 
 -- The log of the last level. The place where the level began lies within the state. The log names slots that are there. No later level set a slot. Each
--- slot that this level set is in the log. The entries of the log and the slots of earlier levels are together no more than all slots, since a level logs a
--- slot once.
+-- slot that this level set is in the log. The entries of the log, and the slots that this level has not set, are together no more than all slots, since a
+-- level logs a slot once.
 pub record IsLogged (s : TrailState) (m : LevelStart) (level : ℕ) : Type 0 where
   pub edges_within : m.edges ≤ length s.edges
   pub saved_within : m.saved ≤ length s.saved
