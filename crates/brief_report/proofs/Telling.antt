@@ -1,4 +1,4 @@
--- What the line of a row tells, and the lines of all rows.
+-- What the line of a row says, and the lines of all rows.
 use Rattle.std.proofs.Common.{◌≡◌, ◌<◌, ◌+◌, ℕ, zero, suc, Bool, true, false, List, [], ◌∷◌, ◌++◌, length, map, drop, get_or, Option, Some, None, slice_get, refl, sym, subst, ap, ◌∙◌, append_assoc, arith}
 use Rattle.std.specs.List.{flat_map}
 use Rattle.std.specs.Prelude.{codes, is_some, if◌then◌else◌}
@@ -26,7 +26,7 @@ use Rattle.brief_report.proofs.Ordering.{length_ordered, rank_places}
 
 -- ---- a row
 
--- the words of what becomes of it
+-- the words of its judgement
 pub judged_are : (kind : RowKind) (found : RowFound) → judgement_words (judged_in kind found) ≡ judged_words kind found
 judged_are kinds.Ask found = refl
 judged_are (kinds.Req range) found = refl
@@ -37,7 +37,7 @@ order_is (Some both) = refl
 
 -- ---- all rows
 
--- what is told of a row is of the row of its number, and was found of it
+-- a numbered row is the row of its number, with what was found of this row
 pub record IsOf (rows : List Row) (found : List RowFound) (told : NumberedRow) : Type 0 where
   pub is_row : slice_get rows told.number ≡ Some told.row
   pub is_found : slice_get found told.number ≡ Some told.found
@@ -80,7 +80,7 @@ pub each_ordered : (rows : List Row) (found : List RowFound) → Each (IsOf rows
 each_ordered rows found = each_onto (IsOf rows found) [] (told_from 0 rows found) tt
     (each_told rows found 0 rows found (λ k row e. subst (λ n. slice_get rows n ≡ Some row) (omega arith) e) (λ k f e. subst (λ n. slice_get found n ≡ Some f) (omega arith) e))
 
--- what is told of the row of the place at a number
+-- the numbered row of the place at a number
 pub record AtPlace (rows : List Row) (found : List RowFound) (tolds : List NumberedRow) (k : ℕ) (place : RowRank) : Type 0 where
   pub told : NumberedRow
   pub is_of : IsOf rows found told
@@ -94,7 +94,7 @@ at_place rows found (told ∷ tolds) zero d each h = record { told = told; is_of
 at_place rows found (told ∷ tolds) (suc k) d each h =
     let at = at_place rows found tolds k d each.1 (omega arith) in record { told = at.told; is_of = at.is_of; number = at.number; left = at.left }
 
--- the row of a place is there, what is found of it is there, and its line is the next
+-- the row of a place is there, what is found of the row is there, and its line is the next
 pub record IsNext (noted : Noted) (drawn : Drawn) (found : List RowFound) (k number : ℕ) : Type 0 where
   pub in_rows : number < length drawn.rows
   pub in_found : number < length found
@@ -129,7 +129,7 @@ next_of noted drawn found k place at = record {
         → told ≡ record { number = number; row = row; found = found }
     told_same told number row found a b c = rw (← a, ← b, ← c) refl
 
--- at the place of each number
+-- the row of the place at each number is the next
 pub next_is : (noted : Noted) (drawn : Drawn) (found : List RowFound) (places : List RowRank) (k : ℕ) (d : RowRank) → places ≡ map place_of (ordered (numbered_rows drawn found)) → k < length places
     → IsNext noted drawn found k (get_or places k d).number
 next_is noted drawn found places k d is h =
@@ -147,7 +147,7 @@ pieces_same : (row row' least least' most most' judged judged' by by' order orde
 pieces_same row row' least least' most most' judged judged' by by' order order' a b c d e f =
     append_assoc row (least ++ most) (judged ++ (by ++ order)) ∙ ap (λ l. row ++ l) (append_assoc least most (judged ++ (by ++ order))) ∙ rw (a, b, c, d, e, f) refl
 
--- what a line says of a row is what is told of it
+-- what a line says of a row is what the text has of it
 pub told_is : (noted : Noted) (drawn : Drawn) (told : NumberedRow) (line : RowLine) → line.number ≡ told.number → line.kind ≡ told.row.kind → name_view line.from ≡ name_of drawn told.row.from
     → name_view line.to ≡ name_of drawn told.row.to → line.both.least ≡ bound_of told.found.least → line.both.greatest ≡ bound_of told.found.greatest
     → line.judged ≡ judged_in told.row.kind told.found → by_words line.by ≡ origin_words noted (part_of drawn told.row.from) told.row.origin
@@ -162,7 +162,7 @@ told_is noted drawn told line number kind from to least greatest judged by order
     (row_same line.kind told.row.kind (name_view line.from) (name_of drawn told.row.from) (name_view line.to) (name_of drawn told.row.to) kind from to)
     (ap bound_words least) (ap bound_words greatest) (ap judgement_words judged ∙ judged_are told.row.kind told.found) by (ap order_word order ∙ order_is told.found.apart))
 
--- what the rows come to
+-- the counts of the rows
 pub counts_are : (rows : List NumberedRow) (places : List RowRank) (counts : RowCounts) → places ≡ map place_of (ordered rows) → counts.rows ≡ length places → counts.pass ≡ place_count 2 places
     → counts.fail ≡ place_count 0 places → counts.undecided ≡ place_count 1 places → counts_words counts ≡ count_words rows
 counts_are rows places counts is all pass fail undecided =

@@ -20,7 +20,7 @@ use Rattle.brief_report.specs.Brief.{AnswersBrief, BeginsBrief}
 use Rattle.brief_report.specs.Step.{numbered_rows}
 use Rattle.brief_report.specs.Text.{brief_text, rows_text}
 
--- something is found of no more rows than there are
+-- there are no more findings of rows than rows
 few_rows : (drawn : Drawn) (word : FindingWord) (rows : List Row) (found : List RowFound) → AreRowsFound drawn word rows found → length found ≤ length rows
 few_rows drawn word [] [] are = omega arith
 few_rows drawn word [] (f ∷ found) are = absurd are
@@ -38,11 +38,11 @@ pub brief_is : (noted : Noted) (drawn : Drawn) (finding : Finding) (rows found :
 brief_is noted drawn finding rows found told word is_rows is_told is_word = rw (is_rows, is_told, is_word) refl
 
 module _ (noted : Noted) (drawn : Drawn) (budget : ℕ) (finding : Finding) (found : List RowFound) (f : IsFindingFound drawn.net finding) (a : AreFound drawn finding found) (s : SettlesWithin drawn.net budget finding found) where
-  -- the text tells what was found
+  -- the text says what was found
   pub answers_brief : (answer : Answer) → answer ≡ answer_of (ending_of drawn.rows finding found) → AnswersBrief noted drawn budget answer (brief_text noted drawn finding found)
   answers_brief answer is = record { finding = finding; found = found; is_finding = f; are_found = a; settles = s; is_text = refl; is_answer = is }
 
-  -- and a front of it begins it
+  -- and a front of this text is what the job may have begun
   pub begins_brief : {B E : Type 0} (result : Result B E) (old new : SinkView) → CutShort old new (brief_text noted drawn finding found)
       → OnErr result ((text : List ℕ) × BeginsBrief noted drawn budget text × CutShort old new text)
   begins_brief (Ok x) old new cut = tt

@@ -9,7 +9,7 @@ use Rattle.design_gen.specs.Files.{with_tree}
 abbrev pub shelf_with : Files → MemShelf
 shelf_with files = record { files = files; failing = []; calls = 0; faults = 0; last = [] }
 
--- one file more was added to it
+-- one more file was added to the shelf
 pub added : (old new : MemShelf) (files : Files) (name : List ℕ) (tree wanted : Data) → old ≡ shelf_with files → tree ≡ wanted
     → new ≡ record old { files = with_tree old.files name tree } → new ≡ shelf_with (with_tree files name wanted)
 added old new files name tree wanted was is h =

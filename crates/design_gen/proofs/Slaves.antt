@@ -8,7 +8,7 @@ use Rattle.design_gen.specs.Trees.{bus, list, netlist, nets, parts, wires}
 use Rattle.serde_json.specs.View.{view}
 use Rattle.serde_json.specs.declared.value.Value.{Value}
 
--- the tree of one slave more was pushed
+-- the tree of one more slave was pushed
 pub one_pushed : (f : ℕ → Data) (count : ℕ) (front : List Data) (list now : List Value) (tree : Value) → now ≡ list ++ tree ∷ [] → map view list ≡ front ++ map f (range_with_len 0 count)
     → view tree ≡ f count → map view now ≡ front ++ map f (range_with_len 0 (count + 1))
 one_pushed f count front list now tree pushed before is =
@@ -17,7 +17,7 @@ one_pushed f count front list now tree pushed before is =
     ∙ append_assoc front (map f (range_with_len 0 count)) (f count ∷ [])
     ∙ ap (λ trees. front ++ trees) (sym (map-range_with_len_more f 0 count count (omega arith)))
 
--- a tree that was made is another by an equation
+-- a tree that was made is the wanted tree, by an equation
 pub made_as : {E : Type 0} (result : Result Value E) (tree wanted : Data) → IfOk result (λ made. view made ≡ tree) → tree ≡ wanted → IfOk result (λ made. view made ≡ wanted)
 made_as (Ok made) tree wanted is same = is ∙ same
 made_as (Err e) tree wanted is same = tt

@@ -1,4 +1,4 @@
--- A line is read as an edit exactly where it spells that edit.
+-- A line is read as an edit if and only if it spells this edit.
 use Rattle.std.proofs.Common.{◌≡◌, ℕ, ◌<◌, ◌-◌, ◌^◌, ℤ, Bool, true, false, List, [], ◌∷◌, ◌++◌, Option, Some, None, Result, Ok, Err, refl, sym, ap, subst, ◌∙◌, arith, append_assoc, codes, if◌then◌else◌}
 use Rattle.std.specs.Prelude.{is_some}
 use Rattle.std.specs.List.{take_while}
@@ -152,7 +152,7 @@ line_utf8 e =
 there_again : (net : Net) (n : ℕ) (e : RangeEdit) → IsThere net e → edit_there net n e ≡ Ok e
 there_again net n e there = rw there refl
 
--- the line that spells an edit is read as that edit
+-- the line that spells an edit is read as this edit
 pub edit_again : (net : Net) (n : ℕ) (line : List ℕ) (e : RangeEdit) → IsEditOf net line e → edit_at net n line ≡ Ok e
 edit_again net n line e is =
     let named : cause_of (edit_line e) ≡ Some (e.constraint, e.cause, ends_text e.range) = cause_again e.constraint e.cause (ends_text e.range) is.constraint is.cause refl in

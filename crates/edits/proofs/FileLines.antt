@@ -1,4 +1,4 @@
--- A file of edits is read line by line: the edits that were read, in front of those that are still read.
+-- A file of edits is read line by line: the edits that were read stand in front of the edits that are still to be read.
 use Rattle.std.proofs.Common.{◌≡◌, ◌==◌, ◌+◌, ◌<◌, ℕ, Bool, true, false, cond, List, [], ◌∷◌, ◌++◌, length, All, Result, Ok, Err, IfOk, IsErrAnd, if◌then◌else◌, refl, sym, ap, subst, ◌∙◌, arith, append_assoc, append-nil, length-append}
 use Rattle.std.specs.List.{after_first, before_first, onto_first, position_or_len, slice_split}
 use Rattle.std.specs.Str.{IsUtf8, is_utf8}
@@ -28,7 +28,7 @@ untext_by : (net : Net) (n : ℕ) (line : List ℕ) (b : Bool) → is_utf8 line 
 untext_by net n line true is other = absurd (other (IsUtf8-from_is_utf8 line is))
 untext_by net n line false is other = refl
 
--- a line that is none
+-- a line that is no text
 pub edit_untext : (net : Net) (n : ℕ) (line : List ℕ) → (IsUtf8 line → ⊥) → Err (Line n) ≡ edit_at net n line
 edit_untext net n line other = untext_by net n line (is_utf8 line) refl other
 
@@ -57,7 +57,7 @@ split_some (b ∷ text) = cons_part (is_feed b) b (slice_split is_feed text) (sp
 
 -- ---- the edits so far
 
--- edits that were read in front of those that are still read
+-- edits that were read, in front of the edits that are still to be read
 abbrev pub behind_edits : List RangeEdit → Result (List RangeEdit) EditsFault → Result (List RangeEdit) EditsFault
 behind_edits front rest = rest >>= λ others. Ok (front ++ others)
 

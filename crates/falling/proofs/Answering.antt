@@ -59,7 +59,7 @@ above_from level value e = omega (arith, ints)
 not_above_from : (level value : ℤ) → int_lt level value ≡ false → value ≤ℤ level
 not_above_from level value e = omega (arith, ints)
 
--- values with a gap above a level: those beyond it are apart
+-- values with a gap above a level: the values beyond the level are apart
 apart_at : (width : ℕ) (level : ℤ) (values : List ℤ) (flags : List Bool) → IsGapAt (pos width) level values → HaveAbove level values flags → IsApartBy width flags values
 apart_at width level values flags gap marked low high at_low at_high =
     let in_low : low.0 < length values = omega (arith, slice_get_within flags low.0 false at_low, marked.count) in

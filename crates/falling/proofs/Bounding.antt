@@ -35,7 +35,7 @@ some_and (Some x) P h = (x, refl, h)
 pub length-starting : (net : Net) (from : EventId) → length (starting_values net from) ≡ net.events
 length-starting net from = length-set (replicate net.events (pos (cap net))) from.0 (pos 0) ∙ length-replicate net.events (pos (cap net))
 
--- what stands at a place of a list where one place was set
+-- what stands at a place of a list, after one place was set
 pub set_at : (xs : List ℤ) (i k : ℕ) (x d : ℤ) → k < length xs → ((k ≡ i) × (get_or (set xs i x) k d ≡ x)) ⊎ ((k ≡ i → ⊥) × (get_or (set xs i x) k d ≡ get_or xs k d))
 set_at [] i k x d within = absurd (omega arith)
 set_at (y ∷ xs) zero zero x d within = inl (refl, refl)
@@ -56,7 +56,7 @@ replicated zero i x d within = absurd (omega arith)
 replicated (suc n) zero x d within = refl
 replicated (suc n) (suc i) x d within = replicated n i x d (omega arith)
 
--- values of which each that is there is at least the time
+-- each value that is there is at least the time
 above_from : (values times : List ℤ) → length values ≡ length times → ((i : ℕ) → i < length values → get_or times i (pos 0) ≤ℤ get_or values i (pos 0)) → AreAbove values times
 above_from values times count each = record {
   count = count;

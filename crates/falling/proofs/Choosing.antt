@@ -22,7 +22,7 @@ passed kind constraints number within is_none = rw add-one (go kind constraints 
     go kind (c ∷ cs) zero at within is_none = rw (sym is_none, add-one) refl
     go kind (c ∷ cs) (suc number) at within is_none = go kind cs number at (omega arith) is_none
 
--- and one that is a choice is the first
+-- and a constraint that is a choice is the first
 pub met : (kind : RuleKind) (constraints : List Constraint) (number : ℕ) → number < length constraints → IfSome (slice_get constraints number) (λ (c : Constraint). true ≡ is_choice_of kind c)
     → position_from (is_choice_of kind) number (drop number constraints) ≡ Some number
 met kind constraints number within is_one = go kind constraints number number within is_one
@@ -43,7 +43,7 @@ none_left kind constraints number past = go kind constraints number number past
     go kind (c ∷ cs) zero at past = absurd (omega arith)
     go kind (c ∷ cs) (suc number) at past = go kind cs number at (omega arith)
 
--- where none is found, no constraint is a choice
+-- where no choice is found, no constraint is a choice
 pub not_choice : (kind : RuleKind) (constraints : List Constraint) (at k : ℕ) (d : Constraint) → k < length constraints → position_from (is_choice_of kind) at constraints ≡ None
     → is_choice_of kind (get_or constraints k d) ≡ false
 not_choice kind [] at k d within none = absurd (omega arith)
@@ -70,7 +70,7 @@ choice-negated Early Lin count = refl
 choice-negated Early Late count = refl
 choice-negated Early Early count = refl
 
--- the least one has the same number
+-- the least choice has the same number
 pub first_choice-negated : (kind : RuleKind) (net : Net) → first_choice kind (negated net) ≡ first_choice (negated_kind kind) net
 first_choice-negated kind net = go kind 0 net.constraints
   where

@@ -159,7 +159,7 @@ level_small net level small high =
       le_to : (level : ℤ) (a b : ℕ) → level ≤ℤ pos a → a ≤ b → b ≤ cap_limit → level ≤ℤ pos cap_limit
       le_to level a b h le less = omega (arith, ints)
 
--- below the far line there is room for a gap
+-- a level that was reached in steps is below the far line, so there is room for a gap
 pub level_below_far : (net : Net) (level : ℤ) → 0 < net.events → level ≤ℤ pos (net.events * widest_end net) → level <ℤ pos (far_line net)
 level_below_far net level some high = lt_to level (net.events * widest_end net) (far_line net) high (room_below net.events (widest_end net) some) where
   lt_to : (level : ℤ) (a b : ℕ) → level ≤ℤ pos a → a < b → level <ℤ pos b

@@ -40,7 +40,7 @@ pub on_ok : {T E : Type 0} (r : Result T E) (P Q : Type 0) → (P → Q) → OnO
 on_ok (Ok x) P Q follows h = follows h
 on_ok (Err e) P Q follows h = h
 
--- what a constraint of negated causes asks of a network
+-- what a network asks of a constraint of negated causes
 pub record ArePushable (net : Net) (t : EventId) (cs : List Cause) : Type 0 where
   pub target : t.0 < net.events
   pub causes : All (λ (c : Cause). c.event.0 < net.events) cs

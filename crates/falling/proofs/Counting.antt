@@ -85,7 +85,7 @@ least_of net from values i d goes_on within = elim (below_or_not (get_or values 
   | inr high ↦ high
 ]
 
--- one value that is lowered lowers the sum
+-- a line that lowers one value lowers the sum
 set_lowers : (far : ℕ) (values : List ℤ) (i : ℕ) (value : ℤ) → i < length values → height far value < height far (get_or values i (pos 0))
     → heights far (set values i value) < heights far values
 set_lowers far [] i value within less = absurd (omega arith)

@@ -18,7 +18,7 @@ pub record IsKept (width : ℕ) (old new : ℤ) : Type 0 where
   pub near : pos 0 ≤ℤ old → old ≤ℤ pos width → new ≡ old
   pub wide : pos width <ℤ old → pos width ≤ℤ new
 
--- so do the separations of all pairs of events below a number
+-- this holds for the separations of all pairs of events below a number
 abbrev pub KeepsNear : ℕ → ℕ → List ℤ → List ℤ → Type 0
 KeepsNear width events times others =
     (from to : EventId) → from.0 < events → to.0 < events → IsKept width (separation times from to) (separation others from to)
@@ -106,7 +106,7 @@ ends_within net number i d c there within =
     let of_all : widest_of_causes (get_or net.constraints number d).causes ≤ widest_of net.constraints = causes_within net.constraints number d there in
     record { low = omega arith; high = omega arith }
 
--- what holds of each cause that is there goes over to all, and to some
+-- what follows for each cause that is there follows for all causes, and for some cause
 all_kept : (P Q R : Cause → Type 0) (causes : List Cause) → All R causes → ((c : Cause) → R c → P c → Q c) → All P causes → All Q causes
 all_kept P Q R causes at_all follows h = λ i d within. follows (get_or causes i d) (at_all i d within) (h i d within)
 

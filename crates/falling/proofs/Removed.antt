@@ -11,12 +11,12 @@ abbrev pub is_covered : ℕ → List ℤ → ℤ → Bool
 is_covered width [] z = false
 is_covered width (time ∷ times) z = covers width time z || is_covered width times z
 
--- how many of the numbers from a base on no time covers
+-- of so many numbers from a base on, how many no time covers
 abbrev pub removed : ℕ → List ℤ → ℤ → ℕ → ℕ
 removed width times base zero = 0
 removed width times base (suc k) = removed width times base k + (if is_covered width times (base +ℤ pos k) then 0 else 1)
 
--- how many of them one time covers
+-- of so many numbers from a base on, how many one time covers
 abbrev pub covered_by : ℕ → ℤ → ℤ → ℕ → ℕ
 covered_by width time base zero = 0
 covered_by width time base (suc k) = covered_by width time base k + (if covers width time (base +ℤ pos k) then 1 else 0)

@@ -19,7 +19,7 @@ use Rattle.falling.proofs.Bounding.{some_and}
 use Rattle.falling.proofs.Settling.{IsMost, at_is, is_some, latest_one, none_all}
 use Rattle.falling.proofs.Tried.{kind_of}
 
--- the upper side of a latest constraint holds always just for a single cause
+-- the upper side of a latest constraint always holds only for a single cause
 single_late : (kind : RuleKind) (count : ℕ) (side : Side) → kind ≡ Late → side ≡ Upper → IsTrue (holds_always kind count side) → count ≡ 1
 single_late Lin count side is_late is_upper holds = absurd (cc)
 single_late Late count Lower is_late is_upper holds = absurd (cc)

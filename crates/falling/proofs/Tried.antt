@@ -19,7 +19,7 @@ use Rattle.falling.specs.Step.Turns.{HasOpenHigh, IsConstraintTried, IsHighOf, I
 use Rattle.falling.proofs.Between.{mapped_some, then_some}
 use Rattle.falling.proofs.Bounding.{some_and}
 
--- the causes of a constraint are no more than those that it names, or one
+-- the causes of a constraint are no more than the causes that it names, or one
 pub named_most : (kind : RuleKind) (count : ℕ) → IsCauseCount kind count → count ≤ max (named_causes kind count) 1
 named_most Lin count h = omega arith
 named_most Late count h = omega arith
@@ -29,7 +29,7 @@ named_most Early count h = omega arith
 pub counted_is : (f : Constraint → ℕ) (o : Option Constraint) (k : Constraint) (count : ℕ) → option_map f o ≡ Some count → o ≡ Some k → f k ≡ count
 counted_is f o k count counted is = same_Some (f k) count (rw is at counted)
 
--- an edge that is there is of a cause that a loop over the named causes, or over one, has seen
+-- a loop over the named causes, or over one cause, has seen the cause of each edge that is there
 pub cause_below : (net : Net) (number : ℕ) (name : EdgeName) (e : Edge) (count : ℕ) → IsNet net → name.constraint ≡ number → edge net name ≡ Some e
     → option_map cause_count_of (slice_get net.constraints number) ≡ Some count → name.cause < max count 1
 cause_below net number name e count is_net is_number is_edge counted =

@@ -100,7 +100,7 @@ latest_before net values event value number lower none tried target due allowed 
           other_time values event c.event value
           (none (record { constraint = number; cause = i; side = Upper }) (record { from = c.event; to = k.target; weight = high }) refl (rw (at_k, at_c, is_high) refl)))
 
--- what no edge of a constraint starts at leaves it tried
+-- a fall of an event leaves a constraint tried if no edge of the constraint starts at the event
 tried_before : (net : Net) (values : List ℤ) (event : EventId) (value : ℤ) (number : ℕ) → value <ℤ time_of values event → StartsNone net event number
     → IsConstraintTried net values number → IsConstraintTried net (set values event.0 value) number
 tried_before net values event value number lower none tried (ByEdge name) is =

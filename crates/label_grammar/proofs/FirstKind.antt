@@ -7,7 +7,7 @@ use Rattle.label_grammar.specs.Label.{kind_text}
 use Rattle.itv_base.specs.Cuts.{stripped}
 use Rattle.label_grammar.specs.Reading.{first_kind}
 
--- a kind whose word does not stand first is passed over
+-- a kind is passed over where its word does not stand first
 pub kind_more : (kinds : List Kind) (i : ℕ) (d : Kind) (text word : List ℕ) (stripping : Option (Bor (List ℕ))) (found : Option (Kind × List ℕ)) → i < length kinds
     → word ≡ kind_text (get_or kinds i d) → option_copied stripping ≡ stripped word text → stripping ≡ None
     → first_kind (drop i kinds) text ≡ found → first_kind (drop (i + 1) kinds) text ≡ found

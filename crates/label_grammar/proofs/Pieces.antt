@@ -1,4 +1,4 @@
--- Each part of a label that is read is spelled so, and each that is spelled so is read.
+-- Each part of a label that is read is the spelling of what was read, and each spelling of a part is read as this part.
 use Rattle.std.proofs.Common.{◌≡◌, ℕ, zero, suc, ◌<◌, ◌≤◌, ℤ, pos, negsuc, neg_ℤ, Bool, true, false, not, eqb, leb, ltb, ◌&&◌, List, [], ◌∷◌, ◌++◌, length, Option, Some, None, refl, sym, ap, subst, ◌∙◌, arith, inl, inr, append_assoc, codes, ◌⊎◌}
 use Rattle.std.specs.Prelude.{IfSome, is_some}
 use Rattle.std.specs.List.{list_all, take_while}
@@ -20,7 +20,7 @@ use Rattle.itv_base.proofs.Numerals.{text-value, value-text, digits-text, numera
 
 -- ---- steps
 
--- what was read came behind the front, or was the other thing
+-- the front stands first and the text behind it gave what was found, or it does not and the other thing was found
 pub after_cases : {R : Type 0} (o : Option (List ℕ)) (f : List ℕ → R) (other found : R) → after o f other ≡ found
     → ((rest : List ℕ) × (o ≡ Some rest) × (f rest ≡ found)) ⊎ ((o ≡ None) × (other ≡ found))
 after_cases None f other found e = inr (refl, e)
@@ -33,7 +33,7 @@ bind_some (Some x) f y e = (x, refl, e)
 pub bind_is : {A B : Type 0} (o : Option A) (f : A → Option B) (x : A) → o ≡ Some x → (o >>= f) ≡ f x
 bind_is o f x e = rw e refl
 
--- what was read is spelled so
+-- the text is the spelling of what was read, and the text behind it
 found_is : {A : Type 0} (spell : A → List ℕ) (text behind rest : List ℕ) (x y : A) → ◌≡◌ {A = Option (A × List ℕ)} (Some (x, behind)) (Some (y, rest)) → text ≡ spell x ++ behind → text ≡ spell y ++ rest
 found_is spell text behind rest x y e h = let p = some_pair_parts x y behind rest e in h ∙ ap (λ z. spell z ++ behind) p.0 ∙ ap (λ r. spell y ++ r) p.1
 
@@ -159,7 +159,7 @@ minus_text : (n : ℕ) → 0 < n → signed_text (neg_ℤ (pos n)) ≡ 45 ∷ nu
 minus_text zero h = absurd (omega arith)
 minus_text (suc n) h = refl
 
--- what stands before a number that is below 0, and before one that isn't
+-- the text of a number with its sign: a minus before a number below 0, and nothing before any other
 abbrev sign : Bool → List ℕ → List ℕ
 sign false text = text
 sign true text = 45 ∷ text
@@ -258,9 +258,9 @@ span_again (named name) rest h spaced =
     let bytes : list_all is_name_byte name ≡ true = (and_parts (leb 1 (length name) && leb (length name) 16) (list_all is_name_byte name) h).1 in
     rw (front_of_run is_name_byte name rest bytes (no_name_byte rest spaced), rest_of_run is_name_byte name rest bytes (no_name_byte rest spaced), h) refl
 
--- ---- what tells the ends
+-- ---- what gives the ends
 
--- What tells the ends of a label of a version is read as it is spelled, and spelled as it is read. It stands behind a space.
+-- What gives the ends of a label of a version is read as it is spelled, and spelled as it is read. It stands behind a space.
 pub record Inverts {E : Type 0} (v : Version E) (tell : List ℕ → Option (E × List ℕ)) : Type 0 where
   pub takes : (text rest : List ℕ) (told : E) → tell text ≡ Some (told, rest) → (text ≡ v.text told ++ rest) × (v.has_form told ≡ true)
   pub again : (told : E) (rest : List ℕ) → v.has_form told ≡ true → IsSpaced rest → tell (v.text told ++ rest) ≡ Some (told, rest)
@@ -281,7 +281,7 @@ pub spans_invert : Inverts version_2 span_of
 spans_invert = record { takes = span_takes; again = span_again; spaced = span_spaced }
 
 module _ {E : Type 0} (v : Version E) (tell : List ℕ → Option (E × List ℕ)) (inverts : Inverts v tell) where
-  -- there is something that tells the ends exactly where the kind is no ask, and it can be spelled
+  -- something gives the ends if and only if the kind is no ask, and it can be spelled
   pub record IsTold (ask : Bool) (told : Option E) : Type 0 where
     pub some : is_some told ≡ not ask
     pub form : IfSome told (λ t. v.has_form t ≡ true)

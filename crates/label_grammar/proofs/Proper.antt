@@ -1,4 +1,4 @@
--- What is read of a label has a range, where it has ends.
+-- The ends of a label that is read are a range.
 use Rattle.std.proofs.Common.{◌≡◌, Bool, true, false, ◌||◌, ℕ, List, Option, Some, None, IfSome, Result, Ok, Err, IfOk, refl, arith}
 use Rattle.std.specs.Option.{option_map_or, option_and_then}
 use Rattle.itv_base.specs.Range.{Ends, IsRange, has_wide, is_reversed}
@@ -18,7 +18,7 @@ proper_range label proper = ranges label.ends proper.narrow proper.ordered
     ranges None narrow ordered = tt
     ranges (Some ends) narrow ordered = is_range ends narrow ordered
 
--- the ends that a proper label of version 2 tells outright are a range
+-- the ends of a proper label of version 2, if they stand in the label itself, are a range
 pub proper_span : (label : LooseLabel Span) → IsProper version_2 label → IfSome label.ends (λ span. IfSome (fixed_ends span) IsRange)
 proper_span label proper = ranges label.ends proper.narrow proper.ordered
   where

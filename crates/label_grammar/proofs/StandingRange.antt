@@ -33,7 +33,7 @@ judged_some (Some own) ends e =
     let parts = judged_by (has_wide own) (is_reversed own) own ends refl refl e in
     (ap Some parts.0, ap has_wide (sym parts.0) ∙ parts.1, ap is_reversed (sym parts.0) ∙ parts.2)
 
--- a range that is read is spelled by the text
+-- a text spells the range that is read of it
 pub range_takes_all : (text : List ℕ) (ends : Ends) → judged_alone (only_ends (ends_of text)) ≡ Ok ends → (text ≡ ends_text ends) × (has_wide ends ≡ false) × (is_reversed ends ≡ false)
 range_takes_all text ends e =
     let judged = judged_some (only_ends (ends_of text)) ends e in
@@ -46,7 +46,7 @@ range_again_all ends wide reversed =
     let again : ends_of (ends_text ends) ≡ Some (ends, []) = ap ends_of (sym (append-nil (ends_text ends))) ∙ ends_again ends [] in
     rw (again, wide, reversed) refl
 
--- the answer says so in the words of a caller
+-- the answer of `read_range` has its clauses
 pub answers_ok : (text : List ℕ) (result : Result Ends LabelFault) → result ≡ judged_alone (only_ends (ends_of text)) → IfOk result (λ ends. text ≡ ends_text ends)
 answers_ok text (Ok ends) is = (range_takes_all text ends (sym is)).0
 answers_ok text (Err fault) is = tt

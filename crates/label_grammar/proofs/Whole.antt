@@ -1,4 +1,4 @@
--- What is read of a label is spelled so, and what is spelled so is read.
+-- A text that is read as a label is the spelling of this label, and each spelling is read as its label.
 use Rattle.std.proofs.Common.{◌≡◌, ℕ, true, List, [], ◌∷◌, ◌++◌, Option, Some, None, refl, sym, ap, subst, ◌∙◌, inl, inr}
 use Rattle.std.specs.Prelude.{IfSome, is_some, IsTrue, option_map}
 use Rattle.std.proofs.lemmas.Option.{same_Some}
@@ -58,11 +58,11 @@ module _ {E : Type 0} (v : Version E) (tell : List ℕ → Option (E × List ℕ
       let shift = shift_text l.shift ++ tag in
       rw (kind_again l.kind shift, shift_again l.shift tag h.shift (opens l.tag l.ends l.note), tag_again l.tag told h.tag (spaced l.ends l.note), told_again v tell inverts (is_ask l.kind) l.ends (note_text l.note) h.ends h.form (noted l.note), note_again l.note) refl
 
-  -- two labels have two spellings
+  -- two different labels have two different spellings
   pub spelling_injective : (l m : LooseLabel E) → IsLoose v l → IsLoose v m → spelling v l ≡ spelling v m → l ≡ m
   spelling_injective l m p q e = same_Some l m (sym (label_again l p) ∙ ap (label_of tell) e ∙ label_again m q)
 
--- ---- the labels of version 1 are those of version 2 that name no parameter
+-- ---- the labels of version 1 are the labels of version 2 that name no parameter
 
 told_same : (ends : Option Ends) → told_text span_text (option_map fixed ends) ≡ told_text ends_text ends
 told_same None = refl

@@ -15,7 +15,7 @@ last : {X : Type 0} (P : X → Type 0) (xs : List X) (y : X) → All P (xs ++ y 
 last P [] y all = All-head P y [] all
 last P (x ∷ xs) y all = last P xs y (All-tail P x (xs ++ y ∷ []) all)
 
--- what holds of all names holds of one that is among them
+-- what holds of all names holds of a name that is among them
 among : (P : List ℕ → Type 0) (name : List ℕ) (names : List (List ℕ)) → All P names → list_any (bytes_eq name) names ≡ true → P name
 among P name [] all found = absurd cc
 among P name (other ∷ names) all found = at (bytes_eq name other) refl found (among P name names (All-tail P other names all)) (All-head P other names all)
@@ -25,7 +25,7 @@ among P name (other ∷ names) all found = at (bytes_eq name other) refl found (
     at false apart found more here = more found
 
 module _ (P : List ℕ → Type 0) where
-  -- where all names hold with one more, that one holds
+  -- what holds of some names with one more holds of this one
   name_holds : (names : List (List ℕ)) (name : List ℕ) (b : Bool) → list_any (bytes_eq name) names ≡ b → All P (cond b names (names ++ name ∷ [])) → P name
   name_holds names name true found all = among P name names all found
   name_holds names name false new all = last P names name all
@@ -34,7 +34,7 @@ module _ (P : List ℕ → Type 0) where
   names_hold names name true all = all
   names_hold names name false all = front P names (name ∷ []) all
 
-  -- the names before the parts hold, where all do
+  -- what holds of the names before the parts and of the names of their sheets holds of the names before the parts
   before_hold : (names : List (List ℕ)) (parts : List Part) → All P (names_from names parts) → All P names
   before_hold names [] all = all
   before_hold names (part ∷ parts) all = names_hold names part.sheet (list_any (bytes_eq part.sheet) names) (before_hold (with_name names part.sheet) parts all)

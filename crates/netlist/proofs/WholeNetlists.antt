@@ -72,7 +72,7 @@ cycles_whole tree = IfOk-ok_or AreCycles (option_and_then cycles_from (whole_at 
 
 -- ---- parts
 
--- so many parts were read as elements were taken
+-- as many parts were read as elements were taken
 abbrev AreCounted : ℕ → List Part → Type 0
 AreCounted n parts = length parts ≡ n
 

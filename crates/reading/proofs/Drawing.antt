@@ -51,18 +51,18 @@ module _ (told : ShelfView) (netlist : NetlistContents) (sheets : SheetMap) wher
         comes_then told (at Design Joins (composed netlist sheets)) (λ design. at Design Limits (unrolled design)) design (ready drawn) (at_ok told Design Joins (composed netlist sheets) design is)
         (at_ok told Design Limits (unrolled design) drawn e)
 
--- the same netlist and the same sheets, told otherwise
+-- the same netlist and the same sheets draw the same
 pub drawn_same : (told : ShelfView) (n m : NetlistContents) (es fs : NamedSheets) (r : Result Drawn Stop) → n ≡ m → es ≡ fs → Opens (λ (d : Drawn). d) told told (drawn_at n es) r → Opens (λ (d : Drawn). d) told told (drawn_at m fs) r
 drawn_same told n m es fs r e f h = subst (λ x. Opens (λ (d : Drawn). d) told told (drawn_at m x) r) f (subst (λ x. Opens (λ (d : Drawn). d) told told (drawn_at x es) r) e h)
 
 -- ---- lone sheets
 
--- the one sheet that was put in
+-- the one sheet that was added
 pub sheet_put : (name : List ℕ) (key : SheetKey) (sheet : SheetContents) (before sheets : NamedSheets) → key ≡ plain_key name → before ≡ [] → sheets ≡ with_sheet before key sheet
     → sheets ≡ with_sheet [] (plain_key name) sheet
 sheet_put name key sheet before sheets named none put = rw (put, none, named) refl
 
--- the plan of a netlist and of sheets that are those of a lone sheet
+-- the plan of the netlist and the sheets of a lone sheet is the plan of this sheet
 pub lone_same : (name : List ℕ) (sheet : SheetContents) (netlist : NetlistContents) (sheets : NamedSheets) → netlist ≡ lone_netlist name → sheets ≡ with_sheet [] (plain_key name) sheet
     → record { netlist = netlist; sheets = sheets } ≡ lone_plan name sheet
 lone_same name sheet netlist sheets is has = rw (is, has) refl
@@ -73,18 +73,18 @@ module _ (old new : ShelfView) (tree : Data) (netlist : NetlistContents) (is : n
   abbrev planned : NamedSheets → Planned
   planned sheets = record { netlist = netlist; sheets = sheets }
 
-  -- the netlist was read, and its sheets are
+  -- the netlist was read, and its sheets are read next
   netlist_read : Opens (λ (p : Planned). p) old new (sheets_of_files netlist (sheet_names netlist.parts) >>= (λ sheets. gives (planned sheets))) r → Opens (λ (p : Planned). p) old new (netlist_at tree) r
   netlist_read h =
       opens_then (λ (n : NetlistContents). n) (λ (p : Planned). p) (at (File 0) Netlist (netlist_of tree)) (λ n. sheets_of_files n (sheet_names n.parts) >>= (λ sheets. gives (record { netlist = n; sheets = sheets }))) old old new netlist r
       (at_ok old (File 0) Netlist (netlist_of tree) netlist is, refl) h
 
-  -- they can't be read
+  -- its sheets can't be read
   pub netlist_up : (s : Stop) → IsErrAnd r (λ e. e ≡ s) → Opens (λ (m : SheetMap). m.entries) old new (sheets_of_files netlist (sheet_names netlist.parts)) (Err s) → Opens (λ (p : Planned). p) old new (netlist_at tree) r
   netlist_up s err h =
       netlist_read (opens_up (λ (m : SheetMap). m.entries) (λ (p : Planned). p) (sheets_of_files netlist (sheet_names netlist.parts)) (λ sheets. gives (planned sheets)) old new s r err h)
 
-  -- they are read, and the plan is made of them
+  -- its sheets are read, and the plan is made of them
   pub netlist_on : (sheets : SheetMap) → Opens (λ (m : SheetMap). m.entries) old new (sheets_of_files netlist (sheet_names netlist.parts)) (Ok sheets)
       → Opens (λ (p : Planned). p) new new (gives (planned sheets.entries)) r → Opens (λ (p : Planned). p) old new (netlist_at tree) r
   netlist_on sheets h made =

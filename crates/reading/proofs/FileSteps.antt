@@ -89,7 +89,7 @@ module _ (told : ShelfView) (place : RefusalPlace) (name : List ℕ) (grades : O
       part_stop s r is h =
           rw unread (opens_up (λ (c : SheetContents). c) v (at place Sheet (sheet_by grades part.grade drawing)) (λ sheet. gives (with_sheet sheets (key_of part) sheet)) told told s r is h)
 
-      -- its sheet is put in
+      -- its sheet is added
       pub part_put : (sheet : SheetContents) (y : Y) → Opens (λ (c : SheetContents). c) told told (at place Sheet (sheet_by grades part.grade drawing)) (Ok sheet) → v y ≡ with_sheet sheets (key_of part) sheet
           → Opens v told told (with_part place name grades drawing n sheets part) (Ok y)
       part_put sheet y h same =

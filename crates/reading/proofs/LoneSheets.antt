@@ -1,4 +1,4 @@
--- The plan of a lone sheet is that of the one sheet which its tree draws in version 1.
+-- The plan of a lone sheet is the plan of the one sheet that its tree draws in version 1.
 use Rattle.std.proofs.Common.{◌≡◌, ℕ, ◌&&◌, Bool, true, false, cond, List, [], None, Result, Ok, Err, refl}
 use Rattle.std.specs.Str.{bytes_eq}
 use Rattle.std.proofs.lemmas.Slice.Eq.{bytes_eq-Decides}

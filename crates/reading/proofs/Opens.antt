@@ -1,4 +1,4 @@
--- Readings step by step, and what they come to over told files.
+-- Readings step by step, and what they come to over known files.
 use Rattle.std.proofs.Common.{◌≡◌, ℕ, ◌+◌, ◌<◌, ◌≤◌, Bool, true, false, cond, List, [], ◌∷◌, length, take, drop, get_or, All, Option, Some, None, IsNone, option_map, Result, Ok, Err, IsErrAnd, refl, sym, ap, ◌∙◌, subst, inl, inr}
 use Rattle.std.specs.Option.{option_map_or}
 use Rattle.std.proofs.lemmas.List.{drop_all, drop_more}
@@ -105,11 +105,11 @@ module _ {A X : Type 0} (step : ℕ → A → X → FileReading A) (old now new 
   stepped : Resumes old now whole (step number done x >>= (λ more. each step (number + 1) more (drop (k + 1) xs)))
   stepped = subst (λ o. Resumes old now whole o) (ap (each step number done) next) so_far
 
-  -- the step of one element more is done
+  -- the step of one more element is done
   pub each_next : {Y : Type 0} (v : Y → A) (y : Y) → Opens v now new (step number done x) (Ok y) → Resumes old new whole (each step (number + 1) (v y) (drop (k + 1) xs))
   each_next v y h = resumes_after v old now new whole (step number done x) (λ more. each step (number + 1) more (drop (k + 1) xs)) y stepped h
 
-  -- the next one gives nothing
+  -- the step of the next element gives nothing
   pub each_stop : {Y Z : Type 0} (v : Y → A) (w : Z → A) (s : Stop) (r : Result Z Stop) → IsErrAnd r (λ e. e ≡ s) → Opens v now new (step number done x) (Err s) → Opens w old new whole r
   each_stop v w s r is h =
       resumes_end w whole (step number done x >>= (λ more. each step (number + 1) more (drop (k + 1) xs))) old now new r stepped
@@ -157,7 +157,7 @@ at_gave shelf place why (Err fault) x comes = absurd (cc comes)
 pub gave : {A : Type 0} (shelf : ShelfView) (x y : A) → RunsTo shelf (gives x) (ready y) → x ≡ y
 gave shelf x y comes = cc comes
 
--- what each step keeps, all of them keep
+-- what each step keeps, all steps keep
 pub each_keeps : {A X : Type 0} (P : A → Type 0) (shelf : ShelfView) (step : ℕ → A → X → FileReading A) → ((n : ℕ) (a b : A) (x : X) → P a → RunsTo shelf (step n a x) (ready b) → P b)
     → (n : ℕ) (done last : A) (xs : List X) → P done → RunsTo shelf (each step n done xs) (ready last) → P last
 each_keeps P shelf step keeps n done last [] holds comes = subst P (gave shelf done last comes) holds
@@ -174,7 +174,7 @@ each_brings R shelf step brings keeps n done last (x ∷ xs) comes =
     let (more, first, rest) = opening_then shelf (step n done x) (λ next. each step (n + 1) next xs) last comes in
     All-cons (λ x. R x last) x xs (each_keeps (R x) shelf step (keeps x) (n + 1) more last xs (brings n done more x first) rest) (each_brings R shelf step brings keeps (n + 1) more last xs rest)
 
--- ---- over told files
+-- ---- over known files
 
 front_by : {A : Type 0} (files : Files) (most : ℕ) (bytes : List ℕ) (next : List ℕ → FileReading A) (end other : End A) (o : Option (List ℕ)) → option_map (take most) o ≡ Some bytes
     → told_end files (next bytes) ≡ end → option_map_or (λ file. told_end files (next (take most file))) o other ≡ end
@@ -187,7 +187,7 @@ told_front None files most name bytes next place end e front h = absurd (none-so
 told_front (Some others) files most name bytes next place end e front h =
     front_by files most bytes next end (unread place name) (file_of files name) (subst (λ (all : Files). option_map (take most) (file_of all name) ≡ Some bytes) (same_Some others files e) front) h
 
--- a reading that didn't end at a file that was not had ends as the files say
+-- a reading that did not end at a file that could not be read ends as the files say
 pub told_ready : {A : Type 0} (shelf : ShelfView) (files : Files) (o : FileReading A) (x : A) → shelf.files ≡ Some files → RunsTo shelf o (ready x) → told_end files o ≡ ready x
 told_ready shelf files (gives y) x e c = sym c
 told_ready shelf files (refuses place why) x e c = absurd (cc c)
@@ -206,7 +206,7 @@ missing_by : {A : Type 0} (files : Files) (most : ℕ) (next : List ℕ → File
 missing_by files most next other None h = refl
 missing_by files most next other (Some file) h = absurd (cc h)
 
--- so does one that ended at a file that is not there
+-- a reading that ended at a file that is not there ends as the files say
 pub told_unread : {A : Type 0} (shelf : ShelfView) (files : Files) (o : FileReading A) (place : RefusalPlace) (name : List ℕ) → shelf.files ≡ Some files → IsNone (file_of files name) → RunsTo shelf o (unread place name)
     → told_end files o ≡ unread place name
 told_unread shelf files (gives y) place name e none c = absurd (cc c)

@@ -1,4 +1,4 @@
--- Each part has its sheet among those that were read.
+-- Each part has its sheet among the sheets that were read.
 use Rattle.std.proofs.Common.{◌≡◌, ℕ, ◌&&◌, Bool, true, false, cond, if◌then◌else◌, List, [], ◌∷◌, All, Option, Some, None, IsSome, refl, sym, subst}
 use Rattle.std.specs.Prelude.{is_none}
 use Rattle.std.specs.Str.{bytes_eq}
@@ -29,18 +29,18 @@ use Rattle.reading.proofs.Opens.{gave, opening_then, each_keeps, each_brings}
 abbrev pub IsThere : SheetKey → NamedSheets → Type 0
 IsThere key sheets = IsSome (sheet_among sheets key)
 
--- ---- one sheet more
+-- ---- one more sheet
 
 found_here : (test : Bool) (sheet : SheetContents) (rest : Option SheetContents) → test ≡ true → IsSome (cond test (Some sheet) rest)
 found_here true sheet rest is = refl
 found_here false sheet rest is = absurd (cc is)
 
--- where one of two is found, the other, whose rest finds as much, is found too
+-- a search that finds a sheet at its first entry, or in the rest, still finds one where the rest finds as much
 found_too : (test : Bool) (old new : SheetContents) (rest more : Option SheetContents) → (IsSome rest → IsSome more) → IsSome (cond test (Some old) rest) → IsSome (cond test (Some new) more)
 found_too true old new rest more on is = refl
 found_too false old new rest more on is = on is
 
--- a sheet that was put in is there
+-- a sheet that was added is there
 pub sheet_added : (sheets : NamedSheets) (key : SheetKey) (sheet : SheetContents) → IsThere key (with_sheet sheets key sheet)
 sheet_added [] key sheet = found_here (same_key key key) sheet None (same_key_itself key)
 sheet_added (e ∷ es) key sheet = at (same_key key e.0) refl (sheet_added es key sheet)
@@ -49,7 +49,7 @@ sheet_added (e ∷ es) key sheet = at (same_key key e.0) refl (sheet_added es ke
     at true is rest = found_here (same_key key e.0) sheet (sheet_among es key) is
     at false is rest = subst (λ t. IsSome (cond t (Some e.1) (sheet_among (with_sheet es key sheet) key))) (sym is) rest
 
--- and those that were there still are
+-- and the sheets that were there still are
 pub sheet_kept : (sheets : NamedSheets) (key other : SheetKey) (sheet : SheetContents) → IsThere other sheets → IsThere other (with_sheet sheets key sheet)
 sheet_kept [] key other sheet there = absurd (cc there)
 sheet_kept (e ∷ es) key other sheet there = at (same_key key e.0) (sheet_kept es key other sheet) there
@@ -58,7 +58,7 @@ sheet_kept (e ∷ es) key other sheet there = at (same_key key e.0) (sheet_kept 
     at true rest there = found_too (same_key other e.0) e.1 sheet (sheet_among es other) (sheet_among es other) (λ is. is) there
     at false rest there = found_too (same_key other e.0) e.1 e.1 (sheet_among es other) (sheet_among (with_sheet es key sheet) other) rest there
 
--- the sheet of the one part of a netlist that a sheet stands for is there
+-- the sheet of the one part of the netlist of a lone sheet is there
 pub lone_drawn : (name : List ℕ) (netlist : NetlistContents) (sheets : NamedSheets) (sheet : SheetContents) → netlist ≡ lone_netlist name → sheets ≡ with_sheet [] (plain_key name) sheet
     → All (λ (part : Part). IsThere (key_of part) sheets) netlist.parts
 lone_drawn name netlist sheets sheet is has =
@@ -102,7 +102,7 @@ module _ (shelf : ShelfView) (place : RefusalPlace) (name : List ℕ) (grades : 
 
 -- ---- files
 
--- each part that is drawn on a sheet of this name has its own
+-- each part that is drawn on a sheet of this name has its sheet
 abbrev pub AreDrawn : List Part → List ℕ → NamedSheets → Type 0
 AreDrawn parts name sheets = All (λ (part : Part). part.sheet ≡ name → IsThere (key_of part) sheets) parts
 

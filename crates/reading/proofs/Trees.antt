@@ -33,7 +33,7 @@ pub tree_ready : (told : ShelfView) (place : RefusalPlace) (bytes : List ℕ) (t
 unfolding tree_at
 tree_ready told place bytes tree utf8 e = found told place (tree_of bytes) tree (tree_some bytes tree utf8 e)
 
--- others are refused
+-- other bytes are refused
 pub tree_refused : (told : ShelfView) (place : RefusalPlace) (bytes : List ℕ) → (IsUtf8 bytes → read bytes ≡ None) → RunsTo told (tree_at place bytes) (refused place NotJson)
 unfolding tree_at
 tree_refused told place bytes h = missing told place (tree_of bytes) (tree_none bytes h)

@@ -11,12 +11,12 @@ use Rattle.summary_report.specs.Summary.{AnswersSummary, BeginsSummary, ComesTo,
 use Rattle.summary_report.specs.Step.{count_text}
 use Rattle.summary_report.specs.declared.write.Count.{Count}
 
--- the lines of numbers from one on
+-- the lines from a number on
 pub counts_more : (counts : List Count) (i : ℕ) (d : Count) → i < length counts
     → flat_map count_text (drop i counts) ≡ count_text (get_or counts i d) ++ flat_map count_text (drop (i + 1) counts)
 counts_more counts i d h = rw (add-one, drop-cons counts i d h) refl
 
--- a front of the text of a summary is one that the job may have begun to write
+-- a front of the text of a summary is a text that the job may have begun to write
 pub summary_cut : (drawn : Drawn) (size most : ℕ) (summary : Summary) (old new : SinkView) → ComesTo drawn most summary
     → CutShort old new (summary_text drawn size summary) → JobWrote (AnswersSummary drawn size most) (BeginsSummary drawn size most) old new (Err PutFailed)
 summary_cut drawn size most summary old new comes cut = (

@@ -12,7 +12,7 @@ use Rattle.trail.specs.declared.undo.LevelStart.{LevelStart}
 use Rattle.trail.specs.Step.Undo.{TrailState, state_at, graphs_at, graph_of, IsLogged, IsUndoable}
 use Rattle.trail.proofs.SlotsBefore.{length-slots_before, slots_before-set_saved, slots_before-save}
 
--- with one edge more
+-- with one more edge
 abbrev pub with_edge : TrailState → EdgeName → TrailState
 with_edge state e = record state { edges = state.edges ++ e ∷ [] }
 
@@ -24,7 +24,7 @@ with_slot state i x = record state { slots = set state.slots i x }
 abbrev pub with_saved : TrailState → ℕ → Slot → Slot → TrailState
 with_saved state i was x = record state { slots = set state.slots i x; saved = state.saved ++ record { slot = i; was = was } ∷ [] }
 
--- where a level starts that begins here
+-- the start of a level that begins here
 abbrev pub start_here : TrailState → LevelStart
 start_here state = record { edges = length state.edges; saved = length state.saved }
 
@@ -44,7 +44,7 @@ state_at-here state =
     let saved_end : length state.saved ≤ length state.saved = omega arith in
     rw (take_all (length state.edges) state.edges edges_end, drop_all (length state.saved) state.saved saved_end, take_all (length state.saved) state.saved saved_end)
 
--- no slot was set by a level that isn't there
+-- no level that isn't there has set a slot
 levels-le : (state : TrailState) (starts : List LevelStart) → IsUndoable state starts → All (λ s. s.level ≤ length starts) state.slots
 levels-le state [] undoable = All-weaker (λ s. s.level ≡ 0) (λ s. s.level ≤ 0) (λ s e. omega arith) state.slots undoable.0
 levels-le state (m ∷ starts) undoable = undoable.0.not_later
@@ -146,7 +146,7 @@ graphs_at-edge state [] e undoable = refl
 graphs_at-edge state (m ∷ starts) e undoable =
     graphs_at-moved state (with_edge state e) m starts (state_at-edge state m e undoable.0.edges_within)
 
--- A slot is set whose stamp was set at this level already.
+-- A slot is set that this level set already.
 module _ (state : TrailState) (i : ℕ) (was x : Slot) (below : i < length state.slots) (read : was ≡ get_or state.slots i was) where
   pub IsUndoable-slot : (starts : List LevelStart) → x.level ≡ length starts → length starts ≤ was.level → IsUndoable state starts → IsUndoable (with_slot state i x) starts
   IsUndoable-slot [] now at undoable = (All-set (λ s. s.level ≡ 0) state.slots i x now undoable.0, undoable.1)

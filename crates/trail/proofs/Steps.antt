@@ -86,7 +86,7 @@ module _ (t : Inside) (h : IsSoundTrail t) where
     pub stack_in-start : stack_in (record t { starts = starts }) ≡ after_push (stack_in t)
     stack_in-start = rw (items, reverse_push, t.edges.ok.0, t.saved.ok.0, graphs_at-start (state_in t) (reverse t.starts.items))
 
-  -- A slot is set, whose level was `was`.
+  -- A slot is set. It was `was` before.
   module _ (slots : Vec Slot Global) (i : ℕ) (was x : Slot) (items : slots.items ≡ set t.slots.items i x) (below : i < length t.slots.items) (read : was ≡ get_or t.slots.items i was) (now : x.level ≡ length t.starts.items) where
     starts_now : x.level ≡ length (reverse t.starts.items)
     starts_now = now ∙ sym (length-reverse t.starts.items)

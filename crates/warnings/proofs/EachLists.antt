@@ -1,4 +1,4 @@
--- What the elements of lists give, one element more.
+-- What the elements of lists give, with one more element.
 use Rattle.std.proofs.Common.{◌≡◌, ℕ, suc, ◌+◌, ◌<◌, List, [], ◌∷◌, ◌++◌, length, take, get_or, Some, ap, sym, ◌∙◌, append-nil, append_assoc, inl, inr, arith}
 use Rattle.std.specs.Prelude.{slice_get}
 use Rattle.std.specs.List.{flat_map}
@@ -18,7 +18,7 @@ each_append gives n (x ∷ xs) ys =
     ap (λ front. gives n x ++ front) (each_append gives (n + 1) xs ys ∙ ap (λ k. each_from gives (n + 1) xs ++ each_from gives k ys) same)
     ∙ sym (append_assoc (gives n x) (each_from gives (n + 1) xs) (each_from gives (n + suc (length xs)) ys))
 
--- one element more, by its number
+-- one more element, by its number
 pub each_more : {X : Type 0} (gives : ℕ → X → List Warning) (xs : List X) (n : ℕ) (x : X) (old now new : List Warning) → slice_get xs n ≡ Some x
     → now ≡ old ++ each_from gives 0 (take n xs) → new ≡ now ++ gives n x → new ≡ old ++ each_from gives 0 (take (n + 1) xs)
 each_more gives xs n x old now new read before grown =
@@ -29,7 +29,7 @@ each_more gives xs n x old now new read before grown =
     ∙ ap (λ ys. each_from gives 0 (take n xs) ++ ys) (append-nil (gives n x)) in
     grown ∙ ap (λ ys. ys ++ gives n x) before ∙ append_assoc old (each_from gives 0 (take n xs)) (gives n x) ∙ ap (λ ys. old ++ ys) (sym more)
 
--- and whatever it is
+-- one more element, whatever it is
 pub each_there : {X : Type 0} (gives : ℕ → X → List Warning) (xs : List X) (n : ℕ) (old now new : List Warning) → n < length xs
     → now ≡ old ++ each_from gives 0 (take n xs) → ((x : X) → new ≡ now ++ gives n x) → new ≡ old ++ each_from gives 0 (take (n + 1) xs)
 each_there gives xs n old now new within before grown = elim (slice_get_cases xs n).1 [
@@ -37,9 +37,9 @@ each_there gives xs n old now new within before grown = elim (slice_get_cases xs
   | inr (past, none) ↦ absurd (omega (arith, within, past))
 ]
 
--- ---- without
+-- ---- without numbers
 
--- one element more
+-- one more element
 pub flat_more : {X : Type 0} (gives : X → List Warning) (xs : List X) (n : ℕ) (x : X) (old now new : List Warning) → n < length xs → x ≡ get_or xs n x
     → now ≡ old ++ flat_map gives (take n xs) → new ≡ now ++ gives x → new ≡ old ++ flat_map gives (take (n + 1) xs)
 flat_more gives xs n x old now new within is before grown =
@@ -48,7 +48,7 @@ flat_more gives xs n x old now new within is before grown =
     ∙ ap (λ ys. flat_map gives (take n xs) ++ ys) (append-nil (gives x)) in
     grown ∙ ap (λ ys. ys ++ gives x) before ∙ append_assoc old (flat_map gives (take n xs)) (gives x) ∙ ap (λ ys. old ++ ys) (sym more)
 
--- ---- with those before
+-- ---- with the elements before
 
 each_behind_append : {X : Type 0} (gives : List X → X → List Warning) (before xs ys : List X) → each_behind gives before (xs ++ ys) ≡ each_behind gives before xs ++ each_behind gives (before ++ xs) ys
 each_behind_append gives before [] ys = ap (λ front. each_behind gives front ys) (sym (append-nil before))
@@ -56,7 +56,7 @@ each_behind_append gives before (x ∷ xs) ys =
     ap (λ rest. gives before x ++ rest) (each_behind_append gives (before ++ x ∷ []) xs ys ∙ ap (λ front. each_behind gives (before ++ x ∷ []) xs ++ each_behind gives front ys) (append_assoc before (x ∷ []) xs))
     ∙ sym (append_assoc (gives before x) (each_behind gives (before ++ x ∷ []) xs) (each_behind gives (before ++ x ∷ xs) ys))
 
--- one element behind some, behind others
+-- one more element behind some, and all behind others
 pub behind_push : {X : Type 0} (gives : List X → X → List Warning) (before xs : List X) (x : X) (old now new : List Warning) → now ≡ old ++ each_behind gives before xs
     → new ≡ now ++ gives (before ++ xs) x → new ≡ old ++ each_behind gives before (xs ++ x ∷ [])
 behind_push gives before xs x old now new held grown =
@@ -64,13 +64,13 @@ behind_push gives before xs x old now new held grown =
     each_behind_append gives before xs (x ∷ []) ∙ ap (λ ys. each_behind gives before xs ++ ys) (append-nil (gives (before ++ xs) x)) in
     grown ∙ ap (λ ys. ys ++ gives (before ++ xs) x) held ∙ append_assoc old (each_behind gives before xs) (gives (before ++ xs) x) ∙ ap (λ ys. old ++ ys) (sym more)
 
--- lists behind one another, behind others
+-- one list behind another, and both behind others
 pub behind_lists : {X : Type 0} (gives : List X → X → List Warning) (xs ys : List X) (old now new : List Warning) → now ≡ old ++ each_behind gives [] xs
     → new ≡ now ++ each_behind gives xs ys → new ≡ old ++ each_behind gives [] (xs ++ ys)
 behind_lists gives xs ys old now new held grown =
     grown ∙ ap (λ zs. zs ++ each_behind gives xs ys) held ∙ append_assoc old (each_behind gives [] xs) (each_behind gives xs ys) ∙ ap (λ zs. old ++ zs) (sym (each_behind_append gives [] xs ys))
 
--- one element more
+-- one more element
 pub behind_more : {X : Type 0} (gives : List X → X → List Warning) (xs : List X) (n : ℕ) (x : X) (old now new : List Warning) → n < length xs → x ≡ get_or xs n x
     → now ≡ old ++ each_behind gives [] (take n xs) → new ≡ now ++ gives (take n xs) x → new ≡ old ++ each_behind gives [] (take (n + 1) xs)
 behind_more gives xs n x old now new within is held grown =

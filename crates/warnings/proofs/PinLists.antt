@@ -80,13 +80,13 @@ module _ (mark : DesignMark) where
   one_pin true origin rest = refl
   one_pin false origin rest = refl
 
-  -- of one pin and others behind it
+  -- what draws the first join of one pin, and others behind it, into a mark
   drew_pin : (pin : PinJoins) (pins : List PinJoins) → drew_into mark (joins_of_pins (pin ∷ pins)) ≡ cond (goes_into pin mark pin.marks) (Some pin.origin) (drew_into mark (joins_of_pins pins))
   drew_pin pin pins =
       drew_append (pin_joins pin) (joins_of_pins pins) ∙ ap (λ found. option_or found (drew_into mark (joins_of_pins pins))) (drew_first pin pin.marks)
       ∙ one_pin (goes_into pin mark pin.marks) pin.origin (drew_into mark (joins_of_pins pins))
 
-  -- of the pins from a number on
+  -- what draws the first join of the pins from a number on into a mark
   pub drew_rest : (pins : List PinJoins) (n : ℕ) (pin : PinJoins) → n < length pins → pin ≡ get_or pins n pin
       → drew_into mark (joins_of_pins (drop n pins)) ≡ cond (goes_into pin mark pin.marks) (Some pin.origin) (drew_into mark (joins_of_pins (drop (n + 1) pins)))
   drew_rest pins n pin within is =
@@ -106,7 +106,7 @@ or_none : {X : Type 0} (found : Option X) → option_or found None ≡ found
 or_none None = refl
 or_none (Some x) = refl
 
--- one mark more of a pin
+-- one more mark of a pin
 pub drivers_more : (pin : PinJoins) (before : List Join) (k : ℕ) (old now new : List Warning) → now ≡ old ++ each_behind join_drivers before (first_joins pin k)
     → new ≡ now ++ drivers_by (join_at pin k).to pin.origin (drew_into (join_at pin k).to before) → new ≡ old ++ each_behind join_drivers before (first_joins pin (k + 1))
 drivers_more pin before k old now new held grown =
@@ -118,7 +118,7 @@ drivers_more pin before k old now new held grown =
     behind_push join_drivers before (first_joins pin k) join old now new held (grown ∙ ap (λ ys. now ++ ys) (sym given))
     ∙ ap (λ n. old ++ each_behind join_drivers before (first_joins pin n)) (sym (add-one k))
 
--- one pin more
+-- one more pin
 joins_more : (pins : List PinJoins) (n : ℕ) (pin : PinJoins) → n < length pins → pin ≡ get_or pins n pin → joins_of_pins (take (n + 1) pins) ≡ joins_of_pins (take n pins) ++ pin_joins pin
 joins_more pins n pin within is =
     ap joins_of_pins (take_more pins n pin within ∙ ap (λ y. take n pins ++ y ∷ []) (sym is)) ∙ flat_map-append pin_joins (take n pins) (pin ∷ [])
@@ -130,14 +130,14 @@ pub driver_pins_more : (pins : List PinJoins) (n : ℕ) (pin : PinJoins) (old no
 driver_pins_more pins n pin old now new within is held grown =
     behind_lists join_drivers (joins_of_pins (take n pins)) (pin_joins pin) old now new held grown ∙ ap (λ joins. old ++ each_behind join_drivers [] joins) (sym (joins_more pins n pin within is))
 
--- the joins of one of the pins of a design are some of it
+-- the joins of one of the pins of a design are joins of the design
 pub pin_of : (d : Composed) (pins : List PinJoins) (n : ℕ) (pin : PinJoins) → IsDesign d → joins_of_pins pins ≡ d.joins → n < length pins → pin ≡ get_or pins n pin → IsPinOf d pin
 pin_of d pins n pin whole all within is = record {
   design = whole;
   joins = All-flat_map-at (IsJoinOf d.sheets) pin_joins pins n pin within is (rw all whole.joins);
 }
 
--- ---- marks that an edge of their own holds
+-- ---- marks that an edge of their own sheet holds
 
 flat_push : {X : Type 0} (gives : X → List Warning) (xs ys : List X) (old now new : List Warning) → now ≡ old ++ flat_map gives xs → new ≡ now ++ flat_map gives ys → new ≡ old ++ flat_map gives (xs ++ ys)
 flat_push gives xs ys old now new held grown =

@@ -31,7 +31,7 @@ module _ (d : Composed) (part : ℕ) (sheet : SheetContents) (read : slice_get d
   row_count_more : row_count (take (part + 1) d.sheets) ≡ row_count (take part d.sheets) + length sheet.rows
   row_count_more = ap row_count (take_get d.sheets part sheet read) ∙ sum_by_push (λ (s : SheetContents). length s.rows) (take part d.sheets) sheet
 
-  -- one sheet more without rows
+  -- one more sheet without rows
   pub none_more : row_count (take part d.sheets) ≡ 0 → (length sheet.rows == 0) ≡ true → row_count (take (part + 1) d.sheets) ≡ 0
   none_more before none = omega (arith, row_count_more, before, eqb-true (length sheet.rows) 0 none)
 
