@@ -1,4 +1,4 @@
--- What the steps of job brief promise one another.
+-- Words of the contracts by which the steps of job brief call one another.
 use Rattle.std.specs.Prelude.{◌==◌, ◌&&◌, ◌||◌, ℕ, nat_lt, Bool, true, false, if◌then◌else◌, List, [], ◌∷◌, ◌++◌, count_by, Option, Some, None, codes}
 use Rattle.itv_base.specs.Names.{name_view}
 use Rattle.itv_base.specs.Numerals.{end_text, number_text}

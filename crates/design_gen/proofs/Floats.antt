@@ -1,4 +1,4 @@
--- The trees of the design have no float, so that their texts are known.
+-- The trees of the design have no float, so their texts are known.
 use Rattle.std.proofs.Common.{◌≡◌, ℕ, Bool, true, false, ◌||◌, List, [], ◌∷◌, ◌++◌, map, codes, refl}
 use Rattle.std.specs.List.{range_with_len}
 use Rattle.serde_json.specs.Data.{Data, string}

@@ -1,5 +1,6 @@
-//! Files of edits: each line sets the range of one cause of a network. The contract: a line is read as an edit if and only if it is the text of
-//! this edit and the network has its cause. `read_edits` gives the edits of all lines, or the first fault.
+//! Files of edits: each line sets the range of one cause of a network.
+//! The contract: a line is read as an edit if and only if it is the text of this edit and the network has its cause. `read_edits` gives the
+//! edits of all lines, or the first fault.
 #![tactic(auto)]
 
 mod edit;

@@ -94,7 +94,7 @@ step_up net values w level next i is within at up most climbed =
       low_of : (a b : ℤ) → pos 0 ≤ℤ a → a <ℤ b → pos 0 ≤ℤ b
       low_of a b p q = omega (arith, ints)
 
--- a pass over some of the values from a level to the best one so far
+-- a pass over some of the values, from a level to the best level so far
 pub record IsPass (net : Net) (values : List ℤ) (w level : ℤ) (count : ℕ) (best : ℤ) : Type 0 where
   pub climbed : IsClimbed net values best
   pub fewer : (best ≡ level) ⊎ ((level <ℤ best) × (above best values < above level values))

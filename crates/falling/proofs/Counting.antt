@@ -19,7 +19,7 @@ use Rattle.falling.proofs.Bounding.{length-starting, replicated, set_at, some_an
 use Rattle.falling.proofs.Near.{below_or_not}
 use Rattle.falling.proofs.Removed.{IsNaturalPart, natural_part, natural_part_is}
 
--- how far a value is above the first one that ends a derivation
+-- how far a value is above the first value that ends a derivation
 abbrev pub height : ℕ → ℤ → ℕ
 height far value = natural_part (value +ℤ pos (far + 1))
 
@@ -98,7 +98,7 @@ line_lowers net from values line within goes_on allowed =
     set_lowers (far_line net) values line.event.0 line.value within
     (height_falls (far_line net) (time_of values line.event) line.value (least_of net from values line.event.0 (pos 0) goes_on within) allowed.lower)
 
--- the event of a line that is allowed is one of the network
+-- the event of a line that is allowed is an event of the network
 pub due_within : (net : Net) (values : List ℤ) (event : EventId) (value : ℤ) (reason : Reason) → IsNet net → IsDue net values event value reason → event.0 < net.events
 due_within net values event value (ByEdge name) is_net due =
     let (e, is_edge, (is_to, is_value)) = some_and (edge net name) _ due.1 in

@@ -18,7 +18,7 @@ use Rattle.falling.specs.Laws.{FaultForbids}
 use Rattle.falling.proofs.Bounding.{some_and}
 use Rattle.falling.proofs.Settling.{at_is}
 
--- the greatest value of some causes is at least each other one that some cause attains
+-- the greatest value of some causes is at least each value that a cause attains
 least_of : (values : List ℤ) (causes : List Cause) (a b : ℤ) → IsLatestHigh values causes a → IsLatestHigh values causes b → b ≤ℤ a
 least_of values causes a b is_a is_b = of_attained is_b.attained where
   of_attained : Any (λ (c : Cause). IsSomeAnd c.range.high (λ high. b ≡ (time_of values c.event +ℤ high))) causes → b ≤ℤ a

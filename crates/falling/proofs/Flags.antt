@@ -168,7 +168,7 @@ pub filled_pending : (words : List ℕ) (count number : ℕ) → words ≡ repli
 filled_pending words count number is within =
     subst (λ (w : List ℕ). IsPending w number) (sym is) (all_pending count number (subst (λ n. number < 64 * n) (ap length is ∙ length-replicate count 18446744073709551615) within))
 
--- a number got its flag: the words before the lesser one of the start and its word are empty
+-- a number got its flag: the words before the lesser of the start and the place of its word are empty
 pub start_kept : (p : Inside) (words : List ℕ) (number start : ℕ) → HasStart p → length words ≡ length p.words.items
     → ((s : ℕ) → s ≤ number / 64 → AreEmpty p.words.items s → AreEmpty words s) → start ≡ min p.start (number / 64)
     → HasStart (record { words = with_items p.words words; start = start })

@@ -13,7 +13,7 @@ use Rattle.falling.specs.Cap.{end_size, widest_end, widest_of, widest_of_causes}
 use Rattle.falling.specs.Gaps.{IsGapBeyond, with_gap}
 use Rattle.falling.specs.Laws.{GapCanBeSet}
 
--- a separation up to a width stays, and one beyond it stays at least the width
+-- a separation up to a width stays, and a separation beyond the width stays at least the width
 pub record IsKept (width : ℕ) (old new : ℤ) : Type 0 where
   pub near : pos 0 ≤ℤ old → old ≤ℤ pos width → new ≡ old
   pub wide : pos width <ℤ old → pos width ≤ℤ new
@@ -27,7 +27,7 @@ pub size_within : (z : ℤ) (width : ℕ) → unsigned_abs z ≤ width → (z �
 size_within (pos n) width h = (omega (arith, ints), omega (arith, ints))
 size_within (negsuc n) width h = (omega (arith, ints), omega (arith, ints))
 
--- a number is below another one or at least it
+-- a number is below another, or at least the other
 pub below_or_not : (a b : ℤ) → (a <ℤ b) ⊎ (b ≤ℤ a)
 below_or_not a b = by_test (int_le b a) refl where
   by_test : (t : Bool) → int_le b a ≡ t → (a <ℤ b) ⊎ (b ≤ℤ a)
@@ -52,7 +52,7 @@ kept_least width l a b a' b' size kept back h =
       ]
     ]
 
--- and one that is at most a number within the width
+-- and a separation that is at most a number within the width stays so
 kept_most : (width : ℕ) (l a b a' b' : ℤ) → unsigned_abs l ≤ width → IsKept width (b -ℤ a) (b' -ℤ a') → IsKept width (a -ℤ b) (a' -ℤ b')
     → b ≤ℤ (a +ℤ l) → b' ≤ℤ (a' +ℤ l)
 kept_most width l a b a' b' size kept back h =

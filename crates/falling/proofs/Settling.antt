@@ -127,7 +127,7 @@ open_or_finite (c ∷ cs) = by_high c.range.high refl (open_or_finite cs) where
 open_edge : (values : List ℤ) (target : EventId) (c : Cause) → c.range.high ≡ None → IfSome (side_edge Upper target c) (Meets values)
 open_edge values target c is_open = rw is_open tt
 
--- the upper edge of a cause whose value with its high end is the greatest, and not below the target
+-- the upper edge of a cause is met if the target is at most the cause's value plus its high end
 upper_met : (values : List ℤ) (target : EventId) (c : Cause) (value : ℤ) → IsAttained values value c → time_of values target ≤ℤ value → IfSome (side_edge Upper target c) (Meets values)
 upper_met values target c value = by_high c.range.high where
   by_high : (o : Option ℤ) → IsSomeAnd o (λ high. value ≡ (time_of values c.event +ℤ high)) → time_of values target ≤ℤ value
@@ -165,7 +165,7 @@ some_cause Lin count h = omega arith
 some_cause Late count h = h.0
 some_cause Early count h = h.0
 
--- an earliest constraint of a plain network has its one choice met
+-- an earliest constraint of a plain network has one choice, which is met
 early_choice : (net : Net) (number : ℕ) (k : Constraint) (values : List ℤ) → slice_get net.constraints number ≡ Some k → k.kind ≡ Early → length k.causes ≡ 1 → IsFixedPoint net values
     → (cause : ℕ) × (cause < length k.causes) × IfSome (edge net (record { constraint = number; cause = cause; side = Lower })) (Meets values)
 early_choice net number k values at_k is_early single settled =

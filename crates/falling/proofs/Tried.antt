@@ -152,7 +152,7 @@ pub if_none_then : {X : Type 0} (o : Option X) (P : Type 0) → P → IfNone o P
 if_none_then None P h = h
 if_none_then (Some x) P h = tt
 
--- a cause of a list is one of the constraint
+-- a cause of a list is a cause of the constraint
 pub cause_is : (net : Net) (number i : ℕ) (k : Constraint) (c : Cause) → slice_get net.constraints number ≡ Some k → slice_get k.causes i ≡ Some c → cause_at net number i ≡ Some c
 cause_is net number i k c at_k at_c = rw (at_k, at_c) refl
 

@@ -3,7 +3,7 @@ use Rattle.std.proofs.Common.{◌≡◌, ◌+◌, ◌<◌, ◌≤◌, ◌⊎◌,
 use Rattle.std.proofs.Math.ListN.{length-set}
 use Rattle.falling.proofs.Negating.{length-mapped}
 
--- the places before one have what a function gives, and the others are as they were
+-- the places before this place have what a function gives, and the others are as they were
 pub record IsTurnedTo {X : Type 0} (f : X → X) (d : X) (place : ℕ) (old new : List X) : Type 0 where
   pub count : length new ≡ length old
   pub done : (k : ℕ) → k < place → get_or new k d ≡ f (get_or old k d)

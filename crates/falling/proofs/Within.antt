@@ -12,7 +12,7 @@ use Rattle.falling.specs.Laws.{SeparationWithinCap, TimesNearSource}
 use Rattle.falling.proofs.Near.{IsKept, KeepsNear, below_or_not, keeps_in, satisfies_kept}
 use Rattle.falling.proofs.Removed.{IsNaturalPart, few_left, is_covered, none_or_one, kept_narrowed, narrowed, natural_part, natural_part_is, removed}
 
--- the times narrowed, with one number taken off
+-- the narrowed times, less a number
 abbrev pub narrowed_by : ℕ → List ℤ → ℤ → ℤ → List ℤ
 narrowed_by width times base less = map (λ (time : ℤ). narrowed width times base time -ℤ less) times
 
@@ -36,7 +36,7 @@ satisfies_narrowed net times base less is_net h =
     satisfies_kept net times (narrowed_by (widest_end net) times base less) is_net (length-map times _ ∙ h.count)
     (keeps_in _ _ _ _ _ h.count (keeps_narrowed (widest_end net) times base less)) h
 
--- a value up to the base stays, and one beyond it stays beyond and not far
+-- a value up to the base stays, and a value beyond the base stays beyond it and not far
 pub record IsNarrowed (room : ℕ) (base value result : ℤ) : Type 0 where
   pub stays : value ≤ℤ base → result ≡ value
   pub least : base ≤ℤ value → base ≤ℤ result

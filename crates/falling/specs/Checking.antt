@@ -20,7 +20,7 @@ use Rattle.falling.specs.Derivation.{IsDerivation, IsDue, IsEnded, IsLatestOf}
 abbrev pub IsEdgeTo : Net → EventId → EdgeName → Type 0
 IsEdgeTo net event name = IsAlways net name × IsSomeAnd (edge net name) (λ (e : Edge). e.to ≡ event)
 
--- a latest constraint with this target whose high ends are all finite
+-- a latest constraint with this target and with all high ends finite
 abbrev pub IsLatestTo : Net → EventId → ℕ → Type 0
 IsLatestTo net event number = IsSomeAnd (slice_get net.constraints number) (IsLatestOf event)
 

@@ -56,7 +56,7 @@ fallen values line = set values line.event.0 line.value
 abbrev pub IsEnded : Net → EventId → List ℤ → Type 0
 IsEnded net from values = (time_of values from <ℤ pos 0) ⊎ Any (λ (value : ℤ). value <ℤ neg_ℤ (pos (far_line net))) values
 
--- lines lead from values to values, each of them allowed and none after the end
+-- lines lead from values to values; each line is allowed, and none stands after the end
 abbrev pub DerivationLeads : Net → EventId → List ℤ → List FallLine → List ℤ → Type 0
 DerivationLeads net from values [] after = values ≡ after
 DerivationLeads net from values (line ∷ lines) after =

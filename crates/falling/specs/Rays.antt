@@ -1,4 +1,4 @@
--- Gaps among values, and the events beyond one.
+-- Gaps among values, and the events beyond a gap.
 use Rattle.std.specs.Prelude.{◌≡◌, ◌⊎◌, ℕ, ℤ, pos, ◌+ℤ◌, ◌≤ℤ◌, ◌<ℤ◌, Bool, true, false, List, All, Some, slice_get}
 use Rattle.itv_base.specs.declared.names.EventId.{EventId}
 use Rattle.event_graph.specs.Times.{time_of}

@@ -7,7 +7,7 @@ use Rattle.falling.specs.declared.view.View.{View}
 use Rattle.falling.specs.declared.view.View.TheVariants.{Plain, Negated}
 use Rattle.falling.specs.Kinds.{first_choice}
 
--- the view by the first earliest choice and the first latest one; where there are both there is no view
+-- the view by the first earliest choice and the first latest choice; with both there is no view
 abbrev pub view_by : Option ℕ → Option ℕ → Result View Mixed
 view_by None late = Ok Plain
 view_by (Some early) None = Ok Negated

@@ -46,7 +46,7 @@ range_again_all ends wide reversed =
     let again : ends_of (ends_text ends) ≡ Some (ends, []) = ap ends_of (sym (append-nil (ends_text ends))) ∙ ends_again ends [] in
     rw (again, wide, reversed) refl
 
--- the answer of `read_range` has its clauses
+-- the clauses of `read_range` hold of its answer
 pub answers_ok : (text : List ℕ) (result : Result Ends LabelFault) → result ≡ judged_alone (only_ends (ends_of text)) → IfOk result (λ ends. text ≡ ends_text ends)
 answers_ok text (Ok ends) is = (range_takes_all text ends (sym is)).0
 answers_ok text (Err fault) is = tt

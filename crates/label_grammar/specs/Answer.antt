@@ -30,7 +30,7 @@ pub record SpellsWideEnd {E : Type 0} (v : Version E) (text : List ℕ) : Type 0
   pub spelled : text ≡ spelling v label
   pub wide : has_wide_end v label ≡ true
 
--- the text spells a label with its ends within the limit, the low one above the high one
+-- the text spells a label with its ends within the limit, and the low end is above the high end
 pub record SpellsReversedEnds {E : Type 0} (v : Version E) (text : List ℕ) : Type 0 where
   pub label : LooseLabel E
   pub loose : IsLoose v label

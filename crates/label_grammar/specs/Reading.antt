@@ -19,7 +19,7 @@ o >>= f = option_and_then f o
 
 -- Each of these but the last two gives what was read and the text behind it.
 
--- the first of these kinds whose word stands first
+-- the first of these kinds with its word at the front of the text
 abbrev pub first_kind : List Kind → List ℕ → Option (Kind × List ℕ)
 first_kind [] text = None
 first_kind (kind ∷ kinds) text = after (stripped (kind_text kind) text) (λ rest. Some (kind, rest)) (first_kind kinds text)

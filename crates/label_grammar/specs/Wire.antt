@@ -34,7 +34,7 @@ part_mark_from part mark =
 unfoldable pub part_mark_of : List ℕ → Option PartMark
 part_mark_of word = part_mark_from (before_first is_full_stop word) (after_first is_full_stop word)
 
--- a wire from its two words, each of which has to name a mark of a part
+-- a wire from its two words; each word has to name a mark of a part
 abbrev pub wire_between : Option PartMark → Option PartMark → List ℕ → WireSeen
 wire_between (Some from) (Some to) label = timing from to label
 wire_between from to label = malformed

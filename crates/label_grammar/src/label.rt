@@ -52,7 +52,7 @@ pub struct Label<'a> {
 /// Why a text is no label. A reader reports the first of these that applies.
 #[derive(Clone, Copy, Debug, PartialEq, Eq)]
 pub enum LabelFault {
-    /// The text has not the form of a label.
+    /// The text does not have the form of a label.
     BadLabel,
     /// A number is beyond [`END_LIMIT`](itv_base::END_LIMIT) in absolute value.
     TooWide,

@@ -1,7 +1,7 @@
-//! The texts of timing diagrams and netlists: labels, edges and wires. Nothing here takes memory. The contract: a label has one spelling.
-//! `read_label` and `read_label2` take a text if and only if it is the spelling of a proper label of their version, and report what is wrong
-//! with every other text. `read_range` does the same for a range that stands alone. `write_label` writes the spelling. `read_edge` and
-//! `read_wire` cut their texts as defined.
+//! The texts of timing diagrams and netlists: labels, edges and wires. Nothing here takes memory.
+//! The contract: a label has one spelling. `read_label` and `read_label2` take a text if and only if it is the spelling of a proper label
+//! of their version, and report what is wrong with every other text. `read_range` does the same for a range that stands alone.
+//! `write_label` writes the spelling. `read_edge` and `read_wire` cut their texts as defined.
 #![tactic(auto)]
 
 mod edge;

@@ -1,6 +1,6 @@
-//! A netlist: which parts a design has, on which sheets and at which speed grades they are drawn, and which nets and wires join them. It is read
-//! from a tree of JSON. Parts, nets, pins and wires are numbered from 0. Comments count among the wires. The one contract: `read_netlist` gives
-//! the netlist of the tree, or its first fault if and only if the tree has a fault.
+//! A netlist: which parts a design has, on which sheets and at which speed grades they are drawn, and which nets and wires join them. It is
+//! read from a tree of JSON. Parts, nets, pins and wires are numbered from 0. Comments count among the wires.
+//! The one contract: `read_netlist` gives the netlist of the tree, or its first fault if and only if the tree has a fault.
 #![tactic(auto)]
 
 mod cycles;

@@ -42,7 +42,7 @@ tree_in place name = do
 
 -- ---- sheets by their names and speed grades
 
--- sheets with one more
+-- sheets with one more sheet
 abbrev pub with_sheet : NamedSheets → SheetKey → sheet.SheetContents → NamedSheets
 with_sheet sheets key sheet = insert_entry same_key sheets key sheet
 
@@ -84,7 +84,7 @@ sheets_of_files netlist names = each (sheets_in netlist) 1 [] names
 
 -- ---- plans
 
--- the plan of a lone sheet, which is the one part of a netlist
+-- the plan of a lone sheet: a netlist with one part, which is drawn on the sheet
 abbrev pub lone_at : List ℕ → Data → FileReading Planned
 lone_at name tree = do
   sheets ← sheets_at (lone_netlist name) 0 [] name tree

@@ -12,7 +12,7 @@ pub data FileReading (A : Type 0) : Type 0 where
   refuses : RefusalPlace → Refusal → FileReading A
   fetches : RefusalPlace → List ℕ → ℕ → (List ℕ → FileReading A) → FileReading A
 
--- one reading, and then another of what it gives
+-- one reading, and then another that goes on with what the first gives
 infixl 10 ◌>>=◌
 abbrev pub ◌>>=◌ : {A B : Type 0} → FileReading A → (A → FileReading B) → FileReading B
 (gives x) >>= f = f x
@@ -57,7 +57,7 @@ LeavesShelf old new (ready x) = new ≡ old
 LeavesShelf old new (refused place why) = new ≡ old
 LeavesShelf old new (unread place name) = FailedFor name old new
 
--- a reading ended so, from one state of a shelf to another
+-- a reading came to this end, and led from one state of a shelf to another
 abbrev pub RunsToEnd : {A : Type 0} → ShelfView → ShelfView → FileReading A → End A → Type 0
 RunsToEnd old new opening end = RunsTo old opening end × LeavesShelf old new end
 

@@ -8,7 +8,7 @@ pub record Graph : Type 0 where
   pub edges : List EdgeName
   pub stamps : List Stamp
 
--- how many graphs may be pushed, the current graph, and the graphs below it, the nearest one first
+-- how many graphs may be pushed, the current graph, and the graphs below it, the nearest first
 pub record Stack : Type 0 where
   pub levels : ℕ
   pub current : Graph

@@ -88,7 +88,7 @@ comment_warnings plan d = each_from sheet_comments 0 d.sheets ++ each_from wire_
 
 -- ---- notes that look like what belongs in front of them
 
--- a small letter for a capital one of ASCII
+-- a small letter for a capital letter of ASCII; any other byte stays
 abbrev pub small : ℕ → ℕ
 small byte = if nat_le 65 byte && nat_le byte 90 then byte + 32 else byte
 
@@ -179,7 +179,7 @@ sheet_both part sheet = both_in part sheet.rules
 abbrev pub both_warnings : Composed → List Warning
 both_warnings d = each_from sheet_both 0 d.sheets ++ both_in netlist_part d.rules
 
--- a latest or earliest rule of one cause
+-- a latest or earliest rule with one cause
 abbrev pub is_single : SheetRule → Bool
 is_single rule = not (is_linear rule.kind) && length rule.causes == 1
 

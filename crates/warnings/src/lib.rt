@@ -1,5 +1,5 @@
-//! What in a design may say something else than was meant. The contract: `warnings_of` gives just the warnings that the definitions give, in
-//! their order.
+//! What in a design may say something else than was meant.
+//! The contract: `warnings_of` gives just the warnings that the definitions give, in their order.
 #![tactic(auto)]
 
 mod all;

@@ -123,7 +123,7 @@ fn is_scale(letter: u8) -> bool
     matches!(letter, b'f' | b'p' | b'n' | b'u' | b'm')
 }
 
-// A small letter for a capital one of ASCII.
+// A small letter for a capital letter of ASCII. Any other byte stays.
 fn small(byte: u8) -> u8
     ensures { result ≡ small byte }
 {

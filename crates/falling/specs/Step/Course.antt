@@ -12,7 +12,7 @@ use Rattle.falling.specs.Course.{IsSpent}
 abbrev pub EndsDerivation : FallLine → EventId → ℤ → Type 0
 EndsDerivation line from lowest = ((line.event ≡ from) × (line.value <ℤ pos 0)) ⊎ (line.value <ℤ lowest)
 
--- the lines are a derivation to the values, which has not ended, and no line is allowed
+-- the lines are a derivation to the values; it has not ended, and no more line is allowed
 pub record HasSettled (net : Net) (from : EventId) (turns : ℕ) (lines : List FallLine) (values : List ℤ) : Type 0 where
   pub derivation : IsDerivation net from lines values
   pub not_ended : IsEnded net from values → ⊥

@@ -5,7 +5,7 @@ use Rattle.falling.specs.Step.Agenda.{AreOthersTried}
 use Rattle.falling.proofs.Deriving.{IsUnderWay}
 use Rattle.falling.proofs.course.derive.Given as goal
 
--- the lines so far are a derivation of as many lines as turns were taken, which has not ended, and a constraint without a flag allows none
+-- the lines so far are a derivation of as many lines as turns were taken; it has not ended, and a constraint without a flag allows no line
 abbrev pub invariant-turns : goal.invariant-turns
 invariant-turns g l = record {
   lines : (lines : List FallLine) × g.N.FallScribe.Grew l.fn.notes lines l.notes × IsUnderWay l.net l.from lines l.values l.taken;
