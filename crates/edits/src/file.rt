@@ -64,7 +64,7 @@ fn is_ended(bytes: &[u8]) -> bool
     }
 }
 
-// The edits of bytes of any number, in lines of any number.
+// The edits of any number of bytes, in any number of lines.
 fn read_lines(alloc: Global, net: &Network, bytes: &[u8]) -> Result<Edits, EditsFault>
     ensures { AgreesWith is_memory (λ (edits : List RangeEdit). edits) result (edits_from net.now 1 (slice_split is_feed bytes.now)) }
 {

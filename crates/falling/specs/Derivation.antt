@@ -38,7 +38,7 @@ abbrev pub IsDueByLatest : Net → List ℤ → EventId → ℤ → ℕ → Type
 IsDueByLatest net values event value number =
     IsSomeAnd (slice_get net.constraints number) (λ (c : Constraint). IsLatestOf event c × IsLatestHigh values c.causes value)
 
--- the reason gives the event just that value
+-- the reason gives the event just this value
 abbrev pub IsDue : Net → List ℤ → EventId → ℤ → Reason → Type 0
 IsDue net values event value (ByEdge name) = IsDueByEdge net values event value name
 IsDue net values event value (ByLatest number) = IsDueByLatest net values event value number

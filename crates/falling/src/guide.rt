@@ -3,7 +3,7 @@
 use crate::agenda::Agenda;
 use crate::limits::Limits;
 
-// The numbers of a network, and which of its constraints are to be looked at.
+// The limits of a network, and the agenda: which of its constraints are to be looked at.
 #[derive(Debug, Drop)]
 pub struct Guide {
     pub limits: Limits,

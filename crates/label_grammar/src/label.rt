@@ -10,13 +10,13 @@ use itv_base::Range;
 pub enum Kind {
     /// The separation of the two events lies in the range.
     Lin,
-    /// One of the causes of a target that comes at the latest of them, each delayed within its range.
+    /// A cause of a target. The target comes at the latest of its causes, each delayed within its range.
     Late,
-    /// One of the causes of a target that comes at the earliest of them, each delayed within its range.
+    /// A cause of a target. The target comes at the earliest of its causes, each delayed within its range.
     Early,
-    /// The separation is demanded to lie in the range, which constrains nothing.
+    /// A requirement: the separation is to lie in the range. It constrains nothing.
     Req,
-    /// The separation is asked for, which constrains nothing.
+    /// A question: the separation is asked for. It constrains nothing.
     Ask,
 }
 

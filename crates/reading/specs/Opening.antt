@@ -33,7 +33,7 @@ at place why (Err fault) = refuses place (why fault)
 abbrev pub within_limit : RefusalPlace → ℕ → List ℕ → FileReading (List ℕ)
 within_limit place limit bytes = if nat_lt limit (length bytes) then refuses place TooLong else gives bytes
 
--- The bytes of a file, which is refused if it is longer than a limit. One byte more than the limit is asked for: it shows that the file is too long.
+-- The bytes of a file, which is refused if it is longer than a limit. One byte more than the limit is asked for, which shows whether the file is too long.
 abbrev pub file_at : RefusalPlace → List ℕ → ℕ → FileReading (List ℕ)
 file_at place name limit = fetches place name (limit + 1) (within_limit place limit)
 

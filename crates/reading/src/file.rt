@@ -28,8 +28,8 @@ pub fn open_tree<H: Shelf>(
 
 /// The bytes of a file. A file that is longer than a limit, in bytes, is refused.
 ///
-/// One byte more than the limit is fetched: it shows that the file is too long. `NoMemory` may come in place of any answer. A fetch that failed
-/// leaves the name of the file with the shelf, and any other answer leaves the shelf as it was.
+/// One byte more than the limit is fetched, which shows whether the file is too long. `NoMemory` may come in place of any answer. A fetch that
+/// failed leaves the name of the file with the shelf, and any other answer leaves the shelf as it was.
 pub fn fetch_file<H: Shelf>(
     alloc: Global,
     place: RefusalPlace,

@@ -113,7 +113,7 @@ sheet_notes version part sheet = each_from (edge_note_warning version part) 0 sh
 abbrev pub note_warnings : Planned → Composed → List Warning
 note_warnings plan d = each_from (sheet_notes plan.netlist.version) 0 d.sheets ++ each_from wire_note_warning 0 plan.netlist.edges
 
--- ---- keys that are passed over, and nearly are keys which are read
+-- ---- keys that are passed over, and nearly are keys that are read
 
 abbrev pub sheet_key : ℕ → ℕ → List ℕ → List Warning
 sheet_key part n key = SheetKey part n ∷ []
@@ -158,7 +158,7 @@ same_mark (Some a) (Some b) = a == b
 abbrev pub meet : SheetRule → SheetRule → Bool
 meet a b = is_upper a && (is_upper b && (a.target == b.target && not (same_mark (from_mark a) (from_mark b))))
 
--- a warning of a rule, where it has a cause
+-- a warning of a rule, if the rule has a cause
 abbrev pub of_rule : ℕ → (DrawnPlace → Warning) → SheetRule → List Warning
 of_rule part gives rule = option_to_list (option_map (λ origin. gives (spot part origin)) (drawn_by rule))
 
