@@ -59,7 +59,7 @@ fn needs_backslash(byte: u8) -> bool
     byte == b'"' || byte == b'\\'
 }
 
-// A byte of a string, with a backslash before it where it needs one.
+// Puts a byte of a string, with a backslash before it if it needs one.
 fn put_byte<K: Sink>(byte: u8, sink: &mut K) -> Result<(), PutFailed>
     ensures { Puts (K.told sink.old) (K.told sink.new) (escaped_byte byte) result }
 {
@@ -69,7 +69,7 @@ fn put_byte<K: Sink>(byte: u8, sink: &mut K) -> Result<(), PutFailed>
     sink.put(&[byte])
 }
 
-// Bytes as they are, and a byte of a string behind them.
+// Puts bytes as they are, and then a byte of a string.
 fn put_after<K: Sink>(front: &[u8], byte: u8, sink: &mut K) -> Result<(), PutFailed>
     ensures { Puts (K.told sink.old) (K.told sink.new) (front.now ++ escaped_byte byte) result }
 {
@@ -77,7 +77,7 @@ fn put_after<K: Sink>(front: &[u8], byte: u8, sink: &mut K) -> Result<(), PutFai
     put_byte(byte, sink)
 }
 
-// The bytes of a string.
+// Puts the bytes of a string.
 fn put_bytes<K: Sink>(text: &[u8], sink: &mut K) -> Result<(), PutFailed>
     ensures { Puts (K.told sink.old) (K.told sink.new) (escaped text.now) result }
 {
@@ -87,7 +87,7 @@ fn put_bytes<K: Sink>(text: &[u8], sink: &mut K) -> Result<(), PutFailed>
     Ok(())
 }
 
-// The cycle of a name.
+// Puts the cycle of a name.
 fn put_cycle<K: Sink>(cycle: u32, sink: &mut K) -> Result<(), PutFailed>
     ensures { Puts (K.told sink.old) (K.told sink.new) (64 ∷ number_text cycle) result }
 {
@@ -96,7 +96,7 @@ fn put_cycle<K: Sink>(cycle: u32, sink: &mut K) -> Result<(), PutFailed>
     put_all(sink, &[b"@", text.as_bytes()])
 }
 
-// The mark and the cycle of a name.
+// Puts the mark and the cycle of a name.
 fn put_mark_and_cycle<K: Sink>(mark: u8, cycle: u32, sink: &mut K) -> Result<(), PutFailed>
     ensures { Puts (K.told sink.old) (K.told sink.new) (mark_and_cycle mark cycle) result }
 {
@@ -104,7 +104,7 @@ fn put_mark_and_cycle<K: Sink>(mark: u8, cycle: u32, sink: &mut K) -> Result<(),
     put_cycle(cycle, sink)
 }
 
-// The name of an event.
+// Puts the name of an event.
 fn put_name<K: Sink>(name: EventName<'_>, sink: &mut K) -> Result<(), PutFailed>
     ensures { Puts (K.told sink.old) (K.told sink.new) (escaped (name_word (name_view name.entry))) result }
 {
@@ -226,7 +226,7 @@ fn put_edge<K: Sink>(
     put_edge_back(kind, range, sink)
 }
 
-// The number of an event among those that stand.
+// The number of an event among the drawn events.
 fn number_of(stands: &[DrawnEvent], event: EventId) -> u32
     requires { All (λ (s : DrawnEvent). s.number < MOST_DRAWN) stands.now }
     ensures number { result ≡ number_in stands.now event }
@@ -269,7 +269,7 @@ fn put_lanes<K: Sink>(
     put_other_lanes(names, &stands[1..], sink)
 }
 
-// The range of how far an event is drawn behind another one.
+// The range for how far behind another event an event is drawn.
 fn exactly_between(before: DrawnEvent, stand: DrawnEvent) -> Range
     requires low { pos 0 ≤ℤ (stand.time -ℤ before.time) }
     requires high { (stand.time -ℤ before.time) ≤ℤ pos widest_gap }
@@ -283,7 +283,7 @@ fn exactly_between(before: DrawnEvent, stand: DrawnEvent) -> Range
     }
 }
 
-// The edge that keeps two events apart, with a comma behind it.
+// Puts the edge that keeps two events apart, with a comma behind it.
 fn put_step<K: Sink>(before: DrawnEvent, stand: DrawnEvent, sink: &mut K) -> Result<(), PutFailed>
     requires before { before.number < MOST_DRAWN }
     requires number { stand.number < MOST_DRAWN }
@@ -298,7 +298,7 @@ fn put_step<K: Sink>(before: DrawnEvent, stand: DrawnEvent, sink: &mut K) -> Res
     sink.put(b",")
 }
 
-// The edges that keep the events behind one apart, each with a comma behind it.
+// Puts the edges that keep the events behind the first one apart, each with a comma behind it.
 fn put_steps_after<K: Sink>(
     first: DrawnEvent,
     stands: &[DrawnEvent],
@@ -317,7 +317,7 @@ fn put_steps_after<K: Sink>(
     Ok(())
 }
 
-// The edges that keep all events apart, each with a comma behind it.
+// Puts the edges that keep all events apart, each with a comma behind it.
 fn put_steps<K: Sink>(stands: &[DrawnEvent], sink: &mut K) -> Result<(), PutFailed>
     requires some { 1 ≤ length stands.now }
     requires numbers { All (λ (s : DrawnEvent). s.number < MOST_DRAWN) stands.now }
@@ -327,7 +327,7 @@ fn put_steps<K: Sink>(stands: &[DrawnEvent], sink: &mut K) -> Result<(), PutFail
     put_steps_after(stands[0], &stands[1..], sink)
 }
 
-// What the row demands.
+// Puts the edge for what the row demands.
 fn put_demand<K: Sink>(
     stands: &[DrawnEvent],
     from: EventId,
@@ -414,7 +414,7 @@ fn put_tail<K: Sink>(
     sink.put(b"]}\n")
 }
 
-/// Writes the drawing of events that stand, with what a row demands of two of them.
+/// Writes the drawing of the drawn events, with what a row demands of two of them.
 pub fn put_sketch<K: Sink>(
     names: &DrawnNetwork,
     stands: &[DrawnEvent],

@@ -33,7 +33,7 @@ sources_later (source ∷ causes) cycle later less all =
     let here : nat_le source.shift later ≡ true = le-leb source.shift later (omega (arith, leb-true source.shift cycle parts.0)) in
     rw (here, sources_later causes cycle later less parts.1) refl
 
--- what never exists later does not exist now
+-- what does not exist in a later cycle does not exist in an earlier one
 gone_before : {X : Type 0} (now : Bool) (x : X) → (now ≡ true → ⊥) → cond now (Some x) None ≡ None
 gone_before true x never = absurd (never refl)
 gone_before false x never = refl
