@@ -151,7 +151,7 @@ at_root net s none stands room left = record {
   left = left;
 }
 
--- and nothing is read yet
+-- no line is read yet
 pub root_read : (net : Net) (goal : ProofGoal) (IsNeeded : List ProofLine → Case → ℕ → Type 0) (s : Search) → s.cases.chosen ≡ [] → s.leaves ≡ 0
     → IsSearchedSoFar net goal IsNeeded [] (open_cases net s.cases.chosen) s.leaves
 root_read net goal IsNeeded s none zero =

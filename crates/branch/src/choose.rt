@@ -13,8 +13,8 @@ use event_graph::{Decisions, Network};
 use itv_base::EventId;
 
 /// Among the constraints that the times break, the one nearest to an event, or `None` if and only if the times satisfy the network.
-/// Ties go to the least number. If the search reaches none of them, the least number of them all. The times meet all always-edges,
-/// and so each constraint with one cause.
+/// Ties go to the least number. If the search reaches none of them, it is the one with the least number. The times meet all
+/// always-edges, and so each constraint with one cause.
 pub fn nearest_broken(
     net: &Network,
     times: &[i64],

@@ -93,8 +93,8 @@ impl Distances {
         None
     }
 
-    /// The nearest constraint to an event that is wanted and has no choice, by its number. Ties go to the least number. The answer
-    /// is `None` if none is reached.
+    /// Among the wanted constraints without a choice, the number of the one nearest to an event. Ties go to the least number. The
+    /// answer is `None` if the search reaches none of them.
     pub fn nearest(
         &mut self,
         wanted: SearchTarget<'_>,

@@ -15,7 +15,7 @@ use Rattle.redraw.specs.Text.{escaped, escaped_byte, quoted}
 abbrev pub comes_by : Timed → Timed → Bool
 comes_by x y = not (int_lt x.time y.time)
 
--- the first places hold as many of some events as are drawn, the first ones, in order of time
+-- the first places hold the first of some events, as many as are drawn, in order of time
 pub record HoldsFirst (times : List ℤ) (timed : List Timed) (count : ℕ) (events : List EventId) : Type 0 where
   pub room : length timed ≡ MOST_DRAWN
   pub few : count ≡ min MOST_DRAWN (length events)

@@ -49,7 +49,7 @@ fn demand_of(kind: RowKind) -> Range
     }
 }
 
-// Writes where the drawn events of a row stand into the first places. Returns how many are drawn. The network has `events` events.
+// Writes into the first places where the drawn events of a row stand. Returns how many are drawn. The network has `events` events.
 fn place_all(
     timed: &mut [Timed],
     stands: &mut [DrawnEvent],

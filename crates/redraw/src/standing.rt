@@ -11,7 +11,7 @@ ghost use Rattle.redraw.specs.declared.stand.TheConstants.{MOST_DRAWN};
 use crate::stand::{DrawnEvent, Timed};
 use itv_base::END_LIMIT;
 
-/// Writes where events in order of time stand into the first places.
+/// Writes into the first places where events in order of time stand.
 pub fn stand_up(timed: &[Timed], stands: &mut [DrawnEvent])
     requires some { 1 ≤ length timed.now }
     requires few { length timed.now ≤ MOST_DRAWN }

@@ -143,7 +143,7 @@ abbrev pub ShownUndecidedIsBelow : Type 0
 ShownUndecidedIsBelow = (drawn : Drawn) (most : ℕ) (lines : List Entry) → IsNet drawn.net → IsShownReport drawn most lines → end_in lines ≡ Some endings.Undecided
     → most < cause_choices drawn.net.constraints
 
--- so does a report without the lines that show its numbers
+-- the same holds of a report without the lines that show its numbers, if there are such lines
 abbrev pub BareUndecidedIsBelow : Type 0
 BareUndecidedIsBelow = (drawn : Drawn) (most : ℕ) (lines : List Entry) → IsNet drawn.net → IsBareReport drawn most lines → end_in lines ≡ Some endings.Undecided
     → most < cause_choices drawn.net.constraints

@@ -14,8 +14,8 @@ use Rattle.right_report.specs.Right.At.{NextBound, at_heading, at_last, greatest
 use Rattle.right_report.specs.Right.Facts.{right}
 use Rattle.right_report.specs.Right.Following.{LineClaims, LinesLead}
 
--- What shows a number as a bound of a row: no separation of the pair exceeds the number. For a least separation, no separation of the reversed
--- pair exceeds minus the number.
+-- What has to be shown of a number as a bound of a row: no separation of the pair exceeds the number. For a least separation: no separation of
+-- the reversed pair exceeds minus the number.
 abbrev pub goal_of : Row → NextBound → ℤ → ProofGoal
 goal_of r greatest value = BoundGoal r.from r.to value
 goal_of r (least_by most) value = BoundGoal r.to r.from (neg_ℤ value)

@@ -92,8 +92,8 @@ pub fn inconsistent_end_is_so()
     ensures { InconsistentEndIsSo }
 {}
 
-/// A report that shows its numbers ends with `undecided` only if its budget is less than the number of cause choices. So does a
-/// report without the lines that show them, if there are such lines.
+/// A report that shows its numbers ends with `undecided` only if its budget is less than the number of cause choices. The same
+/// holds of a report without the lines that show them, if there are such lines.
 pub fn undecided_is_below_choices()
     ensures shown { ShownUndecidedIsBelow }
     ensures bare { BareUndecidedIsBelow }

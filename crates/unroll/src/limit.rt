@@ -10,8 +10,8 @@ use itv_base::{
 /// How many rows a drawn network may have if its ranges are edited.
 pub const MAX_SESSION_ROWS: u32 = 64;
 
-/// What a drawn network may have only so much of. `unroll` never answers `MatrixEvents`, which is for the report on all pairs, or
-/// `SessionRows`.
+/// What a drawn network may have only so much of. `unroll` answers neither `MatrixEvents`, which is for the report on all pairs,
+/// nor `SessionRows`.
 #[derive(Clone, Copy, Debug, PartialEq, Eq)]
 pub enum Limit {
     Events,
