@@ -50,7 +50,7 @@ before_raised (Some l) cause target true false by end gap met = omega (arith, in
 before_raised (Some l) cause target false true by end gap met = let past = gap refl refl in absurd (omega (arith, ints))
 before_raised (Some l) cause target false false by end gap met = met
 
--- what every cause keeps, all causes keep, and some cause keeps
+-- if one statement gives another for each cause, it does so for all causes together, and for some cause
 all_kept : (P Q : Cause → Type 0) (causes : List Cause) → ((i : ℕ) (c : Cause) → slice_get causes i ≡ Some c → P c → Q c) → All P causes → All Q causes
 all_kept P Q causes kept all = λ i d within. kept i (get_or causes i d) (slice_get-get_or causes i d within) (all i d within)
 

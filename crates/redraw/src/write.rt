@@ -112,7 +112,7 @@ fn put_name<K: Sink>(name: EventName<'_>, sink: &mut K) -> Result<(), PutFailed>
     put_mark_and_cycle(name.mark, name.cycle, sink)
 }
 
-// A lane up to the end of its name.
+// Puts a lane up to the end of its name.
 fn put_lane_front<K: Sink>(name: EventName<'_>, sink: &mut K) -> Result<(), PutFailed>
     ensures { Puts (K.told sink.old) (K.told sink.new) (lane_front (name_word (name_view name.entry))) result }
 {
@@ -120,7 +120,7 @@ fn put_lane_front<K: Sink>(name: EventName<'_>, sink: &mut K) -> Result<(), PutF
     put_name(name, sink)
 }
 
-// The wave of a lane, and its node up to the mark.
+// Puts the wave of a lane, and its node up to the mark.
 fn put_wave<K: Sink>(place: u32, sink: &mut K) -> Result<(), PutFailed>
     requires least { 1 ≤ place }
     requires most { place ≤ MOST_DRAWN }
@@ -131,7 +131,7 @@ fn put_wave<K: Sink>(place: u32, sink: &mut K) -> Result<(), PutFailed>
     put_all(sink, &[b"\",\"wave\":\"0", wave, b"1\",\"node\":\"", node])
 }
 
-// The mark at the end of a node, and the end of its lane.
+// Puts the mark at the end of a node, and the end of its lane.
 fn put_lane_end<K: Sink>(mark: u8, sink: &mut K) -> Result<(), PutFailed>
     ensures { Puts (K.told sink.old) (K.told sink.new) (lane_end mark) result }
 {
@@ -139,7 +139,7 @@ fn put_lane_end<K: Sink>(mark: u8, sink: &mut K) -> Result<(), PutFailed>
     sink.put(b"\"}")
 }
 
-// A lane from the end of its name on.
+// Puts a lane from the end of its name on.
 fn put_lane_back<K: Sink>(place: u32, mark: u8, sink: &mut K) -> Result<(), PutFailed>
     requires least { 1 ≤ place }
     requires most { place ≤ MOST_DRAWN }
@@ -149,7 +149,7 @@ fn put_lane_back<K: Sink>(place: u32, mark: u8, sink: &mut K) -> Result<(), PutF
     put_lane_end(mark, sink)
 }
 
-// The lane of an event.
+// Puts the lane of an event.
 fn put_lane<K: Sink>(names: &DrawnNetwork, stand: DrawnEvent, sink: &mut K) -> Result<(), PutFailed>
     requires { IsStand names.now.net.events stand }
     ensures { Puts (K.told sink.old) (K.told sink.new) (lane_text (lane_of (name_of names.now) stand)) result }
@@ -158,7 +158,7 @@ fn put_lane<K: Sink>(names: &DrawnNetwork, stand: DrawnEvent, sink: &mut K) -> R
     put_lane_back(stand.place, mark_at(stand.number), sink)
 }
 
-// A lane behind another one.
+// Puts a lane behind another one.
 fn put_next_lane<K: Sink>(
     names: &DrawnNetwork,
     stand: DrawnEvent,
@@ -171,14 +171,14 @@ fn put_next_lane<K: Sink>(
     put_lane(names, stand, sink)
 }
 
-// The mark at the head of an edge.
+// Puts the mark at the head of an edge.
 fn put_head<K: Sink>(to: u8, sink: &mut K) -> Result<(), PutFailed>
     ensures { Puts (K.told sink.old) (K.told sink.new) (codes "->" ++ escaped_byte to) result }
 {
     put_after(b"->", to, sink)
 }
 
-// The marks of an edge.
+// Puts the marks of an edge.
 fn put_marks<K: Sink>(from: u8, to: u8, sink: &mut K) -> Result<(), PutFailed>
     ensures { Puts (K.told sink.old) (K.told sink.new) (edge_front from to) result }
 {
@@ -186,7 +186,7 @@ fn put_marks<K: Sink>(from: u8, to: u8, sink: &mut K) -> Result<(), PutFailed>
     put_head(to, sink)
 }
 
-// The label of an edge, and its end.
+// Puts the label of an edge, and its end.
 fn put_label<K: Sink>(kind: Kind, range: Range, sink: &mut K) -> Result<(), PutFailed>
     requires { IsProper version_1 (range_label kind range) }
     ensures { Puts (K.told sink.old) (K.told sink.new) (spelling version_1 (range_label kind range) ++ codes "\"") result }
@@ -202,7 +202,7 @@ fn put_label<K: Sink>(kind: Kind, range: Range, sink: &mut K) -> Result<(), PutF
     sink.put(b"\"")
 }
 
-// An edge from its label on.
+// Puts an edge from its label on.
 fn put_edge_back<K: Sink>(kind: Kind, range: Range, sink: &mut K) -> Result<(), PutFailed>
     requires { IsProper version_1 (range_label kind range) }
     ensures { Puts (K.told sink.old) (K.told sink.new) (32 ∷ (spelling version_1 (range_label kind range) ++ codes "\"")) result }
@@ -211,7 +211,7 @@ fn put_edge_back<K: Sink>(kind: Kind, range: Range, sink: &mut K) -> Result<(), 
     put_label(kind, range, sink)
 }
 
-// An edge from a mark to a mark.
+// Puts an edge from a mark to a mark.
 fn put_edge<K: Sink>(
     from: u8,
     to: u8,
@@ -240,7 +240,7 @@ fn number_of(stands: &[DrawnEvent], event: EventId) -> u32
     0
 }
 
-// The lanes behind the first.
+// Puts the lanes behind the first.
 fn put_other_lanes<K: Sink>(
     names: &DrawnNetwork,
     stands: &[DrawnEvent],
@@ -255,7 +255,7 @@ fn put_other_lanes<K: Sink>(
     Ok(())
 }
 
-// The lanes.
+// Puts the lanes.
 fn put_lanes<K: Sink>(
     names: &DrawnNetwork,
     stands: &[DrawnEvent],
@@ -345,7 +345,7 @@ fn put_demand<K: Sink>(
     put_edge(from_mark, to_mark, Kind::Req, range, sink)
 }
 
-// The list of lanes.
+// Puts the list of lanes.
 fn put_signal<K: Sink>(
     names: &DrawnNetwork,
     stands: &[DrawnEvent],
@@ -360,7 +360,7 @@ fn put_signal<K: Sink>(
     put_lanes(names, stands, sink)
 }
 
-// All edges.
+// Puts all edges.
 fn put_edges<K: Sink>(
     stands: &[DrawnEvent],
     from: EventId,
@@ -378,7 +378,7 @@ fn put_edges<K: Sink>(
     put_demand(stands, from, to, range, sink)
 }
 
-// The list of edges, without its end.
+// Puts the list of edges, without its end.
 fn put_edge_list<K: Sink>(
     stands: &[DrawnEvent],
     from: EventId,
@@ -396,7 +396,7 @@ fn put_edge_list<K: Sink>(
     put_edges(stands, from, to, range, sink)
 }
 
-// The list of edges, and the end of the drawing.
+// Puts the list of edges, and the end of the drawing.
 fn put_tail<K: Sink>(
     stands: &[DrawnEvent],
     from: EventId,

@@ -36,7 +36,7 @@ pub fn put_steps<N: Notes, K: Sink>(
     }
 }
 
-// The steps behind a greatest separation.
+// Puts the steps behind a greatest separation.
 fn put_onward<N: Notes, K: Sink>(
     notes: &N,
     drawn: &DrawnNetwork,
@@ -52,7 +52,7 @@ fn put_onward<N: Notes, K: Sink>(
     Ok(())
 }
 
-// The steps behind a least separation.
+// Puts the steps behind a least separation.
 fn put_back<N: Notes, K: Sink>(
     notes: &N,
     drawn: &DrawnNetwork,
