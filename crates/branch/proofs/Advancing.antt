@@ -1,4 +1,4 @@
--- One step of a search after what it has come to.
+-- How one step of a search goes on from the lines before.
 use Rattle.std.proofs.Common.{◌≡◌, ◌+◌, ◌≤ℤ◌, ℕ, ℤ, List, [], ◌∷◌, ◌++◌, slice_get, refl, sym, subst, arith}
 use Rattle.std.proofs.lemmas.Int.{ints}
 use Rattle.event_graph.specs.Network.{Net}
@@ -15,7 +15,7 @@ use Rattle.branch.specs.declared.search.Search.{Search}
 use Rattle.branch.proofs.CaseCounts.{splittable_causes}
 use Rattle.branch.proofs.SearchedLines.{paths_within, searched_closes, searched_higher, searched_splits}
 
--- what is open above the best is needed, since no path before is above it
+-- an open split is needed: no path in the lines before exceeds the best separation
 pub needed_open : (net : Net) (aim : Aim) (best : ℤ) (earlier : List ProofLine) (cases : List Case) (closed : ℕ) (chosen : Case) (number : ℕ) → aim.known ≤ℤ best
     → IsBoundSearched net aim best earlier cases closed → IsOpen net aim.from aim.to best chosen number → IsNeededToBound net aim.from aim.to aim.known earlier chosen number
 needed_open net aim best earlier cases closed chosen number least searched open' =
@@ -46,7 +46,7 @@ goes net goal IsNeeded earlier lines cases before now entry searched steps =
     subst (IsSearchedSoFar net goal IsNeeded (earlier ++ lines) (left_after net now.cases.chosen entry)) (sym steps.count)
     (searched_closes net goal IsNeeded earlier lines cases (left_after net now.cases.chosen entry) before searched steps.closes)
 
--- and after a split
+-- the search goes on after a split
 goes_split : (net : Net) (goal : ProofGoal) (IsNeeded : List ProofLine → Case → ℕ → Type 0) (earlier lines : List ProofLine) (chosen : Case) (number before : ℕ) (now : Search) (entry : NextCase)
     → IsFree net chosen number → IsNeeded earlier chosen number → IsSearchedSoFar net goal IsNeeded earlier (open_cases net chosen) before
     → SearchSteps net goal (open_cases net (first_of number chosen)) before now entry lines
@@ -56,7 +56,7 @@ goes_split net goal IsNeeded earlier lines chosen number before now entry free n
     (goes net goal IsNeeded (earlier ++ Split number ∷ []) lines (open_cases net (first_of number chosen)) before now entry
     (searched_splits net goal IsNeeded earlier chosen number before searched free.may need (splittable_causes (slice_get net.constraints number) free.causes)) steps)
 
--- so does one that a failure cut short after a split
+-- a failure cut the search short after a split
 cut_split : (net : Net) (goal : ProofGoal) (IsNeeded : List ProofLine → Case → ℕ → Type 0) (earlier lines : List ProofLine) (chosen : Case) (number before : ℕ) (now : Search)
     → IsFree net chosen number → IsNeeded earlier chosen number → IsSearchedSoFar net goal IsNeeded earlier (open_cases net chosen) before
     → (short : StepsShort net goal (open_cases net (first_of number chosen)) before now lines)
@@ -75,7 +75,7 @@ split_goes net aim best before earlier lines chosen now entry number least open'
     goes_split net (Bound aim.from aim.to best) (IsNeededToBound net aim.from aim.to aim.known) earlier lines chosen number before now entry open'.free
     (needed_open net aim best earlier (open_cases net chosen) before chosen number least searched open') searched steps
 
--- and after a path
+-- the search for a bound goes on after a path
 pub path_goes : (net : Net) (aim : Aim) (was best : ℤ) (before : ℕ) (earlier lines : List ProofLine) (chosen : Case) (now : Search) (entry : NextCase)
     → was ≤ℤ best → SearchSteps net (Bound aim.from aim.to best) (open_cases net chosen) before now entry lines
     → IsBoundSearched net aim was earlier (open_cases net chosen) before → IsBoundSearched net aim best (earlier ++ lines) (left_after net now.cases.chosen entry) now.leaves
@@ -97,7 +97,7 @@ split_cut net aim best before lines chosen number now least open' short =
       count = short.count;
     }
 
--- or in lines that close cases
+-- the search for a bound is cut short in lines that close cases
 pub path_cut : (net : Net) (aim : Aim) (was best : ℤ) (before : ℕ) (lines : List ProofLine) (chosen : Case) (now : Search)
     → was ≤ℤ best → StepsShort net (Bound aim.from aim.to best) (open_cases net chosen) before now lines → IsCutAfter net aim was chosen before now.leaves lines
 path_cut net aim was best before lines chosen now up short =
@@ -111,14 +111,14 @@ path_cut net aim was best before lines chosen now up short =
       count = short.count;
     }
 
--- the search for satisfying times goes on after a split on what they break
+-- the search for satisfying times goes on after a split on a broken constraint
 pub find_goes : (net : Net) (before : ℕ) (earlier lines : List ProofLine) (chosen : Case) (now : Search) (entry : NextCase) (number : ℕ) (times : List ℤ) → IsFree net chosen number
     → MeetsUsable net chosen times → Breaks times net number → SearchSteps net Nothing (open_cases net (first_of number chosen)) before now entry lines
     → IsFindSearched net earlier (open_cases net chosen) before → IsFindSearched net (earlier ++ Split number ∷ lines) (left_after net now.cases.chosen entry) now.leaves
 find_goes net before earlier lines chosen now entry number times free meets breaks steps searched =
     goes_split net Nothing (IsNeededToFind net) earlier lines chosen number before now entry free (times, meets, breaks) searched steps
 
--- and is cut short after one
+-- the search for satisfying times is cut short after such a split
 pub find_cut : (net : Net) (before : ℕ) (lines : List ProofLine) (chosen : Case) (number : ℕ) (times : List ℤ) (now : Search) → IsFree net chosen number
     → MeetsUsable net chosen times → Breaks times net number → StepsShort net Nothing (open_cases net (first_of number chosen)) before now lines
     → IsFindCutAfter net chosen before now.leaves (Split number ∷ lines)

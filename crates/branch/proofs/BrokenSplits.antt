@@ -1,4 +1,4 @@
--- A constraint that times break, which meet the usable edges of a case, can be split there.
+-- If times meet the usable edges of a case, the case can be split on a constraint that they break.
 use Rattle.std.proofs.Common.{◌≡◌, ◌<◌, ◌≤◌, ◌⊎◌, ℕ, ℤ, IsTrue, List, [], ◌∷◌, length, get_or, All, Contains, Some, slice_get, refl, ap, subst, inl, inr, arith}
 use Rattle.std.proofs.lemmas.Bool.{cases_eq}
 use Rattle.std.proofs.lemmas.List.Elements.{All-cons, All-contains, All-nil, Contains-get_or}
@@ -17,7 +17,7 @@ use Rattle.event_graph.proofs.EdgesMet.{All-found, met_if_some}
 use Rattle.branch.specs.Step.Cases.{IsFree, IsSearchCase}
 use Rattle.branch.proofs.Results.{some_and}
 
--- the cause of a choice is there
+-- the constraint of a choice has its cause
 abbrev HasCauseThere : Net → Choice → Type 0
 HasCauseThere net choice = choice.cause < count_causes (slice_get net.constraints choice.constraint)
 
@@ -45,7 +45,7 @@ named_all Lin count has = absurd has
 named_all Late count has = refl
 named_all Early count has = refl
 
--- times that meet the usable edges of a case, and a constraint that is there
+-- the times meet the usable edges of a case, and break a constraint of the network
 module _ (net : Net) (chosen : Case) (times : List ℤ) (number : ℕ) (k : Constraint) (is_net : IsNet net) (is_case : IsSearchCase net chosen) (meets : MeetsUsable net chosen times)
     (at_k : slice_get net.constraints number ≡ Some k) (breaks : Holds times k → ⊥) where
   always_met : MeetsAlwaysOf times net number

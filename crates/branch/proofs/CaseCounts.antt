@@ -52,7 +52,7 @@ one-test count =
       | inr few ↦ rw (le-ltb 1 count few) (omega arith)
     ]
 
--- the constraints that can be split are all unsplit at first
+-- at first every constraint that can be split is unsplit
 unsplit-count : (number : ℕ) (ks : List Constraint) → unsplit_from number ks [] ≡ count_by (λ (c : Constraint). nat_lt 1 (cause_count_of c)) ks
 unsplit-count number [] = refl
 unsplit-count number (k ∷ ks) =
@@ -62,7 +62,7 @@ unsplit-count number (k ∷ ks) =
 pub unsplit_first : (net : Net) → unsplit_from 0 net.constraints [] ≡ splittable_count net
 unsplit_first net = unsplit-count 0 net.constraints
 
--- the choices of a case are as many as the constraints that it splits
+-- a case has as many choices as it splits constraints
 pub case_length : (net : Net) (chosen : Case) → IsSearchCase net chosen → length chosen + unsplit_from 0 net.constraints chosen ≡ splittable_count net
 case_length net [] is_case = omega (arith, unsplit_first net)
 case_length net (choice ∷ chosen) is_case =
@@ -74,7 +74,7 @@ bound_unsplit net chosen is_case = omega (arith, case_length net chosen is_case)
 falls_by : (rest each before now : ℕ) → now < each → rest * each + now < (rest + 1) * each + before
 falls_by rest each before now below = omega arith
 
--- a case that is closed leaves less work
+-- a closed case leaves less work
 pub work_falls : (net : Net) (budget leaves : ℕ) (before now : Case) → leaves < budget → IsSearchCase net now
     → work_left net budget (leaves + 1) now < work_left net budget leaves before
 work_falls net budget leaves before now below is_case =
@@ -93,7 +93,7 @@ pub splittable_causes : (o : Option Constraint) → IsSplittable o → 0 < count
 splittable_causes None h = absurd h
 splittable_causes (Some k) h = omega (arith, named_most k.kind (length k.causes))
 
--- a constraint that can be split is there
+-- a constraint that can be split is in the network
 pub free_within : (net : Net) (chosen : Case) (number : ℕ) → IsFree net chosen number → number < length net.constraints
 free_within net chosen number free =
     let found = some_and (slice_get net.constraints number) (λ (c : Constraint). 2 ≤ cause_count_of c) free.causes in
@@ -106,6 +106,6 @@ split_falls net budget leaves chosen number free =
     let falls = choice_splits net chosen (record { constraint = number; cause = 0 }) free in
     omega (arith, falls)
 
--- a latest choice leaves room below it
+-- the choices below the latest one are fewer than the constraints that can be split
 pub case_room : (net : Net) (choice : Choice) (below : Case) → IsSearchCase net (choice ∷ below) → length below < splittable_count net
 case_room net choice below is_case = omega (arith, case_length net (choice ∷ below) is_case)

@@ -26,7 +26,7 @@ levels_are net chosen bounds stands =
     let same : length (map (λ (graph : Graph). graph.edges) bounds.trail.below) ≡ length (edges_below net chosen) = ap (λ (xs : List (List EdgeName)). length xs) stands.below in
     omega (arith, same, length-edges_below net chosen, length-edges bounds.trail.below)
 
--- and one more for the latest choice
+-- there is room for the level of the latest choice
 pub room_below : (net : Net) (chosen : Case) (choice : Choice) (below : Case) (bounds : Standing) → chosen ≡ choice ∷ below → IsSearchCase net chosen → StandsBelow net chosen bounds
     → length bounds.trail.below < bounds.trail.levels
 room_below net chosen choice below bounds same is_case stands =

@@ -51,7 +51,7 @@ closing_one (Split number) closing = absurd closing
 closing_one (Path names) closing = omega arith
 closing_one (Loop names) closing = omega arith
 
--- nothing is closed yet
+-- no case is closed yet
 pub closed_none : (net : Net) (goal : ProofGoal) (cases : List Case) (leaves : ℕ) → HasClosed net goal cases cases leaves leaves []
 closed_none net goal cases leaves = record {
   closes = record { reads = refl; closing = All-nil IsClosing };
@@ -70,14 +70,14 @@ closed_one net goal cases chosen before leaves now lines line closed closing rea
   count = omega (arith, closed.count, one_more, closing_lines-append lines (line ∷ []), closing_one line closing);
 }
 
--- what was closed up to a case that is left, with the cases that are open next
+-- the search leaves a closed case for the next one: the cases that are open then
 pub closed_next : (net : Net) (goal : ProofGoal) (cases : List Case) (mid now : Search) (before : ℕ) (lines : List ProofLine)
     → HasClosed net goal cases (siblings net mid.cases.chosen) before now.leaves lines → IsNext net mid now
     → HasClosed net goal cases (open_cases net now.cases.chosen) before now.leaves lines
 closed_next net goal cases mid now before lines closed next =
     subst (λ (left : List Case). HasClosed net goal cases left before now.leaves lines) next.same closed
 
--- or at the end of the search
+-- the search leaves a closed case and ends: the cases that are open then
 pub closed_end : (net : Net) (goal : ProofGoal) (cases : List Case) (mid now : Search) (before : ℕ) (lines : List ProofLine) (end : NextCase)
     → HasClosed net goal cases (siblings net mid.cases.chosen) before now.leaves lines → LeavesFor net mid now (Some end)
     → SearchSteps net goal cases before now end lines
@@ -98,7 +98,7 @@ steps_after net goal cases mid before between now entry lines more closed steps 
   count = omega (arith, closed.count, steps.count, closing_lines-append lines more);
 }
 
--- nothing is closed where the first line fails
+-- no case is closed if the first line fails
 pub short_none : (net : Net) (goal : ProofGoal) (cases : List Case) (before : ℕ) (now : Search) → now.leaves ≡ before → StepsShort net goal cases before now []
 short_none net goal cases before now same = record {
   left = cases;
@@ -151,7 +151,7 @@ at_root net s none stands room left = record {
   left = left;
 }
 
--- and nothing is read yet
+-- no line is read yet
 pub root_read : (net : Net) (goal : ProofGoal) (IsNeeded : List ProofLine → Case → ℕ → Type 0) (s : Search) → s.cases.chosen ≡ [] → s.leaves ≡ 0
     → IsSearchedSoFar net goal IsNeeded [] (open_cases net s.cases.chosen) s.leaves
 root_read net goal IsNeeded s none zero =

@@ -31,7 +31,7 @@ length-raised [] by times = refl
 length-raised (is_in ∷ set) by [] = refl
 length-raised (is_in ∷ set) by (time ∷ times) = ap (λ n. suc n) (length-raised set by times)
 
--- an end that two times met is met by the raised ones, unless it reaches down across the gap
+-- raised times meet an end that the times met before, unless the end reaches down across the gap
 after_raised : (low : Option ℤ) (cause target : ℤ) (in_cause in_target : Bool) (by : ℕ) → IsEnd low
     → (in_target ≡ false → in_cause ≡ true → (target +ℤ pos weight_limit) <ℤ cause)
     → IfSome low (λ l. (cause +ℤ l) ≤ℤ target) → IfSome low (λ l. (raised_to in_cause cause by +ℤ l) ≤ℤ raised_to in_target target by)
@@ -50,7 +50,7 @@ before_raised (Some l) cause target true false by end gap met = omega (arith, in
 before_raised (Some l) cause target false true by end gap met = let past = gap refl refl in absurd (omega (arith, ints))
 before_raised (Some l) cause target false false by end gap met = met
 
--- what holds of each cause that is there goes over to all, and to some
+-- if one statement gives another for each cause, it does so for all causes together, and for some cause
 all_kept : (P Q : Cause → Type 0) (causes : List Cause) → ((i : ℕ) (c : Cause) → slice_get causes i ≡ Some c → P c → Q c) → All P causes → All Q causes
 all_kept P Q causes kept all = λ i d within. kept i (get_or causes i d) (slice_get-get_or causes i d within) (all i d within)
 
@@ -62,7 +62,7 @@ any_kept P Q causes kept (i, c, within, here, holds) =
 flag_of : (set : List Bool) (event : ℕ) → event < length set → (flag : Bool) × (slice_get set event ≡ Some flag)
 flag_of set event within = (get_or set event false, slice_get-get_or set event false within)
 
--- a cause of a constraint between events that holds of times that are apart is met by the raised ones, on both sides
+-- if the set is apart in the times, the raised times keep both sides of each cause that held before
 module _ (set : List Bool) (by : ℕ) (times : List ℤ) (target : EventId) (count : length set ≡ length times) (apart : IsRaisedApart set times) (within : target.0 < length times) where
   after_kept : (c : Cause) → c.event.0 < length times → IsEnd c.range.low → IsAfter times target c → IsAfter (raised set by times) target c
   after_kept c event end after =
@@ -126,7 +126,7 @@ satisfies_raised net set by times is_net count apart satisfies = record {
       (satisfies.each number d within);
 }
 
--- times that satisfy and whose set is apart have the set as a ray
+-- if times satisfy and a set is apart in them, the set is a ray from the times
 pub apart_is_ray : (net : Net) (from to : EventId) (set : List Bool) (times : List ℤ) → IsNet net → length set ≡ net.events
     → slice_get set to.0 ≡ Some true → slice_get set from.0 ≡ Some false → IsRaisedApart set times → Satisfies times net → IsRay net from to times set
 apart_is_ray net from to set times is_net count holds lacks apart satisfies = record {

@@ -16,7 +16,7 @@ use Rattle.branch.specs.declared.choice_edge.ChoiceEdge.{ChoiceEdge}
 use Rattle.branch.specs.ChoiceEdges.{HasChoiceEnds, IsChoiceEdge, given_edge}
 use Rattle.branch.specs.Step.Edges.{choice_name, side_of}
 
--- an edge is that of its ends and its weight
+-- an edge is given by its ends and its weight
 of_parts : (from to from' to' : EventId) (weight : Option ℤ) (end : Option ℤ) (turned : ℤ → ℤ) → from' ≡ from → to' ≡ to
     → weight ≡ option_map (λ (e : Edge). e.weight) (option_map (λ (z : ℤ). let e : Edge = record { from = from; to = to; weight = turned z } in e) end)
     → option_map (λ (z : ℤ). let e : Edge = record { from = from; to = to; weight = turned z } in e) end ≡ option_map (λ (z : ℤ). let e : Edge = record { from = from'; to = to'; weight = z } in e) weight

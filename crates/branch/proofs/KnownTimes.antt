@@ -7,12 +7,12 @@ known_are : (has : Bool) (times : List ℤ) (P : List ℤ → Type 0) → IsSome
 known_are true times P known = refl
 known_are false times P known = absurd known
 
--- where there are known times their separation is that of a pair in them
+-- the known separation is the separation of the pair in the known times
 pub known_separation_is : (has : Bool) (times : List ℤ) (P : List ℤ → Type 0) (from to : EventId) → IsSomeAnd (cond has (Some times) None) P
     → separation (unwrap_or (cond has (Some times) None) []) from to ≡ separation times from to
 known_separation_is has times P from to known = ap (λ (xs : List ℤ). separation xs from to) (known_are has times P known)
 
--- there are some only where there are known times
+-- something holds of known times only if there are known times
 pub known_has : (has : Bool) (times : List ℤ) (P : List ℤ → Type 0) → IsSomeAnd (cond has (Some times) None) P → has ≡ true
 known_has true times P known = refl
 known_has false times P known = absurd known

@@ -1,4 +1,4 @@
--- What the times of a case show of it.
+-- What the times of a case show about the case.
 use Rattle.std.proofs.Common.{◌≡◌, ◌⊎◌, ◌<◌, ◌≤ℤ◌, ◌<ℤ◌, ℕ, ℤ, pos, Bool, List, length, All, Some, None, sym, subst, inl, inr, arith}
 use Rattle.std.proofs.lemmas.Int.{ints}
 use Rattle.std.proofs.lemmas.List.Elements.{All-weaker}
@@ -17,7 +17,7 @@ use Rattle.branch.specs.Step.Standing.{IsRayIn, IsUpperIn}
 use Rattle.branch.proofs.BrokenSplits.{broken_is_free}
 use Rattle.branch.proofs.Gaps.{apart_is_ray}
 
--- a case with a greatest separation beyond the best is split on what times that have it break
+-- a case with a greatest separation beyond the best is split on a constraint that times attaining it break
 pub open_at_bound : (net : Net) (from to : EventId) (best value : ℤ) (chosen : Case) (times : List ℤ) (number : ℕ) → IsNet net → IsSearchCase net chosen
     → IsUpperIn net chosen from to (Some value) → MeetsUsable net chosen times → separation times from to ≡ value → best <ℤ value → Breaks times net number
     → IsOpen net from to best chosen number
@@ -31,7 +31,7 @@ open_at_bound net from to best value chosen times number is_net is_case upper me
       (times, meets, omega (arith, ints, other.2, high, low, attained), breaks);
 }
 
--- a case without a greatest separation is split on what raised times break, or on any other
+-- a case without a greatest separation is split on a constraint that the times break, or on any free one
 pub open_at_ray : (net : Net) (from to : EventId) (best : ℤ) (chosen : Case) (times : List ℤ) (number : ℕ) → IsNet net → IsSearchCase net chosen
     → IsUpperIn net chosen from to None → MeetsUsable net chosen times → Breaks times net number ⊎ IsFree net chosen number → IsOpen net from to best chosen number
 open_at_ray net from to best chosen times number is_net is_case unbounded meets splits = record {
@@ -48,7 +48,7 @@ pub raised_meets : (net : Net) (chosen : Case) (from to : EventId) (reach : ℤ)
     → AreRaised ray from to reach old new → MeetsUsable net chosen new
 raised_meets net chosen from to reach old new ray is_ray are_raised = subst (MeetsUsable net chosen) (sym are_raised.same) (is_ray.meets are_raised.by)
 
--- and show a ray where they satisfy
+-- if the raised times satisfy, the set is a ray from them
 pub ray_at : (net : Net) (chosen : Case) (from to : EventId) (reach : ℤ) (old new : List ℤ) (ray : List Bool) → IsNet net → IsRayIn net chosen from to old ray
     → AreRaised ray from to reach old new → Satisfies new net → IsRay net from to new ray
 ray_at net chosen from to reach old new ray is_net is_ray are_raised satisfies =

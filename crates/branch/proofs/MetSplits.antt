@@ -47,7 +47,7 @@ met_by_choice net times number k is_net meets at_k choice =
     let always : MeetsAlwaysOf times net number = λ name e _ always is_edge. meets.each name e always is_edge in
     (holds_by_edges net number k times is_net at_k).1 (always, λ _. choice)
 
--- so does one of a single cause
+-- a constraint with a single cause holds
 met_alone : (net : Net) (times : List ℤ) (number : ℕ) (k : Constraint) → IsNet net → MeetsAlways times net → slice_get net.constraints number ≡ Some k
     → length k.causes ≡ 1 → Holds times k
 met_alone net times number k is_net meets at_k single =
@@ -76,7 +76,7 @@ name_is : (net : Net) (number cause : ℕ) (k : Constraint) → slice_get net.co
     → choice_name net (record { constraint = number; cause = cause }) ≡ record { constraint = number; cause = cause; side = choice_side k.kind }
 name_is net number cause k at_k = ap (λ (o : Option Constraint). let name : EdgeName = record { constraint = number; cause = cause; side = side_of o } in name) at_k
 
--- how many edges there are
+-- a splitting has an edge for each cause
 edges_count : (net : Net) (s : Splitting) (k : Constraint) → HasChoiceEdges net s → slice_get net.constraints s.number ≡ Some k → cause_count_of k ≡ length s.edges
 edges_count net s k has at_k = same_Some _ _ (sym (ap (option_map cause_count_of) at_k) ∙ has.count)
 
@@ -94,12 +94,12 @@ split_met : (net : Net) (times : List ℤ) (s : Splitting) → IsNet net → Mee
 split_met net times s is_net meets split met =
     met_if_some (slice_get net.constraints s.number) (Holds times) (λ k at_k. met_by_choice net times s.number k is_net meets at_k (choice_met net times s k split.edges at_k met))
 
--- what is in a choice is not both met and broken
+-- an edge is not both met and broken
 both : (times : List ℤ) (o : Option Edge) → IfSome o (Meets times) → IsSomeAnd o (λ (e : Edge). Meets times e → ⊥) → ⊥
 both times None met broken = broken
 both times (Some e) met broken = broken met
 
--- they break it where they break each of them
+-- the times break a constraint with two or more causes if they break all its choice edges
 split_broken : (net : Net) (times : List ℤ) (s : Splitting) → IsNet net → IsSplitOf net s → BreaksEach times s → Breaks times net s.number
 split_broken net times s is_net split broken =
     let found = some_and (slice_get net.constraints s.number) (λ (k : Constraint). 2 ≤ cause_count_of k) split.causes in
@@ -119,14 +119,14 @@ split_broken net times s is_net split broken =
         let P : Option Edge → Type 0 = λ o. IfSome o (Meets times) in
         both times (given_edge found.0) (subst P is.gives (subst P (ap (edge net) (sym (name_is net s.number cause k at_k))) met)) here
 
--- they break one of those with two or more causes where they break each of its choice edges
+-- the times break the constraint of a number if they break all choice edges of the splitting with that number
 pub broken_among : (net : Net) (times : List ℤ) (splits : List Splitting) (number : ℕ) (s : Splitting) → IsNet net → AreSplits net splits → Contains splits s → s.number ≡ number
     → BreaksEach times s → Breaks times net number
 broken_among net times splits number s is_net are among is broken =
     let P : ℕ → Type 0 = Breaks times net in
     subst P is (split_broken net times s is_net (All-contains (IsSplitOf net) splits s are.each among) broken)
 
--- one of which no cause is chosen can be split
+-- a constraint without a chosen cause can be split
 free_at : (net : Net) (chosen : Case) (s : Splitting) → IsSplitOf net s → All (IsOther s.number) chosen → IsFree net chosen s.number
 free_at net chosen s split none =
     let found = some_and (slice_get net.constraints s.number) (λ (k : Constraint). 2 ≤ cause_count_of k) split.causes in
@@ -139,13 +139,13 @@ free_among net splits chosen number are (s, among, is) none =
     let Q : ℕ → Type 0 = λ (n : ℕ). All (IsOther n) chosen in
     subst P is (free_at net chosen s (All-contains (IsSplitOf net) splits s are.each among) (subst Q (sym is) none))
 
--- what was found can be split, or else another one is broken
+-- a constraint that the search found can be split; if it found none, the first one is broken
 pub free_or_broken : (net : Net) (splits : List Splitting) (chosen : Case) (times : List ℤ) (found : Option ℕ) (first : ℕ) → AreSplits net splits → IfSome found (IsTargetFound Open splits chosen) → Breaks times net first
     → Breaks times net (unwrap_or found first) ⊎ IsFree net chosen (unwrap_or found first)
 free_or_broken net splits chosen times None first are is broken = inl broken
 free_or_broken net splits chosen times (Some number) first are is broken = inr (free_among net splits chosen number are is.0 (free_others chosen number is.1))
 
--- their edges are between the events of the network
+-- the choice edges are between events of the network
 ends_between : (net : Net) (kind : RuleKind) (target event : EventId) (c : ChoiceEdge) → HasChoiceEnds kind target event c → target.0 < net.events → event.0 < net.events → IsBetween net.events c
 ends_between net Lin target event c ends to from = record { from = rw ends.0 from; to = rw ends.1 to }
 ends_between net Late target event c ends to from = record { from = rw ends.0 from; to = rw ends.1 to }
@@ -166,7 +166,7 @@ edges_between net s is_net split cause d within =
 splits_between : (net : Net) (splits : List Splitting) → IsNet net → AreSplits net splits → AreBetween net.events splits
 splits_between net splits is_net are k d within = edges_between net (get_or splits k d) is_net (are.each k d within)
 
--- a constraint that is there is met, if it has a single cause, or if it is met among the others
+-- the times meet a constraint of the network if it has a single cause, or if they meet it by its choice edges
 met_there : (net : Net) (times : List ℤ) (i : ℕ) (k : Constraint) → IsNet net → MeetsAlways times net → slice_get net.constraints i ≡ Some k
     → (IsSplittable (slice_get net.constraints i) → IsMetAt times net i) → Holds times k
 met_there net times i k is_net meets at_k split =
@@ -189,7 +189,7 @@ satisfies net times splits is_net meets are met = record {
       subst P has.2 (split_met net times has.0 is_net meets (All-contains (IsSplitOf net) splits has.0 are.each has.1) (All-contains (MeetsSome times) splits has.0 met has.1)));
 }
 
--- the first of them each of whose choice edges the times break is the first constraint that they break
+-- the first constraint whose choice edges the times all break is the first constraint that they break
 first_is_broken : (net : Net) (times : List ℤ) (splits : List Splitting) (number : ℕ) → IsNet net → MeetsAlways times net → AreSplits net splits → IsFirstBrokenSplit times splits number
     → IsFirstBroken times net 0 number
 first_is_broken net times splits number is_net meets are first = record {
@@ -205,7 +205,7 @@ first_is_broken net times splits number is_net meets are first = record {
       subst P has.2 (split_met net times has.0 is_net meets (All-contains (IsSplitOf net) splits has.0 are.each has.1) (met_before has.0 has.1 (omega (arith, has.2, high)))));
 }
   where
-    -- any will do where none is needed
+    -- any splitting will do as a default
     nothing : Splitting
     nothing = record { number = 0; edges = [] }
 
@@ -238,19 +238,19 @@ first_is_broken net times splits number is_net meets are first = record {
                   omega (arith, is, mine, less, equal))
             ]
 
--- which of them is the first, or whether none is
+-- the first constraint whose choice edges the times all break is the first that they break; if there is none, they satisfy the network
 pub first_or_satisfies : (net : Net) (times : List ℤ) (splits : List Splitting) (found : Option ℕ) → IsNet net → MeetsAlways times net → AreSplits net splits
     → MatchOption found (All (MeetsSome times) splits) (IsFirstBrokenSplit times splits) → MatchOption found (Satisfies times net) (IsFirstBroken times net 0)
 first_or_satisfies net times splits None is_net meets are met = satisfies net times splits is_net meets are met
 first_or_satisfies net times splits (Some number) is_net meets are first = first_is_broken net times splits number is_net meets are first
 
--- the edges can be read against times that meet the always-edges
+-- the choice edges can be read against times that meet the always-edges
 pub can_look : (net : Net) (times : List ℤ) (splits : List Splitting) → IsNet net → MeetsAlways times net → AreSplits net splits → AreBetween (length times) splits
 can_look net times splits is_net meets are = rw meets.count (splits_between net splits is_net are)
 
 -- ---- while they are listed
 
--- the constraints with two or more causes, of so many
+-- the list has the constraints with two or more causes among the first so many
 pub record AreSplitsBelow (net : Net) (splits : List Splitting) (count : ℕ) : Type 0 where
   pub each : All (IsSplitOf net) splits
   pub under : All (λ (s : Splitting). s.number < count) splits
@@ -265,7 +265,7 @@ no_splits net = record {
   ascending = λ i j d less within. absurd (omega (arith, within));
 }
 
--- a constraint has two or more causes by their count
+-- a constraint can be split if its count of causes is above 1
 pub splits_counted : (o : Option Constraint) (count : ℕ) → option_map cause_count_of o ≡ Some count → 1 < count → IsSplittable o
 splits_counted None count is many = absurd (cc)
 splits_counted (Some k) count is many = omega (arith, same_Some _ _ is, many)
@@ -274,7 +274,7 @@ pub splits_not : (o : Option Constraint) (count : ℕ) → option_map cause_coun
 splits_not None count is few splits = splits
 splits_not (Some k) count is few splits = absurd (omega (arith, same_Some _ _ is, few, splits))
 
--- one more constraint has two or more causes
+-- the next constraint has two or more causes
 pub splits_with : (net : Net) (splits : List Splitting) (s : Splitting) (count : ℕ) → AreSplitsBelow net splits count → IsSplitOf net s → s.number ≡ count
     → AreSplitsBelow net (splits ++ s ∷ []) (count + 1)
 splits_with net splits s count are split is = record {
@@ -288,7 +288,7 @@ splits_with net splits s count are split is = record {
   ascending = all_pairs_push (λ (a b : Splitting). a.number < b.number) splits s are.ascending (λ k d within. let less = are.under k d within in omega (arith, less, is));
 }
 
--- or it has not
+-- the next constraint does not have two or more causes
 pub splits_without : (net : Net) (splits : List Splitting) (count : ℕ) → AreSplitsBelow net splits count → (IsSplittable (slice_get net.constraints count) → ⊥)
     → AreSplitsBelow net splits (count + 1)
 splits_without net splits count are is_not = record {
@@ -303,7 +303,7 @@ splits_without net splits count are is_not = record {
   ascending = are.ascending;
 }
 
--- all of them
+-- the list has all constraints with two or more causes
 pub all_splits : (net : Net) (splits : List Splitting) (count : ℕ) → AreSplitsBelow net splits count → length net.constraints ≤ count → AreSplits net splits
 all_splits net splits count are past = record {
   each = are.each;

@@ -61,17 +61,17 @@ natural : (z : ℤ) → pos 0 ≤ℤ z → (n : ℕ) × (z ≡ pos n)
 natural (pos n) low = (n, refl)
 natural (negsuc n) low = absurd (omega (arith, ints))
 
--- what is raised is within the range of times
+-- a raised time is within the range of times
 range_after : (flag : Bool) (time : ℤ) (n : ℕ) → IsTimely time → pos n ≤ℤ pos (6 * reach_limit) → IsTime (raised_to flag time n)
 range_after true time n near high = (omega (arith, ints), omega (arith, ints))
 range_after false time n near high = (omega (arith, ints), omega (arith, ints))
 
--- and close
+-- a raised time is close
 close_after : (flag : Bool) (time : ℤ) (n : ℕ) → IsTimely time → pos n ≤ℤ pos (6 * reach_limit) → IsClose (raised_to flag time n)
 close_after true time n near high = (omega (arith, ints), omega (arith, ints))
 close_after false time n near high = (omega (arith, ints), omega (arith, ints))
 
--- so are timely ones
+-- timely times are close
 pub near_close : (times : List ℤ) → All IsTimely times → All IsClose times
 near_close times near = All-weaker IsTimely IsClose (λ t n. (omega (arith, ints), omega (arith, ints))) times near
 
@@ -123,7 +123,7 @@ lower_more flags times i was now falls here before k within at =
       | inr other ↦ (let least = before k (omega arith) at in omega (arith, ints))
     ]
 
--- and the greatest of all others
+-- the greatest time of all other events after one more event
 pub upper_more : (flags : List Bool) (times : List ℤ) (i : ℕ) (was now : ℤ) → was ≤ℤ now → (get_or flags i false ≡ false → get_or times i (pos 0) ≤ℤ now)
     → ((k : ℕ) → k < i → slice_get flags k ≡ Some false → get_or times k (pos 0) ≤ℤ was) → (k : ℕ) → k < i + 1 → slice_get flags k ≡ Some false → get_or times k (pos 0) ≤ℤ now
 upper_more flags times i was now rises here before k within at =
@@ -132,7 +132,7 @@ upper_more flags times i was now rises here before k within at =
       | inr other ↦ (let most = before k (omega arith) at in omega (arith, ints))
     ]
 
--- a span of all times tells the rise
+-- a span of all times gives the rise
 pub rise_of : (flags : List Bool) (from to : EventId) (reach : ℤ) (times : List ℤ) (lowest highest by : ℤ) → length flags ≡ length times
     → ((k : ℕ) → k < length times → slice_get flags k ≡ Some false → get_or times k (pos 0) ≤ℤ highest)
     → ((k : ℕ) → k < length times → slice_get flags k ≡ Some true → lowest ≤ℤ get_or times k (pos 0))

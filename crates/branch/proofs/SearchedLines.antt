@@ -34,7 +34,7 @@ contains_first : (line : ProofLine) (lines : List ProofLine) (sought : ProofLine
 contains_first line lines sought (zero, within, is) = inl is
 contains_first line lines sought (suc k, within, is) = inr (k, omega arith, is)
 
--- each path of lines that show a value has at most this sum
+-- each path in lines that show a value has at most that sum
 pub paths_within : (net : Net) (from to : EventId) (value : ℤ) (lines : List ProofLine) (cases left : List Case) (names : List EdgeName)
     → ProofLeaves net (Bound from to value) cases lines left → Contains lines (Path names) → path_sum net names ≤ℤ value
 paths_within net from to value [] cases left names reads contains = absurd (omega (arith, contains.1))
@@ -55,7 +55,7 @@ paths_within net from to value (Loop others ∷ lines) (chosen ∷ cases) left n
       | inr rest ↦ paths_within net from to value lines cases left names reads.1 rest
     ]
 
--- a line of two lists of lines stands in the one or the other
+-- a line in two joined lists stands in the one or in the other
 pub stands_in : (xs ys before after : List ProofLine) (line : ProofLine) → xs ++ ys ≡ before ++ line ∷ after
     → ((rest : List ProofLine) × (xs ≡ before ++ line ∷ rest)) ⊎ ((front : List ProofLine) × (before ≡ xs ++ front) × (ys ≡ front ++ line ∷ after))
 stands_in [] ys before after line same = inr (before, refl, same)
@@ -85,7 +85,7 @@ no_line : (before after : List ProofLine) (line : ProofLine) → [] ≡ before +
 no_line [] after line same = cc
 no_line (b ∷ before) after line same = cc
 
--- nothing is read yet
+-- no line is read yet
 pub none_searched : (net : Net) (goal : ProofGoal) (IsNeeded : List ProofLine → Case → ℕ → Type 0) → IsSearchedSoFar net goal IsNeeded [] ([] ∷ []) 0
 none_searched net goal IsNeeded = record {
   reads = refl;
@@ -120,7 +120,7 @@ pub nothing_after : (lines : List ProofLine) → lines ++ [] ≡ lines
 nothing_after [] = refl
 nothing_after (line ∷ lines) = ap (λ ls. line ∷ ls) (nothing_after lines)
 
--- so does a split that is needed
+-- a needed split goes on from what was searched
 pub searched_splits : (net : Net) (goal : ProofGoal) (IsNeeded : List ProofLine → Case → ℕ → Type 0) (lines : List ProofLine) (chosen : Case) (number closed : ℕ)
     → IsSearchedSoFar net goal IsNeeded lines (open_cases net chosen) closed → MaySplit net chosen number → IsNeeded lines chosen number
     → 0 < count_causes (slice_get net.constraints number)

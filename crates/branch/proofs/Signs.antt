@@ -13,22 +13,22 @@ passed_near value near = let fits : SFits w64 value = search rules in to_z-of_z 
 pub passed_separation : (value : ℤ) → IsNearSeparation value → to_z w64 (of_z w64 value) ≡ value
 passed_separation value near = let fits : SFits w64 value = search rules in to_z-of_z w64 value fits
 
--- so is a number to raise by
+-- a number to raise by is passed on as it is
 pub passed_rise : (value : ℤ) → pos 0 ≤ℤ value → value ≤ℤ pos (6 * reach_limit) → to_z w64 (of_z w64 value) ≡ value
 passed_rise value low high = let fits : SFits w64 value = search rules in to_z-of_z w64 value fits
 
--- and a raised time
+-- a raised time is passed on as it is
 pub passed_raised : (value : ℤ) → neg_ℤ (pos reach_limit) ≤ℤ value → value ≤ℤ pos (8 * reach_limit) → to_z w64 (of_z w64 value) ≡ value
 passed_raised value low high = let fits : SFits w64 value = search rules in to_z-of_z w64 value fits
 
--- and any number within six times the reach of a path
+-- any number within six times the reach of a path is passed on as it is
 pub passed_wide : (value : ℤ) → neg_ℤ (pos (6 * reach_limit)) ≤ℤ value → value ≤ℤ pos (6 * reach_limit) → to_z w64 (of_z w64 value) ≡ value
 passed_wide value low high = let fits : SFits w64 value = search rules in to_z-of_z w64 value fits
 
 abbrev pub passed : ℤ → ℤ
 passed value = to_z w64 (of_z w64 value)
 
--- what is enough to raise by, where each number is passed on
+-- the number, as it is passed on, is enough to raise by
 pub record IsEnough (highest lowest first last reach result : ℤ) : Type 0 where
   pub high : to_z w64 (of_z w64 result) ≤ℤ pos (6 * reach_limit)
   pub reached : reach ≤ℤ ((last -ℤ first) +ℤ to_z w64 (of_z w64 result))

@@ -1,4 +1,4 @@
--- The edges that bounds have chosen are those that a proof may use in the case.
+-- The edges that bounds have chosen are the edges that a proof may use in the case.
 use Rattle.std.proofs.Common.{◌≡◌, ◌≤ℤ◌, ◌⊎◌, zero, suc, ℤ, pos, false, cond, List, [], ◌∷◌, ◌++◌, All, Contains, Option, Some, None, IsSomeAnd, is_some, slice_get, refl, sym, ap, subst, inl, inr, arith}
 use Rattle.std.proofs.lemmas.Int.{ints}
 use Rattle.std.proofs.lemmas.List.Elements.{All-cons, All-contains, All-head, All-nil, All-tail, Contains-append_left, Contains-push, Contains-push_cases}
@@ -32,7 +32,7 @@ put (Some f) chosen choice e there = Contains-push chosen choice
 later : {X : Type 0} (x y : X) (xs : List X) → Contains xs y → Contains (x ∷ xs) y
 later x y xs (k, within, is) = (suc k, omega arith, is)
 
--- an edge of a case is that of one of its choices
+-- an edge of a case is the edge of one of its choices
 edges_in : (net : Net) (chosen : Case) (name : EdgeName) → Contains (edges_of net chosen) name → (choice : Choice) × Contains chosen choice × (choice_name net choice ≡ name)
 edges_in net [] name (k, within, is) = absurd (omega arith)
 edges_in net (choice ∷ below) name contains =
@@ -41,7 +41,7 @@ edges_in net (choice ∷ below) name contains =
       | inr same ↦ (choice, (0, omega arith, refl), same)
     ]
 
--- and the edge of a choice is there, if it has one
+-- if a choice has an edge, the case has it
 in_edges : (net : Net) (chosen : Case) (choice : Choice) (e : Edge) → Contains chosen choice → edge net (choice_name net choice) ≡ Some e → Contains (edges_of net chosen) (choice_name net choice)
 in_edges net [] choice e (k, within, is) there = absurd (omega arith)
 in_edges net (first ∷ below) choice e (zero, within, is) there =
@@ -66,7 +66,7 @@ own_side : (o : Option Constraint) (side : Side) → IsSomeAnd o (λ c. HasChoic
 own_side None side on = absurd on
 own_side (Some k) side on = sym on.1
 
--- in a case, a current edge may be used
+-- in a case, a current edge is usable
 pub current_usable : (net : Net) (chosen : Case) (name : EdgeName) → IsSearchCase net chosen → IsCurrent net (edges_of net chosen) name → IsUsable net chosen name
 current_usable net chosen name is_case (inl always) = inl always
 current_usable net chosen name is_case (inr contains) =
@@ -75,7 +75,7 @@ current_usable net chosen name is_case (inr contains) =
     let may = All-contains (MayChoose net) chosen choice (have_choices net chosen is_case.0) found.1 in
     subst (IsUsable net chosen) found.2 (inr (found.1, on_own_side (slice_get net.constraints choice.constraint) may))
 
--- and the other way round
+-- a usable edge is current
 pub usable_current : (net : Net) (chosen : Case) (name : EdgeName) (e : Edge) → edge net name ≡ Some e → IsUsable net chosen name → IsCurrent net (edges_of net chosen) name
 usable_current net chosen name e there (inl always) = inl always
 usable_current net chosen name e there (inr (contains, on)) =
@@ -85,7 +85,7 @@ usable_current net chosen name e there (inr (contains, on)) =
     let at_choice : edge net (choice_name net choice) ≡ Some e = subst (λ (n : EdgeName). edge net n ≡ Some e) (sym same) there in
     subst (IsCurrent net (edges_of net chosen)) same (inr (in_edges net chosen choice e contains at_choice))
 
--- times that meet the ones meet the others
+-- times that meet the current edges meet the usable ones
 pub meets_usable : (net : Net) (chosen : Case) (times : List ℤ) → MeetsCurrent net (edges_of net chosen) times → MeetsUsable net chosen times
 meets_usable net chosen times meets = record {
   count = meets.count;
@@ -98,7 +98,7 @@ meets_current net chosen times is_case meets = record {
   each = λ name e current there. meets.each name e (current_usable net chosen name is_case current) there;
 }
 
--- so they have the same greatest separations
+-- current and usable edges allow the same greatest separations
 pub upper_usable : (net : Net) (chosen : Case) (from to : EventId) (upper : Option ℤ) → IsSearchCase net chosen → IsUpper net (edges_of net chosen) from to upper → IsUpperIn net chosen from to upper
 upper_usable net chosen from to (Some value) is_case greatest = record {
   attained = (greatest.attained.0, meets_usable net chosen greatest.attained.0 greatest.attained.1, greatest.attained.2);
@@ -112,7 +112,7 @@ pub source_bounded : (net : Net) (chosen : List EdgeName) (from : EventId) (uppe
 source_bounded net chosen from None unbounded none = let past = unbounded (pos 0) in absurd (omega (arith, ints, past.2))
 source_bounded net chosen from (Some value) greatest none = cc
 
--- along a walk each edge is there, so current edges are usable ones
+-- if all edges of a walk are current, all are usable
 all_usable : (net : Net) (chosen : Case) (names : List EdgeName) → IsSearchCase net chosen → All (IsCurrent net (edges_of net chosen)) names → All (IsUsable net chosen) names
 all_usable net chosen [] is_case all = All-nil (IsUsable net chosen)
 all_usable net chosen (name ∷ names) is_case all =
@@ -129,7 +129,7 @@ pub closes_by_path : (net : Net) (chosen : Case) (from to : EventId) (sum value 
 closes_by_path net chosen from to sum value names is_case path within =
     (path.walk, all_usable net chosen names is_case path.current, subst (λ (s : ℤ). s ≤ℤ value) (sym path.total) within, path.count)
 
--- the always-edges are usable in each case, and at the root no others are
+-- the always-edges are usable in each case, and no others are at the root
 pub meets_always : (net : Net) (chosen : Case) (times : List ℤ) → MeetsUsable net chosen times → MeetsAlways times net
 meets_always net chosen times meets = record { count = meets.count; each = λ name e always there. meets.each name e (inl always) there }
 
@@ -140,7 +140,7 @@ always_usable net name (inr (contains, on)) = absurd (omega (arith, contains.1))
 pub always_meets : (net : Net) (times : List ℤ) → MeetsAlways times net → MeetsUsable net [] times
 always_meets net times meets = record { count = meets.count; each = λ name e usable there. meets.each name e (always_usable net name usable) there }
 
--- so the greatest separations there are the root bounds
+-- the greatest separations at the root are the root bounds
 pub root_upper : (net : Net) (from to : EventId) (upper : Option ℤ) → IsUpperIn net [] from to upper → IsRootBound net from to upper
 root_upper net from to (Some value) greatest = record {
   attained = (greatest.attained.0, meets_always net [] greatest.attained.0 greatest.attained.1, greatest.attained.2);

@@ -48,14 +48,14 @@ pub record IsClosedAt (search : PairSearch) (value : ℤ) (left : Evidence) : Ty
   pub proof : IsProof search.net (BoundGoal search.from search.to value) left.lines
   pub count : closing_lines left.lines ≡ left.leaves
 
--- the events of the ray can be raised from the times without end, and the lines are a stopped proof of some value, with a closing line for
--- each closed case but the last, whose times these are
+-- The events of the ray can be raised from the times without end. The lines are a stopped proof of some value. They close every counted case but
+-- the last; the last case gave these times.
 pub record IsShownUnbounded (search : PairSearch) (left : Evidence) : Type 0 where
   pub raised : IsRay search.net search.from search.to left.times left.ray
   pub stopped : (value : ℤ) × (count : ℕ) × IsStoppedProof search.net (BoundGoal search.from search.to value) left.lines count × (left.leaves ≡ count + 1)
 
--- the budget ended the search: the root bound encloses, which is within the reach of a path, the times attain the other value, and the lines are
--- a stopped proof of it with as many closing lines as the budget, which is less than the cause choices
+-- The budget ended the search. The upper value is the root bound, open or within the reach of a path, and the times attain the other value. The
+-- lines are a stopped proof of that value. They close as many cases as the budget, which is less than the cause choices.
 pub record IsEnclosedBy (search : PairSearch) (upper : Option ℤ) (attained : ℤ) (left : Evidence) : Type 0 where
   pub root : IsRootBound search.net search.from search.to upper
   pub within : IfSome upper IsReach
@@ -64,14 +64,14 @@ pub record IsEnclosedBy (search : PairSearch) (upper : Option ℤ) (attained : �
   pub used : left.leaves ≡ search.budget
   pub below_choices : search.budget < cause_choices search.net.constraints
 
--- what an answer says of the greatest separation, with what the search leaves
+-- what an answer says of the greatest separation, with the evidence that the search leaves
 abbrev pub IsGreatestAnswer : PairSearch → Evidence → GreatestAnswer → Type 0
 IsGreatestAnswer search left (Closed value) = IsClosedAt search value left
 IsGreatestAnswer search left Unbounded = IsShownUnbounded search left
 IsGreatestAnswer search left (Enclosed upper attained) = IsEnclosedBy search upper attained left
 
--- there are known times, which satisfy, and the lines are a stopped proof that none do, with a closing line for each closed case but the
--- last, whose times these are
+-- There are known times, and they satisfy. The lines are a stopped proof that no times satisfy. They close every counted case but the last; the
+-- last case gave the known times.
 pub record IsFoundConsistent (net : Net) (lines : List ProofLine) (leaves : ℕ) (known : Option (List ℤ)) : Type 0 where
   pub satisfies : IsSomeAnd known (λ times. Satisfies times net)
   pub stopped : (count : ℕ) × IsStoppedProof net Nothing lines count × (leaves ≡ count + 1)
@@ -82,8 +82,8 @@ pub record IsFoundInconsistent (net : Net) (lines : List ProofLine) (leaves : �
   pub proof : IsProof net Nothing lines
   pub count : closing_lines lines ≡ leaves
 
--- the budget ended the search: the always-edges allow times, and the lines are a stopped proof with as many closing lines as the budget,
--- which is less than the cause choices
+-- The budget ended the search, and the always-edges allow times. The lines are a stopped proof. They close as many cases as the budget, which is
+-- less than the cause choices.
 pub record IsFoundUnsettled (net : Net) (budget : ℕ) (lines : List ProofLine) (leaves : ℕ) : Type 0 where
   pub always : (times : List ℤ) × MeetsAlways times net
   pub stopped : IsStoppedProof net Nothing lines leaves
@@ -101,7 +101,7 @@ abbrev pub IsRootReach : Root → Type 0
 IsRootReach NoTimes = Unit {0}
 IsRootReach (Bound upper) = IfSome upper IsReach
 
--- the root bound of a pair, or none where no times meet the always-edges
+-- the root bound of a pair, or no bound where no times meet the always-edges
 abbrev pub IsRoot : Net → EventId → EventId → Root → Type 0
 IsRoot net from to NoTimes = HasNoRoot net
 IsRoot net from to (Bound upper) = IsRootBound net from to upper

@@ -10,7 +10,7 @@ pub record Splitting : Type 0 where
   pub number : ℕ
   pub edges : List ChoiceEdge
 
--- the edges are the choice edges of the causes of the constraint of its number
+-- the edges are the choice edges of the constraint of this number, one for each cause
 pub record HasChoiceEdges (net : Net) (s : Splitting) : Type 0 where
   pub count : option_map cause_count_of (slice_get net.constraints s.number) ≡ Some (length s.edges)
   pub each : (cause : ℕ) (c : ChoiceEdge) → slice_get s.edges cause ≡ Some c → IsChoiceEdge net s.number cause c
@@ -20,15 +20,15 @@ pub record IsSplitOf (net : Net) (s : Splitting) : Type 0 where
   pub causes : IsSplittable (slice_get net.constraints s.number)
   pub edges : HasChoiceEdges net s
 
--- the constraint of a number is among some
+-- some splitting in the list has this number
 abbrev pub HasNumber : List Splitting → ℕ → Type 0
 HasNumber splits number = (s : Splitting) × Contains splits s × (s.number ≡ number)
 
--- their numbers ascend
+-- the numbers ascend
 abbrev pub AreAscending : List Splitting → Type 0
 AreAscending = AllPairs (λ (s t : Splitting). s.number < t.number)
 
--- they are the constraints with two or more causes, by their numbers
+-- the list has the constraints with two or more causes, by their numbers
 pub record AreSplits (net : Net) (splits : List Splitting) : Type 0 where
   pub each : All (IsSplitOf net) splits
   pub all : (number : ℕ) → IsSplittable (slice_get net.constraints number) → HasNumber splits number

@@ -1,3 +1,4 @@
+-- Words of contracts within this crate.
 pub mod Cases
 pub mod Edges
 pub mod Raising

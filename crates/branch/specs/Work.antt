@@ -9,8 +9,8 @@ use Rattle.diff_bounds.specs.Standing.{IsMadeFor as IsBoundsFor}
 use Rattle.branch.specs.Splits.{AreSplits, Splitting}
 use Rattle.branch.specs.declared.work.TheConstants.{MAX_START}
 
--- the bounds, for how many constraints there is room, the constraints that can be split, the known times, where there are some, the times and the events to raise that the last search
--- for a bound left, and how many cases the last search closed
+-- The bounds, for how many constraints there is room, the constraints that can be split, and the known times, if there are any. Then what the
+-- last search left: the times and the events to raise of a search for a bound, and how many cases were closed.
 pub record WorkView : Type 0 where
   pub bounds : Standing
   pub room : ℕ
@@ -28,15 +28,15 @@ pub record IsMadeFor (net : Net) (work : WorkView) : Type 0 where
   pub splits : AreSplits net work.splits
   pub places : length work.times ≡ net.events
 
--- a time that bounds tell, or one that was raised: no earlier than the reach of a path before 0, and no later than eight times that reach
+-- a time that bounds give, or one that was raised: at the earliest the reach of a path before 0, at the latest eight times that reach
 abbrev pub IsClose : ℤ → Type 0
 IsClose time = (neg_ℤ (pos reach_limit) ≤ℤ time) × (time ≤ℤ pos (8 * reach_limit))
 
--- a separation is no less than that of known times can be, which are times that bounds tell
+-- a separation is no less than a separation of known times can be; bounds give the known times
 abbrev pub IsKnownReach : ℤ → Type 0
 IsKnownReach value = neg_ℤ (pos (3 * reach_limit)) ≤ℤ value
 
--- the separation of times that a search starts from
+-- a search may start from times with this separation
 abbrev pub IsStart : ℤ → Type 0
 IsStart value = (neg_ℤ MAX_START ≤ℤ value) × (value ≤ℤ MAX_START)
 

@@ -1,13 +1,13 @@
 //! What the searches answer.
 
-/// Whether times satisfy a network.
+/// Whether any times satisfy a network.
 #[derive(Clone, Copy, Debug, PartialEq, Eq)]
 pub enum SearchFinding {
     /// Some times do.
     Consistent,
     /// None do.
     Inconsistent,
-    /// The budget ended the search before it was known.
+    /// The budget ended the search before the answer was known.
     Unsettled,
 }
 
@@ -16,9 +16,9 @@ pub enum SearchFinding {
 pub enum GreatestAnswer {
     /// It is this number.
     Closed(i64),
-    /// There is none: every number is exceeded.
+    /// There is none: satisfying separations exceed every number.
     Unbounded,
-    /// The budget ended the search: it is at least `attained`, and at most `upper` where that is not open.
+    /// The budget ended the search. The greatest separation is at least `attained`, and at most `upper` unless that is `None`.
     Enclosed { upper: Option<i64>, attained: i64 },
 }
 

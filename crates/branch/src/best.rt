@@ -1,10 +1,11 @@
-//! What a search for a bound aims at, and the best that it has attained.
+//! What a search for a bound aims at, and the best separation that it has attained.
 
 ghost use Rattle.std.specs.Prelude.{◌≡◌, length};
 
 use itv_base::EventId;
 
-/// The pair whose greatest separation is searched, and its separation in the known times, in picoseconds.
+/// The pair whose greatest separation the search is for, and the separation of the times that the search starts from, in
+/// picoseconds.
 #[derive(Clone, Copy, Debug)]
 pub struct Aim {
     pub from: EventId,
@@ -20,7 +21,7 @@ pub struct Best {
 }
 
 impl Best {
-    /// Takes other times, and a value for them.
+    /// Takes other times, one per event, and their separation.
     pub fn take(&mut self, value: i64, times: &[i64])
         requires { length times.now ≡ length self.old.times.items }
         ensures value { self.new.value ≡ value }

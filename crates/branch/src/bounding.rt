@@ -27,8 +27,8 @@ use diff_bounds::Fit;
 use event_graph::{Network, Scribe, ScribeFailed};
 use itv_base::EventId;
 
-/// Finds the greatest separation of the pair of an aim, by a search that starts from known times and closes at most `budget`
-/// cases. The scribe writes down the lines of a proof, or of one that was stopped.
+/// Finds the greatest separation of the pair of an aim. The search starts from the times in `best`, and closes at most `budget`
+/// cases. The scribe writes the lines of a proof, or of a stopped one.
 pub fn bound_pair<S: Scribe>(
     net: &Network,
     search: &mut Search,
@@ -66,7 +66,7 @@ pub fn bound_pair<S: Scribe>(
     ensures rose { OnErr result (FaultCounted (S.faults scribe.old) (S.faults scribe.new)) }
 {
     if start(net, search, Some(aim.from), budget) == Fit::Loop {
-        // The known times meet the always-edges.
+        // This can't happen: the times in `best` meet the always-edges.
         unreachable!()
     }
     let upper = upper_in(net, search, aim.to);
@@ -112,7 +112,7 @@ pub enum Ending {
     Raised,
 }
 
-// Searches the cases of a network for a greater separation than that of the known times.
+// Searches the cases of a network for a separation greater than the separation in `best`.
 fn search_bound<S: Scribe>(
     net: &Network,
     search: &mut Search,
@@ -152,7 +152,7 @@ fn search_bound<S: Scribe>(
     }
 }
 
-// Looks at the case at hand, and does what the look says. Without an answer the pair is unbounded.
+// Looks at the case at hand, and does what the look says. `None` says that the pair is unbounded.
 fn step<S: Scribe>(
     net: &Network,
     search: &mut Search,

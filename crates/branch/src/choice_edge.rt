@@ -10,8 +10,8 @@ use crate::levels::name_of;
 use event_graph::{Choice, Network};
 use itv_base::{EventId, RuleKind};
 
-/// The edge that the choice of a cause gives: the time of `to` less that of `from` is at most `weight` picoseconds, or anything where
-/// that is open.
+/// The edge that the choice of a cause gives: the time of `to` less the time of `from` is at most `weight` picoseconds. If `weight`
+/// is `None`, the edge is open and demands nothing.
 #[derive(Clone, Copy, Debug)]
 pub struct ChoiceEdge {
     pub from: EventId,
@@ -20,8 +20,8 @@ pub struct ChoiceEdge {
 }
 
 impl ChoiceEdge {
-    /// That of a cause of a constraint: the upper edge, which leads to the target, or for an earliest constraint the lower one, which
-    /// leads to the cause.
+    /// The choice edge of a cause: the upper edge, which leads to the target. For an earliest constraint it is the lower edge,
+    /// which leads to the cause.
     pub fn of(net: &Network, constraint: u32, cause: u32) -> ChoiceEdge
         requires { IsSome (cause_at net.now constraint cause) }
         ensures { IsChoiceEdge net.now constraint cause result }
@@ -37,7 +37,7 @@ impl ChoiceEdge {
         ChoiceEdge { from, to, weight }
     }
 
-    /// Whether times break the edge. They are those of all events.
+    /// Whether the times break the edge. The times hold one entry per event.
     pub fn is_broken(&self, times: &[i64]) -> bool
         requires between { IsBetween (length times.now) self.now }
         requires times { All IsTime times.now }

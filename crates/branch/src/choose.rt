@@ -1,4 +1,4 @@
-//! The choice of the constraint on which a case is split.
+//! Choosing the constraint on which a case is split.
 
 ghost use Rattle.std.specs.Prelude.{◌≡◌, ◌⊎◌, MatchOption, All};
 ghost use Rattle.event_graph.specs.Network.{IsNet};
@@ -12,9 +12,9 @@ use crate::distances::{Distances, SearchTarget};
 use event_graph::{Decisions, Network};
 use itv_base::EventId;
 
-/// The constraint nearest to an event among those that the times break, or none exactly where they satisfy the network. Of several at
-/// one distance it is the one of least number; where none is reached it is the least of all. The times meet all always-edges, and so
-/// each constraint of one cause.
+/// Among the constraints that the times break, the one nearest to an event, or `None` if and only if the times satisfy the network.
+/// Ties go to the least number. If the search reaches none of them, it is the one with the least number. The times meet all
+/// always-edges, and so each constraint with one cause.
 pub fn nearest_broken(
     net: &Network,
     times: &[i64],
@@ -35,8 +35,7 @@ pub fn nearest_broken(
     }
 }
 
-/// The least number of a constraint that the times break, or none exactly where they satisfy the network. The times meet all
-/// always-edges.
+/// The first constraint that the times break, or `None` if and only if they satisfy the network. The times meet all always-edges.
 pub fn first_broken(net: &Network, times: &[i64], distances: &Distances) -> Option<u32>
     requires net { IsNet net.now }
     requires splits { AreSplits net.now distances.now }
@@ -47,8 +46,8 @@ pub fn first_broken(net: &Network, times: &[i64], distances: &Distances) -> Opti
     distances.first_broken(times)
 }
 
-/// The constraint nearest to an event among those that can be split, or one that the times break where none is reached. Of several at
-/// one distance it is the one of least number.
+/// Among the constraints that can be split, the one nearest to an event; ties go to the least number. If the search reaches none,
+/// it is `first`, which the times break.
 pub fn nearest_open(
     net: &Network,
     times: &[i64],

@@ -12,21 +12,21 @@ use itv_base::{EdgeName, EventId, NoMemory, Side};
 use std::alloc::Global;
 use std::marker::Model;
 
-/// Looks for the nearest of some constraints with two or more causes: backwards from an event, over the always-edges and the edges of
-/// the choices, for the first event that one of them enters by its choice side. That is the target of a latest constraint, and any
-/// cause of an earliest one. Contracts see the constraints with two or more causes, and say that what it answers is one that is looked
-/// for; that it is the nearest decides which split is tried, and nothing else.
+/// Picks the constraint to split: breadth-first backwards from the target event, over always-edges and the edges of the choices, to
+/// the first event that a wanted constraint enters by its choice side. A latest constraint enters its target, and an earliest one
+/// enters each cause. Contracts see the constraints with two or more causes, and say that the constraint picked is a wanted one.
+/// Only *which* constraint is picked depends on this search; that the answer is right does not.
 #[derive(Debug, Drop)]
 pub struct Distances {
     // The constraints with two or more causes, by their numbers.
     rules: Vec<Splittable>,
-    // For each event the places of those that enter it, in the same order.
+    // For each event the places in `rules` of the constraints that enter it.
     entering: ByEvent<usize>,
     // For each event the starts of the always-edges that enter it.
     sources: ByEvent<EventId>,
     // Whether an event was reached.
     reached: Vec<bool>,
-    // The events that were reached, in their order.
+    // The events that were reached, in the order of the search.
     queue: Vec<EventId>,
 }
 
@@ -39,17 +39,17 @@ impl Model for Distances {
     ghost view = { λ d. d.rules.items };
 }
 
-/// Which constraints are looked for.
+/// Which constraints are wanted.
 #[derive(Clone, Copy)]
 pub enum SearchTarget<'a> {
-    /// Those that these times break, which meet all always-edges.
+    /// The constraints that these times break. The times meet all always-edges.
     Broken(&'a [i64]),
-    /// Those without a choice.
+    /// The constraints without a choice.
     Open,
 }
 
 impl Distances {
-    /// Room for a network. Takes all memory that is ever needed.
+    /// Makes room for a network. Takes all memory that is ever needed.
     pub fn new(alloc: Global, net: &Network) -> Result<Distances, NoMemory>
         ensures { IfOk result (AreSplits net.now) }
     {
@@ -59,7 +59,7 @@ impl Distances {
         let mut entering = ByEvent::new(alloc, events)?;
         let mut sources = ByEvent::new(alloc, events)?;
         for number in 0..net.len() {
-            // Where there are none to look for, no way to them is wanted.
+            // Without constraints to split, no search goes backwards, and no starts are needed.
             if count > 0 {
                 add_sources(net, number, &mut sources)?;
             }
@@ -78,8 +78,8 @@ impl Distances {
         })
     }
 
-    /// The least number of a constraint each of whose choice edges times break: that is one that they break, where they meet all
-    /// always-edges.
+    /// The first constraint whose choice edges the times all break, by its number, or `None`. If the times meet all always-edges,
+    /// it is the first constraint that they break.
     pub fn first_broken(&self, times: &[i64]) -> Option<u32>
         requires between { AreBetween (length times.now) self.now }
         requires times { All IsTime times.now }
@@ -93,8 +93,8 @@ impl Distances {
         None
     }
 
-    /// The nearest of the constraints that are looked for and have no choice, and of several at one distance the one of least number.
-    /// There is no answer where none is reached.
+    /// Among the wanted constraints without a choice, the number of the one nearest to an event. Ties go to the least number. The
+    /// answer is `None` if the search reaches none of them.
     pub fn nearest(
         &mut self,
         wanted: SearchTarget<'_>,
@@ -177,7 +177,7 @@ fn add_entering(
     Ok(())
 }
 
-// What is gone over backwards: the constraints, what enters the events, the choices, and what is looked for.
+// What the search goes over: the constraints, what enters each event, the choices, and which constraints are wanted.
 #[derive(Clone, Copy)]
 struct Graph<'a> {
     rules: &'a [Splittable],
@@ -187,15 +187,14 @@ struct Graph<'a> {
     wanted: SearchTarget<'a>,
 }
 
-// How far it is gone over: how many events are reached, and the least number of a constraint that is looked for, if one was found.
+// How far the search has come: how many events are reached, and the least number of a wanted constraint, if one was found.
 #[derive(Clone, Copy)]
 struct Reach {
     count: usize,
     least: Option<u32>,
 }
 
-// The least number of a constraint that is looked for and enters the nearest of the events that such a one enters, going backwards
-// from one event, breadth first.
+// The first wanted constraint met going backwards from an event, breadth first; ties go to the least number.
 fn first_wanted(
     graph: Graph<'_>,
     reached: &mut [bool],
@@ -225,7 +224,8 @@ fn first_wanted(
     None
 }
 
-// Looks at the constraints that enter an event, and reaches the starts of the current edges that enter it, unless a constraint is found.
+// Looks at the constraints that enter an event. Unless a wanted one was found, also reaches the starts of the always-edges that
+// enter it.
 fn visit(
     graph: Graph<'_>,
     reached: &mut [bool],
@@ -255,7 +255,8 @@ fn visit(
     reach
 }
 
-// Looks at a constraint that enters an event: it is found, or the start of the edge of its choice is reached.
+// Looks at a constraint that enters an event. If it has a choice, reaches the start of its choice edge; else it is found if it is
+// wanted.
 fn look_at(
     graph: Graph<'_>,
     reached: &mut [bool],
@@ -289,7 +290,7 @@ fn look_at(
     }
 }
 
-// Whether a constraint without a choice is looked for.
+// Whether a constraint without a choice is wanted.
 fn is_wanted(wanted: SearchTarget<'_>, rule: &Splittable) -> bool
     requires { CanLookFor wanted (rule.now ∷ []) }
     ensures { IsTrue result → IsWanted wanted.entry (rule.now ∷ []) rule.now.number }
@@ -300,7 +301,7 @@ fn is_wanted(wanted: SearchTarget<'_>, rule: &Splittable) -> bool
     }
 }
 
-// The lesser of two numbers, of which the first may be missing.
+// The lesser of two numbers; the first may be missing.
 fn lesser(so_far: Option<u32>, number: u32) -> Option<u32>
     ensures { (result ≡ so_far) ⊎ (result ≡ Some number) }
 {
@@ -310,7 +311,7 @@ fn lesser(so_far: Option<u32>, number: u32) -> Option<u32>
     }
 }
 
-// Puts an event at the end of those that were reached, unless it is there already. The answer is how many there are.
+// Puts an event behind those that were reached, unless it is there already. Returns how many there are.
 fn put(reached: &mut [bool], queue: &mut [EventId], count: usize, event: EventId) -> usize
     requires { count ≤ length queue.old }
     ensures { result ≤ length queue.new }

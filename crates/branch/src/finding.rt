@@ -23,8 +23,8 @@ use crate::search::{NextCase, Search, split_case};
 use diff_bounds::Fit;
 use event_graph::{Network, Scribe, ScribeFailed};
 
-/// Looks for times that satisfy a network, by a search that closes at most `budget` cases. The scribe writes down the lines of a
-/// proof that there are none, or of one that was stopped. Where there are such times they are the candidate.
+/// Looks for times that satisfy a network. The search closes at most `budget` cases. The scribe writes the lines of a proof that
+/// there are no such times, or of a stopped one. If there are such times, `candidate` has them.
 pub fn find_times<S: Scribe>(
     net: &Network,
     search: &mut Search,
@@ -65,7 +65,8 @@ pub fn find_times<S: Scribe>(
     }
 }
 
-// Tries the times of the case at hand, and splits it on the first constraint that they break. Without an answer they satisfy.
+// Tries the times of the case at hand, and splits the case on the first constraint that they break. `None` says that the times
+// satisfy the network.
 fn try_times<S: Scribe>(
     net: &Network,
     search: &mut Search,

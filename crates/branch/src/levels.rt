@@ -1,4 +1,4 @@
-//! The bounds of a search, which have a level for each choice of its case.
+//! The bounds of a search. They have a level for each choice of its case.
 
 ghost use Rattle.std.specs.Prelude.{◌≡◌, ◌<◌, ◌≤◌, ◌≤ℤ◌, ℕ, ℤ, List, ◌∷◌, [], IfSome, MatchOption, Some, None, length};
 ghost use Rattle.itv_base.specs.declared.names.EventId.{EventId};
@@ -16,8 +16,8 @@ use diff_bounds::{Bounds, Fit};
 use event_graph::{Choice, Network};
 use itv_base::{EdgeName, EventId, RuleKind, Side};
 
-/// Begins a search at the case without choices, from an event or from none. The answer is `Loop` where the always-edges allow no
-/// times, and then the bounds stand nowhere.
+/// Begins a search at the case without choices, with bounds from `source` if there is one. Returns `Loop` if the always-edges allow
+/// no times; the bounds then stand on no case.
 pub fn start(net: &Network, search: &mut Search, source: Option<EventId>, budget: u64) -> Fit
     requires made { IsMadeFor net.now search.old.bounds }
     requires source { IfSome source (λ s. s.0 < net.now.events) }
@@ -39,7 +39,8 @@ pub fn start(net: &Network, search: &mut Search, source: Option<EventId>, budget
     search.bounds.start(net, source)
 }
 
-/// Adds the edge of the latest choice to the bounds. Where that allows no times they stay on the other choices.
+/// Adds the edge of the latest choice to the bounds. If the edges then allow no times, returns `Loop`, and the bounds stay on the
+/// other choices.
 pub fn enter_choice(net: &Network, search: &mut Search, choice: Choice) -> Fit
     requires case { IsSearchCase net.now search.old.cases.chosen }
     requires below { StandsBelow net.now search.old.cases.chosen search.old.bounds }
@@ -79,7 +80,8 @@ pub fn upper_in(net: &Network, search: &Search, to: EventId) -> Option<i64>
     search.bounds.upper(to)
 }
 
-/// Writes times that meet the edges of the case at hand, and attain each greatest separation that is a number.
+/// Writes times in picoseconds, one per event. They meet the edges of the case at hand, and attain each greatest separation from
+/// the source that is a number.
 pub fn times_in(net: &Network, search: &Search, out: &mut [i64])
     requires stands { StandsOn net.now search.now.cases.chosen search.now.bounds }
     requires case { IsSearchCase net.now search.now.cases.chosen }
@@ -89,7 +91,8 @@ pub fn times_in(net: &Network, search: &Search, out: &mut [i64])
     search.bounds.times_into(out)
 }
 
-/// Writes such times, and the events whose separation from the source is unbounded: those can be raised from the times.
+/// Writes times like [`times_in`], and a flag for each event whose separation from the source is unbounded. The flagged events can
+/// be raised from the times.
 pub fn ray_in(
     net: &Network,
     search: &Search,
@@ -114,7 +117,7 @@ pub fn ray_in(
     search.bounds.ray_into(ray);
 }
 
-/// Finds a path from the source to an event, over the edges of the case at hand, whose sum is the greatest separation.
+/// Finds a path from the source to an event, over the edges of the case at hand. Its sum is the greatest separation.
 pub fn find_path(net: &Network, search: &mut Search, to: EventId)
     requires stands { StandsOn net.now search.old.cases.chosen search.old.bounds }
     requires case { IsSearchCase net.now search.old.cases.chosen }

@@ -1,6 +1,6 @@
-//! The search over cases: whether a network of latest and earliest constraints has times that satisfy it, and the greatest
-//! separation of a pair of events. The contract of the crate: an answer is right, and the lines that its search writes down
-//! are a proof of it, or of as much as the budget allowed.
+//! The search over cases: whether any times satisfy a network of latest and earliest constraints, and the greatest separation of a
+//! pair of events. The contract of the crate: an answer is right, and the lines that its search writes are a proof of the answer,
+//! or of as much as the budget allowed.
 #![tactic(auto)]
 
 mod answer;

@@ -1,4 +1,4 @@
-//! What is to be done with a case of the search for a bound.
+//! What to do with a case in the search for a bound.
 
 ghost use Rattle.std.specs.Prelude.{◌≡◌, ◌<◌, ◌<ℤ◌, ℤ, Some, None, length};
 ghost use Rattle.event_graph.specs.Network.{IsNet};
@@ -15,14 +15,14 @@ use crate::search::Search;
 use crate::trial::Trial;
 use event_graph::Network;
 
-/// What is to be done with a case.
+/// What to do with a case.
 #[derive(Clone, Copy, Debug, PartialEq, Eq)]
 pub enum Look {
-    /// Its greatest separation is no more than the best.
+    /// Close it: its greatest separation is no more than the best.
     Beaten,
-    /// The candidate times satisfy the network, and have its greatest separation, which is this number.
+    /// Close it: the candidate times satisfy the network and attain its greatest separation, which is this number of picoseconds.
     Attained(i64),
-    /// It is to be split on the constraint of this number.
+    /// Split it on the constraint of this number.
     Splits(u32),
     /// The candidate times satisfy the network, and can be raised without end.
     Unbounded,

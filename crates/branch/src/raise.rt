@@ -8,8 +8,8 @@ ghost use Rattle.branch.specs.Step.Raising.{AreRaised, IsNearSeparation, IsRise,
 
 use itv_base::{END_LIMIT, EventId};
 
-/// Raises the events of a set by one number, so that each of them is above every other event by more than the limit of ends, and
-/// the separation of a pair is at least one that is to be reached. No finite end reaches across such a gap.
+/// Raises all events of a set by one number of picoseconds. Each of them is then above every other event by more than the limit of
+/// ends, so no finite end of a range reaches across the gap. The separation of the pair is then at least `reach`.
 pub fn raise(times: &mut [i64], set: &[bool], from: EventId, to: EventId, reach: i64)
     requires near { All IsTimely times.old }
     requires count { length set.now ≡ length times.old }
@@ -22,7 +22,7 @@ pub fn raise(times: &mut [i64], set: &[bool], from: EventId, to: EventId, reach:
     raise_by(times, set, by);
 }
 
-// Raises the events of a set by a number.
+// Raises the events of a set by a number of picoseconds.
 fn raise_by(times: &mut [i64], set: &[bool], by: i64)
     requires near { All IsTimely times.old }
     requires count { length set.now ≡ length times.old }
@@ -35,7 +35,7 @@ fn raise_by(times: &mut [i64], set: &[bool], by: i64)
     }
 }
 
-// The time of an event that is raised by a number if it is in the set.
+// The time of an event, raised by a number if the event is in the set.
 fn moved(time: i64, is_in: bool, by: i64) -> i64
     requires time { IsTimely time }
     requires low { pos 0 ≤ℤ by }
@@ -45,7 +45,7 @@ fn moved(time: i64, is_in: bool, by: i64) -> i64
     if is_in { later(time, by) } else { time }
 }
 
-// A time that comes a number later.
+// A time, later by a number.
 fn later(time: i64, by: i64) -> i64
     requires time { IsTimely time }
     requires low { pos 0 ≤ℤ by }
@@ -62,7 +62,7 @@ struct Span {
     highest: i64,
 }
 
-// By how much the events of the set have to be raised.
+// The number by which the events of the set have to be raised.
 fn rise(times: &[i64], set: &[bool], from: EventId, to: EventId, reach: i64) -> i64
     requires near { All IsTimely times.now }
     requires count { length set.now ≡ length times.now }
@@ -83,7 +83,7 @@ fn rise(times: &[i64], set: &[bool], from: EventId, to: EventId, reach: i64) -> 
     enough(span, first, last, reach)
 }
 
-// The span of one more time.
+// The span with one more time.
 fn widened(span: Span, time: i64, is_in: bool) -> Span
     requires lowest { IsTimely span.lowest }
     requires highest { IsTimely span.highest }
@@ -126,7 +126,7 @@ fn greater(a: i64, b: i64) -> i64
     if a < b { b } else { a }
 }
 
-// The number that closes the gap and reaches the separation.
+// The least number, from 0 on, that closes the gap and reaches the separation.
 fn enough(span: Span, first: i64, last: i64, reach: i64) -> i64
     requires lowest { IsTimely span.lowest }
     requires highest { IsTimely span.highest }
@@ -141,7 +141,7 @@ fn enough(span: Span, first: i64, last: i64, reach: i64) -> i64
     greater(greater(gap(span), shortfall(first, last, reach)), 0)
 }
 
-// How much it takes to lift the lowest above the highest by more than the limit of ends.
+// The number by which the lowest has to rise to be above the highest by more than the limit of ends.
 fn gap(span: Span) -> i64
     requires lowest { IsTimely span.lowest }
     requires highest { IsTimely span.highest }
@@ -150,7 +150,7 @@ fn gap(span: Span) -> i64
     span.highest - span.lowest + END_LIMIT + 1
 }
 
-// How much a separation lacks of one that is to be reached.
+// How much the separation lacks of the one to be reached. It is negative if the separation is greater.
 fn shortfall(first: i64, last: i64, reach: i64) -> i64
     requires first { IsTimely first }
     requires last { IsTimely last }

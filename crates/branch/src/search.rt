@@ -1,4 +1,4 @@
-//! The steps of a search, which go from one open case to the next.
+//! The steps of a search. Each goes from one open case to the next.
 
 ghost use Rattle.std.specs.Prelude.{◌≡◌, ◌+◌, ◌<◌, ◌≤◌, ◌≤ℤ◌, ℕ, ℤ, List, ◌∷◌, [], IfOk, IfNone, IfSome, OnErr, MatchBool, length, slice_get, Some};
 ghost use Rattle.itv_base.specs.Outside.{FaultCounted};
@@ -35,7 +35,7 @@ pub enum NextCase {
     Stopped,
 }
 
-/// Splits the case at hand on a constraint, and enters the first case that is open then.
+/// Splits the case at hand on a constraint, and enters the first case that is then open.
 pub fn split_case<S: Scribe>(
     net: &Network,
     search: &mut Search,
@@ -67,7 +67,7 @@ pub fn split_case<S: Scribe>(
     enter_case(net, search, scribe)
 }
 
-/// Closes the case at hand by the path to an event that the bounds give, and enters the next case.
+/// Closes the case at hand by a path to an event, which the bounds give, and enters the next case.
 pub fn close_case<S: Scribe>(
     net: &Network,
     search: &mut Search,
@@ -105,7 +105,8 @@ pub fn close_case<S: Scribe>(
     }
 }
 
-// Enters the case at hand, whose latest choice is not in the bounds yet. A loop closes it and leads to the next case.
+// Enters the case at hand. The bounds do not have its latest choice yet. If that choice gives a loop, the loop closes the case, and
+// the next case is entered.
 fn enter_case<S: Scribe>(
     net: &Network,
     search: &mut Search,
@@ -140,8 +141,8 @@ fn enter_case<S: Scribe>(
     unreachable!()
 }
 
-// Counts a case that is closed and goes on to the next one that is open, if there is one and the budget allows it; else the
-// answer says how the search ends.
+// Counts a closed case, and goes on to the next open case if there is one and the budget allows it. Otherwise returns how the
+// search ends.
 fn leave_case(net: &Network, search: &mut Search) -> Option<NextCase>
     requires below { IsBelowCase net.now search.old }
     ensures same { Keeps net.now search.old search.new }
@@ -160,7 +161,7 @@ fn leave_case(net: &Network, search: &mut Search) -> Option<NextCase>
     None
 }
 
-// Goes on from a case that is closed to the next one that is open, and tells whether there is one.
+// Goes on from a closed case to the next open one. Returns whether there is one.
 fn next_case(net: &Network, search: &mut Search) -> bool
     requires below { IsSearchCase net.now search.old.cases.chosen }
     requires stands { StandsBelow net.now search.old.cases.chosen search.old.bounds }

@@ -13,8 +13,8 @@ use itv_base::{EventId, NoMemory};
 use std::alloc::Global;
 use std::marker::Model;
 
-/// A constraint with two or more causes. Times that meet all always-edges break it exactly where they break each of its choice edges:
-/// so no other edge is kept. Contracts see its number and these edges.
+/// A constraint with two or more causes. Times that meet all always-edges break it if and only if they break all its choice edges,
+/// so it keeps no other edge. Contracts see its number and these edges.
 #[derive(Debug, Drop)]
 pub struct Splittable {
     number: u32,
@@ -30,7 +30,7 @@ impl Model for Splittable {
 }
 
 impl Splittable {
-    /// The constraint of a number.
+    /// Reads the constraint of this number from the network.
     pub fn new(alloc: Global, net: &Network, number: u32) -> Result<Splittable, NoMemory>
         requires { number < length net.now.constraints }
         ensures number { IfOk result (λ s. s.number ≡ number) }
@@ -50,14 +50,14 @@ impl Splittable {
         self.number
     }
 
-    /// The edges of its causes.
+    /// The choice edges, one for each cause, in the order of the causes.
     pub fn edges(&self) -> &[ChoiceEdge]
         ensures { result.now ≡ self.now.edges }
     {
         &self.edges
     }
 
-    /// Where the edge of a cause begins, if it ends at an event and is not open.
+    /// The event at which the choice edge of a cause begins, if the edge ends at `event` and is not open.
     pub fn source(&self, cause: u32, event: EventId) -> Option<EventId>
         ensures starts { IfSome result (λ from. (c : ChoiceEdgeOf) × (slice_get self.now.edges cause ≡ Some c)
             × (c.to ≡ event) × IsSome c.weight × (c.from ≡ from)) }
@@ -70,7 +70,7 @@ impl Splittable {
         }
     }
 
-    /// Whether times break each of its choice edges. They are those of all events.
+    /// Whether the times break all its choice edges. The times hold one entry per event.
     pub fn is_broken(&self, times: &[i64]) -> bool
         requires between { All (IsBetween (length times.now)) self.now.edges }
         requires times { All IsTime times.now }

@@ -1,8 +1,8 @@
-//! Times that are tried on a network, and what choosing a split needs.
+//! Times to try on a network, and what the choice of a split needs.
 
 use crate::distances::Distances;
 
-/// Candidate times of a case, in picoseconds, a flag for each event that can be raised from them, and distances of constraints.
+/// Candidate times of a case in picoseconds, a flag for each event that can be raised from them, and the distances of constraints.
 #[derive(Debug, Drop)]
 pub struct Trial {
     pub candidate: Vec<i64>,

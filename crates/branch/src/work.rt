@@ -24,12 +24,12 @@ use itv_base::{END_LIMIT, EventId, MAX_EVENTS, NoMemory};
 use std::alloc::Global;
 use std::marker::Model;
 
-/// The greatest separation, in picoseconds and in absolute value, of times that a search starts from. No separation of times that
-/// [`find`] finds is greater.
+/// The greatest absolute value, in picoseconds, of the separation of a pair in times that a search starts from. Times that [`find`]
+/// finds have no greater separation.
 pub const MAX_START: i64 = 3 * END_LIMIT * MAX_EVENTS as i64;
 
-/// The working memory of the searches on one network. It keeps the times that the last [`find`] found, which are the known times,
-/// and what the last search answered.
+/// The working memory of the searches on one network. It keeps the times that the last [`find`] found, which are the known times.
+/// It also keeps what the last search found out.
 #[derive(Debug, Drop)]
 pub struct Work {
     search: Search,
@@ -52,8 +52,8 @@ impl Model for Work {
 }
 
 impl Work {
-    /// Working memory for a network. Takes all the memory that the searches ever need, or answers `NoMemory`. There are no known
-    /// times yet.
+    /// Makes working memory for a network. Takes all the memory that the searches ever need, or returns `NoMemory`. There are no
+    /// known times yet.
     pub fn new(alloc: Global, net: &Network) -> Result<Work, NoMemory>
         ensures made { IfOk result (IsMadeFor net.now) }
         ensures known { IfOk result (λ work. work.known ≡ None) }
@@ -104,14 +104,15 @@ impl Work {
         &self.known
     }
 
-    /// The times in picoseconds, one per event, that the last search for a bound found.
+    /// The times that the last search for a bound found, in picoseconds, one per event.
     pub fn times(&self) -> &[i64]
         ensures { result.now ≡ self.now.times }
     {
         &self.best.times
     }
 
-    /// For each event whether it is raised, where the last search for a bound answered [`GreatestAnswer::Unbounded`].
+    /// For each event whether it can be raised from the times, if the last search for a bound answered
+    /// [`GreatestAnswer::Unbounded`].
     pub fn ray(&self) -> &[bool]
         ensures { result.now ≡ self.now.ray }
     {
@@ -119,10 +120,10 @@ impl Work {
     }
 }
 
-/// Looks for times that satisfy a network, by a search over the causes of its latest and earliest constraints which closes at most
-/// `budget` cases: a case is split on a constraint that the times of its bounds break, and closed where its edges close a loop with
-/// a negative sum. Where there are such times they are known afterwards, and in every other case none are. The scribe writes down
-/// the lines of a proof that there are none, as far as the search came.
+/// Looks for times that satisfy a network. The search goes over the causes of latest and earliest constraints, and closes at most
+/// `budget` cases. It splits a case on a constraint that the times of its bounds break. It closes a case whose edges close a loop
+/// with a negative sum. If there are such times, they are the known times afterwards; after every other result there are no known
+/// times. The scribe writes the lines of a proof that no times satisfy, as far as the search came.
 ///
 /// The networks and their search are after McMillan and Dill, Algorithms for interface timing verification (1992).
 pub fn find<S: Scribe>(
@@ -160,9 +161,9 @@ pub fn find<S: Scribe>(
     Ok(found)
 }
 
-/// Finds the greatest separation of a pair of events, by a search that starts from known times and closes at most `budget` cases: a
-/// case is closed where its bounds allow no more than the best separation so far, or attain theirs by satisfying times. The scribe
-/// writes down the lines of a proof of the answer, as far as the search came. The known times stay.
+/// Finds the greatest separation of a pair of events. The search starts from the known times, and closes at most `budget` cases. It
+/// closes a case if the bounds of the case allow no more than the best separation so far, or if satisfying times attain them. The
+/// scribe writes the lines of a proof of the answer, as far as the search came. The known times stay.
 pub fn greatest<S: Scribe>(
     work: &mut Work,
     net: &Network,
@@ -204,8 +205,8 @@ pub fn greatest<S: Scribe>(
     )
 }
 
-/// Finds the greatest separation of a pair of events like [`greatest`], by a search that starts from given times in place of the known
-/// ones. The nearer their separation is to the greatest, the fewer cases are split. The known times stay.
+/// Finds the greatest separation of a pair of events like [`greatest`], but the search starts from given times in place of the
+/// known times. The nearer their separation is to the greatest, the fewer cases are split. The known times stay.
 pub fn greatest_from<S: Scribe>(
     work: &mut Work,
     net: &Network,
@@ -260,8 +261,8 @@ fn close_separation(times: &[i64], from: EventId, to: EventId) -> i64
     times[to.0 as usize] - times[from.0 as usize]
 }
 
-/// The root bound of a pair of events: its greatest separation over the times that meet the always-edges alone. It leaves the known
-/// times, the count of closed cases, the times and the ray as they are.
+/// The root bound of a pair of events: its greatest separation over the times that meet the always-edges alone. The known times,
+/// the count of closed cases, the times and the ray stay.
 pub fn root_bound(work: &mut Work, net: &Network, from: EventId, to: EventId) -> Root
     requires made { IsMadeFor net.now work.old }
     requires from { from.0 < net.now.events }

@@ -1,4 +1,4 @@
--- Drawn networks: what a report is about.
+-- Drawn networks, which reports are about.
 use Rattle.std.specs.Prelude.{◌≡◌, ◌<◌, ℕ, ℤ, pos, List, [], length, map, slice_get, unwrap_or}
 use Rattle.itv_base.specs.Names.{Name}
 use Rattle.itv_base.specs.declared.names.EventId.{EventId}
@@ -30,7 +30,7 @@ OriginsFit net origins = map length origins ≡ map (λ (c : Constraint). length
 abbrev pub IsRowOf : Net → Row → Type 0
 IsRowOf net row = (row.from.0 < net.events) × (row.to.0 < net.events)
 
--- times that are printed with a row: they satisfy the network, with the from-event at 0
+-- times that are printed with a row: they satisfy the network, and the from-event of the row is at 0
 pub record AreTimes (net : Net) (row : Row) (times : List ℤ) : Type 0 where
   pub satisfied : Satisfies times net
   pub at_zero : time_of times row.from ≡ pos 0

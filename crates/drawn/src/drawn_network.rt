@@ -64,7 +64,7 @@ impl DrawnNetwork {
         &self.network
     }
 
-    /// The origins of the causes: a list for each constraint of the network, and in it an origin for each cause.
+    /// The origins of the causes: a list for each constraint of the network, with an origin for each cause.
     pub fn origins(&self) -> &Origins
         ensures origins { result.now ≡ self.now.origins }
         ensures fit { OriginsFit self.now.net result.now }
@@ -72,7 +72,7 @@ impl DrawnNetwork {
         &self.origins
     }
 
-    /// The rows in order, each between events of the network, and within the limit of a report.
+    /// The rows in order. Each is between events of the network, and they are within the limit of a report.
     pub fn rows(&self) -> &Rows
         ensures rows { result.now ≡ self.now.rows }
         ensures within { All (IsRowOf self.now.net) result.now }
@@ -81,7 +81,7 @@ impl DrawnNetwork {
         &self.rows
     }
 
-    /// The name of an event that is there.
+    /// The name of an event of the network.
     pub fn name(&self, event: EventId) -> EventName<'_>
         requires { event.0 < self.now.net.events }
         ensures name { name_view result ≡ name_of self.now event }

@@ -1,6 +1,6 @@
-//! The names of events, as they are kept.
+//! The names of events as they are kept.
 
-/// The name of an event, with the number of its part, counted from 0, in place of the part's name.
+/// The name of an event. It has the number of the part, counted from 0, in place of the part's name.
 #[derive(Clone, Copy, Debug, PartialEq, Eq)]
 pub struct EventLabel {
     pub part: u32,

@@ -1,7 +1,7 @@
-//! Drawn networks: what the reading of a design ends with, and what each job starts from: a network, the origins of its causes, the
-//! names of its events, and the rows that are asked for between them.
-//! The contract: `name` gives each event the name by which reports and drawings know it, `origins` gives each constraint an origin
-//! for each of its causes, and rows are between events, within their limit.
+//! Drawn networks. The reading of a design ends with one, and each job starts from one: a network, the origins of its causes, the
+//! names of its events, and the rows that are asked for between them. The contract: `name` gives each event the name by which
+//! reports and drawings know it. `origins` gives each constraint an origin for each of its causes. Rows are between events, within
+//! their limit.
 #![tactic(auto)]
 
 mod drawn_network;

@@ -3,5 +3,5 @@
 use itv_base::Listing;
 use origin::Origin;
 
-/// The origins of the causes of constraints: a list for each constraint, in order, and in it an origin for each cause, in order.
+/// The origins of the causes of constraints: a list for each constraint, with an origin for each cause, both in order.
 pub type Origins = Listing<Listing<Origin>>;

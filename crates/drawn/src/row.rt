@@ -3,8 +3,8 @@
 use itv_base::{EventId, Listing, RowKind};
 use origin::Origin;
 
-/// A separation that is asked for, from an event to an event, what is wanted of it, and what draws it: an edge of a sheet or one of
-/// the netlist.
+/// A separation that is asked for: from which event to which, what is wanted of it, and what draws it, which is an edge of a sheet
+/// or of the netlist.
 #[derive(Clone, Copy, Debug, PartialEq, Eq)]
 pub struct Row {
     pub kind: RowKind,

@@ -1,4 +1,4 @@
--- The words of warnings, and the lines one behind another.
+-- The words of warnings, and the lines one after another.
 use Rattle.std.proofs.Common.{◌≡◌, ℕ, ◌+◌, ◌<◌, Bool, List, [], ◌∷◌, ◌++◌, length, get_or, drop, refl, sym, ap, ◌∙◌, append_assoc, append-nil}
 use Rattle.std.specs.Prelude.{if◌then◌else◌, codes}
 use Rattle.std.specs.List.{flat_map}
@@ -46,19 +46,19 @@ netlist_key_is key word is = ap (λ (ws : List ℕ). codes " key " ++ (ws ++ [])
 pub order_is : (number : ℕ) (digits : List ℕ) → digits ≡ number_text number → codes "warning order row " ++ (digits ++ (10 ∷ [])) ≡ order_text number
 order_is number digits is = ap (λ (ds : List ℕ). codes "warning order row " ++ (ds ++ (10 ∷ []))) is
 
--- one warning more
+-- one more warning
 pub warnings_more : (plan : Planned) (d : Composed) (warnings : List Warning) (k : ℕ) (other : Warning) → k < length warnings
     → flat_map (warning_text plan d) (drop k warnings) ≡ warning_text plan d (get_or warnings k other) ++ flat_map (warning_text plan d) (drop (k + 1) warnings)
 warnings_more plan d warnings k other within = at_drop_more (flat_map (warning_text plan d)) warnings k other within
 
--- one row more
+-- one more row
 pub orders_more : (network : Drawn) (found : List RowFound) (k : ℕ) (row : RowFound) (over : Bool) → k < length found → row ≡ get_or found k row → over ≡ is_over network row
     → orders_text network k (drop k found) ≡ (if over then order_text k else []) ++ orders_text network (k + 1) (drop (k + 1) found)
 orders_more network found k row over within is told =
     at_drop_more (orders_text network k) found k row within ∙ ap (λ (r : RowFound). orders_text network k (r ∷ drop (k + 1) found)) (sym is)
     ∙ ap (λ (o : Bool). (if o then order_text k else []) ++ orders_text network (k + 1) (drop (k + 1) found)) (sym told)
 
--- the whole
+-- the whole text
 pub lint_is : (plan : Planned) (d : Composed) (network : Drawn) (warnings shown : List Warning) (found told : List RowFound) (clean : Bool) → shown ≡ warnings → told ≡ found → clean ≡ is_clean network warnings found
     → ended (codes "itv lint 1") ++ (flat_map (warning_text plan d) shown ++ (orders_text network 0 told ++ end_text clean)) ≡ lint_text plan d network warnings found
 lint_is plan d network warnings shown found told clean is_shown is_told is = rw (is_shown, is_told, is) refl

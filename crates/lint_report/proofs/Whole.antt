@@ -30,7 +30,7 @@ module _ (plan : Planned) (design : Composed) (network : Drawn) (budget : ℕ) (
     is_answer = by ∙ ap answer_by (is.clean ∙ ap (λ (ws : List Warning). is_clean network ws told.found.items) is.warnings);
   }
 
-  -- and a front of it begins it
+  -- a front of the text begins it
   pub begins_lint : {B E : Type 0} (result : Result B E) (old new : SinkView) → CutShort old new text → OnErr result ((whole : List ℕ) × BeginsLint plan network budget whole × CutShort old new whole)
   begins_lint (Ok x) old new cut = tt
   begins_lint (Err e) old new cut = (text, (answer_by told.clean, answers_lint _ refl), cut)

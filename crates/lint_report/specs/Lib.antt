@@ -1,3 +1,4 @@
+-- The definitions of this crate, module by module: the text of job lint, and what it answers.
 pub use Rattle.compose.specs.Compose
 pub use Rattle.explained.specs.Answers
 pub use Rattle.explained.specs.Apart

@@ -12,13 +12,13 @@ use Rattle.explained.specs.Answers.{AreFound, IsFindingFound, SettlesWithin}
 use Rattle.warnings.specs.Warnings.{warnings_of}
 use Rattle.lint_report.specs.Text.{is_clean, lint_text}
 
--- a design without warnings passes, and one with some does not
+-- the answer: a design without warnings passes, and a design with some does not
 abbrev pub answer_by : Bool → Answer
 answer_by true = AllPass
 answer_by false = SomeFail
 
--- The text has just the warnings of the design that was read, and of what is found of its rows, all of which is right; the answer is whether there
--- are any.
+-- The text has just the warnings of the design that was read, and the warnings by what is found of its rows. All that was found is right. The
+-- answer says whether there are any warnings.
 pub record AnswersLint (plan : Planned) (network : Drawn) (budget : ℕ) (answer : Answer) (text : List ℕ) : Type 0 where
   pub design : Composed
   pub is_design : composed_on plan.netlist (sheets_on plan.sheets plan.netlist.parts) ≡ Ok design
@@ -30,6 +30,6 @@ pub record AnswersLint (plan : Planned) (network : Drawn) (budget : ℕ) (answer
   pub is_text : text ≡ lint_text plan design network (warnings_of plan design) found
   pub is_answer : answer ≡ answer_by (is_clean network (warnings_of plan design) found)
 
--- What may have been begun: all is found before anything is put, so it is a front of a whole text.
+-- The text may have been begun. All is found before anything is put, so what was put is a front of a whole text.
 abbrev pub BeginsLint : Planned → Drawn → ℕ → List ℕ → Type 0
 BeginsLint plan network budget text = (answer : Answer) × AnswersLint plan network budget answer text

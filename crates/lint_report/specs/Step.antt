@@ -17,8 +17,7 @@ abbrev pub line_text : Planned → Composed → Line → List ℕ
 line_text plan d (Drawing warning) = warning_text plan d warning.now
 line_text plan d (Order number) = order_text number
 
--- All that the lines tell is right: the warnings are those of the design of the plan, and what was found of the rows stands behind a
--- finding.
+-- All that the lines say is right: the warnings are the warnings of the plan's design, and the finding and what was found of the rows are right.
 pub record AreLintFindings (plan : Planned) (design : Composed) (network : Drawn) (budget : ℕ) (told : LintFindings) : Type 0 where
   pub is_design : composed_on plan.netlist (sheets_on plan.sheets plan.netlist.parts) ≡ Ok design
   pub warnings : told.warnings.items ≡ warnings_of plan design

@@ -29,7 +29,7 @@ use Rattle.warnings.specs.declared.warning.Warning.TheVariants.{Rows, Comment, N
 abbrev pub part_word : Composed → ℕ → Word
 part_word d part = unwrap_or (slice_get d.parts part) []
 
--- an edge or a lane of a part behind the name of the part; a pin or a wire by itself
+-- an edge or a lane of a part stands behind the name of the part; a pin or a wire stands by itself
 abbrev pub place_words : Composed → ℕ → Origin → List Word
 place_words d part (drawn.Lane n) = part_word d part ∷ origin_text (drawn.Lane n) ∷ []
 place_words d part (drawn.Edge n) = part_word d part ∷ origin_text (drawn.Edge n) ∷ []
@@ -47,13 +47,13 @@ mark_byte d mark = option_map_or (λ (m : Mark). m.name ∷ []) (slice_get (mark
 abbrev pub mark_word : Composed → DesignMark → Word
 mark_word d mark = part_word d mark.part ++ (46 ∷ mark_byte d mark)
 
--- ---- keys that are passed over, and nearly are keys which are read
+-- ---- near keys
 
--- such a key of the sheet of a part
+-- a near key of the sheet of a part
 abbrev pub sheet_key_word : Composed → ℕ → ℕ → Word
 sheet_key_word d part key = unwrap_or (option_and_then (λ (sheet : SheetContents). slice_get sheet.near key) (slice_get d.sheets part)) []
 
--- such a key of the netlist
+-- a near key of the netlist
 abbrev pub netlist_key_word : Planned → ℕ → Word
 netlist_key_word plan key = unwrap_or (slice_get plan.netlist.near key) []
 
@@ -90,11 +90,11 @@ goes_over network (Within limit attained) = false
 abbrev pub is_over : Drawn → RowFound → Bool
 is_over network found = goes_over network found.greatest || (goes_over network found.least || is_some found.apart)
 
--- the line of such a row
+-- the line of a row whose answer rests on the order of a lane
 abbrev pub order_text : ℕ → List ℕ
 order_text number = ended (line_of (codes "warning" ∷ codes "order" ∷ codes "row" ∷ number_text number ∷ []))
 
--- the lines of rows, the first of which has a number
+-- the lines of rows whose answer rests on the order of a lane; the first row has this number
 abbrev pub orders_text : Drawn → ℕ → List RowFound → List ℕ
 orders_text network number [] = []
 orders_text network number (found ∷ others) =

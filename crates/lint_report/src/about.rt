@@ -30,7 +30,7 @@ pub fn put_spot<K: Sink>(
     }
 }
 
-// The name of a part, and what draws something of it.
+// Puts the name of a part, and what draws something of it.
 fn put_placed<K: Sink>(
     design: &Design<'_>,
     part: u32,
@@ -88,7 +88,7 @@ pub fn put_netlist_key<K: Sink>(plan: &Plan, key: u64, sink: &mut K) -> Result<(
     put_all(sink, &[b" key ", key])
 }
 
-// The name of a part; an empty text where there is none.
+// The name of a part, or an empty text if there is no such part.
 fn part_word<'a>(design: &'a Design<'_>, part: u32) -> &'a str
     ensures word { result.now ≡ part_word design.now part }
 {
@@ -100,7 +100,7 @@ fn part_word<'a>(design: &'a Design<'_>, part: u32) -> &'a str
     }
 }
 
-// The name of a mark, if it is there.
+// The name of a mark, if there is such a mark.
 fn mark_name(design: &Design<'_>, mark: DesignMark) -> Option<u8>
     ensures name { result ≡ option_map (λ (m : Mark). m.name) (slice_get (marks_at design.now.sheets mark.part) mark.mark) }
 {
@@ -117,7 +117,7 @@ fn mark_name(design: &Design<'_>, mark: DesignMark) -> Option<u8>
     }
 }
 
-// A near key of the sheet of a part; an empty text where there is none.
+// A near key of the sheet of a part, or an empty text if there is no such key.
 fn sheet_key_word<'a>(design: &'a Design<'_>, part: u32, key: u64) -> &'a str
     ensures word { result.now ≡ sheet_key_word design.now part key }
 {
@@ -129,14 +129,14 @@ fn sheet_key_word<'a>(design: &'a Design<'_>, part: u32, key: u64) -> &'a str
     text_at(design.sheet_of(part).near(), key)
 }
 
-// A near key of the netlist; an empty text where there is none.
+// A near key of the netlist, or an empty text if there is no such key.
 fn netlist_key_word(plan: &Plan, key: u64) -> &str
     ensures word { result.now ≡ netlist_key_word plan.now key }
 {
     text_at(plan.netlist().near(), key)
 }
 
-// The text of a number; an empty text where there is none.
+// The text with a number, or an empty text if there is no such text.
 fn text_at(texts: &Texts, number: u64) -> &str
     ensures { result.now ≡ unwrap_or (slice_get texts.now number) [] }
 {

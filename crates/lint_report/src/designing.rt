@@ -9,7 +9,7 @@ use itv_base::NoMemory;
 use plan::Plan;
 use std::alloc::Global;
 
-/// The design of a plan that has one.
+/// The design of a plan. The plan has one.
 pub fn design_of(alloc: Global, plan: &Plan) -> Result<Design<'_>, NoMemory>
     requires design { IsOk (composed_on plan.now.netlist (sheets_on plan.now.sheets plan.now.netlist.parts)) }
     ensures design { IfOk result (λ design. composed_on plan.now.netlist (sheets_on plan.now.sheets plan.now.netlist.parts) ≡ Ok design) }

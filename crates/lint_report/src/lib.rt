@@ -1,5 +1,5 @@
-//! Job lint: what of a design may say something else than was meant.
-//! The contract of the crate: `write_lint` writes just the warnings of the definitions; where a put failed, a front of such a text.
+//! Job lint: what in a design may say something else than was meant. The contract of the crate: `write_lint` writes just the
+//! warnings of the definitions. If a put failed, it wrote a front of such a text.
 #![tactic(auto)]
 
 mod about;

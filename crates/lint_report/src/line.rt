@@ -7,6 +7,6 @@ use warnings::Warning;
 pub enum Line<'a> {
     /// A warning of the drawing.
     Drawing(&'a Warning),
-    /// The answer of the row of this number from 0 rests on the order of a lane.
+    /// The answer of the row with this number, counted from 0, rests on the order of a lane.
     Order(u64),
 }

@@ -9,7 +9,7 @@ use explained::{BoundFound, RowFound};
 use itv_base::EdgeName;
 use warnings::Warning;
 
-/// Whether there is no warning, neither of the drawing nor of a row.
+/// Whether there is no warning, of the drawing or of a row.
 pub fn is_clean(drawn: &DrawnNetwork, warnings: &[Warning], found: &[RowFound]) -> bool
     ensures clean { result ≡ is_clean drawn.now warnings.now found.now }
 {

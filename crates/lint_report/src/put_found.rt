@@ -16,7 +16,7 @@ use line_words::LineBuffer;
 use plan::Plan;
 use warnings::Warning;
 
-/// All that the lines tell: the warnings of the drawing, what was found of the rows, and whether there is nothing to warn of.
+/// All that the lines say: the warnings of the drawing, what was found of the rows, and whether there is nothing to warn of.
 #[derive(Drop)]
 pub struct LintFindings {
     pub warnings: Vec<Warning>,
@@ -42,7 +42,7 @@ pub fn put_text<K: Sink>(
     put_end(told.clean, sink)
 }
 
-// The warnings of the drawing.
+// Puts the warnings of the drawing.
 fn put_warnings<K: Sink>(
     plan: &Plan,
     design: &Design<'_>,
@@ -58,7 +58,7 @@ fn put_warnings<K: Sink>(
     Ok(())
 }
 
-// The rows whose answer rests on the order of a lane.
+// Puts the lines of the rows whose answer rests on the order of a lane.
 fn put_orders<K: Sink>(
     plan: &Plan,
     design: &Design<'_>,
@@ -76,7 +76,7 @@ fn put_orders<K: Sink>(
     Ok(())
 }
 
-// A row, if its answer rests on the order of a lane.
+// Puts the line of a row, if its answer rests on the order of a lane.
 fn put_order<K: Sink>(
     plan: &Plan,
     design: &Design<'_>,

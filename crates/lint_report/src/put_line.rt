@@ -18,7 +18,7 @@ use origin::Origin;
 use plan::Plan;
 use warnings::{DrawnPlace, Warning};
 
-/// Puts a line and its end: by one put where it fits the buffer, and else piece by piece. What the buffer held before is forgotten.
+/// Puts a line and its end, by one put if it fits the buffer, and else piece by piece. What the buffer held before is forgotten.
 pub fn put_line<K: Sink>(
     plan: &Plan,
     design: &Design<'_>,
@@ -35,7 +35,7 @@ pub fn put_line<K: Sink>(
     }
 }
 
-// A line piece by piece.
+// Puts a line piece by piece.
 fn put_pieces<K: Sink>(
     plan: &Plan,
     design: &Design<'_>,
@@ -71,7 +71,7 @@ fn put_warning<K: Sink>(
     sink.put(b"\n")
 }
 
-// A space and a word for each word of a warning.
+// Puts a space and a word for each word of a warning.
 fn put_warning_words<K: Sink>(
     plan: &Plan,
     design: &Design<'_>,
@@ -96,7 +96,7 @@ fn put_warning_words<K: Sink>(
     }
 }
 
-// A word, and what draws something.
+// Puts a word, and what draws something.
 fn put_keyed<K: Sink>(
     key: &[u8],
     design: &Design<'_>,
@@ -109,7 +109,7 @@ fn put_keyed<K: Sink>(
     put_spot(design, spot, sink)
 }
 
-// What draws two rules for one mark.
+// Puts what draws the two rules for one mark.
 fn put_both<K: Sink>(
     design: &Design<'_>,
     first: &DrawnPlace,
@@ -123,7 +123,7 @@ fn put_both<K: Sink>(
     put_spot(design, other, sink)
 }
 
-// A word, a mark, and what draws that it follows a driver and something else.
+// Puts a word, a mark that follows a driver and something else, and what draws the one and the other.
 fn put_driven<K: Sink>(
     key: &[u8],
     design: &Design<'_>,

@@ -23,11 +23,11 @@ use plan::Plan;
 use std::alloc::Global;
 use warnings::warnings_of;
 
-// Room for most lines. A longer one is put piece by piece.
+// Room for most lines. A longer line is put piece by piece.
 const LINE_ROOM: u32 = 256;
 
-/// Writes what of a design may say something else than was meant: a line for each warning, of the drawing and then of the rows whose
-/// answer rests on the order of a lane. Each search closes at most `budget` cases. All is found before the first put.
+/// Writes what in a design may say something else than was meant: a line for each warning of the drawing, and then for each row
+/// whose answer rests on the order of a lane. Each search closes at most `budget` cases. All is found before the first put.
 pub fn write_lint<K: Sink>(
     alloc: Global,
     plan: &Plan,
@@ -46,7 +46,7 @@ pub fn write_lint<K: Sink>(
     Ok(put_told(plan, &design, drawn, &told, &mut buffer, sink)?)
 }
 
-// Finds all that the lines tell.
+// Finds all that the lines say.
 fn find_told(
     alloc: Global,
     plan: &Plan,
@@ -69,7 +69,7 @@ fn find_told(
     })
 }
 
-// Puts the whole text. The answer is whether there is nothing to warn of.
+// Puts the whole text. The answer says whether there is nothing to warn of.
 fn put_told<K: Sink>(
     plan: &Plan,
     design: &Design<'_>,
@@ -90,7 +90,7 @@ fn put_told<K: Sink>(
     Ok(answer_by(told.clean))
 }
 
-// What the job answers: that nothing is noted, or that something is.
+// What the job answers: all is clean, or there is something to warn of.
 fn answer_by(clean: bool) -> Answer
     ensures { result ≡ answer_by clean }
 {

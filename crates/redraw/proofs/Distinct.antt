@@ -95,7 +95,7 @@ with_apart (y ∷ ys) x h g = by_test (int_lt x.time y.time) (with_apart ys x h.
   by_test true rest = (h, g)
   by_test false rest = (every_with (TimedApart y) ys x (λ e. h.0 (sym e)) g.0, rest)
 
--- a list before another: each of the first is apart from each of the second
+-- each event of the first list is apart from each event of the second
 abbrev AreAcross : List Timed → List Timed → Type 0
 AreAcross done [] = Unit {0}
 AreAcross done (x ∷ xs) = Every (TimedApart x) done × AreAcross done xs

@@ -1,4 +1,4 @@
--- The definitions at an example, worked by hand: two events, of which the second has to come within 249 ps and comes after 250.
+-- The definitions at an example, worked by hand: of two events, the second has to come within 249 ps of the first, and comes after 250.
 use Rattle.std.proofs.Common.{◌≡◌, pos, List, [], ◌∷◌, codes, Some, refl}
 use Rattle.itv_base.specs.Range.{Ends}
 use Rattle.itv_base.specs.declared.row_kind.RowKind.TheVariants.{Req}
@@ -35,7 +35,7 @@ text_of_two : sketch_text (record { lanes = lanes; edges = codes "a->b @lin [250
     ≡ codes "{\"signal\":[{\"name\":\"U.a@0\",\"wave\":\"01\",\"node\":\".a\"},{\"name\":\"U.b@0\",\"wave\":\"0.1\",\"node\":\"..b\"}],\"edge\":[\"a->b @lin [250,250]\",\"a->b @req [0,249]\"]}\n"
 text_of_two = refl
 
--- of the gaps 3, 37 and 5 the one that is greater than 10 is made 10
+-- of the gaps 3, 37 and 5, the gap that is greater than 10 becomes 10
 narrowed_by_10 : narrowed 10 (pos 0 ∷ pos 3 ∷ pos 40 ∷ pos 45 ∷ []) ≡ pos 0 ∷ pos 3 ∷ pos 13 ∷ pos 18 ∷ []
 unfolding narrowed
 narrowed_by_10 = refl

@@ -81,7 +81,7 @@ next_drawn last before x le =
       behind : (t g : ℤ) → g ≡ ((t +ℤ g) -ℤ t)
       behind t g = omega (arith, ints)
 
--- from the event before to one behind it
+-- the distance from an event to a later one is drawn
 later_drawn : (e : EventId) (last : Timed) (before : DrawnEvent) (xs : List Timed) → Follow last xs → Has e xs
     → IsDrawnAs (timed_in xs e -ℤ last.time) (time_in (stands_after last before xs) e -ℤ before.time)
 later_drawn e last before [] follow h = absurd h
@@ -142,7 +142,7 @@ pair_drawn a b [] order in_a in_b = absurd in_a
 pair_drawn a b (x ∷ xs) order in_a in_b =
     pair_at a b x (first_stand x) xs refl order in_a in_b (λ p q. pair_after a b x (first_stand x) xs order p q)
 
--- so both ways the separation is kept
+-- the separation is kept both ways
 
 kept_from : (width : ℕ) (old new : ℤ) → IsDrawnBy width old new → IsKept width old new
 kept_from width old new h = record { near = λ low high. h.near high; wide = λ far. h.wide far }
@@ -187,7 +187,7 @@ both_kept from to a b n times in_a in_b =
     (subst (λ z. AreDrawn z (timed_in (ordered_events from to n times) b) (time_in (stands_of (ordered_events from to n times)) a) (time_in (stands_of (ordered_events from to n times)) b)) at_a
     (pair_drawn a b (ordered_events from to n times) (sorted_in_order (map (timed_at times) (drawn_events from to n))) in_a in_b)))
 
--- the separation of two events that are drawn
+-- the drawing keeps the separation of any two drawn events
 pub any_kept : (from to a b : EventId) (n : ℕ) (times : List ℤ) → Has a (ordered_events from to n times) → Has b (ordered_events from to n times)
     → IsKept widest_gap (separation times a b) (time_in (stands_of (ordered_events from to n times)) b -ℤ time_in (stands_of (ordered_events from to n times)) a)
 any_kept from to a b n times in_a in_b = (both_kept from to a b n times in_a in_b).0

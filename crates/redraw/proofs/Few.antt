@@ -1,4 +1,4 @@
--- In a design of few events all are drawn, and the drawn times satisfy it.
+-- In a design with few events all are drawn, and the drawn times satisfy it.
 use Rattle.std.proofs.Common.{◌≡◌, ◌+◌, ◌<◌, ◌≤◌, ◌==◌, ◌⊎◌, inl, inr, ℕ, zero, suc, ℤ, pos, ◌-ℤ◌, Bool, true, false, not, cond, if◌then◌else◌, List, [], ◌∷◌, ◌++◌, length, map, filter, take, ◌∙◌, refl, sym, ap, subst, arith, eq-eqb, eqb-true, ne_eqb}
 use Rattle.std.specs.List.{range_with_len}
 use Rattle.std.proofs.lemmas.Bool.{cases_eq, eqb-false, or_left, or_right}

@@ -1,4 +1,4 @@
--- Names of their form have texts of their own.
+-- Names that have the form of names have different texts.
 use Rattle.std.proofs.Common.{◌≡◌, ◌<◌, inl, inr, ℕ, zero, suc, List, [], ◌∷◌, length, get_or, Some, slice_get, unwrap_or, ◌∙◌, refl, sym, ap, arith}
 use Rattle.std.proofs.lemmas.Bool.{cases_order}
 use Rattle.itv_base.specs.Names.{Name}
@@ -19,7 +19,7 @@ name_got [] i within = absurd (omega arith)
 name_got (n ∷ ns) zero within = refl
 name_got (n ∷ ns) (suc i) within = name_got ns i (omega arith)
 
--- where no name stands twice, two events have two texts
+-- if no name stands twice, two events have different texts
 pub names_differ : OtherNamesDiffer
 names_differ drawn count named once a b in_a in_b same =
     let there_a : a.0 < length drawn.names = omega arith in

@@ -9,7 +9,7 @@ use Rattle.falling.proofs.Removed as fall
 use Rattle.redraw.specs.Narrowing.{AreNeighbours, follow_count, follows, least, lesser, narrowed, narrowed_time, natural_part}
 use Rattle.redraw.specs.Laws.{NarrowingIsByGaps}
 
--- ---- what is left is what is not removed
+-- ---- the numbers that follow a time are the numbers that are not removed
 
 covered_is : (width : ℕ) (times : List ℤ) (z : ℤ) → is_covered width times z ≡ list_any (follows width z) times
 covered_is width [] z = refl
@@ -62,7 +62,7 @@ least_below [] i d within = absurd (omega arith)
 least_below (time ∷ times) zero d within = fold_below times time
 least_below (time ∷ times) (suc i) d within = fold_least times time i d (omega arith)
 
--- ---- as the values of which numbers are removed
+-- ---- narrowed times, by the numbers that are removed
 
 counted : (width : ℕ) (times : List ℤ) (base time : ℤ) (n : ℕ) → IsNaturalPart (time -ℤ base) n → base ≤ℤ time
     → pos (follow_count width times base n) ≡ (time -ℤ pos (removed width times base n)) -ℤ base
@@ -104,7 +104,7 @@ keeps_narrowed width times from to in_from in_to = kept_at width times from.0 to
 
 -- ---- no gap is left beyond the width
 
--- numbers that no time covers are all removed
+-- if no time covers some numbers, all of them are removed
 removed_all : (width : ℕ) (times : List ℤ) (base : ℤ) (k n : ℕ) → k ≤ n → ((j : ℕ) → k ≤ j → j < n → is_covered width times (base +ℤ pos j) ≡ false)
     → removed width times base n + k ≡ removed width times base k + n
 removed_all width times base zero zero le bare = refl
@@ -152,7 +152,7 @@ bare_between width (time ∷ times) lower upper z empty from below =
     ] in
     rw (bare, rest) refl
 
--- of two neighbours more than the width apart all but the width is removed
+-- if two neighbours are more than the width apart, at most the width is left between them
 most_left : (width : ℕ) (times : List ℤ) (base lower upper : ℤ) → base ≤ℤ lower → AreNeighbours times lower upper → pos width ≤ℤ (upper -ℤ lower)
     → (fall.narrowed width times base upper -ℤ fall.narrowed width times base lower) ≤ℤ pos width
 most_left width times base lower upper above near wide =

@@ -47,7 +47,7 @@ constraints_within (k ∷ ks) h =
 pub widest_within : (net : Net) → IsNet net → widest_end net ≤ widest_gap
 widest_within net is_net = constraints_within net.constraints is_net.ends
 
--- ---- what keeps separations up to a width keeps those up to a smaller one
+-- ---- what keeps separations up to a width keeps separations up to a smaller width
 
 kept_smaller : (width less : ℕ) (old new : ℤ) → less ≤ width → IsKept width old new → IsKept less old new
 kept_smaller width less old new le kept = record {
@@ -86,7 +86,7 @@ pub narrowed_stay_above : NarrowedStayAbove
 narrowed_stay_above times from to high in_from in_to inner h =
     stays_above widest_gap (time_of times from) (time_of times to) (time_of (narrowed widest_gap times) from) (time_of (narrowed widest_gap times) to) high inner.0 inner.1 (keeps_narrowed widest_gap times from to in_from in_to) (keeps_narrowed widest_gap times to from in_to in_from) h
 
--- a separation below a low end is one above its negation, the other way round
+-- a separation below a low end is, reversed, above minus that end
 pub stays_below : (width : ℕ) (a b a' b' low : ℤ) → neg_ℤ (pos width) <ℤ low → low ≤ℤ pos width → IsKept width (b -ℤ a) (b' -ℤ a') → IsKept width (a -ℤ b) (a' -ℤ b')
     → (b -ℤ a) <ℤ low → (b' -ℤ a') <ℤ low
 stays_below width a b a' b' low least most kept back h =

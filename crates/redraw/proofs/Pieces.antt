@@ -79,7 +79,7 @@ simple_end None = refl
 simple_end (Some (pos n)) = simple_number n
 simple_end (Some (negsuc n)) = simple_number (suc n)
 
--- a label that tells no ends
+-- a label without ends
 abbrev bare_label : Kind → LooseLabel Ends
 bare_label kind = record { kind = kind; shift = 0; tag = None; ends = None; note = None }
 
@@ -212,7 +212,7 @@ behind_first : (edge : List ℕ) (edges : List (List ℕ)) (last : List ℕ) →
 behind_first edge [] last = refl
 behind_first edge (e ∷ es) last = refl
 
--- edges with commas between them, where each but the last has one behind it
+-- edges with commas between them: each edge but the last has a comma behind it
 pub edges_are : (edges : List (List ℕ)) (last : List ℕ) → with_commas (map quoted (edges ++ last ∷ [])) ≡ steps_text edges ++ quoted last
 edges_are [] last = append-nil (quoted last)
 edges_are (e ∷ es) last =
@@ -242,7 +242,7 @@ number_at stands i d event within = ap (λ l. number_in l event) (drop_more stan
 pub number_none : (stands : List DrawnEvent) (i : ℕ) (event : EventId) → length stands ≤ i → number_in (drop i stands) event ≡ 0
 number_none stands i event h = ap (λ l. number_in l event) (drop_all i stands h)
 
--- some edges are put, and the others follow an event
+-- some edges are put, and the other events follow the last one put
 pub record AreLeft (old now : SinkView) (first before : DrawnEvent) (rest stands : List DrawnEvent) : Type 0 where
   pub left : Left old now (steps_text (step_edges before rest)) (steps_text (step_edges first stands))
   pub near : AreNear before rest

@@ -25,7 +25,7 @@ redrawn_is drawn row asked times there count in_from in_to =
     ap (λ (r : Row). sketch_text (sketch_of (name_of drawn) r.from r.to (demand_of r.kind) (row_stands drawn.net.events r (narrowed widest_gap times)))) (ap (λ o. unwrap_or o nowhere) there)
     ∙ ap (λ ss. sketch_text (sketch_of (name_of drawn) asked.from asked.to (demand_of asked.kind) ss)) (at_row drawn asked times count in_from in_to)
 
--- the same of rows that are told
+-- the same with the rows and the row number as the code has them
 pub redrawn_at : (drawn : Drawn) (rows : List Row) (row number : ℕ) (asked : Row) (range : Ends) (times : List ℤ) → rows ≡ drawn.rows → All (IsRowOf drawn.net) rows → number ≡ row
     → slice_get rows number ≡ Some asked → length times ≡ drawn.net.events → range ≡ demand_of asked.kind
     → sketch_text (sketch_of (name_of drawn) asked.from asked.to range (stands_of (ordered_events asked.from asked.to (length times) times))) ≡ redrawn drawn row times

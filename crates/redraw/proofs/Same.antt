@@ -33,7 +33,7 @@ is_lt a b h = by_test (int_lt a b) refl where
   by_test true e = refl
   by_test false e = absurd (omega (arith, ints))
 
--- which of two events comes later stays
+-- which of two events comes later does not change
 later_from : (width : ℕ) (a b a' b' : ℤ) → 0 < width → IsKept width (b -ℤ a) (b' -ℤ a') → a <ℤ b → a' <ℤ b'
 later_from width a b a' b' some kept h = elim (below_or_not (pos width) (b -ℤ a)) [
   | inl wide ↦ let new : pos width ≤ℤ (b' -ℤ a') = kept.wide wide in omega (arith, ints)

@@ -10,7 +10,7 @@ use Rattle.redraw.specs.Narrowing.{lesser, widest_gap}
 use Rattle.redraw.specs.Drawing.{first_stand, next_stand, stands_after, stands_of}
 use Rattle.redraw.specs.Step.{AreInOrder, Follow}
 
--- the first events stand, and the others are to follow the last of them
+-- the first events stand, and the other events follow the last of them
 pub record IsUp (timed : List Timed) (stands : List DrawnEvent) (k : ℕ) (last : Timed) (before : DrawnEvent) : Type 0 where
   pub room : length stands ≡ MOST_DRAWN
   pub least : 1 ≤ k

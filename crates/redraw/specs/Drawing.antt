@@ -1,4 +1,4 @@
--- The drawing of a counterexample: a lane for each event that is drawn, in order of time, and edges that fix the times.
+-- The drawing of a counterexample: a lane for each drawn event, in order of time, and edges that fix the times.
 use Rattle.std.specs.Prelude.{ℕ, ◌+◌, ◌-◌, ◌==◌, ℤ, pos, ◌+ℤ◌, ◌-ℤ◌, int_lt, if◌then◌else◌, List, [], ◌∷◌, ◌++◌, map, replicate, codes, slice_get, slice_index, Some, None, unwrap_or}
 use Rattle.itv_base.specs.declared.names.EventId.{EventId}
 use Rattle.itv_base.specs.Names.{Name}
@@ -29,7 +29,8 @@ mark_at number = slice_index marks number
 abbrev pub first_stand : Timed → DrawnEvent
 first_stand x = record { event = x.event; number = 0; place = 1; time = pos 0 }
 
--- The event behind another one: one place on where it comes later, and no further in time than the greatest gap that is kept.
+-- The event behind another one. Its place is one further if it comes later. Its drawn time is later by the same gap, but at most by the greatest
+-- gap that is kept.
 abbrev pub next_stand : Timed → DrawnEvent → Timed → DrawnEvent
 next_stand last before x = record {
   event = x.event;
@@ -42,7 +43,7 @@ abbrev pub stands_after : Timed → DrawnEvent → List Timed → List DrawnEven
 stands_after last before [] = []
 stands_after last before (x ∷ xs) = next_stand last before x ∷ stands_after x (next_stand last before x) xs
 
--- events in order of time, with where they stand
+-- where events in order of time stand
 abbrev pub stands_of : List Timed → List DrawnEvent
 stands_of [] = []
 stands_of (x ∷ xs) = first_stand x ∷ stands_after x (first_stand x) xs
@@ -51,12 +52,12 @@ stands_of (x ∷ xs) = first_stand x ∷ stands_after x (first_stand x) xs
 abbrev pub drawn_times : List DrawnEvent → List ℤ
 drawn_times stands = map (λ (s : DrawnEvent). s.time) stands
 
--- the event's own number among those that stand
+-- the number of an event among the drawn events
 abbrev pub number_in : List DrawnEvent → EventId → ℕ
 number_in [] e = 0
 number_in (s ∷ ss) e = if s.event.0 == e.0 then s.number else number_in ss e
 
--- the event's drawn time
+-- the drawn time of an event
 abbrev pub time_in : List DrawnEvent → EventId → ℤ
 time_in [] e = pos 0
 time_in (s ∷ ss) e = if s.event.0 == e.0 then s.time else time_in ss e
@@ -93,7 +94,7 @@ exactly distance = record { low = Some distance; high = Some distance }
 abbrev pub step_edge : DrawnEvent → DrawnEvent → List ℕ
 step_edge before s = edge_text (mark_at before.number) (mark_at s.number) (range_label Lin (exactly (s.time -ℤ before.time)))
 
--- one for each two that stand next to each other
+-- an edge for each two neighbours in order of time
 abbrev pub step_edges : DrawnEvent → List DrawnEvent → List (List ℕ)
 step_edges before [] = []
 step_edges before (s ∷ ss) = step_edge before s ∷ step_edges s ss
@@ -102,7 +103,7 @@ abbrev pub steps_of : List DrawnEvent → List (List ℕ)
 steps_of [] = []
 steps_of (s ∷ ss) = step_edges s ss
 
--- what the row demands
+-- the edge for what the row demands
 abbrev pub demand_edge : List DrawnEvent → EventId → EventId → Ends → List ℕ
 demand_edge stands from to ends = edge_text (mark_at (number_in stands from)) (mark_at (number_in stands to)) (range_label Req ends)
 
@@ -129,11 +130,11 @@ nowhere = record { kind = asked.Ask; from = record { 0 = 0 }; to = record { 0 = 
 abbrev pub row_at : Drawn → ℕ → Row
 row_at drawn row = unwrap_or (slice_get drawn.rows row) nowhere
 
--- where the drawn events of a row stand by some times
+-- where the drawn events of a row stand at some times
 abbrev pub row_stands : ℕ → Row → List ℤ → List DrawnEvent
 row_stands events row times = stands_of (ordered_events row.from row.to events times)
 
--- where the drawn events of a row stand by the narrowed times
+-- where the drawn events of a row stand at the narrowed times
 abbrev pub stands_drawn : Drawn → ℕ → List ℤ → List DrawnEvent
 stands_drawn drawn row times = row_stands drawn.net.events (row_at drawn row) (narrowed widest_gap times)
 

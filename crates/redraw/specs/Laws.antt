@@ -1,4 +1,4 @@
--- Laws of narrowed times and of drawings, over the definitions alone.
+-- Laws of narrowed times and of drawings, which hold by the definitions alone.
 use Rattle.std.specs.Prelude.{◌≡◌, ◌<◌, ◌≤◌, ℕ, ℤ, pos, neg_ℤ, ◌-ℤ◌, ◌≤ℤ◌, ◌<ℤ◌, List, length, map, All, Some, slice_get, slice_index_or}
 use Rattle.std.specs.List.{range_with_len}
 use Rattle.itv_base.specs.declared.names.EventId.{EventId}
@@ -15,22 +15,22 @@ use Rattle.redraw.specs.Drawing.{stands_drawn, time_in}
 use Rattle.redraw.specs.Narrowing.{HasGapsWithin, narrowed, widest_gap}
 use Rattle.redraw.specs.Order.{event}
 
--- narrowing makes each gap between neighbouring values that is greater than the width the width, and changes no other
+-- narrowing reduces each gap between neighbouring times that is greater than the width to the width, and changes no other gap
 abbrev pub NarrowingIsByGaps : Type 0
 NarrowingIsByGaps = (width : ℕ) (times : List ℤ) → HasGapsWithin width times (narrowed width times)
 
--- narrowed times of satisfying times satisfy
+-- if times satisfy, their narrowed times satisfy
 abbrev pub NarrowedSatisfy : Type 0
 NarrowedSatisfy = (net : Net) (times : List ℤ) → IsNet net → Satisfies times net → Satisfies (narrowed widest_gap times) net
 
--- an end that stays failed in narrowed times: within the limit, and not the limit itself
+-- an end that narrowed times stay past: within the limit, and not the limit itself on its own side
 abbrev pub IsInnerHigh : ℤ → Type 0
 IsInnerHigh high = (neg_ℤ (pos widest_gap) ≤ℤ high) × (high <ℤ pos widest_gap)
 
 abbrev pub IsInnerLow : ℤ → Type 0
 IsInnerLow low = (neg_ℤ (pos widest_gap) <ℤ low) × (low ≤ℤ pos widest_gap)
 
--- a separation past such an end stays past it
+-- a separation past such an end stays past it in narrowed times
 abbrev pub NarrowedStayAbove : Type 0
 NarrowedStayAbove = (times : List ℤ) (from to : EventId) (high : ℤ) → from.0 < length times → to.0 < length times → IsInnerHigh high
     → high <ℤ separation times from to → high <ℤ separation (narrowed widest_gap times) from to
@@ -39,7 +39,7 @@ abbrev pub NarrowedStayBelow : Type 0
 NarrowedStayBelow = (times : List ℤ) (from to : EventId) (low : ℤ) → from.0 < length times → to.0 < length times → IsInnerLow low
     → separation times from to <ℤ low → separation (narrowed widest_gap times) from to <ℤ low
 
--- and so does the separation of the drawn times
+-- the separation of a row past such an end stays past it in drawn times
 abbrev pub DrawnStayAbove : Type 0
 DrawnStayAbove = (drawn : Drawn) (row : ℕ) (asked : Row) (times : List ℤ) (high : ℤ) → slice_get drawn.rows row ≡ Some asked → IsRowOf drawn.net asked
     → length times ≡ drawn.net.events → IsInnerHigh high → high <ℤ separation times asked.from asked.to
@@ -54,19 +54,19 @@ DrawnStayBelow = (drawn : Drawn) (row : ℕ) (asked : Row) (times : List ℤ) (l
 abbrev pub event_times : ℕ → List DrawnEvent → List ℤ
 event_times events stands = map (λ (number : ℕ). time_in stands (event number)) (range_with_len 0 events)
 
--- in a design of few enough events all are drawn, and the drawn times of satisfying times satisfy
+-- if a design has few enough events, all are drawn, and the drawn times of satisfying times satisfy
 abbrev pub DrawnBelong : Type 0
 DrawnBelong = (drawn : Drawn) (row : ℕ) (asked : Row) (times : List ℤ) → IsNet drawn.net → Satisfies times drawn.net → slice_get drawn.rows row ≡ Some asked
     → IsRowOf drawn.net asked → drawn.net.events ≤ MOST_DRAWN → Satisfies (event_times drawn.net.events (stands_drawn drawn row times)) drawn.net
 
 -- ---- names
 
--- two events of a network have two names
+-- two events of a network have different names
 abbrev pub NamesDiffer : Drawn → Type 0
 NamesDiffer drawn =
     (a b : EventId) → a.0 < drawn.net.events → b.0 < drawn.net.events → name_word (name_of drawn a) ≡ name_word (name_of drawn b) → a.0 ≡ b.0
 
--- so it is where each event has a name of its form and no name stands twice
+-- two events have different names if each name has the form of names, and no name stands twice
 abbrev pub OtherNamesDiffer : Type 0
 OtherNamesDiffer = (drawn : Drawn) → length drawn.names ≡ drawn.net.events → All IsName drawn.names
     → ((i j : ℕ) → i < j → j < length drawn.names → slice_index_or drawn.names i nameless ≡ slice_index_or drawn.names j nameless → ⊥) → NamesDiffer drawn

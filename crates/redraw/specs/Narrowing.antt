@@ -1,4 +1,4 @@
--- Times brought together: what is between them and too far from all is left out.
+-- Narrowed times: what lies between times and is far from all of them is left out.
 use Rattle.std.specs.Prelude.{◌≡◌, ◌⊎◌, ◌<◌, ◌+◌, ℕ, zero, suc, ℤ, pos, negsuc, ◌+ℤ◌, ◌-ℤ◌, ◌≤ℤ◌, unsigned_abs, int_le, int_lt, Bool, ◌&&◌, if◌then◌else◌, List, [], ◌∷◌, length, map, fold, All, slice_index_or}
 use Rattle.std.specs.List.{list_any}
 use Rattle.itv_base.specs.declared.limits.TheConstants.{END_LIMIT}
@@ -7,7 +7,7 @@ use Rattle.itv_base.specs.declared.limits.TheConstants.{END_LIMIT}
 abbrev pub widest_gap : ℕ
 widest_gap = unsigned_abs END_LIMIT
 
--- a number, or 0 for one below 0
+-- a number, or 0 if it is below 0
 abbrev pub natural_part : ℤ → ℕ
 natural_part (pos n) = n
 natural_part (negsuc n) = 0
@@ -20,21 +20,21 @@ abbrev pub least : List ℤ → ℤ
 least [] = pos 0
 least (time ∷ times) = fold lesser time times
 
--- a number is a time or less than a width after it
+-- a number is a time, or is after a time by less than the width
 abbrev pub follows : ℕ → ℤ → ℤ → Bool
 follows width number time = int_le time number && int_lt number (time +ℤ pos width)
 
--- how many of so many numbers from one on follow some time
+-- how many numbers follow some time, of so many from this one on
 abbrev pub follow_count : ℕ → List ℤ → ℤ → ℕ → ℕ
 follow_count width times from zero = 0
 follow_count width times from (suc count) =
     follow_count width times from count + (if list_any (follows width (from +ℤ pos count)) times then 1 else 0)
 
--- a time narrowed: the number of those from the least time on up to it that follow some time
+-- a narrowed time: how many numbers follow some time, of the numbers from the least time to just before this one
 abbrev pub narrowed_time : ℕ → List ℤ → ℤ → ℤ
 narrowed_time width times time = pos (follow_count width times (least times) (natural_part (time -ℤ least times)))
 
--- all times narrowed, which makes each gap between neighbouring values that is greater than the width the width
+-- all times narrowed: each gap between neighbouring times that is greater than the width becomes the width
 unfoldable pub narrowed : ℕ → List ℤ → List ℤ
 narrowed width times = map (narrowed_time width times) times
 
@@ -42,7 +42,7 @@ narrowed width times = map (narrowed_time width times) times
 abbrev pub AreNeighbours : List ℤ → ℤ → ℤ → Type 0
 AreNeighbours times lower upper = (lower ≤ℤ upper) × All (λ (time : ℤ). (time ≤ℤ lower) ⊎ (upper ≤ℤ time)) times
 
--- each gap between neighbouring values is made the width where it was greater, and stays where it was not
+-- a gap between neighbouring times becomes the width if it was greater, and else it stays
 pub record HasGapsWithin (width : ℕ) (times others : List ℤ) : Type 0 where
   pub count : length others ≡ length times
   pub gaps : (i j : ℕ) → i < length times → j < length times → AreNeighbours times (slice_index_or times i (pos 0)) (slice_index_or times j (pos 0))

@@ -15,7 +15,7 @@ use Rattle.redraw.specs.Text.{escaped, escaped_byte, quoted}
 abbrev pub comes_by : Timed → Timed → Bool
 comes_by x y = not (int_lt x.time y.time)
 
--- the first places hold the first of some events in order of time, as many as are drawn
+-- the first places hold the first of some events, as many as are drawn, in order of time
 pub record HoldsFirst (times : List ℤ) (timed : List Timed) (count : ℕ) (events : List EventId) : Type 0 where
   pub room : length timed ≡ MOST_DRAWN
   pub few : count ≡ min MOST_DRAWN (length events)
@@ -23,7 +23,7 @@ pub record HoldsFirst (times : List ℤ) (timed : List Timed) (count : ℕ) (eve
 
 -- ---- in order
 
--- each of some events comes no earlier than the one before it
+-- each event comes no earlier than the event before it
 abbrev pub Follow : Timed → List Timed → Type 0
 Follow last [] = Unit {0}
 Follow last (x ∷ xs) = (last.time ≤ℤ x.time) × Follow x xs
@@ -34,14 +34,14 @@ AreInOrder (x ∷ xs) = Follow x xs
 
 -- ---- where events stand
 
--- an event of so many at most, at a number that has a mark and a place
+-- the event is one of so many, its number has a mark, and its place is from 1 to `MOST_DRAWN`
 pub record IsStand (events : ℕ) (s : DrawnEvent) : Type 0 where
   pub event : s.event.0 < events
   pub number : s.number < MOST_DRAWN
   pub least : 1 ≤ s.place
   pub most : s.place ≤ MOST_DRAWN
 
--- each stands behind the one before it by no more than the greatest gap that is kept
+-- each event stands behind the event before it, by no more than the greatest gap that is kept
 abbrev pub AreNear : DrawnEvent → List DrawnEvent → Type 0
 AreNear before [] = Unit {0}
 AreNear before (s ∷ ss) = (pos 0 ≤ℤ (s.time -ℤ before.time)) × ((s.time -ℤ before.time) ≤ℤ pos widest_gap) × AreNear s ss
@@ -59,7 +59,7 @@ mark_and_cycle mark cycle = (codes "." ++ escaped_byte mark) ++ 64 ∷ number_te
 abbrev pub lane_front : List ℕ → List ℕ
 lane_front name = codes "{\"name\":\"" ++ escaped name
 
--- its wave, and its node up to the mark
+-- the wave of a lane, and its node up to the mark
 abbrev pub lane_wave : ℕ → List ℕ
 lane_wave place = codes "\",\"wave\":\"0" ++ (replicate (place - 1) 46 ++ (codes "1\",\"node\":\"" ++ replicate place 46))
 

@@ -1,6 +1,6 @@
-//! A counterexample as a timing diagram: a row of a drawn network and times, drawn as WaveJSON.
-//! The contract of the crate: `draw` writes the drawing of a row at some times, which WaveDrom draws and which is read again as a
-//! lone sheet; its laws say what such a drawing keeps of the times.
+//! A counterexample as a timing diagram: a row of a drawn network at some times, as WaveJSON. The contract of the crate: `draw`
+//! writes the drawing of a row at some times. WaveDrom draws it, and it can be read again as a lone sheet. The laws say what such a
+//! drawing keeps of the times.
 #![tactic(auto)]
 
 pub mod laws;

@@ -20,7 +20,7 @@ use itv_base::{EventId, NoMemory, PutFailed, Range, RowKind, Sink};
 use std::alloc::Global;
 use std::marker::Model;
 
-/// Room for one drawing after another.
+/// Room for drawings, one after another.
 #[derive(Debug, Drop)]
 pub struct DrawSpace {
     timed: Vec<Timed>,
@@ -49,7 +49,7 @@ fn demand_of(kind: RowKind) -> Range
     }
 }
 
-// Lets the drawn events of a row stand, of so many events, and tells how many they are.
+// Writes into the first places where the drawn events of a row stand. Returns how many are drawn. The network has `events` events.
 fn place_all(
     timed: &mut [Timed],
     stands: &mut [DrawnEvent],
@@ -99,7 +99,7 @@ fn draw_asked<K: Sink>(
 }
 
 impl DrawSpace {
-    /// Room for the drawings of any drawn network.
+    /// Makes room for the drawings of any drawn network.
     pub fn new(alloc: Global) -> Result<DrawSpace, NoMemory> {
         let nothing = EventId(0);
         Ok(DrawSpace {
@@ -117,7 +117,7 @@ impl DrawSpace {
     }
 }
 
-/// Writes the drawing of a row that demands a range, at some times. Takes no memory. Where a put failed a front of the text was
+/// Writes the drawing of a row that demands a range, at some times. Takes no memory. If a put failed, a front of the text was
 /// written, and the sink's count of faults rose.
 pub fn draw<K: Sink>(
     names: &DrawnNetwork,

@@ -2,7 +2,7 @@
 
 use itv_base::EventId;
 
-/// Events of a drawing at most: there are so many marks.
+/// The greatest number of events in a drawing: there are as many marks.
 pub const MOST_DRAWN: usize = 93;
 
 /// An event and its time in picoseconds.
@@ -12,8 +12,8 @@ pub struct Timed {
     pub time: i64,
 }
 
-/// An event with its number in the order of time from 0, the place at which its lane rises from 1, and its drawn time in
-/// picoseconds.
+/// An event of a drawing: its number in the order of time, counted from 0, the place at which its lane rises, counted from 1, and
+/// its drawn time in picoseconds.
 #[derive(Clone, Copy, Debug, PartialEq, Eq)]
 pub struct DrawnEvent {
     pub event: EventId,

@@ -11,7 +11,7 @@ ghost use Rattle.redraw.specs.declared.stand.TheConstants.{MOST_DRAWN};
 use crate::stand::{DrawnEvent, Timed};
 use itv_base::END_LIMIT;
 
-/// Puts where events in order of time stand into the first places.
+/// Writes into the first places where events in order of time stand.
 pub fn stand_up(timed: &[Timed], stands: &mut [DrawnEvent])
     requires some { 1 ≤ length timed.now }
     requires few { length timed.now ≤ MOST_DRAWN }
@@ -72,7 +72,7 @@ fn next_place(place: u32, last: Timed, item: Timed) -> u32
     }
 }
 
-// One time behind another.
+// A time, later by a gap.
 fn later(time: i64, gap: i64) -> i64
     requires time_low { pos 0 ≤ℤ time }
     requires time_high { time ≤ℤ pos (MOST_DRAWN * widest_gap) }
@@ -83,7 +83,7 @@ fn later(time: i64, gap: i64) -> i64
     time + gap
 }
 
-// How far an event is drawn behind the one before it.
+// How far behind the event before it an event is drawn.
 fn gap_between(last: Timed, item: Timed) -> i64
     requires last { IsTime last.time }
     requires item { IsTime item.time }

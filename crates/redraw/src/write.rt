@@ -59,7 +59,7 @@ fn needs_backslash(byte: u8) -> bool
     byte == b'"' || byte == b'\\'
 }
 
-// A byte of a string, with a backslash before it where it needs one.
+// Puts a byte of a string, with a backslash before it if it needs one.
 fn put_byte<K: Sink>(byte: u8, sink: &mut K) -> Result<(), PutFailed>
     ensures { Puts (K.told sink.old) (K.told sink.new) (escaped_byte byte) result }
 {
@@ -69,7 +69,7 @@ fn put_byte<K: Sink>(byte: u8, sink: &mut K) -> Result<(), PutFailed>
     sink.put(&[byte])
 }
 
-// Bytes as they are, and a byte of a string behind them.
+// Puts bytes as they are, and then a byte of a string.
 fn put_after<K: Sink>(front: &[u8], byte: u8, sink: &mut K) -> Result<(), PutFailed>
     ensures { Puts (K.told sink.old) (K.told sink.new) (front.now ++ escaped_byte byte) result }
 {
@@ -77,7 +77,7 @@ fn put_after<K: Sink>(front: &[u8], byte: u8, sink: &mut K) -> Result<(), PutFai
     put_byte(byte, sink)
 }
 
-// The bytes of a string.
+// Puts the bytes of a string.
 fn put_bytes<K: Sink>(text: &[u8], sink: &mut K) -> Result<(), PutFailed>
     ensures { Puts (K.told sink.old) (K.told sink.new) (escaped text.now) result }
 {
@@ -87,7 +87,7 @@ fn put_bytes<K: Sink>(text: &[u8], sink: &mut K) -> Result<(), PutFailed>
     Ok(())
 }
 
-// The cycle of a name.
+// Puts the cycle of a name.
 fn put_cycle<K: Sink>(cycle: u32, sink: &mut K) -> Result<(), PutFailed>
     ensures { Puts (K.told sink.old) (K.told sink.new) (64 ∷ number_text cycle) result }
 {
@@ -96,7 +96,7 @@ fn put_cycle<K: Sink>(cycle: u32, sink: &mut K) -> Result<(), PutFailed>
     put_all(sink, &[b"@", text.as_bytes()])
 }
 
-// The mark and the cycle of a name.
+// Puts the mark and the cycle of a name.
 fn put_mark_and_cycle<K: Sink>(mark: u8, cycle: u32, sink: &mut K) -> Result<(), PutFailed>
     ensures { Puts (K.told sink.old) (K.told sink.new) (mark_and_cycle mark cycle) result }
 {
@@ -104,7 +104,7 @@ fn put_mark_and_cycle<K: Sink>(mark: u8, cycle: u32, sink: &mut K) -> Result<(),
     put_cycle(cycle, sink)
 }
 
-// The name of an event.
+// Puts the name of an event.
 fn put_name<K: Sink>(name: EventName<'_>, sink: &mut K) -> Result<(), PutFailed>
     ensures { Puts (K.told sink.old) (K.told sink.new) (escaped (name_word (name_view name.entry))) result }
 {
@@ -112,7 +112,7 @@ fn put_name<K: Sink>(name: EventName<'_>, sink: &mut K) -> Result<(), PutFailed>
     put_mark_and_cycle(name.mark, name.cycle, sink)
 }
 
-// A lane up to the end of its name.
+// Puts a lane up to the end of its name.
 fn put_lane_front<K: Sink>(name: EventName<'_>, sink: &mut K) -> Result<(), PutFailed>
     ensures { Puts (K.told sink.old) (K.told sink.new) (lane_front (name_word (name_view name.entry))) result }
 {
@@ -120,7 +120,7 @@ fn put_lane_front<K: Sink>(name: EventName<'_>, sink: &mut K) -> Result<(), PutF
     put_name(name, sink)
 }
 
-// The wave of a lane, and its node up to the mark.
+// Puts the wave of a lane, and its node up to the mark.
 fn put_wave<K: Sink>(place: u32, sink: &mut K) -> Result<(), PutFailed>
     requires least { 1 ≤ place }
     requires most { place ≤ MOST_DRAWN }
@@ -131,7 +131,7 @@ fn put_wave<K: Sink>(place: u32, sink: &mut K) -> Result<(), PutFailed>
     put_all(sink, &[b"\",\"wave\":\"0", wave, b"1\",\"node\":\"", node])
 }
 
-// The mark at the end of a node, and the end of its lane.
+// Puts the mark at the end of a node, and the end of its lane.
 fn put_lane_end<K: Sink>(mark: u8, sink: &mut K) -> Result<(), PutFailed>
     ensures { Puts (K.told sink.old) (K.told sink.new) (lane_end mark) result }
 {
@@ -139,7 +139,7 @@ fn put_lane_end<K: Sink>(mark: u8, sink: &mut K) -> Result<(), PutFailed>
     sink.put(b"\"}")
 }
 
-// A lane from the end of its name on.
+// Puts a lane from the end of its name on.
 fn put_lane_back<K: Sink>(place: u32, mark: u8, sink: &mut K) -> Result<(), PutFailed>
     requires least { 1 ≤ place }
     requires most { place ≤ MOST_DRAWN }
@@ -149,7 +149,7 @@ fn put_lane_back<K: Sink>(place: u32, mark: u8, sink: &mut K) -> Result<(), PutF
     put_lane_end(mark, sink)
 }
 
-// The lane of an event.
+// Puts the lane of an event.
 fn put_lane<K: Sink>(names: &DrawnNetwork, stand: DrawnEvent, sink: &mut K) -> Result<(), PutFailed>
     requires { IsStand names.now.net.events stand }
     ensures { Puts (K.told sink.old) (K.told sink.new) (lane_text (lane_of (name_of names.now) stand)) result }
@@ -158,7 +158,7 @@ fn put_lane<K: Sink>(names: &DrawnNetwork, stand: DrawnEvent, sink: &mut K) -> R
     put_lane_back(stand.place, mark_at(stand.number), sink)
 }
 
-// A lane behind another one.
+// Puts a lane behind another one.
 fn put_next_lane<K: Sink>(
     names: &DrawnNetwork,
     stand: DrawnEvent,
@@ -171,14 +171,14 @@ fn put_next_lane<K: Sink>(
     put_lane(names, stand, sink)
 }
 
-// The mark at the head of an edge.
+// Puts the mark at the head of an edge.
 fn put_head<K: Sink>(to: u8, sink: &mut K) -> Result<(), PutFailed>
     ensures { Puts (K.told sink.old) (K.told sink.new) (codes "->" ++ escaped_byte to) result }
 {
     put_after(b"->", to, sink)
 }
 
-// The marks of an edge.
+// Puts the marks of an edge.
 fn put_marks<K: Sink>(from: u8, to: u8, sink: &mut K) -> Result<(), PutFailed>
     ensures { Puts (K.told sink.old) (K.told sink.new) (edge_front from to) result }
 {
@@ -186,7 +186,7 @@ fn put_marks<K: Sink>(from: u8, to: u8, sink: &mut K) -> Result<(), PutFailed>
     put_head(to, sink)
 }
 
-// The label of an edge, and its end.
+// Puts the label of an edge, and its end.
 fn put_label<K: Sink>(kind: Kind, range: Range, sink: &mut K) -> Result<(), PutFailed>
     requires { IsProper version_1 (range_label kind range) }
     ensures { Puts (K.told sink.old) (K.told sink.new) (spelling version_1 (range_label kind range) ++ codes "\"") result }
@@ -202,7 +202,7 @@ fn put_label<K: Sink>(kind: Kind, range: Range, sink: &mut K) -> Result<(), PutF
     sink.put(b"\"")
 }
 
-// An edge from its label on.
+// Puts an edge from its label on.
 fn put_edge_back<K: Sink>(kind: Kind, range: Range, sink: &mut K) -> Result<(), PutFailed>
     requires { IsProper version_1 (range_label kind range) }
     ensures { Puts (K.told sink.old) (K.told sink.new) (32 ∷ (spelling version_1 (range_label kind range) ++ codes "\"")) result }
@@ -211,7 +211,7 @@ fn put_edge_back<K: Sink>(kind: Kind, range: Range, sink: &mut K) -> Result<(), 
     put_label(kind, range, sink)
 }
 
-// An edge from a mark to a mark.
+// Puts an edge from a mark to a mark.
 fn put_edge<K: Sink>(
     from: u8,
     to: u8,
@@ -226,7 +226,7 @@ fn put_edge<K: Sink>(
     put_edge_back(kind, range, sink)
 }
 
-// The number of an event among those that stand.
+// The number of an event among the drawn events.
 fn number_of(stands: &[DrawnEvent], event: EventId) -> u32
     requires { All (λ (s : DrawnEvent). s.number < MOST_DRAWN) stands.now }
     ensures number { result ≡ number_in stands.now event }
@@ -240,7 +240,7 @@ fn number_of(stands: &[DrawnEvent], event: EventId) -> u32
     0
 }
 
-// The lanes behind the first.
+// Puts the lanes behind the first.
 fn put_other_lanes<K: Sink>(
     names: &DrawnNetwork,
     stands: &[DrawnEvent],
@@ -255,7 +255,7 @@ fn put_other_lanes<K: Sink>(
     Ok(())
 }
 
-// The lanes.
+// Puts the lanes.
 fn put_lanes<K: Sink>(
     names: &DrawnNetwork,
     stands: &[DrawnEvent],
@@ -269,7 +269,7 @@ fn put_lanes<K: Sink>(
     put_other_lanes(names, &stands[1..], sink)
 }
 
-// The range of how far an event is drawn behind another one.
+// The range for how far behind another event an event is drawn.
 fn exactly_between(before: DrawnEvent, stand: DrawnEvent) -> Range
     requires low { pos 0 ≤ℤ (stand.time -ℤ before.time) }
     requires high { (stand.time -ℤ before.time) ≤ℤ pos widest_gap }
@@ -283,7 +283,7 @@ fn exactly_between(before: DrawnEvent, stand: DrawnEvent) -> Range
     }
 }
 
-// The edge that keeps two events apart, with a comma behind it.
+// Puts the edge that keeps two events apart, with a comma behind it.
 fn put_step<K: Sink>(before: DrawnEvent, stand: DrawnEvent, sink: &mut K) -> Result<(), PutFailed>
     requires before { before.number < MOST_DRAWN }
     requires number { stand.number < MOST_DRAWN }
@@ -298,7 +298,7 @@ fn put_step<K: Sink>(before: DrawnEvent, stand: DrawnEvent, sink: &mut K) -> Res
     sink.put(b",")
 }
 
-// The edges that keep the events behind one apart, each with a comma behind it.
+// Puts the edges that keep the events behind the first one apart, each with a comma behind it.
 fn put_steps_after<K: Sink>(
     first: DrawnEvent,
     stands: &[DrawnEvent],
@@ -317,7 +317,7 @@ fn put_steps_after<K: Sink>(
     Ok(())
 }
 
-// The edges that keep all events apart, each with a comma behind it.
+// Puts the edges that keep all events apart, each with a comma behind it.
 fn put_steps<K: Sink>(stands: &[DrawnEvent], sink: &mut K) -> Result<(), PutFailed>
     requires some { 1 ≤ length stands.now }
     requires numbers { All (λ (s : DrawnEvent). s.number < MOST_DRAWN) stands.now }
@@ -327,7 +327,7 @@ fn put_steps<K: Sink>(stands: &[DrawnEvent], sink: &mut K) -> Result<(), PutFail
     put_steps_after(stands[0], &stands[1..], sink)
 }
 
-// What the row demands.
+// Puts the edge for what the row demands.
 fn put_demand<K: Sink>(
     stands: &[DrawnEvent],
     from: EventId,
@@ -345,7 +345,7 @@ fn put_demand<K: Sink>(
     put_edge(from_mark, to_mark, Kind::Req, range, sink)
 }
 
-// The list of lanes.
+// Puts the list of lanes.
 fn put_signal<K: Sink>(
     names: &DrawnNetwork,
     stands: &[DrawnEvent],
@@ -360,7 +360,7 @@ fn put_signal<K: Sink>(
     put_lanes(names, stands, sink)
 }
 
-// All edges.
+// Puts all edges.
 fn put_edges<K: Sink>(
     stands: &[DrawnEvent],
     from: EventId,
@@ -378,7 +378,7 @@ fn put_edges<K: Sink>(
     put_demand(stands, from, to, range, sink)
 }
 
-// The list of edges, without its end.
+// Puts the list of edges, without its end.
 fn put_edge_list<K: Sink>(
     stands: &[DrawnEvent],
     from: EventId,
@@ -396,7 +396,7 @@ fn put_edge_list<K: Sink>(
     put_edges(stands, from, to, range, sink)
 }
 
-// The list of edges, and the end of the drawing.
+// Puts the list of edges, and the end of the drawing.
 fn put_tail<K: Sink>(
     stands: &[DrawnEvent],
     from: EventId,
@@ -414,7 +414,7 @@ fn put_tail<K: Sink>(
     sink.put(b"]}\n")
 }
 
-/// Writes the drawing of events that stand, with what a row demands of two of them.
+/// Writes the drawing of the drawn events, with what a row demands of two of them.
 pub fn put_sketch<K: Sink>(
     names: &DrawnNetwork,
     stands: &[DrawnEvent],

@@ -34,7 +34,7 @@ use Rattle.redraw_design.proofs.Lone.{chain_choices, design_drawn, net_is, rows_
 
 -- ---- what is read
 
--- the design that stands
+-- the design that the drawing is read as
 abbrev again_of : (EventId → Name) → EventId → EventId → Ends → List DrawnEvent → Drawn
 again_of name from to ends ss = drawn_of (design_drawn (sheet_drawn name from to ends ss))
 

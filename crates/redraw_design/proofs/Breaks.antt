@@ -14,7 +14,7 @@ use Rattle.redraw.proofs.Farther.{drawn_stay_above, drawn_stay_below, stands_sam
 use Rattle.redraw.proofs.Ordered.{AreNumbered}
 use Rattle.redraw_design.specs.Again.{RedrawnBreaks}
 
--- ---- an event among those that stand
+-- ---- an event among the drawn events
 
 abbrev Stands : EventId → List DrawnEvent → Type 0
 Stands e [] = ⊥
@@ -30,7 +30,7 @@ stands_there e [] h = absurd h
 stands_there e (x ∷ xs) (inl h) = inl h
 stands_there e (x ∷ xs) (inr h) = inr (stands_behind e x (first_stand x) xs h)
 
--- its number is its place, and its time stands there
+-- the number of an event is its place, and its time is at that place
 record IsPlaced (k : ℕ) (ss : List DrawnEvent) (e : EventId) : Type 0 where
   place : ℕ
   within : place < length ss

@@ -50,7 +50,7 @@ tree_gives name from to ends ss file h long =
 not_long : (limit n : ℕ) → n ≤ limit → nat_lt limit n ≡ false
 not_long limit n h = search rules
 
--- the reading behind the bytes of the file
+-- the reading after the bytes of the file
 abbrev next_of : List ℕ → List ℕ → FileReading Drawn
 next_of file bytes = ((within_limit (File 0) FILE_LIMIT bytes >>= (λ bytes. tree_at (File 0) bytes)) >>= (λ tree. tree_planned file tree)) >>= (λ plan. drawn_at plan.netlist plan.sheets)
 

@@ -1,4 +1,4 @@
--- A drawing is a lone sheet, whose network is the chain of its drawn times.
+-- A drawing is a lone sheet. Its network is the chain of the drawn times.
 use Rattle.std.proofs.Common.{◌≡◌, ◌+◌, ◌-◌, ◌*◌, ◌≤◌, ℕ, suc, ℤ, ◌-ℤ◌, false, nat_lt, List, [], ◌∷◌, ◌++◌, length, map, filter_map, codes, Option, None, Some, Ok, ◌∙◌, refl, sym, ap, subst, append-nil, arith, rules}
 use Rattle.std.specs.List.{cons_option}
 use Rattle.std.proofs.lemmas.List.{length-map, map-append}
@@ -47,7 +47,7 @@ design_is file sheet = refl
 first_cycle : (m k : ℕ) → 0 * m + (0 + k) ≡ k
 first_cycle m k = omega arith
 
--- lane order comes from a cycle before, and there is none
+-- the order of a lane needs a cycle before, and there is none
 no_orders : (m k : ℕ) (ss : List DrawnEvent) → filter_map (constraint_in m 0) (map (rule_behind 0) (orders_from k ss)) ≡ []
 no_orders m k [] = refl
 no_orders m k (s ∷ ss) = no_orders m (k + 1) ss
@@ -126,7 +126,7 @@ chain_splits : (times : List ℤ) → splittable_count (chain_net times) ≡ 0
 chain_splits [] = refl
 chain_splits (time ∷ times) = no_choices 0 time times (length (time ∷ times))
 
--- one choice of causes: none has two
+-- there is one choice of causes, as no constraint has two
 choices_from : (k : ℕ) (before : ℤ) (times : List ℤ) → cause_choices (chain_from k before times) ≡ 1
 choices_from k before [] = refl
 choices_from k before (time ∷ times) = ap (λ n. 1 * n) (choices_from (k + 1) time times)

@@ -1,1 +1,2 @@
+-- The definitions of this crate, module by module: what the text of a drawing is read as.
 pub mod Again

@@ -64,7 +64,7 @@ on_err (Err e) P Q f h = f h
 
 -- ---- the first failed row
 
--- what was found is what the report tells
+-- what the code found is what the report says
 pub found_broken : (drawn : Drawn) (o : Option Failed) (fail : Seen_fail) → (failed : Failed) × (o ≡ Some failed) × IsBroken drawn failed → Some (fail_view fail) ≡ o → IsBroken drawn (fail_view fail)
 found_broken drawn o fail h e = let same : h.0 ≡ fail_view fail = cc (h.1, e) in subst (IsBroken drawn) same h.2
 
@@ -94,7 +94,7 @@ module _ (drawn : Drawn) (lines : List Entry) (failed : Failed) (row : Row) (fir
         is_text = is_text ∙ sym (ap (λ b. if b then refusal_text Design (Wide failed.row) else redrawn drawn failed.row failed.times) at);
       }
 
-  -- it is drawn
+  -- the row is drawn
   pub draws_row : (answer : Answer) (text : List ℕ) → is_wide_on (demand_of row.kind) failed.side ≡ false → answer ≡ SomeFail → text ≡ redrawn drawn failed.row failed.times → Draws drawn lines answer text
   draws_row answer text wide is is_text =
       let at : is_wide drawn failed ≡ false = wide_at drawn failed row there ∙ wide in

@@ -1,4 +1,4 @@
--- A report that ends with a fail tells a first failed row with times that break it.
+-- A report that ends with a fail has a first failed row, with times that break its requirement.
 use Rattle.std.proofs.Common.{◌≡◌, ◌⊎◌, ◌+◌, ◌||◌, ℕ, zero, suc, ℤ, Bool, true, false, if◌then◌else◌, List, [], ◌∷◌, ◌++◌, length, All, drop, Option, Some, None, slice_get, inl, inr, ◌∙◌, refl, sym, ap, subst, add-one}
 use Rattle.itv_base.specs.Range.{Ends}
 use Rattle.itv_base.specs.declared.row_kind.RowKind.{RowKind}
@@ -33,11 +33,11 @@ use Rattle.redraw_report.specs.Laws.{FailIsTold}
 abbrev Found : Drawn → Scan → Type 0
 Found drawn scan = (failed : Failed) × (scan.found ≡ Some failed) × IsBroken drawn failed
 
--- a first failed row was found where some verdict was a fail
+-- a scan found a first failed row if and only if some verdict was a fail
 abbrev Matches : Drawn → Bool → Scan → Type 0
 Matches drawn fails scan = ((fails ≡ false) × (scan.found ≡ None)) ⊎ ((fails ≡ true) × Found drawn scan)
 
--- the row that is told is the one that the scan is at
+-- the current row is the row that the scan is at
 record IsAtRow (drawn : Drawn) (told : CurrentRow) (scan : Scan) : Type 0 where
   rest : drop told.number drawn.rows ≡ told.row ∷ told.later
   row : scan.row ≡ told.number
@@ -46,7 +46,7 @@ record IsAtRow (drawn : Drawn) (told : CurrentRow) (scan : Scan) : Type 0 where
 abbrev HasNothing : Scan → Type 0
 HasNothing scan = (scan.side ≡ None) × (scan.found ≡ None)
 
--- at each place of a report
+-- what a scan has seen in each state of a report
 abbrev HasSeen : Drawn → ReportState → Scan → Type 0
 HasSeen drawn at_heading scan = HasNothing scan
 HasSeen drawn at_budget scan = HasNothing scan
@@ -75,7 +75,7 @@ found_stays : (number : ℕ) (list : List ℤ) (found : Option Failed) → found
 found_stays number list None = refl
 found_stays number list (Some failed) = refl
 
--- times behind no fail change nothing
+-- times that do not come after a fail change nothing
 times_pass : (scan : Scan) (list : List ℤ) → scan.side ≡ None → with_line scan (times list) ≡ scan
 times_pass scan list e =
     ap (λ (o : Option Failed). record scan { found = o }) (ap (λ side. found_by scan.row side list scan.found) e ∙ found_stays scan.row list scan.found)
@@ -143,7 +143,7 @@ verdict_seen drawn told range least most verdicts.FailHigh scan is h kind =
 verdict_seen drawn told range least most verdicts.FailLow scan is h kind =
     (record { rest = h.rest; row = h.row; matches = h.matches }, ap (λ w. Some w) (sym is), kind, ap is_fail is)
 
--- the times behind a fail are those of the row, unless one was found before
+-- the times after a fail are the times of its row, unless a failed row was found before
 past_found : (drawn : Drawn) (told : CurrentRow) (range : Ends) (word : Verdict) (list : List ℤ) (scan : Scan) → IsAtRow drawn told scan → scan.side ≡ Some word → told.row.kind ≡ kinds.Req range
     → All IsTime list → AreTimes drawn.net told.row list → BreaksEnd told.row range word list → Found drawn (with_line scan (times list))
 past_found drawn told range word list scan h side kind small satisfied broken = by_match h.matches where

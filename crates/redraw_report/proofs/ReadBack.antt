@@ -1,4 +1,4 @@
--- A report that is written is read back.
+-- The report that was written is the report that is read back.
 use Rattle.std.proofs.Common.{◌≡◌, ℕ, false, List, All, Option, Some, Result, Ok, Err, ◌∙◌, sym, ap, subst}
 use Rattle.slack_report.specs.Answer.{IsRead}
 use Rattle.slack_report.specs.Entry.{Entry, IsName}
@@ -30,12 +30,12 @@ module _ (drawn : Drawn) (most : ℕ) (found : Written) (bytes : List ℕ) (resu
   read_lines : IsRead result is.lines
   read_lines = only is.lines (written_is_report drawn most is.lines is.is_written names ranges) (same_text found.tape.written (report_text is.lines) bytes is.text kept)
 
-  -- so what is read is the report that was written
+  -- what is read is the report that was written
   pub read_back : (lines : List Entry) (end : EndWord) → result ≡ Ok lines → end ≡ found.end → IsWrittenReport drawn most false lines × (end_in lines ≡ Some end)
   read_back lines end ok same =
       let at : lines ≡ is.lines = subst (λ r. IsRead r is.lines) ok read_lines in
       (subst (IsWrittenReport drawn most false) (sym at) is.is_written, ap end_in at ∙ is.ends ∙ ap (λ w. Some w) (sym same))
 
-  -- and no line is a fault
+  -- no line is a fault
   pub never_wrong : (line : ℕ) → result ≡ Err (faults.Line line) → ⊥
   never_wrong line err = subst (λ r. IsRead r is.lines) err read_lines

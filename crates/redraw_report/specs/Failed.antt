@@ -19,8 +19,7 @@ pub record Failed : Type 0 where
 
 -- ---- the lines of a report, one after another
 
--- what some lines tell: the row that they are at, the side on which it fails while its times are still to come, and the first row that
--- failed
+-- what some lines say: the row that they are at, the side on which it fails while its times are yet to come, and the first failed row
 pub record Scan : Type 0 where
   pub row : ℕ
   pub side : Option Verdict
@@ -29,14 +28,14 @@ pub record Scan : Type 0 where
 abbrev pub scan_start : Scan
 scan_start = record { row = 0; side = None; found = None }
 
--- behind a verdict that is a fail times come
+-- the side of a verdict, if it is a fail; times come after such a verdict
 abbrev pub failed_verdict : Verdict → Option Verdict
 failed_verdict Pass = None
 failed_verdict FailHigh = Some FailHigh
 failed_verdict FailLow = Some FailLow
 failed_verdict Undecided = None
 
--- times behind a fail are those of its row, which is the first that failed unless another was found before
+-- times after a fail are the times of its row; it is the first failed row, unless one was found before
 abbrev pub found_by : ℕ → Option Verdict → List ℤ → Option Failed → Option Failed
 found_by number side list (Some failed) = Some failed
 found_by number None list None = None
@@ -64,13 +63,13 @@ with_line scan (ending word) = scan
 abbrev pub scanned : Scan → List Entry → Scan
 scanned scan lines = fold with_line scan lines
 
--- the first row of a report whose verdict is a fail, with the times behind the verdict
+-- the first row of a report whose verdict is a fail, with the times after the verdict
 abbrev pub first_failed : List Entry → Option Failed
 first_failed lines = (scanned scan_start lines).found
 
--- ---- what it comes to
+-- ---- what the first failed row is
 
--- The row is there and demands a range, and the times satisfy the network, with the row's from-event at 0, and break the range on the
+-- The row is in the design and demands a range. The times satisfy the network, with the from-event of the row at 0, and break the range on the
 -- side.
 pub record IsBroken (drawn : Drawn) (failed : Failed) : Type 0 where
   pub asked : Row
@@ -91,7 +90,7 @@ abbrev pub is_end_at : Option ℤ → ℤ → Bool
 is_end_at None limit = false
 is_end_at (Some end) limit = is_same end limit
 
--- The end on a side is the limit of a finite end itself, or on the low side minus that.
+-- The end on the side is the limit of finite ends itself, or on the low side minus that limit.
 abbrev pub is_wide_on : Ends → Verdict → Bool
 is_wide_on ends Pass = false
 is_wide_on ends FailHigh = is_end_at ends.high END_LIMIT

@@ -15,19 +15,19 @@ use Rattle.redraw.specs.Drawing.{demand_of, row_at}
 use Rattle.redraw.specs.Text.{redrawn}
 use Rattle.redraw_report.specs.Failed.{Failed, IsBroken, first_failed, is_wide_on}
 
--- the end that a row breaks is one that no drawing can be past
+-- the end that a row breaks is so wide that no drawing can be past it
 abbrev pub is_wide : Drawn → Failed → Bool
 is_wide drawn failed = is_wide_on (demand_of (row_at drawn failed.row).kind) failed.side
 
--- what is answered where a row fails
+-- the answer if a row fails
 abbrev pub failed_answer : Drawn → Failed → Answer
 failed_answer drawn failed = if is_wide drawn failed then DesignRefused else SomeFail
 
--- and what is written: the drawing of the row at times that break it, or that its end is too wide for one
+-- the text if a row fails: the drawing of the row at times that break it, or the refusal that its end is too wide for a drawing
 abbrev pub failed_text : Drawn → Failed → List ℕ
 failed_text drawn failed = if is_wide drawn failed then refusal_text Design (Wide failed.row) else redrawn drawn failed.row failed.times
 
--- what is answered and written for the first failed row of a report; the row is between events, of which each has a name
+-- the answer and the text for the first failed row of a report; the row is between events, and each event has a name
 pub record Draws (drawn : Drawn) (lines : List Entry) (answer : Answer) (text : List ℕ) : Type 0 where
   pub failed : Failed
   pub first : first_failed lines ≡ Some failed
@@ -37,14 +37,14 @@ pub record Draws (drawn : Drawn) (lines : List Entry) (answer : Answer) (text : 
   pub is_answer : answer ≡ failed_answer drawn failed
   pub is_text : text ≡ failed_text drawn failed
 
--- what is answered and written for a report by the word at its end
+-- the answer and the text for a report, by the word at its end
 abbrev pub AnswersEndWord : Drawn → List Entry → EndWord → Answer → List ℕ → Type 0
 AnswersEndWord drawn lines endings.Pass answer text = (answer ≡ AllPass) × (text ≡ codes "nothing failed\n")
 AnswersEndWord drawn lines endings.Fail answer text = Draws drawn lines answer text
 AnswersEndWord drawn lines endings.Inconsistent answer text = (answer ≡ Inconsistent) × (text ≡ codes "finding inconsistent\n")
 AnswersEndWord drawn lines endings.Undecided answer text = (answer ≡ Undecided) × (text ≡ codes "nothing failed\n")
 
--- there is a report of the budget, as job bounds writes it, for which this is answered and written
+-- for some report with this budget, as job bounds writes it, this is the answer and the text
 pub record AnswersRedraw (drawn : Drawn) (most : ℕ) (answer : Answer) (text : List ℕ) : Type 0 where
   pub lines : List Entry
   pub word : EndWord
@@ -52,6 +52,6 @@ pub record AnswersRedraw (drawn : Drawn) (most : ℕ) (answer : Answer) (text : 
   pub ends : end_in lines ≡ Some word
   pub says : AnswersEndWord drawn lines word answer text
 
--- what the job may have begun to write: what it writes with some answer
+-- the job may have begun to write this text: with some answer, it is a whole text of the job
 abbrev pub BeginsRedraw : Drawn → ℕ → List ℕ → Type 0
 BeginsRedraw drawn most text = (answer : Answer) × AnswersRedraw drawn most answer text

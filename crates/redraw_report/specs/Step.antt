@@ -12,7 +12,7 @@ use Rattle.redraw_report.specs.declared.search.KeptReport.{KeptReport}
 use Rattle.redraw_report.specs.declared.search.Written.{Written}
 use Rattle.redraw_report.specs.Failed.{Failed, IsBroken, Scan, first_failed}
 
--- without where it lies in memory
+-- a failed row, wherever its times lie in memory
 abbrev pub fail_view : Fail → Failed
 fail_view f = record { row = f.row; side = f.side; times = f.times.now }
 
@@ -31,6 +31,6 @@ pub record IsReportKept (drawn : Drawn) (most : ℕ) (search : KeptReport) : Typ
   pub is_written : IsWrittenReport drawn most false search.report
   pub ends : end_in search.report ≡ Some search.end
 
--- the lines tell a first failed row with times that break it
+-- the lines have a first failed row, with times that break its requirement
 abbrev pub TellsFail : Drawn → List Entry → Type 0
 TellsFail drawn lines = (failed : Failed) × (first_failed lines ≡ Some failed) × IsBroken drawn failed

@@ -8,7 +8,7 @@ ghost use Rattle.redraw_report.specs.Step.{fail_view, seen_view};
 use requirements::Verdict;
 use slack_report::{Item, Items};
 
-/// A row that fails on a side, by its number, and times that break its requirement there, in picoseconds.
+/// A row, by its number, the side on which it fails, and times in picoseconds that break its requirement there.
 #[derive(Clone, Copy, Debug)]
 pub struct Fail<'a> {
     pub row: u32,
@@ -16,8 +16,8 @@ pub struct Fail<'a> {
     pub times: &'a [i64],
 }
 
-/// What some lines of a report tell: the row that they are at, the side on which it fails while its times are still to come, and the
-/// first row that failed.
+/// What some lines of a report say: the row that they are at, the side on which it fails while its times are yet to come, and the
+/// first failed row.
 #[derive(Clone, Copy, Debug)]
 pub struct Seen<'a> {
     pub row: u32,
@@ -25,7 +25,7 @@ pub struct Seen<'a> {
     pub found: Option<Fail<'a>>,
 }
 
-/// The first row of a report whose verdict is a fail, with the times behind the verdict.
+/// The first row of a report whose verdict is a fail, with the times after the verdict.
 pub fn first_failed(items: &Items) -> Option<Fail<'_>>
     ensures found { option_map fail_view result ≡ first_failed items.now }
 {
@@ -41,7 +41,7 @@ pub fn first_failed(items: &Items) -> Option<Fail<'_>>
     seen.found
 }
 
-// One line more.
+// What the lines say with one more.
 fn after<'a>(seen: Seen<'a>, item: &Item<'a>) -> Seen<'a>
     ensures { seen_view result ≡ with_line (seen_view seen.entry) (item_view item.now) }
 {
@@ -75,7 +75,7 @@ fn after<'a>(seen: Seen<'a>, item: &Item<'a>) -> Seen<'a>
     }
 }
 
-// The side of a verdict that is a fail.
+// The side of a verdict, if it is a fail.
 fn failed_verdict(word: Verdict) -> Option<Verdict>
     ensures { result ≡ failed_verdict word }
 {
@@ -85,7 +85,7 @@ fn failed_verdict(word: Verdict) -> Option<Verdict>
     }
 }
 
-// Times behind a fail are those of its row, which is the first that failed unless another was found before.
+// Times after a fail are the times of its row. It is the first failed row, unless one was found before.
 fn with_times<'a>(seen: Seen<'a>, times: &'a [i64]) -> Seen<'a>
     ensures { seen_view result ≡ with_times (seen_view seen.entry) times.now }
 {

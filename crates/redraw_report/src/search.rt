@@ -1,4 +1,4 @@
-//! The search, which is that of job bounds.
+//! The search for the report. It is the search of job bounds.
 
 ghost use Rattle.std.specs.Prelude.{◌≡◌, ◌≤◌, All, IfOk};
 ghost use Rattle.itv_base.specs.declared.limits.TheConstants.{MAX_BUDGET};
@@ -29,7 +29,7 @@ pub struct Written {
 }
 
 /// The report of a drawn network as job bounds writes it, without the lines of proofs. Each search closes at most `budget` cases.
-/// It is written into memory and read back, so that no search is written twice.
+/// The report is written into memory and read back, so that no search is written twice.
 pub fn searched(alloc: Global, drawn: &DrawnNetwork, budget: u64) -> Result<KeptReport, NoMemory>
     requires least { 1 ≤ budget }
     requires most { budget ≤ MAX_BUDGET }
@@ -60,7 +60,7 @@ fn write_report(alloc: Global, drawn: &DrawnNetwork, budget: u64) -> Result<Writ
             tape,
             end: summary.end,
         }),
-        // Memory is all that a tape can want.
+        // A put into a tape fails only for want of memory.
         Err(Unanswered::NoMemory | Unanswered::PutFailed) => Err(NoMemory),
     }
 }

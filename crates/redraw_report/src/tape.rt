@@ -6,7 +6,7 @@ use itv_base::{PutFailed, Sink};
 use std::alloc::Global;
 use std::marker::Model;
 
-/// Keeps the bytes that it takes. A put fails only where memory was wanted and not found, and then takes nothing of the piece.
+/// A sink that keeps its bytes in memory. A put fails only for want of memory; it then takes nothing of the piece.
 #[derive(Debug, Drop)]
 pub struct Tape {
     bytes: Vec<u8>,
@@ -23,7 +23,7 @@ impl Model for Tape {
 }
 
 impl Tape {
-    /// Nothing kept. It takes no memory yet.
+    /// Makes an empty tape. It takes no memory yet.
     pub fn new(alloc: Global) -> Tape
         ensures empty { result ≡ record { written = Some []; faults = 0 } }
     {
@@ -33,7 +33,7 @@ impl Tape {
         }
     }
 
-    /// What is kept.
+    /// The bytes that the tape keeps.
     pub fn bytes(&self) -> &[u8]
         ensures bytes { self.now.written ≡ Some result.now }
     {

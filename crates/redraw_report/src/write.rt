@@ -24,10 +24,10 @@ use requirements::Verdict;
 use slack_report::{EndWord, Items};
 use std::alloc::Global;
 
-/// Searches a drawn network as job bounds does, each search closing at most `budget` cases, and writes the drawing of the first row
-/// that fails, at times that break its requirement. A row that breaks the widest end that a range may have is refused: no drawing is
-/// past it. Where no row fails the text says so, and where no times satisfy the network another does. All memory is taken before the
-/// first put.
+/// Searches a drawn network as job bounds does, with at most `budget` closed cases for each search. Writes the drawing of the first
+/// row that fails, at times that break its requirement. Refuses the row if it breaks the widest end that a range may have, as no
+/// drawing is past that end. If no row fails, the text says so. If no times satisfy the network, the text says that. All memory is
+/// taken before the first put.
 pub fn write_redraw<K: Sink>(
     alloc: Global,
     drawn: &DrawnNetwork,
@@ -46,7 +46,7 @@ pub fn write_redraw<K: Sink>(
     Ok(put_answer(drawn, &search, &mut work, sink)?)
 }
 
-// Puts what a search comes to.
+// Puts what a report gives, by the word at its end.
 fn put_answer<K: Sink>(
     drawn: &DrawnNetwork,
     search: &KeptReport,
@@ -67,7 +67,7 @@ fn put_answer<K: Sink>(
     }
 }
 
-// Puts a text, for an answer.
+// Puts a text, and returns an answer.
 fn put_text<K: Sink>(text: &[u8], answer: Answer, sink: &mut K) -> Result<Answer, PutFailed>
     ensures answer { IfOk result (λ given. (given ≡ answer) × (K.told sink.new ≡ grown (K.told sink.old) text.now)) }
     ensures cut { OnErr result (CutShort (K.told sink.old) (K.told sink.new) text.now) }
@@ -76,7 +76,7 @@ fn put_text<K: Sink>(text: &[u8], answer: Answer, sink: &mut K) -> Result<Answer
     Ok(answer)
 }
 
-// Draws the first failed row of a report that has one, or refuses it.
+// Draws the first failed row of a report, or refuses it. The report has a failed row.
 fn put_first<K: Sink>(
     drawn: &DrawnNetwork,
     items: &Items,
@@ -128,7 +128,7 @@ fn put_drawing<K: Sink>(
     Ok(Answer::SomeFail)
 }
 
-// Whether the end that a row breaks on a side is one that no drawing can be past.
+// Whether the end that a row breaks on a side is so wide that no drawing can be past it.
 fn is_wide(kind: RowKind, side: Verdict) -> bool
     ensures { result ≡ is_wide_on (demand_of kind) side }
 {
@@ -138,7 +138,7 @@ fn is_wide(kind: RowKind, side: Verdict) -> bool
     }
 }
 
-// Whether the end of a range on a side is the limit of a finite end itself, or on the low side minus that.
+// Whether the end of a range on a side is the limit of finite ends itself, or on the low side minus that limit.
 fn is_wide_on(range: Range, side: Verdict) -> bool
     ensures { result ≡ is_wide_on range side }
 {

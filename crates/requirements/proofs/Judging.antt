@@ -53,7 +53,7 @@ negated_twice : (z : ℤ) → neg_ℤ (neg_ℤ z) ≡ z
 negated_twice z = omega (arith, ints)
 
 module _ (net : Net) (from to : EventId) where
-  -- a high end that is fine is passed by no satisfying separation
+  -- if a high end is fine, no satisfying separation is past it
   high_met : (high : Option ℤ) (greatest : Bound) → IsGreatestBound net from to greatest → meets_high high greatest ≡ true
       → (times : List ℤ) → Satisfies times net → IfSome high (λ most. separation times from to ≤ℤ most)
   high_met None greatest right fine times sat = tt
@@ -147,7 +147,7 @@ fail_low_is_broken net from to range least greatest right e =
       | by_none a b d word ↦ absurd (cc)
     ]
 
--- a closed or unbounded side is broken or fine
+-- if the bound of a side is closed or unbounded, the side is broken or fine
 not_below : (a b : ℤ) → int_lt a b ≡ false → int_le b a ≡ true
 not_below (pos a) (pos b) h = le-leb b a (ltb-false a b h)
 not_below (pos a) (negsuc b) h = refl

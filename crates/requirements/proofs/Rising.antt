@@ -14,14 +14,14 @@ use Rattle.event_graph.proofs.Rays.{separation-raised}
 use Rattle.requirements.specs.Raising.{RaisesPast}
 use Rattle.requirements.specs.Step.Raising.{not_negative, rise_past}
 
--- an event behind those that were looked at has its time yet
+-- an event that was not looked at yet still has its time
 pub time_yet : (set : List Bool) (by : ℕ) (times : List ℤ) (i : ℕ) (d : ℤ) → get_or (raised (take i set) by times) i d ≡ get_or times i d
 time_yet set by times zero d = refl
 time_yet [] by times (suc i) d = refl
 time_yet (is_in ∷ flags) by [] (suc i) d = refl
 time_yet (is_in ∷ flags) by (time ∷ times) (suc i) d = time_yet flags by times i d
 
--- the next event is raised if the set holds it
+-- the next event is raised if the set has it
 pub raised_more : (flags : List Bool) (by : ℕ) (times : List ℤ) (i : ℕ) (flag : Bool) (d : ℤ) → i < length flags → i < length times → flag ≡ get_or flags i false
     → raised (take (i + 1) flags) by times ≡ cond flag (set (raised (take i flags) by times) i (get_or times i d +ℤ pos by)) (raised (take i flags) by times)
 raised_more [] by times i flag d h k is = absurd (omega arith)
@@ -41,7 +41,7 @@ raised_more (is_in ∷ flags) by (time ∷ times) (suc i) flag d h k is =
     later true e = e
     later false e = e
 
--- by the least number that carries it there a separation gets past the limit
+-- the least number by which a separation gets past the limit
 not_negative_is : (z : ℤ) → (z ≤ℤ pos (not_negative z)) × ((n : ℕ) → n < not_negative z → pos n <ℤ z)
 not_negative_is (pos n) = (omega (arith, ints), λ m h. omega (arith, ints))
 not_negative_is (negsuc n) = (omega (arith, ints), λ m h. absurd (omega arith))
@@ -87,20 +87,20 @@ step_in flags by old now next i late times is within inside here sum fits put =
     let value : late ≡ get_or old i (pos 0) +ℤ pos by = sum ∙ ap (λ z. z +ℤ pos by) (rw h.0 (read_time (get_or old i (pos 0)) h.1)) in
     put ∙ rw (to_z-of_z w64 late fits, value, is) (sym (raised_more flags by old i true (pos 0) within inside (sym here)))
 
--- another one stays
+-- an event that is not in the set stays
 pub step_out : (flags : List Bool) (by : ℕ) (old now next : List ℤ) (i : ℕ) → now ≡ raised (take i flags) by old → i < length flags → i < length old
     → get_or flags i false ≡ false → next ≡ now → next ≡ raised (take (i + 1) flags) by old
 step_out flags by old now next i is within inside here stays =
     stays ∙ is ∙ sym (raised_more flags by old i false (pos 0) within inside (sym here))
 
--- the time of an event that is there
+-- the time of an event of the network is a time
 pub time_there : (times : List ℤ) (event : EventId) (time : ℤ) → All IsTime times → event.0 < length times → time ≡ time_of times event → IsTime time
 time_there times event time known within is = subst IsTime (sym is) (known event.0 (pos 0) within)
 
--- a flag of a set stands for an event that is there
+-- a flag of a set is for an event of the network
 pub flag_there : (times : List ℤ) (flags : List Bool) (event : EventId) (flag : Bool) → length times ≡ length flags → slice_get flags event.0 ≡ Some flag → event.0 < length times
 flag_there times flags event flag count is = omega (arith, slice_get_within flags event.0 flag is)
 
--- a time is one as it is read
+-- a time that is read is a time
 pub time_read : (z : ℤ) → IsTime z → IsTime (to_z w64 (of_z w64 z))
 time_read z h = subst IsTime (sym (read_time z h)) h

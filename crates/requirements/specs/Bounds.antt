@@ -9,17 +9,17 @@ use Rattle.event_graph.specs.RootBound.{IsRootBound}
 use Rattle.requirements.specs.declared.bound.Bound.{Bound}
 use Rattle.requirements.specs.declared.bound.Bound.TheVariants.{Closed, Unbounded, Within}
 
--- satisfying times have this separation
+-- some satisfying times have this separation
 abbrev pub IsAttained : Net → EventId → EventId → ℤ → Type 0
 IsAttained net from to value = (times : List ℤ) × Satisfies times net × (separation times from to ≡ value)
 
--- The greatest separation of a pair: it is closed at that number, or unbounded, or lies between what was attained and the root bound.
+-- The greatest separation of a pair is this number, or is unbounded, or lies between the attained separation and the root bound.
 abbrev pub IsGreatestBound : Net → EventId → EventId → Bound → Type 0
 IsGreatestBound net from to (Closed value) = IsGreatest net from to value
 IsGreatestBound net from to Unbounded = IsUnbounded net from to
 IsGreatestBound net from to (Within limit attained) = IsRootBound net from to limit × IfSome attained (IsAttained net from to)
 
--- The least separation of a pair, likewise. The reversed pair has minus its separations, so its greatest bound gives the limits.
+-- The least separation of a pair, in the same way. The reversed pair has minus the separations of the pair, so its root bound gives the limit.
 abbrev pub IsLeastBound : Net → EventId → EventId → Bound → Type 0
 IsLeastBound net from to (Closed value) = IsLeast net from to value
 IsLeastBound net from to Unbounded = IsUnbounded net to from

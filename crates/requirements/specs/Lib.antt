@@ -1,3 +1,4 @@
+-- The definitions of this crate, module by module: right bounds, verdicts and slacks.
 pub mod Bounds
 pub mod Verdicts
 pub mod Slacks

@@ -3,7 +3,7 @@ use Rattle.std.specs.Prelude.{◌≡◌, ◌<◌, ℕ, ℤ, ◌≤ℤ◌, ◌<�
 use Rattle.itv_base.specs.declared.names.EventId.{EventId}
 use Rattle.event_graph.specs.Times.{raised, separation}
 
--- The events of the set are raised by one number, the least with which the separation of the pair exceeds the limit.
+-- All events of the set are raised by one number: the least, from 0 on, with which the separation of the pair exceeds the limit.
 pub record RaisesPast (old : List ℤ) (set : List Bool) (from to : EventId) (limit : ℤ) (new : List ℤ) : Type 0 where
   pub by : ℕ
   pub rose : new ≡ raised set by old

@@ -38,7 +38,7 @@ meets_low (Some low) Unbounded = false
 meets_low (Some low) (Within None attained) = false
 meets_low (Some low) (Within (Some fewest) attained) = int_le low fewest
 
--- a broken side is looked at before a fine one, and the high side first
+-- the verdict: broken sides come before fine ones, and the high side before the low one
 abbrev pub verdict_of : Ends → Bound → Bound → Verdict
 verdict_of range least greatest =
     if breaks_high range.high greatest then FailHigh else (if breaks_low range.low least then FailLow else (if meets_high range.high greatest && meets_low range.low least then Pass else Undecided))

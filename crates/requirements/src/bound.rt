@@ -3,19 +3,19 @@
 ghost use Rattle.std.specs.Prelude.{◌≡◌, neg_ℤ, option_map};
 ghost use Rattle.event_graph.specs.Times.{IsTime};
 
-/// The greatest or the least separation of a pair of events among the times that satisfy a network, as far as it is known. All
-/// numbers are in picoseconds.
+/// What is known of the greatest or the least separation of a pair of events, among the times that satisfy a network. All numbers
+/// are in picoseconds.
 #[derive(Clone, Copy, Debug, PartialEq, Eq)]
 pub enum Bound {
-    /// This separation is attained, and none is beyond it.
+    /// This separation is attained, and no satisfying separation is beyond it.
     Closed(i64),
-    /// Satisfying times exceed every separation.
+    /// Satisfying separations exceed every number.
     Unbounded,
-    /// The search was ended before the bound was settled.
+    /// The search ended before the bound was settled.
     Within {
-        /// What the always-edges allow, or `None` where they leave the pair unbounded.
+        /// The root bound, or `None` if the always-edges leave the pair unbounded.
         limit: Option<i64>,
-        /// The best separation that was attained, or `None` where there was none.
+        /// The best separation that was attained, or `None` if no separation was.
         attained: Option<i64>,
     },
 }
@@ -27,8 +27,8 @@ pub struct BothBounds {
     pub greatest: Bound,
 }
 
-/// How far the bounds of a pair are inside the ends of a range, in picoseconds. A number below 0 tells by how much an end is
-/// missed. A slack is `None` where its end is open or its bound isn't closed.
+/// How far the bounds of a pair are inside the ends of a range, in picoseconds. A number below 0 says by how much an end is missed.
+/// A slack is `None` if its end is open or its bound is not closed.
 #[derive(Clone, Copy, Debug, PartialEq, Eq)]
 pub struct Slack {
     pub low: Option<i64>,
@@ -38,8 +38,8 @@ pub struct Slack {
 impl Bound {
     ghost use Rattle.requirements.specs.Bounds.{HasTimes, reversed};
 
-    /// The bound of the reversed pair on the other side, which has its numbers negated: what is the greatest separation of a
-    /// pair is minus the least one of the reversed pair. Numbers are below 2^61 in absolute value.
+    /// The bound of the reversed pair on the other side, with the numbers negated: minus the greatest separation of a pair is the
+    /// least separation of the reversed pair. Numbers are below 2^61 in absolute value.
     pub fn reversed(self) -> Bound
         requires { HasTimes self }
         ensures bound { result ≡ reversed self }

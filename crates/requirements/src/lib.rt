@@ -1,6 +1,6 @@
-//! Requirements on separations: what becomes of one by the two bounds of its pair, and how far its ends are from them.
-//! The contract: a verdict is that of the table of verdicts. With right bounds a pass says that every satisfying separation
-//! lies in the range, and a fail that a printed one does not.
+//! Requirements on separations: the verdict on a requirement by the two bounds of its pair, and how far the bounds are inside its
+//! ends. The contract: a verdict is the one in the table of verdicts. With right bounds, a pass says that every satisfying
+//! separation lies in the range, and a fail says that a printed one does not.
 #![tactic(auto)]
 
 mod bound;

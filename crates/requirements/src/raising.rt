@@ -18,7 +18,7 @@ fn gap(from: i64, to: i64) -> i64
     to - from
 }
 
-// One more than a limit is above a separation.
+// How far the limit plus one is above a separation.
 fn excess(separation: i64, limit: i64) -> i64
     requires low { neg_ℤ (pos (2 ^ 62)) <ℤ separation }
     requires high { separation <ℤ pos (2 ^ 62) }
@@ -29,14 +29,14 @@ fn excess(separation: i64, limit: i64) -> i64
     limit - separation + 1
 }
 
-// A number, or 0 where it is below 0.
+// A number, or 0 if it is below 0.
 fn or_zero(value: i64) -> u64
     ensures { result ≡ not_negative value }
 {
     if value < 0 { 0 } else { value as u64 }
 }
 
-// By how much a separation between two times has to rise to exceed a limit.
+// The least number, from 0 on, by which the separation of two times has to rise to exceed a limit.
 fn rise(from: i64, to: i64, limit: i64) -> u64
     requires from { IsTime from }
     requires to { IsTime to }
@@ -69,9 +69,9 @@ fn raise(times: &mut [i64], set: &[bool], by: u64)
     }
 }
 
-/// Raises the times of a set of events by the least number of picoseconds, 0 or more, with which the separation of a pair
-/// exceeds a limit. There is a flag for each event. The set holds `to` and not `from`, which are events, and all numbers are
-/// below 2^61 in absolute value.
+/// Raises the times of a set of events by the least number of picoseconds, from 0 on, with which the separation of a pair exceeds a
+/// limit. There is a flag for each event. The set has the event `to`, and does not have the event `from`. All numbers are below
+/// 2^61 in absolute value.
 pub fn raise_past(times: &mut [i64], ray: &[bool], from: EventId, to: EventId, limit: i64)
     requires count { length times.old ≡ length ray.now }
     requires holds { slice_get ray.now to.0 ≡ Some true }

@@ -49,9 +49,8 @@ fn high_slack(high: Option<i64>, greatest: Bound) -> Option<i64>
     }
 }
 
-/// The slacks of the requirement that the separation of a pair lies in a range, by the two bounds of the pair: the least
-/// separation less the low end, and the high end less the greatest separation. The numbers of the bounds are below 2^61 in
-/// absolute value.
+/// The slacks of a requirement on the separation of a pair, by its range and the two bounds of the pair: the least separation less
+/// the low end, and the high end less the greatest separation. The numbers of the bounds are below 2^61 in absolute value.
 pub fn slack(range: Range, both: &BothBounds) -> Slack
     requires least { HasTimes both.now.least }
     requires greatest { HasTimes both.now.greatest }

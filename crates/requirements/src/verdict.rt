@@ -6,7 +6,7 @@ ghost use Rattle.requirements.specs.Verdicts.{breaks_high, breaks_low, meets_hig
 use crate::bound::{BothBounds, Bound};
 use itv_base::Range;
 
-/// What becomes of a requirement.
+/// The verdict on a requirement.
 #[derive(Clone, Copy, Debug, PartialEq, Eq)]
 pub enum Verdict {
     /// Every satisfying separation lies in the range.
@@ -15,7 +15,7 @@ pub enum Verdict {
     FailHigh,
     /// A satisfying separation is past the low end.
     FailLow,
-    /// The bounds do not tell.
+    /// The bounds do not decide it.
     Undecided,
 }
 
@@ -75,8 +75,8 @@ fn meets_low(low: Option<i64>, least: Bound) -> bool
     }
 }
 
-/// The verdict on the requirement that the separation of a pair lies in a range, by the two bounds of the pair. An open end asks
-/// nothing. A side that is broken is told before one that is fine, and the high side before the low one.
+/// The verdict on a requirement on the separation of a pair, by its range and the two bounds of the pair. An open end demands
+/// nothing. A broken side decides before a fine one, and the high side before the low one.
 pub fn judge(range: Range, both: &BothBounds) -> Verdict
     ensures { result ≡ verdict_of range both.now.least both.now.greatest }
 {

@@ -42,7 +42,7 @@ or_some false b e = inr e
 
 -- ---- what the rows so far say
 
--- what a report says of the rows before a number
+-- what a report says of the rows before this one
 pub record Tallies (drawn : Drawn) (course : ReportTally) (number : ℕ) : Type 0 where
   pub met : course.fails ≡ false → course.within ≡ false → (k : ℕ) (r : Row) (range : Ends) → k < number → slice_get drawn.rows k ≡ Some r → r.kind ≡ Req range → IsMet drawn.net r.from r.to range
   pub broken : course.fails ≡ true → SomeBroken drawn
@@ -61,7 +61,7 @@ Counts drawn (at_slack course number later range least most) = Tallies drawn cou
 Counts drawn (at_end word) = (word ≡ endings.Inconsistent) × IsInconsistent drawn.net
 Counts drawn other = Unit {0}
 
--- ---- a row is told whole
+-- ---- a row with all its lines
 
 within_is : (value : Bound) → IsWithin value → is_within value ≡ false → ⊥
 within_is (Closed value) w e = w
@@ -69,7 +69,7 @@ within_is Unbounded w e = w
 within_is (Within limit attained) w e = cc
 
 module _ (drawn : Drawn) (told : CurrentRow) (is_row : slice_get drawn.rows told.number ≡ Some told.row) (c : Tallies drawn told.course told.number) where
-  -- a row more
+  -- one more row
   tallies_more : (new : ReportTally) → (new.fails ≡ false → told.course.fails ≡ false) → (new.within ≡ false → told.course.within ≡ false)
       → (new.fails ≡ false → new.within ≡ false → (range : Ends) → told.row.kind ≡ Req range → IsMet drawn.net told.row.from told.row.to range)
       → (new.fails ≡ true → SomeBroken drawn) → new.found ≡ told.course.found → Tallies drawn new (told.number + 1)
@@ -228,7 +228,7 @@ same_ending : (a b : EndWord) → ending a ≡ ending b → a ≡ b
 same_ending a b e = cc
 
 module _ (drawn : Drawn) where
-  -- behind the last row all rows are told
+  -- after the last row every row has had its lines
   all_told : (number k : ℕ) (r : Row) → [] ≡ drop number drawn.rows → slice_get drawn.rows k ≡ Some r → k < number
   all_told number k r none get =
       let long : length {A = Row} [] ≡ length drawn.rows - number = ap length none ∙ length-drop number drawn.rows in

@@ -13,7 +13,7 @@ use Rattle.right_report.specs.Right.Following.{LineClaims, MayFind, MayFollow, L
 use Rattle.right_report.specs.Laws.{ConsistentIsSo, InconsistentIsSo}
 use Rattle.right_report.specs.Told.{finding_in}
 
--- a line of a finding, with the lines of a proof before it
+-- the line of a finding follows, with the lines of a proof before it
 pub record Finds (facts : LineClaims) (word : FindingWord) (next : ReportState) : Type 0 where
   pub lines : List ProofLine
   pub holds : facts.finding lines word
@@ -50,7 +50,7 @@ module _ (facts : LineClaims) (drawn : Drawn) (word : FindingWord) (next : Repor
   finds (at_end other) h = absurd (cc h.0)
   finds at_last h = absurd h
 
--- the finding that lines tell is right, and the lines behind it lead on
+-- the finding in the lines is right, and the lines behind it lead on
 pub record Tells (drawn : Drawn) (word : FindingWord) (last : ReportState) : Type 0 where
   pub holds : IsFinding drawn.net word
   pub lines : List Entry

@@ -1,4 +1,4 @@
--- The first wrong line of a report is one, and a report in which each line meets the check has none.
+-- A report has at most one first wrong line, and a report in which each line meets the check has none.
 use Rattle.std.proofs.Common.{◌≡◌, ◌+◌, ℕ, ℤ, List, [], ◌∷◌, ◌++◌, Option, Some, None, IsSomeAnd, inl, inr, refl, sym, ap, subst, ◌∙◌, append-nil, append_assoc}
 use Rattle.event_graph.specs.Network.{Net}
 use Rattle.event_graph.specs.Proof.{Case, IsProof, Loop, Nothing, Path, ProofGoal, ProofLine, Split, cases_of}
@@ -17,7 +17,7 @@ use Rattle.right_report.specs.Laws.{CheckedHasNoWrong, OneFirstWrong}
 use Rattle.right_report.specs.Shown.{goal_of}
 use Rattle.right_report.specs.Wrong.{IsFine, IsFirstWrong, IsLineRefused, IsWrong, Takes, goal_ahead}
 
--- ---- a line leads to one place
+-- ---- a line leads to one state
 
 same_times : (a b : List ℤ) → times a ≡ times b → a ≡ b
 same_times a b e = cc
@@ -83,7 +83,7 @@ one_from drawn (line ∷ lines) here m n (inr a) (inr b) =
 pub one_first_wrong : OneFirstWrong
 one_first_wrong drawn lines m n a b = one_from drawn lines at_heading m n a b
 
--- ---- a front of a proof is taken
+-- ---- reading accepts a front of a proof
 
 reads_front : (net : Net) (goal : ProofGoal) (lines more : List ProofLine) (cases left : List Case) → proofs.ProofLeaves net goal cases (lines ++ more) left
     → (mid : List Case) × proofs.ProofLeaves net goal cases lines mid
@@ -98,7 +98,7 @@ taken net goal lines more h = reads_front net goal lines more ([] ∷ []) [] h
 
 -- ---- in a report that meets the check no line is refused
 
--- there are lines that make these a whole proof
+-- some lines complete these to a whole proof
 abbrev Completes : Net → ProofGoal → List ProofLine → Type 0
 Completes net goal lines = (more : List ProofLine) × IsProof net goal (lines ++ more)
 
@@ -131,7 +131,7 @@ module _ (drawn : Drawn) (goal : ProofGoal) where
   by_find rest line lines next (inl m) h later = complete_later drawn.net goal lines m.0 (later m.0 (subst (λ x. LinesLead (checked drawn.net) drawn x rest at_last) m.2 h))
   by_find rest line lines next (inr m) h later = let clash : proof line ≡ finding m.0 = m.1 in absurd (cc)
 
-  -- behind lines of a proof that the check accepts stand others that make them whole, where something is to be shown
+  -- if something is to be shown in a report that meets the check, lines behind complete the proof
   ahead_find : (rest : List Entry) (front lines : List ProofLine) → goal_ahead (at_finding front) rest ≡ Some goal → LinesLead (checked drawn.net) drawn (at_finding lines) rest at_last
       → Completes drawn.net goal lines
   ahead_find [] front lines is h = absurd (cc)
@@ -164,7 +164,7 @@ some_goal : (o : Option ProofGoal) (P : ProofGoal → Type 0) → IsSomeAnd o P 
 some_goal None P h = absurd h
 some_goal (Some g) P h = (g, refl, h)
 
--- no line of a proof before the finding
+-- no line of a proof before the finding is refused
 refused_find : (drawn : Drawn) (front : List ProofLine) (line : ProofLine) (rest : List Entry) (next : ReportState) → MayFind (checked drawn.net) front (proof line) next
     → LinesLead (checked drawn.net) drawn next rest at_last → IsSomeAnd (goal_ahead (at_finding front) rest) (λ goal. Takes drawn.net goal (front ++ line ∷ []) → ⊥) → ⊥
 refused_find drawn front line rest next (inr m) more refused = let clash : proof line ≡ finding m.0 = m.1 in absurd (cc)
@@ -174,7 +174,7 @@ refused_find drawn front line rest next (inl m) more refused =
     let whole = ahead_find drawn g.0 rest front (front ++ m.0 ∷ []) g.1 read in
     g.2 (subst (λ l. Takes drawn.net g.0 (front ++ l ∷ [])) (sym (same_proof line m.0 m.1)) (taken drawn.net g.0 (front ++ m.0 ∷ []) whole.0 whole.1))
 
--- nor one before a bound
+-- no line of a proof before a bound is refused
 refused_bound : (drawn : Drawn) (told : CurrentRow) (side : NextBound) (front : List ProofLine) (line : ProofLine) (rest : List Entry) (next : ReportState)
     → MayBound (checked drawn.net) told side front (proof line) next → LinesLead (checked drawn.net) drawn next rest at_last
     → IsSomeAnd (goal_ahead (at_bound told side front) rest) (λ goal. Takes drawn.net goal (front ++ line ∷ []) → ⊥) → ⊥

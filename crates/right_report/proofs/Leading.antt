@@ -27,7 +27,7 @@ module _ {facts : LineClaims} {drawn : Drawn} where
   pub wrote_none : (here : ReportState) (told : SinkView) → WroteLines facts drawn here here told told
   wrote_none here told = record { lines = []; reads = refl; grew = grown-nil told }
 
-  -- one line is put that may follow
+  -- one line that may follow is put
   pub wrote_line : {here next : ReportState} {old new : SinkView} (line : Entry) → MayFollow facts drawn here line next → new ≡ grown old (entry_text line) → WroteLines facts drawn here next old new
   wrote_line {next = next} {old = old} line may put = record {
     lines = line ∷ [];
@@ -46,7 +46,7 @@ module _ {facts : LineClaims} {drawn : Drawn} where
 
   -- ---- a put that failed
 
-  -- of one line that may follow a front is put
+  -- of one line that may follow, a front is put
   pub stopped_line : {here : ReportState} {old new : SinkView} (next : ReportState) (line : Entry) → MayFollow facts drawn here line next → CutShort old new (entry_text line) → WroteFront facts drawn here old new
   stopped_line {old = old} {new = new} next line may cut = record {
     lines = line ∷ [];
@@ -72,7 +72,7 @@ module _ {facts : LineClaims} {drawn : Drawn} where
   leads_then to new (Ok x) a b = wrote_then a b
   leads_then to new (Err e) a b = stopped_then a b
 
-  -- a step failed, and so does what called it
+  -- a step failed, and so its caller fails
   pub leads_up : {B E : Type 0} {here : ReportState} {old new : SinkView} (to : B → ReportState) (result : Result B E) → IsErr result → WroteFront facts drawn here old new → WritesLines facts drawn here to old new result
   leads_up to (Ok x) is stopped = absurd (cc is)
   leads_up to (Err e) is stopped = stopped
@@ -96,7 +96,7 @@ reads_bound_proof facts drawn told side before (line ∷ lines) = (
       (reads_bound_proof facts drawn told side (before ++ line ∷ []) lines),
 )
 
--- and before the finding
+-- lines of a proof stand before the finding
 pub reads_finding_proof : (facts : LineClaims) (drawn : Drawn) (before lines : List ProofLine) → LinesLead facts drawn (at_finding before) (map proof lines) (at_finding (before ++ lines))
 reads_finding_proof facts drawn before [] = ap at_finding (sym (append-nil before))
 reads_finding_proof facts drawn before (line ∷ lines) = (
@@ -106,7 +106,7 @@ reads_finding_proof facts drawn before (line ∷ lines) = (
       (reads_finding_proof facts drawn (before ++ line ∷ []) lines),
 )
 
--- the place behind lines of a proof that stand behind the events
+-- the state after the events and lines of a proof
 abbrev pub behind_proof : ℕ → List ProofLine → ReportState
 behind_proof number [] = at_event number []
 behind_proof number (line ∷ lines) = at_finding (line ∷ lines)
@@ -115,13 +115,13 @@ pub reads_event_proof : (facts : LineClaims) (drawn : Drawn) (number : ℕ) (lin
 reads_event_proof facts drawn number [] = refl
 reads_event_proof facts drawn number (line ∷ lines) = (at_finding (line ∷ []), inl (line, refl, refl), reads_finding_proof facts drawn (line ∷ []) lines)
 
--- their text is that of lines of a report
+-- lines of a proof have the text of the same lines in a report
 proof_text-lines : (lines : List ProofLine) → proof_text lines ≡ report_text (map proof lines)
 unfolding words_of
 proof_text-lines [] = refl
 proof_text-lines (line ∷ lines) = ap (λ text. proof_line_text line ++ text) (proof_text-lines lines)
 
--- A search told its lines of a proof to a sink, whole or cut short: lines were put that lead from a place to another.
+-- A search wrote its lines of a proof to a sink, whole or cut short. They are lines that lead from a state to another.
 module _ {facts : LineClaims} {drawn : Drawn} {here : ReportState} {old new : SinkView} (last : ReportState) (lines : List ProofLine) (reads : LinesLead facts drawn here (map proof lines) last) where
   pub wrote_proof : SinkGrew old lines new → WroteLines facts drawn here last old new
   wrote_proof grew = record { lines = map proof lines; reads = reads; grew = grew ∙ ap (grown old) (proof_text-lines lines) }

@@ -24,7 +24,7 @@ accepted_text_is_right drawn bytes a = record {
   is_right = checked_is_right drawn a.lines a.is_checked;
 }
 
--- a report's text has no line from which on it is none
+-- the text of a report has no line at which no report can go on
 no_text_fault : (bytes : List ℕ) (line : ℕ) (lines : List Entry) → IsReport lines → bytes ≡ report_text lines → IsFirstWrongLine bytes line → ⊥
 no_text_fault bytes line lines report text wrong = wrong.none (record { entries = lines; report = report; text = text })
 
@@ -48,7 +48,7 @@ accepted_text_is_not_refused drawn bytes line a (inr wrong) =
 
 -- ---- a text without a wrong line
 
--- lines of which none is the first wrong one can't fail to lead to the end of a report
+-- if none of the lines is the first wrong one, the lines can't fail to lead to the end of a report
 unrefused_from : (drawn : Drawn) (lines : List Entry) (here : ReportState) → ((number : ℕ) → IsFirstWrong drawn here lines number → ⊥) → (LinesLead (checked drawn.net) drawn here lines at_last → ⊥) → ⊥
 unrefused_from drawn [] here none bars = none 0 (bars, refl)
 unrefused_from drawn (line ∷ lines) here none bars =

@@ -1,4 +1,4 @@
--- Right reports by places.
+-- Right reports by their states.
 use Rattle.std.proofs.Common.{◌≡◌, ◌+◌, ◌++◌, ℕ, ℤ, subst, Bool, true, false, cond, eqb, List, [], ◌∷◌, length, Option, Some, None, refl, sym, ap, ◌∙◌, inl, inr, ◌⊎◌}
 use Rattle.std.proofs.lemmas.Bool.{eq-eqb}
 use Rattle.itv_base.specs.Range.{Ends}
@@ -50,12 +50,12 @@ follows_weaker facts other drawn (at_slack course number later range least most)
 follows_weaker facts other drawn (at_end word) line behind i h = h
 follows_weaker facts other drawn at_last line behind i h = h
 
--- what one reader takes another takes that asks less
+-- if a reader asks for less than another, it accepts all lines that the other accepts
 pub reads_weaker : (facts other : LineClaims) (drawn : Drawn) (lines : List Entry) (here last : ReportState) → Implies facts other → LinesLead facts drawn here lines last → LinesLead other drawn here lines last
 reads_weaker facts other drawn [] here last i h = h
 reads_weaker facts other drawn (line ∷ lines) here last i h = (h.0, follows_weaker facts other drawn here line h.0 i h.1, reads_weaker facts other drawn lines h.0 last i h.2)
 
--- lines, and then more of them
+-- more lines after lines
 pub reads-append : (facts : LineClaims) (drawn : Drawn) (lines more : List Entry) (here mid last : ReportState) → LinesLead facts drawn here lines mid → LinesLead facts drawn mid more last → LinesLead facts drawn here (lines ++ more) last
 reads-append facts drawn [] more here mid last p q = subst (λ x. LinesLead facts drawn x more last) (sym p) q
 reads-append facts drawn (line ∷ lines) more here mid last p q = (p.0, p.1, reads-append facts drawn lines more p.0 mid last p.2 q)

@@ -33,12 +33,12 @@ module _ (drawn : Drawn) (told : CurrentRow) (side : NextBound) where
 
 -- ---- the first bound of a sort in a row
 
--- a place at which the greatest bound of a row is yet to come
+-- a state in which the greatest bound of a row is yet to come
 abbrev pub IsBeforeMax : Row → ReportState → Type 0
 IsBeforeMax r (at_bound told greatest lines) = told.row ≡ r
 IsBeforeMax r other = ⊥
 
--- a place at which the least bound of a row is yet to come
+-- a state in which the least bound of a row is yet to come
 abbrev pub IsBeforeMin : Row → ReportState → Type 0
 IsBeforeMin r (at_bound told side lines) = told.row ≡ r
 IsBeforeMin r (at_times told greatest value) = told.row ≡ r
@@ -81,7 +81,7 @@ module _ (drawn : Drawn) (r : Row) (value : Bound) (lines : List Entry) where
       let there : IsLeastBound drawn.net told.row.from told.row.to value = subst (IsLeastBound drawn.net told.row.from told.row.to) (same_Some other value found) holds in
       subst (λ x. IsLeastBound drawn.net x.from x.to value) inside there
 
-  -- the line isn't that of the bound
+  -- the line is not the line of the bound
   passes : (line known : Entry) (next there : ReportState) → first_bound Min (line ∷ lines) ≡ Some value → line ≡ known → (first_bound Min (known ∷ lines) ≡ Some value → first_bound Min lines ≡ Some value) → next ≡ there
       → IsBeforeMin r there → (IsBeforeMin r next × (first_bound Min lines ≡ Some value)) ⊎ IsLeastBound drawn.net r.from r.to value
   passes line known next there is same skip leads inside = inl (subst (IsBeforeMin r) (sym leads) inside, skip (subst (λ l. first_bound Min (l ∷ lines) ≡ Some value) same is))

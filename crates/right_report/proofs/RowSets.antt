@@ -25,7 +25,7 @@ use Rattle.right_report.proofs.Standing.{IsRightBound, on_row, rise_is_right}
 -- ---- behind a bound
 
 module _ (drawn : Drawn) (P : Type 0) where
-  -- a place behind a bound, before the next set or with none before the next bound or row
+  -- a state after a bound: the next set is yet to come, or there is none before the next bound or row
   abbrev Waits : ReportState → Type 0
   Waits (at_times told side value) = IsRightBound drawn.net told.row side Unbounded → P
   Waits (at_raise told side list) = IsRightBound drawn.net told.row side Unbounded → P

@@ -21,7 +21,7 @@ use Rattle.right_report.specs.Laws.{ReportFailHighIsBroken, ReportFailLowIsBroke
 use Rattle.right_report.specs.Told.{first_verdict, verdict_on}
 use Rattle.right_report.proofs.Standing.{Stands, on_row, stands}
 
--- a verdict is that of the row's range on two right bounds
+-- the verdict is the verdict on the row's range by two right bounds
 pub record IsJudged (drawn : Drawn) (r : Row) (word : Verdict) : Type 0 where
   pub range : Ends
   pub is_kind : r.kind ≡ Req range
@@ -30,7 +30,7 @@ pub record IsJudged (drawn : Drawn) (r : Row) (word : Verdict) : Type 0 where
   pub are_bounds : AreBounds drawn.net r.from r.to least most
   pub is_verdict : verdict_of range least most ≡ word
 
--- a place at which the verdict on a row is yet to come, or the row is over without one
+-- a state in which the verdict on a row is yet to come, or in which the row is over without a verdict
 abbrev IsIn : Row → ReportState → Type 0
 IsIn r (at_bound told side lines) = told.row ≡ r
 IsIn r (at_times told side value) = told.row ≡ r
@@ -60,7 +60,7 @@ in_times r told side Unbounded list is = is
 in_times r told side (Within limit attained) list is = in_bounded r told side (Within limit attained) is
 
 module _ (drawn : Drawn) (r : Row) (word : Verdict) (lines : List Entry) where
-  -- the line isn't the verdict
+  -- the line is not the verdict
   passes : (line known : Entry) (next there : ReportState) → first_verdict (line ∷ lines) ≡ Some word → line ≡ known → (first_verdict (known ∷ lines) ≡ Some word → first_verdict lines ≡ Some word) → next ≡ there → IsIn r there
       → (IsIn r next × (first_verdict lines ≡ Some word)) ⊎ IsJudged drawn r word
   passes line known next there is same skip leads inside = inl (subst (IsIn r) (sym leads) inside, skip (subst (λ l. first_verdict (l ∷ lines) ≡ Some word) same is))

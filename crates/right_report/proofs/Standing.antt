@@ -1,4 +1,4 @@
--- What is known at a place of a right report, by the lines before it.
+-- What is known in a state of a right report, by the lines before it.
 use Rattle.std.proofs.Common.{◌≡◌, ◌+◌, ◌-◌, ◌<◌, ◌==◌, ℕ, suc, ℤ, Bool, true, false, if◌then◌else◌, List, [], ◌∷◌, length, drop, get_or, Option, Some, None, slice_get, inl, inr, refl, sym, ap, subst, ◌∙◌, arith, add-one, drop-cons, length-drop}
 use Rattle.std.proofs.lemmas.Bool.{eqb-true}
 use Rattle.std.proofs.lemmas.Option.{same_Some, slice_get-get_or}
@@ -28,7 +28,7 @@ use Rattle.right_report.specs.Told.{behind_row}
 
 -- ---- rows that are left
 
--- the next of the rows that are left is the row of that number
+-- the next of the rows that are left is the row with this number
 pub next_row : (rows later : List Row) (number : ℕ) (r : Row) → (r ∷ later) ≡ drop number rows → (slice_get rows number ≡ Some r) × (later ≡ drop (number + 1) rows)
 next_row rows later number r is =
     let long : length (r ∷ later) ≡ length rows - number = ap length is ∙ length-drop number rows in
@@ -39,14 +39,14 @@ next_row rows later number r is =
     let rest : later ≡ drop (suc number) rows = cc in
     (slice_get-get_or rows number r within ∙ ap (λ x. Some x) same, rw add-one rest)
 
--- ---- places
+-- ---- states
 
--- a row that is told is one of the design's, and the later rows are those behind it
+-- the current row is a row of the design, and the later rows are the rows behind it
 pub record IsTold (drawn : Drawn) (told : CurrentRow) : Type 0 where
   pub is_row : slice_get drawn.rows told.number ≡ Some told.row
   pub are_later : told.later ≡ drop (told.number + 1) drawn.rows
 
--- the greatest bound is known where the least comes
+-- if the least bound comes, the greatest bound is right
 abbrev pub IsSide : Net → Row → NextBound → Type 0
 IsSide net r greatest = Unit {0}
 IsSide net r (least_by most) = IsGreatestBound net r.from r.to most
@@ -165,7 +165,7 @@ module _ (drawn : Drawn) where
 
 -- ---- the lines of a row
 
--- a line that begins a row leads to its greatest bound
+-- a line that begins a row leads to the state before its greatest bound
 pub record Begins (drawn : Drawn) (number : ℕ) (next : ReportState) : Type 0 where
   pub told : CurrentRow
   pub is_number : number ≡ told.number
@@ -202,7 +202,7 @@ module _ (facts : LineClaims) (drawn : Drawn) (number : ℕ) (kind : RowKind) (f
   begins (at_end word) h = absurd (cc h.0)
   begins at_last h = absurd h
 
--- what the first lines of a row tell is claimed of the row, wherever the row stands
+-- a claim on what the lines of a row say first holds, wherever the row stands in the report
 module _ {X : Type 0} (drawn : Drawn) (last : ReportState) (first : List Entry → Option X) (Claim : Row → X → Type 0)
     (empty : first [] ≡ None)
     (in_row : (told : CurrentRow) (lines : List Entry) (x : X) → IsTold drawn told → LinesLead (right drawn.net) drawn (at_bound told greatest []) lines last → first lines ≡ Some x → Claim told.row x) where

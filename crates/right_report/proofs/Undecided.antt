@@ -1,4 +1,4 @@
--- Where a report ends undecided.
+-- When a report ends undecided.
 use Rattle.std.proofs.Common.{◌≡◌, ◌<◌, ◌||◌, ℕ, ℤ, Bool, true, false, if◌then◌else◌, List, [], ◌∷◌, Some, None, inl, inr, refl, sym, subst}
 use Rattle.std.proofs.lemmas.Option.{same_Some}
 use Rattle.itv_base.specs.Range.{Ends}
@@ -31,11 +31,11 @@ or_by : (P : Type 0) (a b : Bool) → (a ≡ true → P) → (b ≡ true → P) 
 or_by P true b f g e = f refl
 or_by P false b f g e = g e
 
--- What an unsettled finding and a bound that was left open give, a report that ends undecided gives.
+-- What an unsettled finding gives, and what a bound that was left open gives, a report that ends undecided gives.
 module _ (facts : LineClaims) (drawn : Drawn) (P : Type 0)
     (by_finding : (lines : List ProofLine) → facts.finding lines Unsettled → P)
     (by_bound : (found : FindingWord) (r : Row) (side : NextBound) (lines : List ProofLine) (value : Bound) → facts.bound found r side lines value → (found ≡ Unsettled → P) → is_within value ≡ true → P) where
-  -- ---- what is known at a place
+  -- ---- what is known in a state
 
   abbrev Settles : ReportTally → Type 0
   Settles course = (course.found ≡ Unsettled → P) × (course.within ≡ true → P)

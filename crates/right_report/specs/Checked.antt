@@ -1,4 +1,4 @@
--- What a check asks of each line of a report, for a network: proofs in place of truth, and numbers below 2^61 in absolute value.
+-- What a check asks of each line of a report on a network: proofs in place of truth, and numbers below 2^61 in absolute value.
 use Rattle.std.specs.Prelude.{◌≡◌, ℤ, List, All, IfSome}
 use Rattle.event_graph.specs.Network.{Net}
 use Rattle.event_graph.specs.Proof.{IsProof, Nothing, ProofLine}
@@ -28,13 +28,13 @@ ProvesBound net found r side lines (bounds.Closed value) = (found ≡ findings.C
 ProvesBound net found r side lines bounds.Unbounded = found ≡ findings.Consistent
 ProvesBound net found r side lines (bounds.Within limit attained) = IsLimit net r side limit × HasAttained found attained
 
--- the numbers of a bound are below 2^61 in absolute value; a limit is so by itself
+-- the value or the attained number of a bound is below 2^61 in absolute value; a limit is so by itself
 abbrev pub IsWithinTimes : Bound → Type 0
 IsWithinTimes (bounds.Closed value) = IsTime value
 IsWithinTimes bounds.Unbounded = Unit {0}
 IsWithinTimes (bounds.Within limit attained) = IfSome attained IsTime
 
--- what a check asks
+-- what a check asks of the claims of lines
 abbrev pub checked : Net → LineClaims
 checked net = record {
   finding = λ lines word. ProvesFinding net lines word;

@@ -1,4 +1,4 @@
--- Laws of right reports, over the definitions alone.
+-- Laws of right reports, which hold by the definitions alone.
 use Rattle.std.specs.Prelude.{◌≡◌, ◌<◌, ◌⊎◌, ℕ, ℤ, Bool, List, All, Some, length, slice_get}
 use Rattle.itv_base.specs.Range.{Ends}
 use Rattle.event_graph.specs.Bounds.{IsInconsistent, IsUnbounded}
@@ -33,7 +33,7 @@ use Rattle.right_report.specs.Wrong.{IsFirstWrongIn}
 abbrev pub ShownIsRight : Type 0
 ShownIsRight = (drawn : Drawn) (most : ℕ) (lines : List Entry) → IsShownReport drawn most lines → IsRightReport drawn lines
 
--- and so is one without the lines that show them
+-- a report without the lines that show its numbers is right, if there are such lines
 abbrev pub BareIsRight : Type 0
 BareIsRight = (drawn : Drawn) (most : ℕ) (lines : List Entry) → IsBareReport drawn most lines → IsRightReport drawn lines
 
@@ -43,7 +43,7 @@ CheckedIsRight = (drawn : Drawn) (lines : List Entry) → IsChecked drawn lines 
 
 -- ---- the first wrong line
 
--- there is one first wrong line
+-- a report has at most one first wrong line
 abbrev pub OneFirstWrong : Type 0
 OneFirstWrong = (drawn : Drawn) (lines : List Entry) (m n : ℕ) → IsFirstWrongIn drawn lines m → IsFirstWrongIn drawn lines n → m ≡ n
 
@@ -61,16 +61,16 @@ InconsistentIsSo = (drawn : Drawn) (lines : List Entry) → BeginsRightReport dr
 abbrev pub SomeSatisfy : Net → Type 0
 SomeSatisfy net = (list : List ℤ) × Satisfies list net
 
--- a consistent finding says that some times do
+-- a consistent finding says that some times satisfy
 abbrev pub ConsistentIsSo : Type 0
 ConsistentIsSo = (drawn : Drawn) (lines : List Entry) → IsRightReport drawn lines → finding_in lines ≡ Some findings.Consistent → SomeSatisfy drawn.net
 
--- a greatest bound is the greatest bound of the pair of its row
+-- a greatest bound is right for the pair of its row
 abbrev pub GreatestIsRight : Type 0
 GreatestIsRight = (drawn : Drawn) (lines : List Entry) (number : ℕ) (r : Row) (value : Bound) → IsRightReport drawn lines → slice_get drawn.rows number ≡ Some r
     → bound_on lines number sorts.Max ≡ Some value → IsGreatestBound drawn.net r.from r.to value
 
--- and a least bound its least
+-- a least bound is right for the pair of its row
 abbrev pub LeastIsRight : Type 0
 LeastIsRight = (drawn : Drawn) (lines : List Entry) (number : ℕ) (r : Row) (value : Bound) → IsRightReport drawn lines → slice_get drawn.rows number ≡ Some r
     → bound_on lines number sorts.Min ≡ Some value → IsLeastBound drawn.net r.from r.to value
@@ -80,17 +80,18 @@ abbrev pub UnboundedAbove : Type 0
 UnboundedAbove = (drawn : Drawn) (lines : List Entry) (number : ℕ) (r : Row) → IsRightReport drawn lines → slice_get drawn.rows number ≡ Some r
     → bound_on lines number sorts.Max ≡ Some bounds.Unbounded → IsUnbounded drawn.net r.from r.to
 
--- and an unbounded least bound that those of the reversed pair do
+-- an unbounded least bound says that satisfying separations of the reversed pair exceed every number
 abbrev pub UnboundedBelow : Type 0
 UnboundedBelow = (drawn : Drawn) (lines : List Entry) (number : ℕ) (r : Row) → IsRightReport drawn lines → slice_get drawn.rows number ≡ Some r
     → bound_on lines number sorts.Min ≡ Some bounds.Unbounded → IsUnbounded drawn.net r.to r.from
 
--- the set of events behind a greatest bound says the same, in lines that only begin a right report too
+-- a set of events behind a greatest bound shows that satisfying separations of the pair exceed every number, even if the lines only begin a
+-- right report
 abbrev pub SetShowsAbove : Type 0
 SetShowsAbove = (drawn : Drawn) (lines : List Entry) (number : ℕ) (r : Row) (set : List Bool) → BeginsRightReport drawn lines → slice_get drawn.rows number ≡ Some r
     → set_on lines number sorts.Max ≡ Some set → IsUnbounded drawn.net r.from r.to
 
--- and behind a least bound it does so for the reversed pair
+-- a set of events behind a least bound shows the same of the reversed pair
 abbrev pub SetShowsBelow : Type 0
 SetShowsBelow = (drawn : Drawn) (lines : List Entry) (number : ℕ) (r : Row) (set : List Bool) → BeginsRightReport drawn lines → slice_get drawn.rows number ≡ Some r
     → set_on lines number sorts.Min ≡ Some set → IsUnbounded drawn.net r.to r.from
@@ -100,12 +101,12 @@ abbrev pub ReportPassIsMet : Type 0
 ReportPassIsMet = (drawn : Drawn) (lines : List Entry) (number : ℕ) (r : Row) → BeginsRightReport drawn lines → slice_get drawn.rows number ≡ Some r
     → verdict_on lines number ≡ Some verdicts.Pass → (range : Ends) × (r.kind ≡ kinds.Req range) × IsMet drawn.net r.from r.to range
 
--- `fail high` says that some satisfying times are past its high end
+-- a verdict `fail high` says that some satisfying times are past the high end of the requirement
 abbrev pub ReportFailHighIsBroken : Type 0
 ReportFailHighIsBroken = (drawn : Drawn) (lines : List Entry) (number : ℕ) (r : Row) → BeginsRightReport drawn lines → slice_get drawn.rows number ≡ Some r
     → verdict_on lines number ≡ Some verdicts.FailHigh → (range : Ends) × (r.kind ≡ kinds.Req range) × IsBrokenHigh drawn.net r.from r.to range
 
--- and `fail low` that some are past its low end
+-- a verdict `fail low` says that some satisfying times are past the low end of the requirement
 abbrev pub ReportFailLowIsBroken : Type 0
 ReportFailLowIsBroken = (drawn : Drawn) (lines : List Entry) (number : ℕ) (r : Row) → BeginsRightReport drawn lines → slice_get drawn.rows number ≡ Some r
     → verdict_on lines number ≡ Some verdicts.FailLow → (range : Ends) × (r.kind ≡ kinds.Req range) × IsBrokenLow drawn.net r.from r.to range
@@ -137,19 +138,19 @@ FailEndIsSo = (drawn : Drawn) (lines : List Entry) → BeginsRightReport drawn l
 abbrev pub InconsistentEndIsSo : Type 0
 InconsistentEndIsSo = (drawn : Drawn) (lines : List Entry) → BeginsRightReport drawn lines → end_in lines ≡ Some endings.Inconsistent → IsInconsistent drawn.net
 
--- `end undecided` comes only where the budget is below the number of cause choices, in a report that shows its numbers
+-- a report that shows its numbers ends with `end undecided` only if its budget is below the number of cause choices
 abbrev pub ShownUndecidedIsBelow : Type 0
 ShownUndecidedIsBelow = (drawn : Drawn) (most : ℕ) (lines : List Entry) → IsNet drawn.net → IsShownReport drawn most lines → end_in lines ≡ Some endings.Undecided
     → most < cause_choices drawn.net.constraints
 
--- and in one without the lines that show them
+-- the same holds of a report without the lines that show its numbers, if there are such lines
 abbrev pub BareUndecidedIsBelow : Type 0
 BareUndecidedIsBelow = (drawn : Drawn) (most : ℕ) (lines : List Entry) → IsNet drawn.net → IsBareReport drawn most lines → end_in lines ≡ Some endings.Undecided
     → most < cause_choices drawn.net.constraints
 
 -- ---- texts
 
--- a right report whose lines have texts is a report, and its text that of a report
+-- if the lines of a right report have texts, it is a report, and its text is the text of a report
 abbrev pub RightIsReport : Type 0
 RightIsReport = (drawn : Drawn) (lines : List Entry) → IsRightReport drawn lines → All (IsReportEntry (length drawn.names)) lines → IsReport lines × IsReportText (report_text lines)
 
@@ -157,15 +158,15 @@ RightIsReport = (drawn : Drawn) (lines : List Entry) → IsRightReport drawn lin
 abbrev pub AcceptedTextIsRight : Type 0
 AcceptedTextIsRight = (drawn : Drawn) (bytes : List ℕ) → IsAcceptedText drawn bytes → IsRightText drawn bytes
 
--- the check refuses a text at one line
+-- the check refuses a text at one line at most
 abbrev pub OneRefusedLine : Type 0
 OneRefusedLine = (drawn : Drawn) (bytes : List ℕ) (line other : ℕ) → IsRefusedText drawn bytes line → IsRefusedText drawn bytes other → line ≡ other
 
--- the check never accepts a text and refuses it too
+-- the check does not both accept and refuse a text
 abbrev pub AcceptedTextIsNotRefused : Type 0
 AcceptedTextIsNotRefused = (drawn : Drawn) (bytes : List ℕ) (line : ℕ) → IsAcceptedText drawn bytes → IsRefusedText drawn bytes line → ⊥
 
--- A text that the check refuses at no line can't fail to be the text of a right report. (To have the report at hand, root bounds would have to
--- be decided here.)
+-- If the check refuses a text at no line, the text can't fail to be the text of a right report. (To have the report itself, root bounds would
+-- have to be decided here.)
 abbrev pub UnrefusedTextIsRight : Type 0
 UnrefusedTextIsRight = (drawn : Drawn) (bytes : List ℕ) → ((line : ℕ) → ¬ (IsRefusedText drawn bytes line)) → ¬ (¬ (IsRightText drawn bytes))

@@ -1,3 +1,4 @@
+-- The definitions of this crate, module by module: right reports, checked reports, and what they say.
 pub mod Right
 pub mod Shown
 pub mod Checked

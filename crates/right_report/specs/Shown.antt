@@ -1,4 +1,4 @@
--- Reports whose finding and bounds are shown by lines of proofs: printed before them, or left out.
+-- Reports whose finding and bounds are shown by lines of proofs, either printed before them or left out.
 use Rattle.std.specs.Prelude.{◌≡◌, ◌<◌, ◌≤◌, ℕ, ℤ, neg_ℤ, List, [], Some, None, slice_get}
 use Rattle.event_graph.specs.Network.{Net}
 use Rattle.event_graph.specs.Proof.{IsProof, IsStoppedProof, Nothing, ProofGoal, ProofLine, closing_lines}
@@ -14,8 +14,8 @@ use Rattle.right_report.specs.Right.At.{NextBound, at_heading, at_last, greatest
 use Rattle.right_report.specs.Right.Facts.{right}
 use Rattle.right_report.specs.Right.Following.{LineClaims, LinesLead}
 
--- What is to be shown for a number as a bound of a row: that no separation of the pair exceeds it, and for a least separation that none
--- of the reversed pair exceeds its negative.
+-- What has to be shown of a number as a bound of a row: no separation of the pair exceeds the number. For a least separation: no separation of
+-- the reversed pair exceeds minus the number.
 abbrev pub goal_of : Row → NextBound → ℤ → ProofGoal
 goal_of r greatest value = BoundGoal r.from r.to value
 goal_of r (least_by most) value = BoundGoal r.to r.from (neg_ℤ value)
@@ -24,49 +24,49 @@ goal_of r (least_by most) value = BoundGoal r.to r.from (neg_ℤ value)
 abbrev pub IsProofWithin : Net → ProofGoal → ℕ → List ProofLine → Type 0
 IsProofWithin net goal most lines = IsProof net goal lines × (closing_lines lines ≤ most)
 
--- the lines are a stopped proof, and with the case that times close behind them no more cases are closed than the budget
+-- the lines are a stopped proof; the cases that it closes and the one that times close after it are no more than the budget
 abbrev pub IsStoppedWithin : Net → ProofGoal → ℕ → List ProofLine → Type 0
 IsStoppedWithin net goal most lines = (count : ℕ) × (count < most) × IsStoppedProof net goal lines count
 
--- An inconsistent finding has its proof, and a consistent one a stopped proof, both within the budget. An unsettled one has a stopped
--- proof that used it up.
+-- An inconsistent finding has a proof within the budget, and a consistent one a stopped proof within the budget. An unsettled one has a stopped
+-- proof that used the budget up.
 abbrev pub ShowsFinding : Net → ℕ → List ProofLine → FindingWord → Type 0
 ShowsFinding net most lines findings.Consistent = IsStoppedWithin net Nothing most lines
 ShowsFinding net most lines findings.Inconsistent = IsProofWithin net Nothing most lines
 ShowsFinding net most lines findings.Unsettled = IsStoppedProof net Nothing lines most
 
--- A closed bound has its proof, and an unbounded one a stopped proof, both within the budget. A bound that was left open has a stopped
--- proof of the separation that was found, which used it up, and no lines where nothing was found.
+-- A closed bound has a proof within the budget, and an unbounded one a stopped proof within the budget. A bound that was left open has a stopped
+-- proof of the attained separation that used the budget up; it has no lines if nothing was attained.
 abbrev pub ShowsBound : Net → ℕ → List ProofLine → Row → NextBound → Bound → Type 0
 ShowsBound net most lines r side (bounds.Closed value) = IsProofWithin net (goal_of r side value) most lines
 ShowsBound net most lines r side bounds.Unbounded = (value : ℤ) × IsStoppedWithin net (goal_of r side value) most lines
 ShowsBound net most lines r side (bounds.Within limit None) = lines ≡ []
 ShowsBound net most lines r side (bounds.Within limit (Some found)) = IsStoppedProof net (goal_of r side found) lines most
 
--- what is asked of a right report that prints these lines
+-- the claims of a right report that prints the lines of its proofs
 abbrev pub shown : Net → ℕ → LineClaims
 shown net most = record (right net) {
   finding = λ lines word. (right net).finding lines word × ShowsFinding net most lines word;
   bound = λ found r side lines value. (right net).bound found r side lines value × ShowsBound net most lines r side value;
 }
 
--- what is asked of a right report that prints none of them: there are such lines all the same
+-- the claims of a right report that prints no lines of proofs; there are such lines all the same
 abbrev pub bare : Net → ℕ → LineClaims
 bare net most = record (right net) {
   finding = λ lines word. (right net).finding lines word × (lines ≡ []) × ((hidden : List ProofLine) × ShowsFinding net most hidden word);
   bound = λ found r side lines value. (right net).bound found r side lines value × (lines ≡ []) × ((hidden : List ProofLine) × ShowsBound net most hidden r side value);
 }
 
--- the second line tells the budget
+-- the second line says the budget
 abbrev pub TellsBudget : ℕ → List Entry → Type 0
 TellsBudget most lines = slice_get lines 1 ≡ Some (budget most)
 
--- a whole right report of a budget with its proofs
+-- a whole right report with this budget and its proofs
 pub record IsShownReport (drawn : Drawn) (most : ℕ) (lines : List Entry) : Type 0 where
   pub reads : LinesLead (shown drawn.net most) drawn at_heading lines at_last
   pub tells : TellsBudget most lines
 
--- a whole right report of a budget without them
+-- a whole right report with this budget and without its proofs
 pub record IsBareReport (drawn : Drawn) (most : ℕ) (lines : List Entry) : Type 0 where
   pub reads : LinesLead (bare drawn.net most) drawn at_heading lines at_last
   pub tells : TellsBudget most lines

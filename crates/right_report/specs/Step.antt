@@ -1,2 +1,2 @@
--- Words of private contracts.
+-- Words of contracts within this crate.
 pub mod Writing

@@ -1,4 +1,4 @@
--- Texts of right reports, texts that a check accepts, and the line at which it refuses others.
+-- Texts of right reports, texts that a check accepts, and the line at which a check refuses a text.
 use Rattle.std.specs.Prelude.{◌≡◌, ◌⊎◌, ◌+◌, ℕ, List}
 use Rattle.slack_report.specs.Entry.{Entry}
 use Rattle.slack_report.specs.Order.{IsReport}
@@ -23,7 +23,7 @@ pub record IsAcceptedText (drawn : Drawn) (bytes : List ℕ) : Type 0 where
   pub text : bytes ≡ report_text lines
   pub is_checked : IsChecked drawn lines
 
--- the bytes are the text of a report, and this line of it, from 1, is the first that the check calls wrong
+-- the bytes are the text of a report, and this line of it, counted from 1, is the first that the check calls wrong
 pub record HasFirstWrong (drawn : Drawn) (bytes : List ℕ) (line : ℕ) : Type 0 where
   pub lines : List Entry
   pub report : IsReport lines
@@ -32,6 +32,6 @@ pub record HasFirstWrong (drawn : Drawn) (bytes : List ℕ) (line : ℕ) : Type 
   pub is_line : line ≡ number + 1
   pub is_wrong : IsFirstWrongIn drawn lines number
 
--- the check refuses the bytes at this line: they are no report's text from there on, or are one in which it is the first wrong line
+-- the check refuses the bytes at this line, counted from 1: no report's text goes on there, or it is the first wrong line of the report
 abbrev pub IsRefusedText : Drawn → List ℕ → ℕ → Type 0
 IsRefusedText drawn bytes line = IsFirstWrongLine bytes line ⊎ HasFirstWrong drawn bytes line

@@ -1,4 +1,4 @@
--- What a report tells of the network and of each of its rows.
+-- What a report says of the network and of each of its rows.
 use Rattle.std.specs.Prelude.{◌==◌, ℕ, Bool, if◌then◌else◌, List, [], ◌∷◌, Option, Some, None}
 use Rattle.requirements.specs.declared.bound.Bound.{Bound}
 use Rattle.requirements.specs.declared.verdict.Verdict.{Verdict}
@@ -20,7 +20,7 @@ end_in [] = None
 end_in (ending word ∷ lines) = Some word
 end_in (line ∷ lines) = end_in lines
 
--- the lines behind the first line of the row of a number
+-- the lines behind the first line of the row with this number
 abbrev pub behind_row : ℕ → List Entry → List Entry
 behind_row number [] = []
 behind_row number (row other kind from to ∷ lines) = if other == number then lines else behind_row number lines
@@ -40,7 +40,7 @@ first_bound which (bound other value ∷ lines) = if is_which other which then S
 first_bound which (row other kind from to ∷ lines) = None
 first_bound which (line ∷ lines) = first_bound which lines
 
--- the set of events that stands in the lines before the next bound or row
+-- the set of events in the lines before the next bound or row
 abbrev pub set_behind : List Entry → Option (List Bool)
 set_behind [] = None
 set_behind (raise set ∷ lines) = Some set
@@ -48,21 +48,21 @@ set_behind (bound other value ∷ lines) = None
 set_behind (row other kind from to ∷ lines) = None
 set_behind (line ∷ lines) = set_behind lines
 
--- that which stands behind the first greatest or least bound before the next row
+-- the set of events behind the first greatest or least bound before the next row
 abbrev pub first_set : Which → List Entry → Option (List Bool)
 first_set which [] = None
 first_set which (bound other value ∷ lines) = if is_which other which then set_behind lines else first_set which lines
 first_set which (row other kind from to ∷ lines) = None
 first_set which (line ∷ lines) = first_set which lines
 
--- the verdict on the row of a number
+-- the verdict on the row with this number
 abbrev pub verdict_on : List Entry → ℕ → Option Verdict
 verdict_on lines number = first_verdict (behind_row number lines)
 
--- the greatest or the least bound of the row of a number
+-- the greatest or the least bound of the row with this number
 abbrev pub bound_on : List Entry → ℕ → Which → Option Bound
 bound_on lines number which = first_bound which (behind_row number lines)
 
--- the set of events that shows the row of a number unbounded, with its greatest or its least bound
+-- the set of events behind the greatest or the least bound of the row with this number; it shows that the bound is unbounded
 abbrev pub set_on : List Entry → ℕ → Which → Option (List Bool)
 set_on lines number which = first_set which (behind_row number lines)

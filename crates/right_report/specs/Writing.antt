@@ -1,4 +1,4 @@
--- What a writer of a report promises: the lines that it put lead from a place to another.
+-- What a writer of a report promises: the lines that it put lead from a state to another.
 use Rattle.std.specs.Prelude.{◌≡◌, List}
 use Rattle.itv_base.specs.Outside.{CutShort, SinkView, grown}
 use Rattle.slack_report.specs.Entry.{Entry}
@@ -7,13 +7,13 @@ use Rattle.drawn.specs.Drawn.{Drawn}
 use Rattle.right_report.specs.Right.At.{ReportState}
 use Rattle.right_report.specs.Right.Following.{LineClaims, LinesLead}
 
--- lines were put whole, and lead from a place to another
+-- whole lines were put, and they lead from a state to another
 pub record WroteLines (facts : LineClaims) (drawn : Drawn) (here last : ReportState) (old new : SinkView) : Type 0 where
   pub lines : List Entry
   pub reads : LinesLead facts drawn here lines last
   pub grew : new ≡ grown old (report_text lines)
 
--- a put failed: of lines that lead from a place to some other, a front was put
+-- a put failed: of lines that lead from a state to another, a front was put
 pub record WroteFront (facts : LineClaims) (drawn : Drawn) (here : ReportState) (old new : SinkView) : Type 0 where
   pub lines : List Entry
   pub last : ReportState

@@ -1,6 +1,6 @@
-//! Right reports: what a report says of a network where each of its lines is right, and which line of one is the first wrong.
-//! The contract: a report that shows its numbers, or in which each line meets the check, is right, and a right report says no
-//! more of all satisfying times than what holds.
+//! Right reports: what a report says of a network if each of its lines is right, and which line of a report is the first wrong one.
+//! The contract: a report is right if it shows its numbers, or if each of its lines meets the check. What a right report says of
+//! all satisfying times holds.
 #![tactic(auto)]
 
 mod judging;

@@ -27,7 +27,7 @@ use Rattle.unroll.specs.Step.Between.{IsRowBetween, IsRuleBetween}
 use Rattle.unroll.specs.Step.Kept.{kept_rows, kept_rules}
 use Rattle.unroll.proofs.PartLists.{mark_count_cons, number_within}
 
--- what holds of all holds of the one at a place
+-- what holds of all elements holds of the element at a place
 pub All-slice_get : {X : Type 0} (P : X → Type 0) (xs : List X) (i : ℕ) (x : X) → All P xs → slice_get xs i ≡ Some x → P x
 All-slice_get P xs i x all read = rw (get_or_from_slice_get xs i x x read) at (all i x (slice_get_within xs i x read))
 
@@ -59,11 +59,11 @@ more_rows : (few many : ℕ) (rows : List SheetRow) → few ≤ many → All (Is
 more_rows few many rows le whole =
     All-weaker (IsRowBetween few) (IsRowBetween many) (λ row h. record { from = omega (arith, le, h.from); to = omega (arith, le, h.to) }) rows (rows_between few rows whole)
 
--- those of a sheet are between as many marks as there may be events
+-- the rules of a sheet are between as many marks as there may be events
 pub sheet_rules : (sheet : SheetContents) → IsWhole sheet → All (IsRuleBetween MAX_EVENTS) sheet.rules
 sheet_rules sheet h = let few : length sheet.marks ≤ MAX_MARKS = h.marks in more_rules (length sheet.marks) MAX_EVENTS sheet.rules (omega (arith, few)) h.rules
 
--- so are those of the wires of a design with few marks
+-- so are the rules of the wires of a design with few marks
 pub wire_rules : (d : Composed) → IsDesign d → mark_count d.sheets ≤ MAX_EVENTS → All (IsRuleBetween MAX_EVENTS) d.rules
 wire_rules d h few = more_rules (mark_count d.sheets) MAX_EVENTS d.rules few h.rules
 
@@ -130,7 +130,7 @@ all_rows_between d h =
     let all : ℕ = mark_count d.sheets in
     All-append (IsRowBetween all) (part_rows 0 d.sheets) d.rows (part_rows_between 0 all d.sheets h.sheets (omega arith)) (rows_between all d.rows h.rows)
 
--- so are the rows that are kept
+-- the rows that are kept are between the marks
 pub kept_rows_between : (d : Composed) → IsDesign d → All (IsRowBetween (mark_count d.sheets)) (kept_rows d.cycles (rows_of d))
 kept_rows_between d h = All-filter (λ row. row_exists (d.cycles - 1) row) (IsRowBetween (mark_count d.sheets)) (rows_of d) (all_rows_between d h)
 
@@ -149,7 +149,7 @@ All-front P xs ys all = λ k d within. rw (get_or-append xs ys d k within) at (a
 All-back : {X : Type 0} (P : X → Type 0) (xs ys : List X) → All P (xs ++ ys) → All P ys
 All-back P xs ys all = rw (drop-append_seam xs ys) at (All-drop P (length xs) (xs ++ ys) all)
 
--- what holds of all that elements give holds of what one gives
+-- what holds of all that the elements give holds of what one element gives
 pub All-flat_map-at : {X Y : Type 0} (P : Y → Type 0) (f : X → List Y) (xs : List X) (i : ℕ) (x : X) → i < length xs → x ≡ get_or xs i x → All P (flat_map f xs) → All P (f x)
 All-flat_map-at P f [] i x within is all = absurd (omega (arith, within))
 All-flat_map-at P f (y ∷ xs) zero x within is all = rw is (All-front P (f y) (flat_map f xs) all)

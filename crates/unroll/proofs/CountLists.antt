@@ -23,7 +23,7 @@ pub how_often_same : (a b : ℕ → Bool) (n : ℕ) → ((cycle : ℕ) → a cyc
 how_often_same a b zero same = refl
 how_often_same a b (suc n) same = rw (how_often_same a b n same, same n) refl
 
--- from a cycle on
+-- a test that holds from a cycle on
 pub how_often_from : (shift n : ℕ) → how_often (λ cycle. nat_le shift cycle) n ≡ n - shift
 how_often_from shift zero = omega arith
 how_often_from shift (suc n) =
@@ -32,7 +32,7 @@ how_often_from shift (suc n) =
 
 -- ---- rules
 
--- a rule with causes to choose from
+-- a rule with causes to choose from counts in each cycle in which it exists
 pub splittable_rule : (n : ℕ) (rule : SheetRule) (kind : RuleKind) (count : ℕ) (test : Bool) → kind ≡ rule.kind → count ≡ length rule.causes → test ≡ nat_lt 1 (named_causes kind count) → test ≡ true
     → splittable_cycles n rule ≡ rule_cycles n rule
 splittable_rule n rule kind count test same_kind same_count answer holds =
@@ -55,7 +55,7 @@ joins_counted n sheets (join ∷ joins) =
     let here = sum_by-cons (rule_cycles n) (join_rule sheets join) (map (join_rule sheets) joins) in
     here ∙ rw (join_counted n sheets join, joins_counted n sheets joins, mul-suc n (length joins)) (omega arith)
 
--- and has one cause
+-- a join has one cause
 pub joins_unsplittable : (n : ℕ) (sheets : List SheetContents) (joins : List Join) → sum_by (splittable_cycles n) (map (join_rule sheets) joins) ≡ 0
 joins_unsplittable n sheets [] = refl
 joins_unsplittable n sheets (join ∷ joins) = sum_by-cons (splittable_cycles n) (join_rule sheets join) (map (join_rule sheets) joins) ∙ rw (joins_unsplittable n sheets joins) refl
@@ -66,14 +66,14 @@ sum_map_same : {X : Type 0} (g : X → ℕ) (f : X → X) (xs : List X) → ((x 
 sum_map_same g f [] same = refl
 sum_map_same g f (x ∷ xs) same = omega (arith, sum_by-cons g (f x) (map f xs), sum_by-cons g x xs, same x, sum_map_same g f xs same)
 
--- a rule exists as often wherever its marks stand
+-- a rule exists equally often wherever its marks stand
 rule_cycles_behind : (n first : ℕ) (rule : SheetRule) → rule_cycles n (rule_behind first rule) ≡ rule_cycles n rule
 rule_cycles_behind n first rule = how_often_same _ _ n (λ cycle. exists_behind cycle first rule)
 
 splittable_cycles_behind : (n first : ℕ) (rule : SheetRule) → splittable_cycles n (rule_behind first rule) ≡ splittable_cycles n rule
 splittable_cycles_behind n first rule = rw (length-map rule.causes (source_behind first), rule_cycles_behind n first rule) refl
 
--- so its counts are the same
+-- rules and rows have the same counts wherever their marks stand
 counts_behind : (most n first : ℕ) (rules : List SheetRule) (rows : List SheetRow) (counts : Counts) → AreCounts most n rules rows counts → AreCounts most n (map (rule_behind first) rules) (map (row_behind first) rows) counts
 counts_behind most n first rules rows counts h = record {
   marks = h.marks;
@@ -82,7 +82,7 @@ counts_behind most n first rules rows counts h = record {
   rows = h.rows ∙ sym (sum_map_same (row_cycles n) (row_behind first) rows (λ row. refl));
 }
 
--- two counts together
+-- the sums of two counts
 pub counts_together : (most other n : ℕ) (rules rules' : List SheetRule) (rows rows' : List SheetRow) (a b : Counts) → AreCounts most n rules rows a → AreCounts other n rules' rows' b
     → AreCounts (most + other) n (rules ++ rules') (rows ++ rows') (sums a b)
 counts_together most other n rules rules' rows rows' a b h k = record {
@@ -92,7 +92,7 @@ counts_together most other n rules rules' rows rows' a b h k = record {
   rows = rw (h.rows, k.rows) (sym (sum_by-append (row_cycles n) rows rows'));
 }
 
--- one part more
+-- one more part
 pub part_counted : (n : ℕ) (sheets : List SheetContents) (sheet : SheetContents) (a b : Counts)
     → AreCounts (mark_count sheets) n (part_rules 0 sheets) (part_rows 0 sheets) a
     → AreCounts (length sheet.marks) n sheet.rules sheet.rows b

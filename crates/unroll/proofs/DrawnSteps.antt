@@ -1,4 +1,4 @@
--- What is made step by step is what a design draws, and the counts are those of what it draws.
+-- What the steps make is what a design draws, and the counts are the counts of what it draws.
 use Rattle.std.proofs.Common.{◌≡◌, ℕ, ◌-◌, ◌*◌, ◌<◌, ◌≤◌, Bool, true, false, cond, List, [], ◌∷◌, length, All, Option, Some, None, IfSome, Ok, Err, refl, ap, sym, ◌∙◌, arith}
 use Rattle.std.specs.List.{cons_option, filter_map}
 use Rattle.std.proofs.lemmas.Bool.{ltb-false}
@@ -33,7 +33,7 @@ use Rattle.unroll.proofs.NameLists.{All-in_cycles, labels_inside, labels_length,
 
 -- ---- counts
 
--- the counts are those of what is drawn
+-- the counts are the counts of what is drawn
 pub limits_counted : (d : Composed) (counts : Counts) → AreCounts (mark_count d.sheets) d.cycles (rules_of d) (rows_of d) counts
     → counts_by (d.cycles * counts.marks) counts.constraints counts.rows counts.splittable ≡ counts_of (drawn_of d)
 limits_counted d counts h =
@@ -47,7 +47,7 @@ cond_none : {X : Type 0} (test : Bool) (x : X) (other : Option X) → cond test 
 cond_none true x other h = absurd (cc)
 cond_none false x other h = (refl, h)
 
--- what passes no limit
+-- if no limit is passed, each count is allowed
 pub none_passed : (events constraints rows splittable : ℕ) → first_passed (counts_by events constraints rows splittable) ≡ None → (events ≤ MAX_EVENTS) × (constraints ≤ MAX_CONSTRAINTS) × (rows ≤ MAX_ROWS)
 none_passed events constraints rows splittable none =
     let first = cond_none _ _ _ none in
@@ -88,7 +88,7 @@ rows_inside net marks n rows is all = All-in_cycles (IsRowOf net) (λ cycle. fil
 
 -- ---- the whole
 
--- what was made step by step
+-- what the steps made
 pub record IsMade (d : Composed) (net : Net) (drew : List (List Origin)) (texts : List (List ℕ)) (labels : List EventLabel) (asked : List Row) : Type 0 where
   pub network : net ≡ record { events = d.cycles * mark_count d.sheets; constraints = constraints_of (mark_count d.sheets) (kept_rules d.cycles (rules_of d)) d.cycles }
   pub origins : drew ≡ origins_of (kept_rules d.cycles (rules_of d)) d.cycles
@@ -125,20 +125,20 @@ made_by d marks cycles rules asked net drew texts labels rows same_marks same_cy
   rows = given ∙ rw (same_marks, same_cycles, same_asked) refl;
 }
 
--- what is kept takes as much room as all
+-- the kept rules give as many constraints as all rules
 pub kept_room : (d : Composed) (marks cycles : ℕ) (rules : List SheetRule) → marks ≡ mark_count d.sheets → cycles ≡ d.cycles → rules ≡ kept_rules d.cycles (rules_of d)
     → length (constraints_of marks rules cycles) ≡ length (constraints_of (mark_count d.sheets) (rules_of d) d.cycles)
 kept_room d marks cycles rules same_marks same_cycles same_rules = rw (same_marks, same_cycles, same_rules) (ap length (kept_constraints (mark_count d.sheets) d.cycles (rules_of d)))
 
--- what is found of the counts is found of what is drawn
+-- the first limit passed by the counts is the first limit passed by what is drawn
 pub passed_of : (d : Composed) (cycles : ℕ) (counts : Counts) (found : Option Counted) → cycles ≡ d.cycles → AreCounts (mark_count d.sheets) d.cycles (rules_of d) (rows_of d) counts
     → found ≡ first_passed (counts_by (cycles * counts.marks) counts.constraints counts.rows counts.splittable) → found ≡ first_passed (counts_of (drawn_of d))
 passed_of d cycles counts found same h is = (rw same at is) ∙ ap first_passed (limits_counted d counts h)
 
--- what passes no limit has few constraints
+-- a design that passes no limit draws few constraints
 pub few_constraints : (d : Composed) → None ≡ first_passed (counts_of (drawn_of d)) → length (constraints_of (mark_count d.sheets) (rules_of d) d.cycles) ≤ MAX_CONSTRAINTS
 few_constraints d none = (none_passed (drawn_of d).net.events (length (drawn_of d).net.constraints) (length (drawn_of d).rows) _ (sym none)).1
 
--- and few rows
+-- a design that passes no limit draws few rows
 pub few_rows : (d : Composed) → None ≡ first_passed (counts_of (drawn_of d)) → length (drawn_of d).rows ≤ MAX_ROWS
 few_rows d none = (none_passed (drawn_of d).net.events (length (drawn_of d).net.constraints) (length (drawn_of d).rows) _ (sym none)).2

@@ -1,4 +1,4 @@
--- Worked cases of what a design draws, by computation.
+-- Worked examples of what a design draws, by computation.
 use Rattle.std.proofs.Common.{None, ◌≡◌, [], ◌∷◌, Some, pos, refl}
 use Rattle.std.specs.Prelude.{◌+◌, codes}
 use Rattle.itv_base.specs.Range.{Ends}
@@ -18,8 +18,8 @@ use Rattle.unroll.specs.Limits.{counted, counts_by, first_passed}
 abbrev ends : Ends
 ends = record { low = Some (pos 10); high = Some (pos 20) }
 
--- a sheet of the marks a and j, of which j comes at the latest of its causes, a one cycle before; a to j is asked for in one
--- cycle and over two
+-- A sheet with the marks a and j. Mark j comes at the latest of its causes; its cause a is one cycle before. The separation from a to j is asked
+-- for in one cycle and over two.
 abbrev late_sheet : SheetContents
 late_sheet = record {
   marks = record { lane = 0; place = 0; name = 97; kind = Bare } ∷ record { lane = 1; place = 0; name = 106; kind = Bare } ∷ [];
@@ -62,12 +62,12 @@ pub mixed_shifts : constraints_of 2 (mixed ∷ []) 3
     ≡ record { kind = rules.Late; target = record { 0 = 5 }; causes = record { event = record { 0 = 4 }; range = ends } ∷ record { event = record { 0 = 0 }; range = ends } ∷ [] } ∷ []
 mixed_shifts = refl
 
--- Its causes come from their edges.
+-- The causes have the edges of the group as their origins.
 pub mixed_origins : origins_of (mixed ∷ []) 3 ≡ (Edge 0 ∷ Edge 3 ∷ []) ∷ []
 mixed_origins = refl
 
--- Two such parts, whose marks j are joined from the first to the second with no delay, and a wire from the second back to the
--- first in the next cycle: in each cycle the constraints of the parts come first, then that of the net, then that of the wire.
+-- Two such parts. A net joins mark j of the first to mark j of the second with no delay. A wire leads from the second back to the first in the
+-- next cycle. In each cycle the constraints of the parts come first, then the constraint of the net, then the constraint of the wire.
 abbrev now : Ends
 now = record { low = Some (pos 0); high = Some (pos 0) }
 
@@ -101,8 +101,8 @@ wire_row_in_cycle_1 = refl
 
 -- ---- limits
 
--- What each limit allows. Of all events and 61 rows there are 999,424 cells, and of 127 constraints with two or more causes there are
--- 2,097,152 search cells.
+-- What each limit allows. All events and 61 rows take 999,424 cells. All events and 127 constraints with two or more causes take 2,097,152
+-- search cells.
 pub at_all_limits : first_passed (counts_by MAX_EVENTS 65536 61 127) ≡ None
 at_all_limits = refl
 
@@ -112,7 +112,7 @@ at_rows = refl
 pub at_cells : first_passed (counts_by 1000 0 1000 0) ≡ None
 at_cells = refl
 
--- what it does not, where the first limit that is passed is told
+-- what each limit does not allow; the first limit that is passed is the answer
 pub past_events : first_passed (counts_by (MAX_EVENTS + 1) 65537 4097 600) ≡ Some (counted Events (MAX_EVENTS + 1))
 past_events = refl
 

@@ -1,4 +1,4 @@
--- What is kept gives what all give, and how much all give.
+-- What is kept gives what all rules and rows give, and how much they give.
 use Rattle.std.proofs.Common.{◌≡◌, ℕ, zero, suc, ◌+◌, ◌-◌, ◌<◌, ◌≤◌, Bool, true, false, cond, nat_le, nat_lt, List, [], ◌∷◌, ◌++◌, length, map, Option, Some, None, refl, ap, sym, ◌∙◌, length-append, arith}
 use Rattle.std.specs.Prelude.{filter, sum_by}
 use Rattle.std.specs.List.{cons_option, filter_map, list_all}
@@ -33,7 +33,7 @@ sources_later (source ∷ causes) cycle later less all =
     let here : nat_le source.shift later ≡ true = le-leb source.shift later (omega (arith, leb-true source.shift cycle parts.0)) in
     rw (here, sources_later causes cycle later less parts.1) refl
 
--- what does not exist later does not exist now
+-- what does not exist in a later cycle does not exist in an earlier one
 gone_before : {X : Type 0} (now : Bool) (x : X) → (now ≡ true → ⊥) → cond now (Some x) None ≡ None
 gone_before true x never = absurd (never refl)
 gone_before false x never = refl
@@ -84,8 +84,7 @@ sum_by_same : {X : Type 0} (f g : X → ℕ) (xs : List X) → ((x : X) → f x 
 sum_by_same f g [] same = refl
 sum_by_same f g (x ∷ xs) same = omega (arith, sum_by-cons f x xs, sum_by-cons g x xs, same x, sum_by_same f g xs same)
 
--- Where the length in each cycle is a sum over some elements, the whole length is the sum of what each of them gives in all
--- cycles.
+-- If the length in each cycle is a sum over some elements, the whole length is the sum of what each element gives in all cycles.
 cycles_counted : {X R : Type 0} (each : ℕ → List X) (given : ℕ → R → ℕ) (xs : List R) (n : ℕ) → ((cycle : ℕ) → length (each cycle) ≡ sum_by (given cycle) xs)
     → length (in_cycles each n) ≡ sum_by (λ x. total (λ cycle. given cycle x) n) xs
 cycles_counted each given xs zero lengths = sym (sum_by_none xs)
@@ -96,7 +95,7 @@ one_counted : {Y : Type 0} (b : Bool) (y : Y) (rest : List Y) → length (cons_o
 one_counted true y rest = omega arith
 one_counted false y rest = omega arith
 
--- what a test lets through, counted
+-- how much a test lets through
 length_given : {X Y : Type 0} (test : X → Bool) (f : X → Y) (xs : List X) → length (filter_map (λ x. cond (test x) (Some (f x)) None) xs) ≡ sum_by (λ x. cond (test x) 1 0) xs
 length_given test f [] = refl
 length_given test f (x ∷ xs) =
@@ -118,7 +117,7 @@ rows_counted marks n rows =
     (λ cycle. length_given (row_exists cycle) (λ (row : SheetRow). record { kind = row.kind; from = event_in marks (cycle - row.shift) row.from; to = event_in marks cycle row.to; origin = row.origin }) rows)
     ∙ sum_by_same _ _ rows (λ row. often_is_total (λ cycle. row_exists cycle row) n)
 
--- ---- those with two or more causes
+-- ---- constraints with two or more causes
 
 abbrev has_choice : Constraint → Bool
 has_choice c = nat_lt 1 (cause_count_of c)

@@ -16,7 +16,7 @@ use Rattle.unroll.specs.Step.Labels.{label_of, labels_from}
 use Rattle.drawn.specs.Kept.{name_by}
 use Rattle.unroll.proofs.PartLists.{mark_count_cons}
 
--- one part more
+-- one more part
 pub labels_push : (cycle part : ℕ) (sheets : List SheetContents) (sheet : SheetContents)
     → labels_from cycle part (sheets ++ sheet ∷ []) ≡ labels_from cycle part sheets ++ map (label_of (part + length sheets) cycle) sheet.marks
 labels_push cycle part [] sheet = append-nil (map (label_of part cycle) sheet.marks) ∙ ap (λ n. map (label_of n cycle) sheet.marks) (sym (add-zero part))
@@ -26,16 +26,16 @@ labels_push cycle part (s ∷ sheets) sheet =
     (labels_push cycle (part + 1) sheets sheet ∙ ap (λ n. labels_from cycle (part + 1) sheets ++ map (label_of n cycle) sheet.marks) number)
     ∙ sym (append_assoc (map (label_of part cycle) s.marks) (labels_from cycle (part + 1) sheets) (map (label_of (part + length (s ∷ sheets)) cycle) sheet.marks))
 
--- the labels that are kept with those of one part more
+-- the labels that are kept, with the labels of one more part
 pub labels_kept : (cycle part : ℕ) (sheets : List SheetContents) (sheet : SheetContents) (old items new : List EventLabel) (list : List Mark) → length sheets ≡ part → items ≡ old ++ labels_from cycle 0 sheets
     → list ≡ sheet.marks → new ≡ items ++ map (label_of part cycle) list → new ≡ old ++ labels_from cycle 0 (sheets ++ sheet ∷ [])
 labels_kept cycle part sheets sheet old items new list is stood same more =
     let number : part ≡ 0 + length sheets = omega (arith, is) in
     rw (more, stood, same, number, labels_push cycle 0 sheets sheet) (append_assoc old (labels_from cycle 0 sheets) (map (label_of (0 + length sheets) cycle) sheet.marks))
 
--- ---- what labels tell
+-- ---- the names of labels
 
--- the labels of a part tell its name
+-- the labels of a part give the names of its events
 marks_named : (all : List (List ℕ)) (part cycle : ℕ) (text : List ℕ) (marks : List Mark) → unwrap_or (slice_get all part) [] ≡ text
     → map (name_by all) (map (label_of part cycle) marks) ≡ map (λ mark. record { part = text; mark = mark.name; cycle = cycle }) marks
 marks_named all part cycle text [] is = refl
@@ -44,7 +44,7 @@ marks_named all part cycle text (mark ∷ marks) is = rw (is, marks_named all pa
 front_get : (front : List (List ℕ)) (text : List ℕ) (rest : List (List ℕ)) → unwrap_or (slice_get (front ++ text ∷ rest) (length front)) [] ≡ text
 front_get front text rest = unwrap_or-slice_get (front ++ text ∷ rest) (length front) [] ∙ get_or-append_seam front text rest []
 
--- the labels of parts behind others tell their names
+-- the labels of parts behind others give the names of their events
 labels_named : (front parts : List (List ℕ)) (cycle : ℕ) (sheets : List SheetContents) → length parts ≡ length sheets
     → map (name_by (front ++ parts)) (labels_from cycle (length front) sheets) ≡ names_in parts sheets cycle
 labels_named front [] cycle [] same = refl
@@ -62,7 +62,7 @@ map_in_cycles : {X Y : Type 0} (f : X → Y) (each : ℕ → List X) (other : �
 map_in_cycles f each other zero same = refl
 map_in_cycles f each other (suc n) same = map-append f (in_cycles each n) (each n) ∙ rw (map_in_cycles f each other n same, same n) refl
 
--- the labels of all cycles tell the names of all events
+-- the labels of all cycles give the names of all events
 pub labels_tell : (parts : List (List ℕ)) (sheets : List SheetContents) (n : ℕ) → length parts ≡ length sheets
     → map (name_by parts) (in_cycles (λ cycle. labels_from cycle 0 sheets) n) ≡ in_cycles (names_in parts sheets) n
 labels_tell parts sheets n same = map_in_cycles (name_by parts) (λ cycle. labels_from cycle 0 sheets) (names_in parts sheets) n (λ cycle. labels_named [] parts cycle sheets same)
@@ -78,7 +78,7 @@ length-in_cycles : {X : Type 0} (each : ℕ → List X) (count n : ℕ) → ((cy
 length-in_cycles each count zero same = omega arith
 length-in_cycles each count (suc n) same = omega (arith, length-append (in_cycles each n) (each n), length-in_cycles each count n same, same n, suc-mul n count)
 
--- one for each event
+-- there is one label for each event
 pub labels_length : (sheets : List SheetContents) (n : ℕ) → length (in_cycles (λ cycle. labels_from cycle 0 sheets) n) ≡ n * mark_count sheets
 labels_length sheets n = length-in_cycles (λ cycle. labels_from cycle 0 sheets) (mark_count sheets) n (λ cycle. labels_count cycle 0 sheets)
 
@@ -92,7 +92,7 @@ pub All-in_cycles : {X : Type 0} (P : X → Type 0) (each : ℕ → List X) (n :
 All-in_cycles P each zero all = All-nil P
 All-in_cycles P each (suc n) all = All-append P (in_cycles each n) (each n) (All-in_cycles P each n (λ cycle less. all cycle (omega (arith, less)))) (all n (omega arith))
 
--- each of a part that is there
+-- the part of each label is there
 pub labels_inside : (parts : List (List ℕ)) (sheets : List SheetContents) (n : ℕ) → length parts ≡ length sheets
     → All (λ (label : EventLabel). label.part < length parts) (in_cycles (λ cycle. labels_from cycle 0 sheets) n)
 labels_inside parts sheets n same =

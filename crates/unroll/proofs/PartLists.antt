@@ -1,4 +1,4 @@
--- The marks, rules and rows of one part more.
+-- The marks, rules and rows of one more part.
 use Rattle.std.proofs.Common.{Bool, cond, nat_le, ◌≡◌, ℕ, zero, suc, ◌+◌, ◌-◌, ◌<◌, ◌≤◌, List, [], ◌∷◌, ◌++◌, length, map, get_or, take, Option, Some, None, refl, ap, sym, ◌∙◌, add-zero, append-nil, append_assoc, arith}
 use Rattle.std.specs.Prelude.{IsSomeAnd, slice_get}
 use Rattle.std.proofs.lemmas.List.{get_or_read, length-take-le}
@@ -32,7 +32,7 @@ mark_count_push sheets sheet = sum_by_push (λ (s : SheetContents). length s.mar
 pub mark_count_cons : (sheet : SheetContents) (sheets : List SheetContents) → mark_count (sheet ∷ sheets) ≡ length sheet.marks + mark_count sheets
 mark_count_cons sheet sheets = sum_by-cons (λ (s : SheetContents). length s.marks) sheet sheets
 
--- the marks of a part and of those before it are among all
+-- the marks of a part, and of the parts before it, are among all marks
 pub sheet_fits : (sheets : List SheetContents) (part : ℕ) (sheet : SheetContents) → slice_get sheets part ≡ Some sheet → mark_count (take part sheets) + length sheet.marks ≤ mark_count sheets
 sheet_fits sheets part sheet read =
     let front : mark_count (take (part + 1) sheets) ≡ mark_count (take part sheets) + length sheet.marks = ap mark_count (take_get sheets part sheet read) ∙ mark_count_push (take part sheets) sheet in
@@ -43,7 +43,7 @@ number_fits : (sheets : List SheetContents) (mark : DesignMark) (found : Option 
 number_fits sheets mark None read h = absurd h
 number_fits sheets mark (Some sheet) read h = omega (arith, h, sheet_fits sheets mark.part sheet read)
 
--- the number of a mark that is there is among all
+-- the number of a mark is among the numbers of all marks
 pub number_within : (sheets : List SheetContents) (mark : DesignMark) → IsMarkOf sheets mark → number_of sheets mark < mark_count sheets
 number_within sheets mark h = number_fits sheets mark (slice_get sheets mark.part) refl h
 
@@ -67,7 +67,7 @@ get_or-firsts_of first (s ∷ sheets) (suc part) within =
     let rest = get_or-firsts_of (first + length s.marks) sheets part (omega arith) in
     omega (arith, rest, mark_count_cons s (take part sheets))
 
--- the firsts that are kept with that of one part more
+-- the numbers of first marks that are kept, with the number of one more part
 pub firsts_kept : (sheets : List SheetContents) (sheet : SheetContents) (old new : List ℕ) (first : ℕ) → first ≡ mark_count sheets → old ≡ firsts_of 0 sheets → new ≡ old ++ first ∷ [] → new ≡ firsts_of 0 (sheets ++ sheet ∷ [])
 firsts_kept sheets sheet old new first is stood more =
     let number : first ≡ 0 + mark_count sheets = omega (arith, is) in
@@ -93,7 +93,7 @@ part_rows_push first (s ∷ sheets) sheet =
     (part_rows_push (first + length s.marks) sheets sheet ∙ ap (λ n. part_rows (first + length s.marks) sheets ++ map (row_behind n) sheet.rows) number)
     ∙ sym (append_assoc (map (row_behind first) s.rows) (part_rows (first + length s.marks) sheets) (map (row_behind (first + mark_count (s ∷ sheets))) sheet.rows))
 
--- the kept rules with those of one part more
+-- the rules that are kept, with the rules of one more part
 pub parts_kept : (cycles first : ℕ) (sheets : List SheetContents) (sheet : SheetContents) (old items new list : List SheetRule) → first ≡ mark_count sheets → items ≡ old ++ kept_rules cycles (part_rules 0 sheets)
     → list ≡ sheet.rules → new ≡ items ++ kept_rules cycles (map (rule_behind first) list) → new ≡ old ++ kept_rules cycles (part_rules 0 (sheets ++ sheet ∷ []))
 parts_kept cycles first sheets sheet old items new list is stood same more =
@@ -110,7 +110,7 @@ part_rows_kept cycles first sheets sheet old items new list is stood same more =
     ap (kept_rows cycles) (part_rows_push 0 sheets sheet) ∙ filter-append (λ row. row_exists (cycles - 1) row) (part_rows 0 sheets) (map (row_behind (0 + mark_count sheets)) sheet.rows) in
     rw (more, stood, same, number, both) (append_assoc old (kept_rows cycles (part_rows 0 sheets)) (kept_rows cycles (map (row_behind (0 + mark_count sheets)) sheet.rows)))
 
--- what was read of the firsts
+-- a number read from the first marks
 pub first_read : (sheets : List SheetContents) (firsts : List ℕ) (part read : ℕ) → firsts ≡ firsts_of 0 sheets → part < length sheets → read ≡ get_or firsts part read → read ≡ mark_count (take part sheets)
 first_read sheets firsts part read stand within is =
     let there : part < length firsts = omega (arith, ap length stand, length-firsts_of 0 sheets, within) in
@@ -121,7 +121,7 @@ first_read sheets firsts part read stand within is =
 pub exists_behind : (cycle first : ℕ) (rule : SheetRule) → rule_exists cycle (rule_behind first rule) ≡ rule_exists cycle rule
 exists_behind cycle first rule = list_all-map (λ (source : Source). nat_le source.shift cycle) (source_behind first) rule.causes
 
--- the rule that is kept of one, by whether it exists before it is moved
+-- whether a moved rule is kept, by whether it exists before the move
 pub one_kept : (cycles first : ℕ) (rule : SheetRule) (exists : Bool) → exists ≡ rule_exists (cycles - 1) rule → kept_rules cycles (rule_behind first rule ∷ []) ≡ cond exists (rule_behind first rule ∷ []) []
 one_kept cycles first rule exists is = rw (exists_behind (cycles - 1) first rule, is) refl
 
@@ -134,7 +134,7 @@ sources_unmoved : (causes : List Source) → map (source_behind 0) causes ≡ ca
 sources_unmoved [] = refl
 sources_unmoved (source ∷ causes) = rw (nothing_before source.mark, sources_unmoved causes) refl
 
--- behind no marks nothing moves
+-- behind no marks no rule moves
 pub rules_unmoved : (rules : List SheetRule) → map (rule_behind 0) rules ≡ rules
 rules_unmoved [] = refl
 rules_unmoved (rule ∷ rules) = rw (nothing_before rule.target, sources_unmoved rule.causes, rules_unmoved rules) refl

@@ -12,11 +12,11 @@ use Rattle.compose.specs.Numbers.{join_rule}
 abbrev pub source_behind : ℕ → Source → Source
 source_behind first source = record { mark = first + source.mark; shift = source.shift; range = source.range; origin = source.origin }
 
--- the rule of a sheet whose marks stand behind so many others
+-- a rule of a sheet whose first mark has this number
 abbrev pub rule_behind : ℕ → SheetRule → SheetRule
 rule_behind first rule = record { kind = rule.kind; target = first + rule.target; causes = map (source_behind first) rule.causes }
 
--- the rules of the sheets of parts, the marks of the first of which stand behind so many others
+-- the rules of the sheets of parts; the first mark of the first part has this number
 abbrev pub part_rules : ℕ → List SheetContents → List SheetRule
 part_rules first [] = []
 part_rules first (sheet ∷ sheets) = map (rule_behind first) sheet.rules ++ part_rules (first + length sheet.marks) sheets

@@ -1,4 +1,4 @@
--- Cycles one after the other: the events of marks, the constraints of rules and the rows, each in the cycles in which it exists.
+-- Cycles one after the other: the events of marks, the constraints of rules, and the rows. Each stands in the cycles in which it exists.
 use Rattle.std.specs.Prelude.{ℕ, zero, suc, ◌+◌, ◌-◌, ◌*◌, Bool, nat_le, if◌then◌else◌, List, [], ◌++◌, map, Option, Some, None}
 use Rattle.std.specs.List.{filter_map, list_all}
 use Rattle.itv_base.specs.declared.names.EventId.{EventId}
@@ -10,16 +10,16 @@ use Rattle.sheet.specs.declared.rule.Source.{Source}
 use Rattle.sheet.specs.Rule.{SheetRule}
 use Rattle.drawn.specs.declared.row.Row.{Row}
 
--- the lists of the first cycles, one behind the other
+-- the lists of the first cycles, one after the other
 abbrev pub in_cycles : {X : Type 0} → (ℕ → List X) → ℕ → List X
 in_cycles each zero = []
 in_cycles each (suc n) = in_cycles each n ++ each n
 
--- the event of a mark in a cycle, where each cycle has so many marks
+-- the event of a mark in a cycle, if each cycle has this many marks
 abbrev pub event_in : ℕ → ℕ → ℕ → EventId
 event_in marks cycle mark = record { 0 = cycle * marks + mark }
 
--- a cause stands as many cycles before as its shift says
+-- a cause in the cycle that comes as many cycles before as its shift says
 abbrev pub cause_in : ℕ → ℕ → Source → Cause
 cause_in marks cycle source = record { event = event_in marks (cycle - source.shift) source.mark; range = source.range }
 
@@ -27,19 +27,19 @@ cause_in marks cycle source = record { event = event_in marks (cycle - source.sh
 abbrev pub rule_exists : ℕ → SheetRule → Bool
 rule_exists cycle rule = list_all (λ source. nat_le source.shift cycle) rule.causes
 
--- the constraint of a rule in the cycle of its target, where every cause stands in some cycle
+-- the constraint of a rule in the cycle of its target, if every cause stands in some cycle
 abbrev pub constraint_in : ℕ → ℕ → SheetRule → Option Constraint
 constraint_in marks cycle rule =
     if rule_exists cycle rule then Some (record { kind = rule.kind; target = event_in marks cycle rule.target; causes = map (cause_in marks cycle) rule.causes }) else None
 
--- what draws the causes of the constraint of a rule in a cycle, where it is there
+-- what draws the causes of the constraint of a rule in a cycle, if the constraint exists there
 abbrev pub origins_in : ℕ → SheetRule → Option (List Origin)
 origins_in cycle rule = if rule_exists cycle rule then Some (map (λ source. source.origin) rule.causes) else None
 
 abbrev pub row_exists : ℕ → SheetRow → Bool
 row_exists cycle row = nat_le row.shift cycle
 
--- a row in the cycle of its to-event, where its from-event stands in some cycle
+-- a row in the cycle of its to-event, if its from-event stands in some cycle
 abbrev pub row_in : ℕ → ℕ → SheetRow → Option Row
 row_in marks cycle row =
     if row_exists cycle row then Some (record { kind = row.kind; from = event_in marks (cycle - row.shift) row.from; to = event_in marks cycle row.to; origin = row.origin }) else None
@@ -48,7 +48,7 @@ row_in marks cycle row =
 abbrev pub constraints_of : ℕ → List SheetRule → ℕ → List Constraint
 constraints_of marks rules cycles = in_cycles (λ cycle. filter_map (constraint_in marks cycle) rules) cycles
 
--- and what draws their causes
+-- what draws the causes of these constraints
 abbrev pub origins_of : List SheetRule → ℕ → List (List Origin)
 origins_of rules cycles = in_cycles (λ cycle. filter_map (origins_in cycle) rules) cycles
 

@@ -8,7 +8,7 @@ use Rattle.compose.specs.Numbers.{mark_count}
 use Rattle.unroll.specs.Cycle.{rows_of, rules_of}
 use Rattle.unroll.specs.Cycles.{constraints_of, in_cycles, origins_of, rows_in}
 
--- the names of the marks of parts in a cycle, of parts with these names and these sheets
+-- the names of the events in a cycle, for parts with these names and these sheets
 abbrev pub names_in : List (List ℕ) → List SheetContents → ℕ → List Name
 names_in [] sheets cycle = []
 names_in (part ∷ parts) [] cycle = []

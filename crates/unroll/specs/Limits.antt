@@ -1,4 +1,4 @@
--- The limits of a drawn network, and the first one that it passes.
+-- The limits of a drawn network, and the first limit that it passes.
 use Rattle.std.specs.Prelude.{ℕ, ◌+◌, ◌*◌, nat_lt, List, [], ◌∷◌, length, find, Option, Some, None, Result, Ok, Err}
 use Rattle.itv_base.specs.declared.limits.TheConstants.{MAX_CELLS, MAX_CONSTRAINTS, MAX_EVENTS, MAX_MATRIX_EVENTS, MAX_ROWS, MAX_SEARCH_CELLS}
 use Rattle.event_graph.specs.Network.{splittable_count}
@@ -25,9 +25,9 @@ most_of SessionRows = MAX_SESSION_ROWS
 abbrev pub counted : Limit → ℕ → Counted
 counted limit count = record { limit = limit; count = count }
 
--- Of so many events, constraints, rows, and constraints with two or more causes, what the limits speak of, in the order in which
--- they are looked at. Each row takes a cell for each event. So does each level of the search, of which there is one for each
--- constraint with two or more causes, and the graph below all levels.
+-- The counts that limits speak of, in the order in which they are looked at, by the numbers of events, constraints, rows, and constraints with
+-- two or more causes. Each row takes a cell for each event. So does each level of the search; there is one for each constraint with two or more
+-- causes, and one more for the graph below them.
 abbrev pub counts_by : ℕ → ℕ → ℕ → ℕ → List Counted
 counts_by events constraints rows splittable =
     counted Events events
@@ -40,11 +40,11 @@ counts_by events constraints rows splittable =
 abbrev pub counts_of : Drawn → List Counted
 counts_of drawn = counts_by drawn.net.events (length drawn.net.constraints) (length drawn.rows) (splittable_count drawn.net)
 
--- the first one of which there is more than its limit allows
+-- the first count that its limit does not allow
 abbrev pub first_passed : List Counted → Option Counted
 first_passed counts = find (λ c. nat_lt (most_of c.limit) c.count) counts
 
--- a drawn network that passes no limit, or the first limit that it passes with how much there is
+-- a drawn network that passes no limit, or the first limit that it passes, with the count
 abbrev pub within : Drawn → Option Counted → Result Drawn UnrollFault
 within drawn None = Ok drawn
 within drawn (Some passed) = Err (TooMany passed.limit passed.count)

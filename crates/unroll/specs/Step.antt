@@ -1,3 +1,4 @@
+-- Words of contracts within this crate.
 pub mod Counting
 pub mod Kept
 pub mod Between

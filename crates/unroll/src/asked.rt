@@ -12,7 +12,7 @@ use origin::Origin;
 use sheet::SheetRow;
 use std::alloc::Global;
 
-/// The rows of a design that exist in some cycle: those of the parts and of the wires.
+/// The rows of a design that exist in some cycle: the rows of the parts, and then of the wires.
 pub fn rows_of(alloc: Global, design: &NumberedDesign<'_>) -> Result<Vec<SheetRow>, NoMemory>
     ensures { IfOk result (λ rows. rows.items ≡ kept_rows design.now.cycles (rows_of design.now)) }
 {
@@ -41,7 +41,7 @@ fn keep(rows: &mut Vec<SheetRow>, cycles: u32, row: SheetRow) -> Result<(), NoMe
 
 // ---- parts
 
-// The rows of the parts.
+// Puts the rows of the parts at the end.
 fn keep_parts(rows: &mut Vec<SheetRow>, design: &NumberedDesign<'_>) -> Result<(), NoMemory>
     ensures { OnOk result (rows.new.items
         ≡ rows.old.items ++ kept_rows design.now.cycles (part_rows 0 design.now.sheets)) }
@@ -56,7 +56,7 @@ fn keep_parts(rows: &mut Vec<SheetRow>, design: &NumberedDesign<'_>) -> Result<(
     Ok(())
 }
 
-// Rows behind so many marks.
+// Puts the rows of a sheet at the end, if they exist in some cycle. The first mark of the sheet has the number `first`.
 fn keep_rows(
     rows: &mut Vec<SheetRow>,
     cycles: u32,
@@ -91,7 +91,7 @@ fn row_behind(first: u32, row: &SheetRow) -> SheetRow
 
 // ---- wires
 
-// The rows of the wires, which stand between the marks of the design already.
+// Puts the rows of the wires at the end. They are between the marks of the design already.
 fn keep_wires(rows: &mut Vec<SheetRow>, design: &NumberedDesign<'_>) -> Result<(), NoMemory>
     ensures { OnOk result (rows.new.items ≡ rows.old.items ++ kept_rows design.now.cycles design.now.rows) }
 {

@@ -1,4 +1,4 @@
-//! The first limit that is passed.
+//! The first limit that a design passes.
 
 ghost use Rattle.std.specs.Prelude.{◌≡◌, ◌≤◌, ◌*◌, ◌^◌};
 ghost use Rattle.unroll.specs.Limits.{counts_by, first_passed};
@@ -8,14 +8,14 @@ use crate::counts::Counts;
 use crate::limit::Limit;
 use itv_base::MAX_CYCLES;
 
-/// How much there is of what a limit speaks of.
+/// A limit, and the count that it speaks of.
 #[derive(Clone, Copy, Debug, PartialEq, Eq)]
 pub struct Counted {
     pub limit: Limit,
     pub count: u128,
 }
 
-/// The first limit that a design of so many cycles and with these counts passes.
+/// The first limit that a design with so many cycles and these counts passes.
 pub fn first_passed(cycles: u32, counts: Counts) -> Option<Counted>
     requires cycles { cycles ≤ MAX_CYCLES }
     requires marks { counts.marks ≤ 2 ^ 15 }

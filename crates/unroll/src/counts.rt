@@ -1,4 +1,4 @@
-//! How much a design draws, counted without drawing it.
+//! How much a design draws, by counting without drawing it.
 
 ghost use Rattle.std.specs.Prelude.{◌≡◌, ◌≤◌, ◌+◌, ◌^◌, ◌++◌, ℕ, List, max, nat_le, nat_lt, length, map, sum_by};
 ghost use Rattle.std.specs.List.{list_all};
@@ -13,8 +13,8 @@ use compose::{Design, Joins};
 use itv_base::RuleKind;
 use sheet::{Rule, Sheet, SheetRow, Source};
 
-/// How much a design draws: the marks of one cycle, and in all cycles the constraints, those with two or more causes, and the
-/// rows.
+/// How much a design draws: the marks of one cycle, and then for all cycles the constraints, the constraints with two or more
+/// causes, and the rows.
 #[derive(Clone, Copy, Debug, PartialEq, Eq)]
 pub struct Counts {
     pub marks: u128,
@@ -33,7 +33,7 @@ impl Counts {
         count_parts(design).plus(count_joined(design))
     }
 
-    // The counts of two together.
+    // The sums of two counts.
     fn plus(self, other: Counts) -> Counts
         requires one { AreWithin (2 ^ 100) (2 ^ 120) self }
         requires other { AreWithin (2 ^ 100) (2 ^ 120) other }
@@ -99,7 +99,7 @@ fn count_joined(design: &Design<'_>) -> Counts
     }
 }
 
-// How many constraints rules give in all cycles, and how many of these have two or more causes.
+// How many constraints some rules give in all cycles, and how many of them have two or more causes.
 #[derive(Clone, Copy, Debug)]
 struct RuleCounts {
     all: u128,
@@ -122,7 +122,7 @@ fn count_rules(cycles: u32, rules: &[Rule]) -> RuleCounts
     RuleCounts { all, splittable }
 }
 
-// A join exists in each cycle, and has one cause.
+// How many constraints joins give in all cycles. A join exists in each cycle, and has one cause.
 fn count_joins(cycles: u32, joins: &Joins) -> u128
     requires { cycles ≤ MAX_CYCLES }
     ensures all { (sheets : List SheetContents) → result
@@ -154,7 +154,7 @@ fn rule_cycles(cycles: u32, rule: &Rule) -> u32
     cycles_from(cycles, last_shift(rule.causes().as_slice()))
 }
 
-// The same for a rule with two or more causes to choose from, and else 0.
+// In how many of the cycles a rule exists if it has two or more causes to choose from, else 0.
 fn splittable_cycles(cycles: u32, rule: &Rule) -> u32
     ensures count { result ≡ splittable_cycles cycles rule.now }
     ensures within { result ≤ cycles }
@@ -176,7 +176,7 @@ fn is_splittable(kind: RuleKind, causes: u64) -> bool
     }
 }
 
-// The most cycles that a source stands before the target.
+// The greatest number of cycles by which a source is before the target.
 fn last_shift(sources: &[Source]) -> u32
     ensures { (cycle : ℕ) → list_all (λ source. nat_le source.shift cycle) sources.now ≡ nat_le result cycle }
 {
@@ -194,7 +194,7 @@ fn later(a: u32, b: u32) -> u32
     a.max(b)
 }
 
-// In how many of the first cycles something exists that looks so many cycles back.
+// In how many of the first cycles something exists that looks `shift` cycles back.
 fn cycles_from(cycles: u32, shift: u32) -> u32
     ensures count { result ≡ how_often (λ cycle. nat_le shift cycle) cycles }
     ensures within { result ≤ cycles }

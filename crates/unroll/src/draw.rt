@@ -24,11 +24,11 @@ use itv_base::NoMemory;
 use sheet::copied;
 use std::alloc::Global;
 
-/// What a design draws, cycle by cycle: its events, its constraints and its rows; or the first limit that this passes, with how
-/// much there is. All is counted before memory is taken for any of it, so that a design that passes a limit is refused in a time
-/// that grows as the design itself.
+/// What a design draws, cycle by cycle: its events, its constraints and its rows. If this passes a limit, the answer is the first
+/// limit that it passes, with the count. All counts come before any memory is taken. So the time to refuse a design that passes a
+/// limit grows as the design itself.
 ///
-/// `NoMemory` may come in place of what is drawn, and never in place of a limit that is passed. After a refusal nothing was made.
+/// `NoMemory` may come in place of what is drawn, but not in place of a limit that is passed. A refusal leaves nothing behind.
 pub fn unroll(alloc: Global, design: &Design<'_>) -> Result<DrawnNetwork, UnrollFault>
     ensures answer { AgreesWith is_memory (λ drawn. drawn) result (unrolled design.now) }
     ensures memory { IsErrOf result UnrollFault.NoMemory → IsOk (unrolled design.now) }
@@ -40,7 +40,7 @@ pub fn unroll(alloc: Global, design: &Design<'_>) -> Result<DrawnNetwork, Unroll
     Ok(draw(alloc, design, counts.marks as u32)?)
 }
 
-// The refusal by a limit that is passed.
+// The refusal by a limit that a design passes.
 fn too_many(passed: Counted) -> UnrollFault
     ensures { result ≡ UnrollFault.TooMany passed.limit passed.count }
 {
@@ -50,7 +50,7 @@ fn too_many(passed: Counted) -> UnrollFault
     }
 }
 
-// What a design draws that passes no limit.
+// What a design draws, if it passes no limit.
 fn draw(alloc: Global, design: &Design<'_>, marks: u32) -> Result<DrawnNetwork, NoMemory>
     requires marks { marks ≡ mark_count design.now.sheets }
     requires events { design.now.cycles * marks ≤ MAX_EVENTS }

@@ -11,7 +11,7 @@ use thiserror::Error;
 /// Why a design is not drawn.
 #[derive(Clone, Copy, Debug, PartialEq, Eq, Error)]
 pub enum UnrollFault {
-    /// The first limit of the drawn network that is passed, with how much there is.
+    /// The first limit that the drawn network passes, with the count.
     #[error("the drawn network passes a limit: there are {count}")]
     TooMany { limit: Limit, count: u128 },
     #[error("out of memory")]

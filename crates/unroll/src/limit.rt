@@ -7,11 +7,11 @@ use itv_base::{
     MAX_CELLS, MAX_CONSTRAINTS, MAX_EVENTS, MAX_MATRIX_EVENTS, MAX_ROWS, MAX_SEARCH_CELLS,
 };
 
-/// Rows of a drawn network whose ranges are edited.
+/// How many rows a drawn network may have if its ranges are edited.
 pub const MAX_SESSION_ROWS: u32 = 64;
 
-/// What a drawn network may have only so much of. `unroll` never tells `MatrixEvents`, which stands for the report on all pairs, nor
-/// `SessionRows`.
+/// What a drawn network may have only so much of. `unroll` answers neither `MatrixEvents`, which is for the report on all pairs,
+/// nor `SessionRows`.
 #[derive(Clone, Copy, Debug, PartialEq, Eq)]
 pub enum Limit {
     Events,
@@ -21,9 +21,9 @@ pub enum Limit {
     Cells,
     /// Events times one more than the constraints with two or more causes.
     SearchCells,
-    /// Events where a report tells of all pairs.
+    /// Events, if a report says something of all pairs.
     MatrixEvents,
-    /// Rows where ranges are edited.
+    /// Rows, if ranges are edited.
     SessionRows,
 }
 

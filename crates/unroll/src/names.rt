@@ -1,4 +1,4 @@
-//! The names of events, as they are kept.
+//! The names of events as they are kept, with the number of the part in place of its name.
 
 ghost use Rattle.std.specs.Prelude.{◌≡◌, ◌++◌, IfOk, OnOk, map};
 ghost use Rattle.unroll.specs.Cycles.{in_cycles};
@@ -10,7 +10,7 @@ use itv_base::NoMemory;
 use sheet::Mark;
 use std::alloc::Global;
 
-/// The names of the events of a design.
+/// The labels of the events of a design, in their order.
 pub fn labels_of(alloc: Global, design: &Design<'_>) -> Result<Vec<EventLabel>, NoMemory>
     ensures { IfOk result (λ labels. labels.items
         ≡ in_cycles (λ cycle. labels_from cycle 0 design.now.sheets) design.now.cycles) }
@@ -22,7 +22,7 @@ pub fn labels_of(alloc: Global, design: &Design<'_>) -> Result<Vec<EventLabel>, 
     Ok(labels)
 }
 
-// Puts the names of all marks in a cycle at the end.
+// Puts the labels of all marks in a cycle at the end.
 fn push_parts(labels: &mut Vec<EventLabel>, cycle: u32, design: &Design<'_>) -> Result<(), NoMemory>
     ensures { OnOk result (labels.new.items ≡ labels.old.items ++ labels_from cycle 0 design.now.sheets) }
 {
@@ -39,7 +39,7 @@ fn push_parts(labels: &mut Vec<EventLabel>, cycle: u32, design: &Design<'_>) -> 
     Ok(())
 }
 
-// Puts the names of the marks of a part in a cycle at the end.
+// Puts the labels of the marks of a part in a cycle at the end.
 fn push_marks(
     labels: &mut Vec<EventLabel>,
     part: u32,

@@ -12,7 +12,7 @@ use itv_base::{EventId, MAX_CONSTRAINTS, MAX_EVENTS, NoMemory, RuleKind};
 use sheet::{Rule, Source};
 use std::alloc::Global;
 
-/// The network of rules in so many cycles, of so many marks each.
+/// The network of rules in so many cycles, with so many marks in each.
 pub fn network_of(
     alloc: Global,
     marks: u32,
@@ -80,7 +80,7 @@ fn push_rule(
     push(alloc, network, rule.kind(), target, &causes)
 }
 
-// Puts a constraint at the end of a network that has room for it.
+// Puts a constraint at the end of a network. The network has room for it.
 fn push(
     alloc: Global,
     network: &mut Network,
@@ -127,7 +127,7 @@ fn push_kind(
     }
 }
 
-/// Whether every cause of a rule stands in some cycle where the target is in this one.
+/// Whether every cause of a rule stands in some cycle, if the target is in this one.
 pub fn rule_exists(cycle: u32, rule: &Rule) -> bool
     ensures { result ≡ rule_exists cycle rule.now }
 {
@@ -160,7 +160,7 @@ fn causes_in(
     Ok(causes)
 }
 
-// A source as a cause where the target is in a cycle.
+// A source as a cause, if the target is in this cycle.
 fn cause_in(marks: u32, cycle: u32, source: &Source) -> Cause
     requires mark { source.now.mark < marks }
     requires exists { source.now.shift ≤ cycle }
@@ -174,7 +174,7 @@ fn cause_in(marks: u32, cycle: u32, source: &Source) -> Cause
     }
 }
 
-/// The event of a mark in a cycle, where each cycle has so many marks.
+/// The event of a mark in a cycle, if each cycle has this many marks.
 pub fn event_in(marks: u32, cycle: u32, mark: u32) -> EventId
     requires mark { mark < marks }
     requires events { (cycle + 1) * marks ≤ MAX_EVENTS }

@@ -14,7 +14,7 @@ use origin::Origin;
 use sheet::SheetRow;
 use std::alloc::Global;
 
-/// The rows in so many cycles, of so many marks each.
+/// The rows in so many cycles, with so many marks in each.
 pub fn rows_in(alloc: Global, marks: u32, cycles: u32, asked: &[SheetRow]) -> Result<Rows, NoMemory>
     requires between { All (IsRowBetween marks) asked.now }
     requires events { cycles * marks ≤ MAX_EVENTS }

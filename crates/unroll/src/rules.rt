@@ -17,7 +17,7 @@ use origin::Origin;
 use sheet::{Rule, Source, Sources};
 use std::alloc::Global;
 
-/// The rules of a design that exist in some cycle: those of the parts, of the nets and of the wires.
+/// The rules of a design that exist in some cycle: the rules of the parts, then of the nets, then of the wires.
 pub fn rules_of(alloc: Global, design: &NumberedDesign<'_>) -> Result<Vec<Rule>, NoMemory>
     ensures { IfOk result (λ rules. rules.items ≡ kept_rules design.now.cycles (rules_of design.now)) }
 {
@@ -41,7 +41,7 @@ fn keep(rules: &mut Vec<Rule>, cycles: u32, rule: Rule) -> Result<(), NoMemory>
 
 // ---- parts
 
-// The rules of the parts.
+// Puts the rules of the parts at the end.
 fn keep_parts(
     alloc: Global,
     rules: &mut Vec<Rule>,
@@ -60,7 +60,7 @@ fn keep_parts(
     Ok(())
 }
 
-// Rules behind so many marks.
+// Puts the rules of a sheet at the end, if they exist in some cycle. The first mark of the sheet has the number `first`.
 fn keep_rules(
     alloc: Global,
     rules: &mut Vec<Rule>,
@@ -80,7 +80,8 @@ fn keep_rules(
     Ok(())
 }
 
-// A rule behind so many marks, if it exists in some cycle. Else no memory is taken for it.
+// Puts one rule of a sheet at the end. If it exists in no cycle, no memory is taken for it. The first mark of the sheet has the
+// number `first`.
 fn keep_rule(
     alloc: Global,
     rules: &mut Vec<Rule>,
@@ -128,7 +129,7 @@ fn sources_behind(alloc: Global, first: u32, sources: &[Source]) -> Result<Sourc
 
 // ---- nets
 
-// The rules of the joins of pins.
+// Puts the rules of the joins of pins at the end.
 fn keep_joins(
     alloc: Global,
     rules: &mut Vec<Rule>,
@@ -145,7 +146,7 @@ fn keep_joins(
     Ok(())
 }
 
-// The rules of the joins of a pin.
+// Puts the rules of the joins of a pin at the end.
 fn keep_pin(
     alloc: Global,
     rules: &mut Vec<Rule>,
@@ -179,7 +180,7 @@ fn join_rule(alloc: Global, design: &NumberedDesign<'_>, join: &Join) -> Result<
 
 // ---- wires
 
-// The rules of the wires, which stand between the marks of the design already.
+// Puts the rules of the wires at the end. They are between the marks of the design already.
 fn keep_wires(
     alloc: Global,
     rules: &mut Vec<Rule>,

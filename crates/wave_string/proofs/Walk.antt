@@ -20,7 +20,7 @@ last_or-append : {X : Type 0} (o : Option X) (xs ys : List X) → last_or o (xs 
 last_or-append o [] ys = refl
 last_or-append o (x ∷ xs) ys = last_or-append (Some x) xs ys
 
--- one character more, which is the last that counts unless it continues
+-- one more character, which is the last that counts unless it continues
 class_of_last : (continued : Bool) (latest : Option ℕ) (c : ℕ)
     → option_map_or class_of (last_or latest (cond (not continued) (c ∷ []) [])) Unknown
     ≡ cond continued (option_map_or class_of latest Unknown) (class_of c)
@@ -60,7 +60,7 @@ brick_kind_behind (suc k) c wave here =
     let same_place : suc k ≡ suc k - 1 + 1 = omega arith in
     ap (λ n. brick_kind (suc k) c (class_behind (take n wave)) here) same_place
 
--- the rule at place k, by what a walk up to it knows
+-- the rule at place k, by what a walk up to this place knows
 kind_of_next : (k : ℕ) (wave more : List ℕ) (c : ℕ) → drop k wave ≡ c ∷ more
     → brick_kind k c (class_behind (take k wave)) (class_behind (take (k + 1) wave)) ≡ kind_of wave k
 unfolding kind_of

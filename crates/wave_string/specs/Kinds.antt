@@ -33,7 +33,7 @@ class_of c =
 abbrev pub effective_character : List ℕ → ℕ → Option ℕ
 effective_character wave place = last_or None (filter (λ c. not (continues c)) (take (place + 1) wave))
 
--- the class of that character, unknown where there is none
+-- the class of that character, or unknown if there is none
 abbrev pub effective_class : List ℕ → ℕ → Class
 effective_class wave place = option_map_or class_of (effective_character wave place) Unknown
 
@@ -43,8 +43,8 @@ last_class PositiveClock = Low
 last_class NegativeClock = High
 last_class class = class
 
--- From the class that ends a brick to the class that begins the next one. Equal classes are steady, but two values of a
--- bus may differ. No brick ends as a clock, and where a clock begins an earlier rule applies.
+-- The kind between the class that ends a brick and the class that begins the next one. Equal classes are steady, but two values of a bus may
+-- differ. No brick ends as a clock, and if a clock begins, an earlier rule applies.
 abbrev pub transition : Class → Class → MarkKind
 transition Low High = Rise
 transition High Low = Fall
@@ -56,9 +56,9 @@ transition WeakDown WeakDown = Steady
 transition Unknown Unknown = Steady
 transition ended begun = Change
 
--- The kind at a brick, from its place and character and the classes in effect at the brick before it and at itself.
--- The first rule that applies: a clock has its edge at each brick, also at place 0 and where it is continued; place 0
--- has no brick before it; a brick that is continued has no edge; all others have the transition from the brick before.
+-- The kind at a brick, from its place, its character, and the classes in effect at the brick before it and at itself. The first rule that
+-- applies: a clock has its edge at each brick, also at place 0 and where the clock is continued; place 0 has no brick before it; a continued
+-- brick has no edge; every other brick has the transition from the brick before.
 abbrev pub brick_kind : ℕ → ℕ → Class → Class → MarkKind
 brick_kind place c before PositiveClock = Rise
 brick_kind place c before NegativeClock = Fall
@@ -67,7 +67,7 @@ brick_kind place c before here =
     else (if continues c then Steady
     else transition (last_class before) here)
 
--- the kind of the mark at a place of a wave, which is bare past the last brick
+-- the kind of the mark at a place of a wave; it is bare past the last brick
 unfoldable pub kind_of : List ℕ → ℕ → MarkKind
 kind_of wave place =
     if nat_lt place (length wave)

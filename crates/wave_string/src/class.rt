@@ -15,7 +15,7 @@ pub enum Class {
     Floating,
     WeakUp,
     WeakDown,
-    /// What `x` draws, and every character without a class of its own.
+    /// The class of `x`, and of every character without a class of its own.
     Unknown,
 }
 
@@ -37,7 +37,7 @@ impl Class {
         }
     }
 
-    /// The class in effect at the next brick, whose character is given.
+    /// The class in effect at the next brick, from its character.
     pub fn followed_by(self, character: char) -> Self
         ensures { result ≡ (if continues character then self else class_of character) }
     {

@@ -12,11 +12,11 @@ pub enum MarkKind {
     Change,
     /// Nothing changes.
     Steady,
-    /// The first brick of a wave that begins with no clock, or a place past the last brick.
+    /// The first brick of a wave that does not begin with a clock, or a place past the last brick.
     Bare,
 }
 
-/// Whether two marks of these kinds may be joined: a rise is never joined to a fall, and all else may be.
+/// Whether two marks of these kinds may be joined. A rise may not be joined to a fall; any other two kinds may be joined.
 pub fn may_join(a: MarkKind, b: MarkKind) -> bool
     ensures value { result ≡ may_join a b }
     ensures only_rise_with_fall { IsFalse result ↔

@@ -7,12 +7,12 @@ use crate::mark_kind::MarkKind;
 
 /// The kind of the mark at a place of a wave.
 ///
-/// Any text is a wave. Each of its characters is a brick, and the place is counted from 0 in characters, not in bytes.
-/// Past the last brick, and so everywhere in the empty wave, the kind is `Bare`.
+/// Any text is a wave. Each of its characters is a brick, and places are counted from 0 in characters, not in bytes. Past the last
+/// brick, and so everywhere in the empty wave, the kind is `Bare`.
 pub fn kind_at(wave: &str, place: u64) -> MarkKind
     ensures { result ≡ kind_of (chars wave.now) place }
 {
-    // Of all bricks before the place the rule asks only which class is in effect there.
+    // Of the bricks before the place, the rule needs only the class in effect behind them.
     let mut before = Class::Unknown;
     for (index, character) in wave.chars().enumerate() {
         let here = before.followed_by(character);
@@ -24,8 +24,8 @@ pub fn kind_at(wave: &str, place: u64) -> MarkKind
     MarkKind::Bare
 }
 
-/// The kind at a brick of this place and character, where the brick before it leaves the class `before` in effect, and
-/// `here` is in effect at the brick itself.
+/// The kind at a brick with this place and character. The class `before` is in effect at the brick before it, and `here` at the
+/// brick itself.
 fn brick_kind(place: u64, character: char, before: Class, here: Class) -> MarkKind
     ensures { result ≡ brick_kind place character before here }
 {
@@ -38,7 +38,7 @@ fn brick_kind(place: u64, character: char, before: Class, here: Class) -> MarkKi
     }
 }
 
-/// The kind where one brick ends with the class `ended` and the next begins with the class `begun`.
+/// The kind if one brick ends with the class `ended` and the next begins with the class `begun`.
 fn transition(ended: Class, begun: Class) -> MarkKind
     ensures { result ≡ transition ended begun }
 {

@@ -1,4 +1,4 @@
--- One more of a list: rows, steps, events, constraints and causes.
+-- One more element of a list: rows, steps, events, constraints and causes.
 use Rattle.std.proofs.Common.{◌≡◌, ◌<◌, ◌≤◌, ◌+◌, ◌-◌, ℕ, zero, suc, Bool, List, [], ◌∷◌, ◌++◌, length, get_or, drop, take, reverse, Some, slice_get, refl, sym, ap, ◌∙◌, add-one, drop-cons, arith}
 use Rattle.std.specs.List.{flat_map}
 use Rattle.std.specs.Prelude.{if◌then◌else◌, codes}
@@ -49,7 +49,7 @@ pub steps_more : {A : Type 0} (text : A → List ℕ) (names : List A) (k : ℕ)
     → flat_map text (drop k names) ≡ text (get_or names k d) ++ flat_map text (drop (k + 1) names)
 steps_more text names k d h = rw (add-one, drop-cons names k d h) refl
 
--- the last of the first ones comes next
+-- going back, the last of the first steps comes next
 pub steps_back : {A : Type 0} (text : A → List ℕ) (names : List A) (k : ℕ) (d : A) → 0 < k → k ≤ length names
     → flat_map text (reverse (take k names)) ≡ text (get_or names (k - 1) d) ++ flat_map text (reverse (take (k - 1) names))
 steps_back text names k d some within =

@@ -1,4 +1,4 @@
--- Lines that are put in pieces: words behind the words of a line, and its end.
+-- Lines that are put in pieces: more words behind the words of a line, and its end.
 use Rattle.std.proofs.Common.{◌≡◌, ℕ, List, [], ◌∷◌, ◌++◌, sym, ap, ◌∙◌, append_assoc, append-nil}
 use Rattle.std.specs.List.{flat_map}
 use Rattle.std.specs.Prelude.{codes}
@@ -7,22 +7,22 @@ use Rattle.line_words.specs.Words.{Word}
 use Rattle.line_words.specs.Lines.{ended, line_of, spaced}
 use Rattle.line_words.proofs.Printing.{join_spaced}
 
--- the words of two lists behind spaces
+-- the words of two lists, each behind a space
 pub spaced_both : (words more : List Word) (rest : List ℕ) → flat_map spaced words ++ (flat_map spaced more ++ rest) ≡ flat_map spaced (words ++ more) ++ rest
 spaced_both words more rest =
     sym (append_assoc (flat_map spaced words) (flat_map spaced more) rest) ∙ ap (λ l. l ++ rest) (sym (flat_map-append spaced words more))
 
--- a word more
+-- one more word before others
 pub spaced_word : (word : Word) (more : List Word) (rest : List ℕ) → spaced word ++ (flat_map spaced more ++ rest) ≡ flat_map spaced (word ∷ more) ++ rest
 spaced_word word more rest = sym (append_assoc (spaced word) (flat_map spaced more) rest)
 
--- more words behind those of a line
+-- more words behind the words of a line
 pub line_more : (word : Word) (words more : List Word) → line_of (word ∷ words) ++ flat_map spaced more ≡ line_of (word ∷ (words ++ more))
 line_more word words more =
     ap (λ l. l ++ flat_map spaced more) (join_spaced word words) ∙ append_assoc word (flat_map spaced words) (flat_map spaced more)
     ∙ ap (λ l. word ++ l) (sym (flat_map-append spaced words more)) ∙ sym (join_spaced word (words ++ more))
 
--- and the end of the line
+-- more words behind the words of a line, and the end of the line
 pub line_end : (word : Word) (words more : List Word) → line_of (word ∷ words) ++ (flat_map spaced more ++ 10 ∷ []) ≡ ended (line_of (word ∷ (words ++ more)))
 line_end word words more = sym (append_assoc (line_of (word ∷ words)) (flat_map spaced more) (10 ∷ [])) ∙ ap ended (line_more word words more)
 

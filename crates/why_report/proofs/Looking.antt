@@ -1,4 +1,4 @@
--- What is known of the rows that were found, of constraints and of what draws their causes.
+-- What is known of the rows that were found, of constraints, and of what draws their causes.
 use Rattle.std.proofs.Common.{◌≡◌, ◌<◌, ◌≤◌, ◌⊎◌, inl, inr, ℕ, zero, suc, List, [], ◌∷◌, length, map, All, Some, None, Option, slice_get, refl, subst, ap, ◌∙◌, arith}
 use Rattle.std.specs.Prelude.{IsSome, option_and_then, unwrap_or}
 use Rattle.std.proofs.lemmas.Option.{slice_get-get_or, slice_get_within, unwrap_or-slice_get}
@@ -46,7 +46,7 @@ rows_count drawn word [] (f ∷ found) are = absurd are
 rows_count drawn word (r ∷ rows) [] are = absurd are
 rows_count drawn word (r ∷ rows) (f ∷ found) are = ap suc (rows_count drawn word rows found are.1)
 
--- what is found of each row can be told
+-- what is found of each row can be written
 pub rows_told : (drawn : Drawn) (word : FindingWord) (rows : List Row) (found : List RowFound) → AreRowsFound drawn word rows found → All HasRowTimes found
     → All (IsWritable drawn.net.events) found
 rows_told drawn word [] [] are times k d h = absurd (omega arith)
@@ -60,7 +60,7 @@ rows_told drawn word (r ∷ rows) (f ∷ found) are times zero d h = record {
 rows_told drawn word (r ∷ rows) (f ∷ found) are times (suc k) d h =
     rows_told drawn word rows found are.1 (λ j e within. times (suc j) e (omega arith)) k d (omega arith)
 
--- behind a finding that is not inconsistent something is found of each row
+-- if the finding is not inconsistent, something is found of each row
 pub known_rows : (drawn : Drawn) (finding : Finding) (found : List RowFound) → (finding ≡ Consistent) ⊎ (finding ≡ Unsettled) → AreFound drawn finding found
     → AreRowsFound drawn (word_of finding) drawn.rows found
 known_rows drawn Consistent found e are = are
@@ -83,7 +83,7 @@ few Lin n h = rw h (omega arith)
 few Late n h = h.1
 few Early n h = h.1
 
--- a constraint that is there
+-- a constraint of the network
 pub is_constraint : (drawn : Drawn) (number : ℕ) → IsNet drawn.net → number < length drawn.net.constraints → IsConstraint drawn.net.events (constraint_at drawn number)
 is_constraint drawn number net h = rw unwrap_or-slice_get (net.constraints number no_constraint h)
 
@@ -113,14 +113,14 @@ origins_read drawn number at origins got given e f found is fits h =
     let same : got ≡ origins_at drawn number = rw there refl in
     ap length (is ∙ same) ∙ (origins_fit drawn number (subst (OriginsFit drawn.net) e fits) h).1
 
--- the cause of a number that is there
+-- a cause of the network by its number
 pub cause_there : (drawn : Drawn) (number cause : ℕ) → number < length drawn.net.constraints → cause < length (constraint_at drawn number).causes
     → cause_at drawn.net number cause ≡ slice_get (constraint_at drawn number).causes cause
 cause_there drawn number cause h within = rw (at_or drawn.net.constraints number no_constraint h) refl
 
 -- ---- edges
 
--- the constraint and the cause of an edge that is there
+-- the constraint and the cause of an edge of the network
 pub edge_there : (drawn : Drawn) (name : EdgeName) → IsSome (edge drawn.net name)
     → (name.constraint < length drawn.net.constraints) × (name.cause < length (constraint_at drawn name.constraint).causes)
 edge_there drawn name some = go (slice_get drawn.net.constraints name.constraint) refl some
@@ -135,7 +135,7 @@ edge_there drawn name some = go (slice_get drawn.net.constraints name.constraint
     go None e some = absurd (cc some)
     go (Some c) e some = (slice_get_within drawn.net.constraints name.constraint c e, rw e (inner c (slice_get c.causes name.cause) refl some))
 
--- the words of what draws it
+-- the words of what draws an edge
 pub drawn_words_are : (noted : Noted) (drawn : Drawn) (name : EdgeName) (part : List ℕ) (origin : Origin) → name.constraint < length drawn.net.constraints → name.constraint < length drawn.origins
     → part ≡ part_of drawn (constraint_at drawn name.constraint).target → slice_get (origins_at drawn name.constraint) name.cause ≡ Some origin
     → origin_words noted part origin ≡ drawn_words noted drawn name

@@ -34,11 +34,11 @@ pub why_is : (noted : Noted) (drawn : Drawn) (finding : Finding) (rows found : L
 why_is noted drawn finding rows found told word is_rows is_told is_word = rw (is_rows, is_told, is_word) refl
 
 module _ (noted : Noted) (drawn : Drawn) (budget : ℕ) (finding : Finding) (found : List RowFound) (f : IsFindingFound drawn.net finding) (a : AreFound drawn finding found) (s : SettlesWithin drawn.net budget finding found) where
-  -- the text tells what was found
+  -- the text says what was found
   pub answers_why : (answer : Answer) → answer ≡ answer_of (ending_of drawn.rows finding found) → AnswersWhy noted drawn budget answer (why_text noted drawn finding found)
   answers_why answer is = record { finding = finding; found = found; is_finding = f; are_found = a; settles = s; is_text = refl; is_answer = is }
 
-  -- and a front of it begins it
+  -- a front of the text begins it
   pub begins_why : {B E : Type 0} (result : Result B E) (old new : SinkView) → CutShort old new (why_text noted drawn finding found)
       → OnErr result ((text : List ℕ) × BeginsWhy noted drawn budget text × CutShort old new text)
   begins_why (Ok x) old new cut = tt

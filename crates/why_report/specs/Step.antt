@@ -44,7 +44,7 @@ HasFlags events (Closed value chain) = Unit {0}
 HasFlags events (Unbounded set) = length set.items ≡ events
 HasFlags events (Within limit attained) = Unit {0}
 
--- what is found of a row can be told: its sets have a flag for each event, and its numbers are below 2^61 in absolute value
+-- what is found of a row can be written: its sets have a flag for each event, and its numbers are below 2^61 in absolute value
 pub record IsWritable (events : ℕ) (found : RowFound) : Type 0 where
   pub greatest : HasFlags events found.greatest
   pub least : HasFlags events found.least
@@ -56,14 +56,14 @@ pub record IsWritable (events : ℕ) (found : RowFound) : Type 0 where
 abbrev pub no_constraint : Constraint
 no_constraint = record { kind = Lin; target = record { 0 = 0 }; causes = [] }
 
--- the constraint of a number, and what draws each of its causes
+-- the constraint of this number, and what draws each of its causes
 abbrev pub constraint_at : Drawn → ℕ → Constraint
 constraint_at drawn number = unwrap_or (slice_get drawn.net.constraints number) no_constraint
 
 abbrev pub origins_at : Drawn → ℕ → List Origin
 origins_at drawn number = unwrap_or (slice_get drawn.origins number) []
 
--- the texts of its causes
+-- the texts of the causes of a constraint
 abbrev pub causes_at : Noted → Drawn → ℕ → List ℕ
 causes_at noted drawn number = causes_text noted drawn (constraint_at drawn number) (constraint_at drawn number).causes (origins_at drawn number)
 
@@ -71,6 +71,6 @@ causes_at noted drawn number = causes_text noted drawn (constraint_at drawn numb
 abbrev pub rule_words : Noted → Drawn → DrawnCause → List Word
 rule_words noted drawn rule = cause_words noted drawn (record { kind = rule.kind; target = rule.target; causes = [] }) rule.cause rule.origin
 
--- the cause and the target are events that are there
+-- the cause and the target are events of the network
 abbrev pub IsBetween : ℕ → DrawnCause → Type 0
 IsBetween events rule = (rule.target.0 < events) × (rule.cause.event.0 < events)

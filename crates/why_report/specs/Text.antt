@@ -37,7 +37,7 @@ use Rattle.explained.specs.Answers.{bound_of, verdict_by, verdict_in, word_of}
 
 -- ---- origins
 
--- the note of what draws a cause or a row, by the name of its part; empty where there is none
+-- the note of what draws a cause or a row, by the name of its part; the note is empty if there is none
 abbrev pub Noted : Type 0
 Noted = List ℕ → Origin → List ℕ
 
@@ -46,7 +46,7 @@ abbrev pub some_word : Word → List Word
 some_word [] = []
 some_word (c ∷ cs) = (c ∷ cs) ∷ []
 
--- what draws a cause or a row of a part, and its note where there is one
+-- what draws a cause or a row of a part, and its note, if there is one
 abbrev pub origin_words : Noted → List ℕ → Origin → List Word
 origin_words noted part origin = origin_text origin ∷ some_word (noted part origin)
 
@@ -76,7 +76,7 @@ abbrev pub step_words : Noted → Drawn → EdgeName → EventId → EventId →
 step_words noted drawn name from to weight =
     codes "step" ∷ name_in drawn from ∷ name_in drawn to ∷ signed_text weight ∷ drawn_words noted drawn name
 
--- the step of an edge: behind a least separation it is walked from its end to its start, and its weight is negated
+-- the step of an edge; behind a least separation it goes from the end of the edge to its start, and has minus its weight
 abbrev pub edge_words : Noted → Drawn → Which → EdgeName → Edge → List Word
 edge_words noted drawn Max name e = step_words noted drawn name e.from e.to e.weight
 edge_words noted drawn Min name e = step_words noted drawn name e.to e.from (neg_ℤ e.weight)
@@ -84,32 +84,32 @@ edge_words noted drawn Min name e = step_words noted drawn name e.to e.from (neg
 abbrev pub step_text : Noted → Drawn → Which → EdgeName → List ℕ
 step_text noted drawn which name = unwrap_or (option_map (λ e. ended (line_of (edge_words noted drawn which name e))) (edge drawn.net name)) []
 
--- the steps from the from-event of a row to its to-event: behind a least separation the edges of the reversed pair, the last one first
+-- the steps from the from-event of a row to its to-event; behind a least separation they have the edges of the reversed pair, the last one first
 abbrev pub steps_text : Noted → Drawn → Which → List EdgeName → List ℕ
 steps_text noted drawn Max names = flat_map (step_text noted drawn Max) names
 steps_text noted drawn Min names = flat_map (step_text noted drawn Min) (reverse names)
 
 -- ---- bounds
 
--- the events of a set, of which the first flag is for the event with a number
+-- the events of a set; its first flag is for the event with this number
 abbrev pub raise_text : Drawn → ℕ → List Bool → List ℕ
 raise_text drawn number [] = []
 raise_text drawn number (is_in ∷ set) =
     (if is_in then ended (line_of (codes "raise" ∷ name_in drawn (record { 0 = number }) ∷ [])) else []) ++ raise_text drawn (number + 1) set
 
--- what stands behind a bound
+-- the lines behind a bound
 abbrev pub behind_text : Noted → Drawn → Which → BoundFound → List ℕ
 behind_text noted drawn which (Closed value chain) = steps_text noted drawn which chain.items
 behind_text noted drawn which (Unbounded set) = raise_text drawn 0 set.items
 behind_text noted drawn which (Within limit attained) = []
 
--- a bound, and what stands behind it
+-- a bound, and the lines behind it
 abbrev pub bound_text : Noted → Drawn → Which → BoundFound → List ℕ
 bound_text noted drawn which found = entry_text (line.bound which (bound_of found)) ++ behind_text noted drawn which found
 
 -- ---- rows
 
--- the bounds and the verdict without the order of lanes, where the verdict rests on that order
+-- the bounds and the verdict without the order of lanes, if the verdict rests on that order
 abbrev pub apart_words : Ends → BothBounds → List Word
 apart_words range both = codes "order" ∷ codes "max" ∷ (bound_words both.greatest ++ (codes "min" ∷ (bound_words both.least ++ verdict_words (verdict_by range both))))
 
@@ -124,7 +124,7 @@ judged_text (kinds.Req range) found =
     entry_text (line.verdict (verdict_in range found))
     ++ (apart_text range found.apart ++ entry_text (line.slack (slack_of range (bound_of found.least) (bound_of found.greatest))))
 
--- the line of a row of a number, with what draws it; its part is that of its from-event
+-- the line of the row with this number, with what draws it; its part is the part of its from-event
 abbrev pub asked_words : Noted → Drawn → ℕ → Row → List Word
 asked_words noted drawn number row =
     codes "row" ∷ number_text number ∷ (row_words row.kind (name_of drawn row.from) (name_of drawn row.to) ++ origin_words noted (part_of drawn row.from) row.origin)
@@ -134,7 +134,7 @@ row_text noted drawn number row found =
     ended (line_of (asked_words noted drawn number row))
     ++ (bound_text noted drawn Max found.greatest ++ (bound_text noted drawn Min found.least ++ judged_text row.kind found))
 
--- rows, the first of which has a number
+-- the texts of rows; the first row has this number
 abbrev pub rows_text : Noted → Drawn → ℕ → List Row → List RowFound → List ℕ
 rows_text noted drawn number [] found = []
 rows_text noted drawn number (row ∷ rows) [] = []
@@ -157,7 +157,7 @@ causes_text noted drawn c [] origins = []
 causes_text noted drawn c (cause ∷ causes) [] = []
 causes_text noted drawn c (cause ∷ causes) (origin ∷ origins) = ended (line_of (cause_words noted drawn c cause origin)) ++ causes_text noted drawn c causes origins
 
--- the causes of the constraints of a set, which has a flag for each
+-- the causes of the constraints of a set; the set has a flag for each constraint
 abbrev pub rules_text : Noted → Drawn → List Bool → List Constraint → List (List Origin) → List ℕ
 rules_text noted drawn [] constraints origins = []
 rules_text noted drawn (is_in ∷ set) [] origins = []
@@ -167,7 +167,7 @@ rules_text noted drawn (is_in ∷ set) (c ∷ constraints) (drew ∷ origins) =
 
 -- ---- the end
 
--- what the rows so far and one more come to
+-- the tally of the rows so far with one more
 abbrev pub with_row : ReportTally → RowKind → RowFound → ReportTally
 with_row course kinds.Ask found = with_bounds course (bound_of found.least) (bound_of found.greatest)
 with_row course (kinds.Req range) found = with_verdict (with_bounds course (bound_of found.least) (bound_of found.greatest)) (verdict_in range found)
@@ -177,7 +177,7 @@ with_rows course [] found = course
 with_rows course (row ∷ rows) [] = course
 with_rows course (row ∷ rows) (found ∷ others) = with_rows (with_row course row.kind found) rows others
 
--- the word at the end, as a report of these bounds has it
+-- the word at the end, as in a report with these bounds
 abbrev pub ending_of : List Row → Finding → List RowFound → EndWord
 ending_of rows Consistent found = end_word (with_rows (course_of (word_of Consistent)) rows found)
 ending_of rows (Inconsistent set) found = endings.Inconsistent

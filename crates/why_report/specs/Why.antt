@@ -8,8 +8,7 @@ use Rattle.explained.specs.declared.row.RowFound.{RowFound}
 use Rattle.explained.specs.Answers.{AreFound, IsFindingFound, SettlesWithin}
 use Rattle.why_report.specs.Text.{Noted, ending_of, why_text}
 
--- The text tells what is found of the network and of each row, all of which is right, with what makes it so; the answer is by the word at its
--- end.
+-- The text says what is found of the network and of each row, with what makes it so. All of it is right. The answer is by the word at the end.
 pub record AnswersWhy (noted : Noted) (drawn : Drawn) (budget : ℕ) (answer : Answer) (text : List ℕ) : Type 0 where
   pub finding : Finding
   pub found : List RowFound
@@ -19,6 +18,6 @@ pub record AnswersWhy (noted : Noted) (drawn : Drawn) (budget : ℕ) (answer : A
   pub is_text : text ≡ why_text noted drawn finding found
   pub is_answer : answer ≡ answer_of (ending_of drawn.rows finding found)
 
--- What may have been begun: all is found before anything is put, so it is a front of a whole text.
+-- The text may have been begun. All is found before anything is put, so what was put is a front of a whole text.
 abbrev pub BeginsWhy : Noted → Drawn → ℕ → List ℕ → Type 0
 BeginsWhy noted drawn budget text = (answer : Answer) × AnswersWhy noted drawn budget answer text

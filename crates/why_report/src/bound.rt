@@ -1,4 +1,4 @@
-//! What is found of bounds, as verdicts and slacks go by it.
+//! The bounds that are printed, and by which verdicts and slacks are judged.
 
 ghost use Rattle.std.specs.Prelude.{◌≡◌};
 ghost use Rattle.explained.specs.Answers.{bound_of};
@@ -6,7 +6,7 @@ ghost use Rattle.explained.specs.Answers.{bound_of};
 use explained::{BoundFound, RowFound};
 use requirements::{BothBounds, Bound};
 
-/// A bound, as it is printed, and as verdicts and slacks are judged by it.
+/// The bound that was found, as it is printed. Verdicts and slacks are judged by it.
 pub fn bound_of(found: &BoundFound) -> Bound
     ensures bound { result ≡ bound_of found.now }
 {
@@ -20,7 +20,7 @@ pub fn bound_of(found: &BoundFound) -> Bound
     }
 }
 
-/// Both bounds of a row, as verdicts and slacks are judged by them.
+/// Both bounds of a row. Verdicts and slacks are judged by them.
 pub fn both_of(found: &RowFound) -> BothBounds
     ensures least { result.least ≡ bound_of found.now.least }
     ensures greatest { result.greatest ≡ bound_of found.now.greatest }

@@ -12,7 +12,7 @@ use line_words::put_spaced;
 use notes::Notes;
 use origin::{Origin, put_origin};
 
-/// What draws a cause or a row, and its note, which is empty where there is none.
+/// What draws a cause or a row, and its note. The note is empty if there is none.
 #[derive(Clone, Copy, Debug)]
 pub struct DrawnBy<'a> {
     pub origin: Origin,
@@ -35,7 +35,7 @@ impl<'a> DrawnBy<'a> {
     }
 }
 
-/// Puts a space and a word for what draws a cause or a row, and another for its note where there is one.
+/// Puts a space and a word for what draws a cause or a row, and another word for its note, if there is one.
 pub fn put_by<K: Sink>(by: &DrawnBy<'_>, sink: &mut K) -> Result<(), PutFailed>
     ensures puts { Puts (K.told sink.old) (K.told sink.new) (flat_map spaced (by_words by.now)) result }
 {
@@ -44,7 +44,7 @@ pub fn put_by<K: Sink>(by: &DrawnBy<'_>, sink: &mut K) -> Result<(), PutFailed>
     put_note(by.note, sink)
 }
 
-// A space and a note, where there is one.
+// Puts a space and a note, if there is one.
 fn put_note<K: Sink>(note: &str, sink: &mut K) -> Result<(), PutFailed>
     ensures { Puts (K.told sink.old) (K.told sink.new) (flat_map spaced (some_word note.now)) result }
 {

@@ -38,14 +38,14 @@ pub fn ending_of(drawn: &DrawnNetwork, finding: &Finding, found: &[RowFound]) ->
     }
 }
 
-// What rows come to: whether some requirement is broken, and whether some bound was left open.
+// The marks that rows leave: whether some requirement is broken, and whether some bound was left open.
 #[derive(Clone, Copy, Debug)]
 struct Marks {
     fails: bool,
     within: bool,
 }
 
-// What all rows come to.
+// The marks that all rows leave.
 fn marks_of(drawn: &DrawnNetwork, found: &[RowFound]) -> Marks
     requires count { length found.now ≡ length drawn.now.rows }
     ensures marks { (w : FindingWord) → with_rows (course_of w) drawn.now.rows found.now
@@ -62,7 +62,7 @@ fn marks_of(drawn: &DrawnNetwork, found: &[RowFound]) -> Marks
     marks
 }
 
-// What the rows so far and one more come to.
+// The marks of the rows so far with one more.
 fn marked(marks: Marks, kind: RowKind, found: &RowFound) -> Marks
     ensures marks { (w : FindingWord) → with_row (record { found = w; fails = marks.fails; within = marks.within }) kind found.now
         ≡ record { found = w; fails = result.fails; within = result.within } }
@@ -85,7 +85,7 @@ fn either(first: bool, second: bool) -> bool
     first || second
 }
 
-// The word behind a finding, by what the rows come to.
+// The word at the end for a finding and the marks of the rows.
 fn end_word(finding: FindingWord, marks: Marks) -> EndWord
     ensures word { result ≡ end_word (record { found = finding; fails = marks.fails; within = marks.within }) }
 {

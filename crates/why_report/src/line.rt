@@ -1,22 +1,22 @@
-//! The lines that this job alone writes, or writes with more words than others do.
+//! The lines that only this job writes, or that it writes with more words than other jobs do.
 
 use crate::drawn_by::DrawnBy;
 use itv_base::{EventName, Range, RowKind, RuleKind};
 use requirements::{BothBounds, Verdict};
 
-/// A line of the text. Weights, bounds and ranges are in picoseconds, and rows have their numbers from 0.
+/// A line of the text. Weights, bounds and ranges are in picoseconds. Rows are counted from 0.
 #[derive(Clone, Copy, Debug)]
 pub enum Line<'a> {
-    /// A step from an event to an event, with its weight and what draws the edge behind it.
+    /// A step from an event to an event, with its weight and what draws its edge.
     Step {
         from: EventName<'a>,
         to: EventName<'a>,
         weight: i64,
         by: DrawnBy<'a>,
     },
-    /// An event that can be raised by any number, with others.
+    /// An event that can be raised by any number, together with the others of its set.
     Raise(EventName<'a>),
-    /// Both bounds without the order of lanes, and the verdict by them.
+    /// Both bounds without the order of lanes, and the verdict by these bounds.
     Order {
         both: BothBounds,
         word: Verdict,

@@ -1,4 +1,4 @@
-//! Putting a bound, and what stands behind it.
+//! Putting a bound and the lines behind it.
 
 ghost use Rattle.std.specs.Prelude.{◌≡◌, ◌<◌, if◌then◌else◌, [], ◌∷◌, codes, length};
 ghost use Rattle.itv_base.specs.Outside.{Puts};
@@ -17,7 +17,8 @@ use line_words::LineBuffer;
 use notes::Notes;
 use slack_report::{Item, Which, write_item};
 
-/// Puts a bound, and behind a number the steps that sum to it, or behind none the events that can be raised by any number.
+/// Puts a bound and the lines behind it. They are the steps that sum to it if it is a number, and the events that can be raised by
+/// any number if it is unbounded.
 pub fn put_bound<N: Notes, K: Sink>(
     notes: &N,
     drawn: &DrawnNetwork,
@@ -34,7 +35,7 @@ pub fn put_bound<N: Notes, K: Sink>(
     put_behind(notes, drawn, which, found, buffer, sink)
 }
 
-// What stands behind a bound.
+// Puts the lines behind a bound.
 fn put_behind<N: Notes, K: Sink>(
     notes: &N,
     drawn: &DrawnNetwork,
@@ -53,7 +54,7 @@ fn put_behind<N: Notes, K: Sink>(
     }
 }
 
-// The events of a set, which has a flag for each event.
+// Puts the events of a set. The set has a flag for each event.
 fn put_raised<K: Sink>(
     drawn: &DrawnNetwork,
     set: &[bool],
@@ -69,7 +70,7 @@ fn put_raised<K: Sink>(
     Ok(())
 }
 
-// An event, if it is in a set.
+// Puts an event, if it is in a set.
 fn put_flag<K: Sink>(
     drawn: &DrawnNetwork,
     number: u32,

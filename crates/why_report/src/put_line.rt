@@ -23,7 +23,7 @@ use itv_base::{
 use line_words::LineBuffer;
 use requirements::{BothBounds, Bound, Verdict};
 
-/// Puts a line and its end: by one put where it fits the buffer, and else piece by piece. What the buffer held before is forgotten.
+/// Puts a line and its end, by one put if it fits the buffer, and else piece by piece. What the buffer held before is forgotten.
 pub fn put_line<K: Sink>(
     line: &Line<'_>,
     buffer: &mut LineBuffer,
@@ -70,7 +70,7 @@ fn put_pieces<K: Sink>(line: &Line<'_>, sink: &mut K) -> Result<(), PutFailed>
 
 // ---- lines with what draws something
 
-// What draws a cause or a row, and the end of its line.
+// Puts what draws a cause or a row, and the end of its line.
 fn put_end<K: Sink>(by: &DrawnBy<'_>, sink: &mut K) -> Result<(), PutFailed>
     ensures { Puts (K.told sink.old) (K.told sink.new) (flat_map spaced (by_words by.now) ++ 10 ∷ []) result }
 {
@@ -78,7 +78,7 @@ fn put_end<K: Sink>(by: &DrawnBy<'_>, sink: &mut K) -> Result<(), PutFailed>
     sink.put(b"\n")
 }
 
-// The line of a step up to its weight.
+// Puts the line of a step up to its weight.
 fn put_weight<K: Sink>(
     from: EventName<'_>,
     to: EventName<'_>,
@@ -126,7 +126,7 @@ fn put_step<K: Sink>(
     put_end(by, sink)
 }
 
-// The line of a question up to its names.
+// Puts the line of a question up to its names.
 fn put_ask<K: Sink>(
     number: u32,
     from: EventName<'_>,
@@ -160,7 +160,7 @@ fn put_ask<K: Sink>(
     )
 }
 
-// The line of a requirement up to its names.
+// Puts the line of a requirement up to its names.
 fn put_demand_names<K: Sink>(
     number: u32,
     from: EventName<'_>,
@@ -194,7 +194,7 @@ fn put_demand_names<K: Sink>(
     )
 }
 
-// A space and a range.
+// Puts a space and a range.
 fn put_range<K: Sink>(range: &Range, sink: &mut K) -> Result<(), PutFailed>
     ensures { Puts (K.told sink.old) (K.told sink.new) (spaced (range_word range.now)) result }
 {
@@ -212,7 +212,7 @@ fn put_range<K: Sink>(range: &Range, sink: &mut K) -> Result<(), PutFailed>
     )
 }
 
-// The line of a requirement up to its range.
+// Puts the line of a requirement up to its range.
 fn put_demand<K: Sink>(
     number: u32,
     range: &Range,
@@ -259,7 +259,7 @@ fn put_row<K: Sink>(
     put_end(by, sink)
 }
 
-// The line of a cause up to the kind of its constraint.
+// Puts the line of a cause up to the kind of its constraint.
 fn put_kind<K: Sink>(kind: RuleKind, sink: &mut K) -> Result<(), PutFailed>
     ensures { Puts (K.told sink.old) (K.told sink.new) (line_of (codes "rule" ∷ rule_word kind ∷ [])) result }
 {
@@ -270,7 +270,7 @@ fn put_kind<K: Sink>(kind: RuleKind, sink: &mut K) -> Result<(), PutFailed>
     }
 }
 
-// A space and a name, for each of two events.
+// Puts a space and a name for each of two events.
 fn put_names<K: Sink>(from: EventName<'_>, to: EventName<'_>, sink: &mut K) -> Result<(), PutFailed>
     ensures { Puts (K.told sink.old) (K.told sink.new)
         (flat_map spaced (name_word (name_view from.entry) ∷ name_word (name_view to.entry) ∷ [])) result }
@@ -296,7 +296,7 @@ fn put_names<K: Sink>(from: EventName<'_>, to: EventName<'_>, sink: &mut K) -> R
     )
 }
 
-// The line of a cause up to its range.
+// Puts the line of a cause up to its range.
 fn put_cause<K: Sink>(
     kind: RuleKind,
     from: EventName<'_>,
@@ -392,7 +392,7 @@ pub fn put_verdict_words<K: Sink>(word: Verdict, sink: &mut K) -> Result<(), Put
     }
 }
 
-// The line of an order up to the greatest bound.
+// Puts the line of an order up to the greatest bound.
 fn put_greatest<K: Sink>(value: Bound, sink: &mut K) -> Result<(), PutFailed>
     ensures { Puts (K.told sink.old) (K.told sink.new) (line_of (codes "order" ∷ codes "max" ∷ bound_words value)) result }
 {
@@ -400,7 +400,7 @@ fn put_greatest<K: Sink>(value: Bound, sink: &mut K) -> Result<(), PutFailed>
     put_bound_words(value, sink)
 }
 
-// The least bound.
+// Puts the least bound.
 fn put_least<K: Sink>(value: Bound, sink: &mut K) -> Result<(), PutFailed>
     ensures { Puts (K.told sink.old) (K.told sink.new) (flat_map spaced (codes "min" ∷ bound_words value)) result }
 {
@@ -408,7 +408,7 @@ fn put_least<K: Sink>(value: Bound, sink: &mut K) -> Result<(), PutFailed>
     put_bound_words(value, sink)
 }
 
-// The verdict, and the end of its line.
+// Puts the verdict, and the end of its line.
 fn put_verdict_end<K: Sink>(word: Verdict, sink: &mut K) -> Result<(), PutFailed>
     ensures { Puts (K.told sink.old) (K.told sink.new) (flat_map spaced (verdict_words word) ++ 10 ∷ []) result }
 {

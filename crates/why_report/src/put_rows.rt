@@ -43,7 +43,7 @@ pub fn put_rows<N: Notes, K: Sink>(
     Ok(())
 }
 
-// A row, its bounds and the verdict on it.
+// Puts a row, its bounds, and the verdict on it.
 fn put_found<N: Notes, K: Sink>(
     number: u32,
     row: &Row,
@@ -63,7 +63,7 @@ fn put_found<N: Notes, K: Sink>(
     put_judged(row.kind, found, buffer, sink)
 }
 
-// What is asked of a row, and what draws it.
+// Puts what is asked of a row, and what draws it.
 fn put_asked<N: Notes, K: Sink>(
     number: u32,
     row: &Row,
@@ -87,7 +87,7 @@ fn put_asked<N: Notes, K: Sink>(
     put_line(&line, buffer, sink)
 }
 
-// The verdict on a requirement, what it rests on, and the slack; an ask has none.
+// Puts the verdict on a requirement, what it rests on, and the slack. An ask has none of these lines.
 fn put_judged<K: Sink>(
     kind: RowKind,
     found: &RowFound,
@@ -103,7 +103,7 @@ fn put_judged<K: Sink>(
     }
 }
 
-// The verdict, what it rests on, and the slack.
+// Puts the verdict, what it rests on, and the slack.
 fn put_verdict<K: Sink>(
     range: Range,
     found: &RowFound,
@@ -120,7 +120,7 @@ fn put_verdict<K: Sink>(
     write_item(&Item::Slack(slack(range, &both)), buffer, sink)
 }
 
-// The bounds and the verdict without the order of lanes, where the verdict rests on that order.
+// Puts the bounds and the verdict without the order of lanes, if the verdict rests on that order.
 fn put_apart<K: Sink>(
     range: Range,
     apart: Option<BothBounds>,

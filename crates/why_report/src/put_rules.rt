@@ -15,7 +15,7 @@ use itv_base::{PutFailed, Sink};
 use line_words::LineBuffer;
 use notes::Notes;
 
-/// Puts the causes of the constraints of a set, which has a flag for each.
+/// Puts the causes of the constraints of a set. The set has a flag for each constraint.
 pub fn put_rules<N: Notes, K: Sink>(
     notes: &N,
     drawn: &DrawnNetwork,
@@ -35,7 +35,7 @@ pub fn put_rules<N: Notes, K: Sink>(
     Ok(())
 }
 
-// The causes of a constraint, if it is in a set.
+// Puts the causes of a constraint, if it is in a set.
 fn put_flagged<N: Notes, K: Sink>(
     notes: &N,
     drawn: &DrawnNetwork,
@@ -54,7 +54,7 @@ fn put_flagged<N: Notes, K: Sink>(
     put_causes(notes, drawn, number, buffer, sink)
 }
 
-// The causes of a constraint.
+// Puts the causes of a constraint.
 fn put_causes<N: Notes, K: Sink>(
     notes: &N,
     drawn: &DrawnNetwork,
@@ -72,7 +72,7 @@ fn put_causes<N: Notes, K: Sink>(
     Ok(())
 }
 
-// A cause of a constraint, and what draws it.
+// Puts a cause of a constraint, and what draws it.
 fn put_rule<N: Notes, K: Sink>(
     notes: &N,
     drawn: &DrawnNetwork,

@@ -21,7 +21,7 @@ pub struct DrawnCause {
     pub origin: Origin,
 }
 
-/// How many causes a constraint has that is there.
+/// How many causes a constraint of the network has.
 pub fn cause_count(drawn: &DrawnNetwork, number: u32) -> u32
     requires number { number < length drawn.now.net.constraints }
     ensures causes { result ≡ length (constraint_at drawn.now number).causes }
@@ -32,7 +32,7 @@ pub fn cause_count(drawn: &DrawnNetwork, number: u32) -> u32
     origins_at(drawn, number).len() as u32
 }
 
-/// The cause of a number of a constraint, which are both there.
+/// A cause of a constraint, by the numbers of both. Both are in the network.
 pub fn rule_at(drawn: &DrawnNetwork, number: u32, cause: u32) -> DrawnCause
     requires number { number < length drawn.now.net.constraints }
     requires cause { cause < length (constraint_at drawn.now number).causes }
@@ -53,7 +53,7 @@ pub fn rule_at(drawn: &DrawnNetwork, number: u32, cause: u32) -> DrawnCause
     }
 }
 
-/// What draws the cause of an edge that is there.
+/// What draws the cause of an edge of the network.
 pub fn edge_by<'a, N: Notes>(notes: &'a N, drawn: &DrawnNetwork, name: EdgeName) -> DrawnBy<'a>
     requires edge { IsSome (edge drawn.now.net name) }
     ensures words { by_words result ≡ drawn_words (N.noted notes.now) drawn.now name }
@@ -62,7 +62,7 @@ pub fn edge_by<'a, N: Notes>(notes: &'a N, drawn: &DrawnNetwork, name: EdgeName)
     DrawnBy::of(notes, part_at(drawn, name.constraint), origin)
 }
 
-// What draws each cause of a constraint that is there.
+// What draws each cause of a constraint of the network.
 fn origins_at(drawn: &DrawnNetwork, number: u32) -> &[Origin]
     requires number { number < length drawn.now.net.constraints }
     ensures origins { result.now ≡ origins_at drawn.now number }
@@ -71,7 +71,7 @@ fn origins_at(drawn: &DrawnNetwork, number: u32) -> &[Origin]
     drawn.origins().get(u64::from(number)).as_slice()
 }
 
-// The part of the target of a constraint that is there.
+// The part of the target of a constraint of the network.
 fn part_at(drawn: &DrawnNetwork, number: u32) -> &str
     requires number { number < length drawn.now.net.constraints }
     ensures part { result.now ≡ part_of drawn.now (constraint_at drawn.now number).target }

@@ -18,8 +18,8 @@ use line_words::LineBuffer;
 use notes::Notes;
 use slack_report::Which;
 
-/// Puts the steps of edges from the from-event of a row to its to-event. Behind a least separation the edges are those of the reversed
-/// pair, so the last one comes first, and each is walked from its end to its start.
+/// Puts the steps of edges from the from-event of a row to its to-event. Behind a least separation the edges are the edges of the
+/// reversed pair. So the last one comes first, and each step goes from the end of its edge to its start.
 pub fn put_steps<N: Notes, K: Sink>(
     notes: &N,
     drawn: &DrawnNetwork,
@@ -36,7 +36,7 @@ pub fn put_steps<N: Notes, K: Sink>(
     }
 }
 
-// The steps behind a greatest separation.
+// Puts the steps behind a greatest separation.
 fn put_onward<N: Notes, K: Sink>(
     notes: &N,
     drawn: &DrawnNetwork,
@@ -52,7 +52,7 @@ fn put_onward<N: Notes, K: Sink>(
     Ok(())
 }
 
-// The steps behind a least separation.
+// Puts the steps behind a least separation.
 fn put_back<N: Notes, K: Sink>(
     notes: &N,
     drawn: &DrawnNetwork,
@@ -68,7 +68,7 @@ fn put_back<N: Notes, K: Sink>(
     Ok(())
 }
 
-// The step of an edge. One that is not there has none.
+// Puts the step of an edge. If there is no such edge, nothing is put.
 fn put_step<N: Notes, K: Sink>(
     notes: &N,
     drawn: &DrawnNetwork,
@@ -85,7 +85,7 @@ fn put_step<N: Notes, K: Sink>(
     }
 }
 
-// The line of the step of an edge that is there.
+// The step of an edge of the network.
 fn step_of<'a, N: Notes>(
     notes: &'a N,
     drawn: &'a DrawnNetwork,

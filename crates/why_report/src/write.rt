@@ -20,9 +20,10 @@ use notes::Notes;
 use slack_report::{EndWord, Item, LINE_ROOM, write_item};
 use std::alloc::Global;
 
-/// Writes both bounds of each row of a drawn network with the edges of the drawing that make them so: behind a number the steps from
-/// the one event to the other, whose weights sum to it; behind an inconsistent finding the rules that contradict each other; with the
-/// notes of who drew them. Each search closes at most `budget` cases. All is found before the first put.
+/// Writes both bounds of each row of a drawn network, with the edges of the drawing that make them so. Behind a number stand the
+/// steps from one event to the other; their weights sum to it. Behind an inconsistent finding stand the rules that contradict each
+/// other. What draws a step, a row or a rule comes with its note. Each search closes at most `budget` cases. All is found before
+/// the first put.
 pub fn write_why<N: Notes, K: Sink>(
     alloc: Global,
     notes: &N,
@@ -40,7 +41,7 @@ pub fn write_why<N: Notes, K: Sink>(
     Ok(put_found(notes, drawn, &found, &mut buffer, sink)?)
 }
 
-// Puts the whole text. The answer is by the word at its end.
+// Puts the whole text. Returns the answer by the word at its end.
 fn put_found<N: Notes, K: Sink>(
     notes: &N,
     drawn: &DrawnNetwork,
@@ -63,7 +64,7 @@ fn put_found<N: Notes, K: Sink>(
     Ok(answer_of(word))
 }
 
-// Puts the whole text with the word at its end.
+// Puts the whole text with this word at its end.
 fn put_text<N: Notes, K: Sink>(
     notes: &N,
     drawn: &DrawnNetwork,
@@ -86,7 +87,7 @@ fn put_text<N: Notes, K: Sink>(
     write_item(&Item::End(word), buffer, sink)
 }
 
-// Behind the finding: the rules that contradict each other, or each row.
+// Puts the lines behind the finding: the rules that contradict each other, or each row.
 fn put_behind<N: Notes, K: Sink>(
     notes: &N,
     drawn: &DrawnNetwork,

@@ -1,4 +1,4 @@
--- What times break and meet of the constraints that a case can be split on, by their choice edges.
+-- Which constraints with two or more causes the times break, and which they meet, by their choice edges.
 use Rattle.std.specs.Prelude.{◌≡◌, ◌<◌, ℕ, ℤ, List, length, All, Any, IfSome, IsSomeAnd, slice_get, slice_index_or}
 use Rattle.std.specs.List.{AllWithin}
 use Rattle.event_graph.specs.declared.edge.Edge.{Edge}
@@ -9,7 +9,7 @@ use Rattle.branch.specs.declared.choice_edge.ChoiceEdge.{ChoiceEdge}
 use Rattle.branch.specs.ChoiceEdges.{given_edge}
 use Rattle.branch.specs.Splits.{Splitting}
 
--- a choice edge is between events of so many
+-- both ends of a choice edge are among so many events
 pub record IsBetween (events : ℕ) (c : ChoiceEdge) : Type 0 where
   pub from : c.from.0 < events
   pub to : c.to.0 < events
@@ -22,19 +22,19 @@ IsEdgeBroken times c = IsSomeAnd (given_edge c) (λ (e : Edge). Meets times e �
 abbrev pub IsEdgeMet : List ℤ → ChoiceEdge → Type 0
 IsEdgeMet times c = IfSome (given_edge c) (Meets times)
 
--- the choice edges of some constraints are between events of so many
+-- the ends of all choice edges of some constraints are among so many events
 abbrev pub AreBetween : ℕ → List Splitting → Type 0
 AreBetween events splits = All (λ (s : Splitting). All (IsBetween events) s.edges) splits
 
--- the times break each choice edge
+-- the times break all choice edges
 abbrev pub BreaksEach : List ℤ → Splitting → Type 0
 BreaksEach times s = All (IsEdgeBroken times) s.edges
 
--- the times meet some choice edge
+-- the times meet some choice edge, or one is open
 abbrev pub MeetsSome : List ℤ → Splitting → Type 0
 MeetsSome times s = Any (IsEdgeMet times) s.edges
 
--- the first of some constraints each of whose choice edges the times break has this number
+-- this is the number of the first constraint in the list whose choice edges the times all break
 pub record IsFirstBrokenSplit (times : List ℤ) (splits : List Splitting) (number : ℕ) : Type 0 where
   pub place : ℕ
   pub within : place < length splits

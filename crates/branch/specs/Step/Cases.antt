@@ -26,7 +26,7 @@ IsSearchCase net chosen = IsCase net chosen × AreOfMany net chosen
 abbrev pub one_if_splittable : Constraint → ℕ
 one_if_splittable c = min (cause_count_of c - 1) 1
 
--- how many constraints with two or more causes, numbered from one on, are not split in a case
+-- how many constraints with two or more causes are not split in a case; the first of the list has this number
 abbrev pub unsplit_from : ℕ → List Constraint → Case → ℕ
 unsplit_from number [] chosen = 0
 unsplit_from number (k ∷ ks) chosen = cond (is_split chosen number) 0 (one_if_splittable k) + unsplit_from (number + 1) ks chosen

@@ -1,4 +1,4 @@
--- What the fields of working memory mean, and what holds of them.
+-- What the fields of working memory mean, and what always holds of them.
 use Rattle.std.specs.Prelude.{◌≡◌, true, cond, length, All, None, Some}
 use Rattle.diff_bounds.specs.Limits.{IsTimely}
 use Rattle.branch.specs.Work.{WorkView}
@@ -15,7 +15,7 @@ view_in w = record {
   leaves = w.search.leaves;
 }
 
--- there is a place for each event in all lists, and known times are timely
+-- each list has an entry per event, and known times are timely
 pub record IsSoundWork (w : Inside) : Type 0 where
   pub known : length w.known.items ≡ length w.best.times.items
   pub candidate : length w.trial.candidate.items ≡ length w.best.times.items

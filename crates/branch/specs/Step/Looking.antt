@@ -1,4 +1,4 @@
--- Constraints that are looked for.
+-- Which constraints are wanted.
 use Rattle.std.specs.Prelude.{◌≡◌, ℕ, List, length, All, Contains, None}
 use Rattle.event_graph.specs.Cases.{cause_chosen}
 use Rattle.event_graph.specs.Proof.{Case}
@@ -8,16 +8,16 @@ use Rattle.branch.specs.declared.distances.SearchTarget.TheVariants.{Broken, Ope
 use Rattle.branch.specs.Splits.{HasNumber, Splitting}
 use Rattle.branch.specs.Step.Breaking.{AreBetween, BreaksEach}
 
--- the edges of some constraints can be read against the times, where those that they break are looked for
+-- if broken constraints are wanted, their choice edges can be read against the times
 abbrev pub CanLookFor : SearchTarget → List Splitting → Type 0
 CanLookFor (Broken times) splits = All IsTime times.now × AreBetween (length times.now) splits
 CanLookFor Open splits = Unit {0}
 
--- of some constraints the one of a number is looked for: the times break each of its choice edges, where those are looked for that they break
+-- the constraint of this number is in the list and is wanted: if broken constraints are wanted, the times break all its choice edges
 abbrev pub IsWanted : SearchTarget → List Splitting → ℕ → Type 0
 IsWanted (Broken times) splits number = (s : Splitting) × Contains splits s × (s.number ≡ number) × BreaksEach times.now s
 IsWanted Open splits number = HasNumber splits number
 
--- a constraint that is looked for, and of which no cause is chosen
+-- a wanted constraint without a chosen cause
 abbrev pub IsTargetFound : SearchTarget → List Splitting → Case → ℕ → Type 0
 IsTargetFound wanted splits chosen number = IsWanted wanted splits number × (cause_chosen chosen number ≡ None)

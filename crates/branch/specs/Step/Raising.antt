@@ -5,7 +5,7 @@ use Rattle.event_graph.specs.Times.{IsTime, raised, separation, time_of}
 use Rattle.event_graph.specs.Limits.{reach_limit, weight_limit}
 use Rattle.branch.specs.Work.{IsClose}
 
--- no separation of timely times is beyond three times the reach of a path
+-- a number of picoseconds within three times the reach of a path, as each separation of timely times is
 abbrev pub IsNearSeparation : ℤ → Type 0
 IsNearSeparation value = (neg_ℤ (pos (3 * reach_limit)) ≤ℤ value) × (value ≤ℤ pos (3 * reach_limit))
 
@@ -14,17 +14,17 @@ abbrev pub IsRaisedApart : List Bool → List ℤ → Type 0
 IsRaisedApart set times = (low high : EventId) → slice_get set low.0 ≡ Some false → slice_get set high.0 ≡ Some true
     → (time_of times low +ℤ pos weight_limit) <ℤ time_of times high
 
--- where an event is raised to, by its flag
+-- the time of an event after the rise, by its flag
 abbrev pub raised_to : Bool → ℤ → ℕ → ℤ
 raised_to true time by = time +ℤ pos by
 raised_to false time by = time
 
--- events of the set and others are apart where the set is raised by a number
+-- if the set is raised by this number, its events are above each other event by more than the limit of ends
 abbrev pub IsGap : List Bool → List ℤ → ℤ → Type 0
 IsGap set times by = (low high : EventId) → slice_get set low.0 ≡ Some false → slice_get set high.0 ≡ Some true
     → (time_of times low +ℤ pos weight_limit) <ℤ (time_of times high +ℤ by)
 
--- the times with the set raised by one number, which is enough to be apart and to reach a separation
+-- the new times are the old ones with the set raised by one number; the set is then apart, and the separation of the pair is at least `reach`
 pub record AreRaised (set : List Bool) (from to : EventId) (reach : ℤ) (old new : List ℤ) : Type 0 where
   pub by : ℕ
   pub same : new ≡ raised set by old

@@ -39,7 +39,7 @@ pub record IsAtCase (net : Net) (s : Search) : Type 0 where
   pub room : length net.constraints ≤ s.cases.room
   pub left : s.leaves < s.budget
 
--- a search comes to a case: the bounds stand on all its choices but the latest
+-- a search comes to a case: the bounds stand on all its choices but the latest, there is room for every split, and the budget is not used up
 pub record IsBelowCase (net : Net) (s : Search) : Type 0 where
   pub case : IsSearchCase net s.cases.chosen
   pub below : StandsBelow net s.cases.chosen s.bounds
@@ -64,14 +64,14 @@ left_after net now Entered = open_cases net now
 left_after net now AllClosed = []
 left_after net now Stopped = open_cases net now
 
--- the next case after one whose siblings are these
+-- the search comes to the next case: it and its siblings are the siblings of the case before
 pub record IsNext (net : Net) (before now : Search) : Type 0 where
   pub same : siblings net before.cases.chosen ≡ open_cases net now.cases.chosen
   pub some : 0 < length now.cases.chosen
   pub case : IsSearchCase net now.cases.chosen
   pub below : StandsBelow net now.cases.chosen now.bounds
 
--- how a closed case is left: for a next one, or for good
+-- how the search leaves a closed case: for a next one, or for good
 abbrev pub LeavesFor : Net → Search → Search → Option NextCase → Type 0
 LeavesFor net before now None = IsNext net before now × (now.leaves < now.budget)
 LeavesFor net before now (Some Entered) = ⊥
@@ -84,42 +84,43 @@ IsClosing (Split number) = ⊥
 IsClosing (Path names) = Unit {0}
 IsClosing (Loop names) = Unit {0}
 
--- lines that close cases, one each, and lead from some open cases to others
+-- each line closes a case, and the lines lead from some open cases to others
 pub record ClosesCases (net : Net) (goal : ProofGoal) (cases left : List Case) (lines : List ProofLine) : Type 0 where
   pub reads : ProofLeaves net goal cases lines left
   pub closing : All IsClosing lines
 
--- what lines close of some cases, up to an entry
+-- the lines close cases on the way to an entry, and each of them is counted
 pub record SearchSteps (net : Net) (goal : ProofGoal) (cases : List Case) (before : ℕ) (now : Search) (entry : NextCase) (lines : List ProofLine) : Type 0 where
   pub closes : ClosesCases net goal cases (left_after net now.cases.chosen entry) lines
   pub count : now.leaves ≡ before + closing_lines lines
 
--- what lines closed of some cases that a failure cut short, at the last line: each of them was right
+-- A failure cut these lines short at the last one. Each was right and closes a case, and no more cases are counted than the lines close.
 pub record StepsShort (net : Net) (goal : ProofGoal) (cases : List Case) (before : ℕ) (now : Search) (lines : List ProofLine) : Type 0 where
   pub left : List Case
   pub closes : ClosesCases net goal cases left lines
   pub count : now.leaves ≤ before + closing_lines lines
 
--- the lines so far leave just these cases open and closed a number of others, and each split was needed
+-- the lines so far leave just these cases open and closed this number of others, and each split was needed
 pub record IsSearchedSoFar (net : Net) (goal : ProofGoal) (IsNeeded : List ProofLine → Case → ℕ → Type 0) (lines : List ProofLine) (cases : List Case) (closed : ℕ) : Type 0 where
   pub reads : ProofLeaves net goal ([] ∷ []) lines cases
   pub needed : AtEachSplit net IsNeeded lines
   pub count : closing_lines lines ≡ closed
 
--- a constraint is split in a case, above a separation that was attained
+-- The constraint can be split in the case, and some times that meet the usable edges go beyond the best separation. If those edges allow a
+-- greatest separation, some times that attain it break the constraint.
 pub record IsOpen (net : Net) (from to : EventId) (best : ℤ) (chosen : Case) (number : ℕ) : Type 0 where
   pub free : IsFree net chosen number
   pub beyond : (times : List ℤ) × MeetsUsable net chosen times × (best <ℤ separation times from to)
   pub broken : (greatest : ℤ) → IsGreatestAmong (λ times. MeetsUsable net chosen times) from to greatest
       → (times : List ℤ) × MeetsUsable net chosen times × (separation times from to ≡ greatest) × Breaks times net number
 
--- there is a place for each event, and the constraints with two or more causes are known
+-- there is an entry for each event, and the constraints with two or more causes are known
 pub record IsTrialFor (net : Net) (trial : Trial) : Type 0 where
   pub candidate : length trial.candidate.items ≡ net.events
   pub ray : length trial.ray.items ≡ net.events
   pub splits : AreSplits net trial.distances
 
--- what a look at a case comes to, by the best separation so far and that of the known times
+-- what a look at a case finds, by the best separation so far and the separation that the search started from
 abbrev pub Looks : Net → Aim → ℤ → Search → Trial → Look → Type 0
 Looks net aim best s trial Beaten = (value : ℤ) × HasUpper s.bounds aim.to value × (value ≤ℤ best)
 Looks net aim best s trial (Attained value) =
@@ -130,12 +131,12 @@ Looks net aim best s trial Unbounded =
     Satisfies trial.candidate.items net × IsRay net aim.from aim.to trial.candidate.items trial.ray.items
     × (aim.known ≤ℤ separation trial.candidate.items aim.from aim.to) × All IsClose trial.candidate.items
 
--- a search for a bound of a pair has come to a value
+-- the lines of a search for a bound have shown this value in the closed cases
 abbrev pub IsBoundSearched : Net → Aim → ℤ → List ProofLine → List Case → ℕ → Type 0
 IsBoundSearched net aim best lines cases closed =
     IsSearchedSoFar net (Bound aim.from aim.to best) (IsNeededToBound net aim.from aim.to aim.known) lines cases closed
 
--- the best times so far
+-- the best times satisfy and attain the best separation, which is at least the known one
 pub record IsBestSoFar (net : Net) (aim : Aim) (best : Best) : Type 0 where
   pub satisfies : Satisfies best.times.items net
   pub attained : separation best.times.items aim.from aim.to ≡ best.value
@@ -143,19 +144,19 @@ pub record IsBestSoFar (net : Net) (aim : Aim) (best : Best) : Type 0 where
   pub near : IsNearSeparation best.value
   pub close : All IsClose best.times.items
 
--- satisfying times that can be raised without end, no less than the known ones
+-- satisfying times that can be raised without end; their separation is at least the known one
 pub record AreRays (net : Net) (aim : Aim) (times : List ℤ) (ray : List Bool) : Type 0 where
   pub satisfies : Satisfies times net
   pub raises : IsRay net aim.from aim.to times ray
   pub least : aim.known ≤ℤ separation times aim.from aim.to
   pub close : All IsClose times
 
--- how far a search for a bound of a pair is, and the best times so far
+-- the state of a search for a bound, and the best times so far
 pub record Progress : Type 0 where
   pub search : Search
   pub best : Best
 
--- what a step of the search for a bound comes to: the next case stands or the search ends, or the pair is unbounded
+-- what a step of the search for a bound comes to: the next case is entered, or the search ends, or the pair is unbounded
 abbrev pub Advances : Net → Aim → Progress → Progress → List Bool → List ProofLine → Option NextCase → Type 0
 Advances net aim before now ray lines (Some entry) =
     IsBestSoFar net aim now.best
@@ -164,7 +165,8 @@ Advances net aim before now ray lines (Some entry) =
 Advances net aim before now ray lines None =
     AreRays net aim now.best.times.items ray × (lines ≡ []) × (now.search.leaves ≡ before.search.leaves + 1)
 
--- a search for a bound of a pair was cut short in these lines: they came to a value, and no more cases are counted than they closed
+-- a search for a bound was cut short in these lines: they show some value in the closed cases, and no more cases are counted than the lines
+-- closed
 pub record IsBoundCut (net : Net) (aim : Aim) (leaves : ℕ) (lines : List ProofLine) : Type 0 where
   pub value : ℤ
   pub left : List Case
@@ -172,7 +174,7 @@ pub record IsBoundCut (net : Net) (aim : Aim) (leaves : ℕ) (lines : List Proof
   pub searched : IsBoundSearched net aim value lines left closed
   pub count : leaves ≤ closed
 
--- so it was behind those of a search
+-- a step of the search for a bound was cut short in these lines, whatever lines the search had before
 abbrev pub IsCutAfter : Net → Aim → ℤ → Case → ℕ → ℕ → List ProofLine → Type 0
 IsCutAfter net aim best before leaves now lines =
     (earlier : List ProofLine) → IsBoundSearched net aim best earlier (open_cases net before) leaves → IsBoundCut net aim now (earlier ++ lines)
@@ -190,7 +192,7 @@ SearchEnds net aim s best ray lines Raised =
 abbrev pub IsFindSearched : Net → List ProofLine → List Case → ℕ → Type 0
 IsFindSearched net lines cases closed = IsSearchedSoFar net Nothing (IsNeededToFind net) lines cases closed
 
--- what a step of the search for satisfying times comes to: the next case stands or the search ends, or the times satisfy
+-- what a step of the search for satisfying times comes to: the next case is entered, or the search ends, or the times satisfy
 abbrev pub FindAdvances : Net → Search → Search → List ℤ → List ProofLine → Option NextCase → Type 0
 FindAdvances net before now times lines (Some entry) =
     (earlier : List ProofLine) → IsFindSearched net earlier (open_cases net before.cases.chosen) before.leaves
@@ -198,14 +200,14 @@ FindAdvances net before now times lines (Some entry) =
 FindAdvances net before now times lines None =
     Satisfies times net × All IsTimely times × (lines ≡ []) × (now.leaves ≡ before.leaves + 1)
 
--- a search for satisfying times was cut short in these lines: no more cases are counted than they closed
+-- a search for satisfying times was cut short in these lines: no more cases are counted than the lines closed
 pub record IsFindCut (net : Net) (leaves : ℕ) (lines : List ProofLine) : Type 0 where
   pub left : List Case
   pub closed : ℕ
   pub searched : IsFindSearched net lines left closed
   pub count : leaves ≤ closed
 
--- so it was behind those of a search
+-- a step of the search for satisfying times was cut short in these lines, whatever lines the search had before
 abbrev pub IsFindCutAfter : Net → Case → ℕ → ℕ → List ProofLine → Type 0
 IsFindCutAfter net before leaves now lines =
     (earlier : List ProofLine) → IsFindSearched net earlier (open_cases net before) leaves → IsFindCut net now (earlier ++ lines)

@@ -18,7 +18,7 @@ abbrev pub edges_of : Net → Case → List EdgeName
 edges_of net [] = []
 edges_of net (choice ∷ below) = with_choice net (edges_of net below) (choice_name net choice)
 
--- those of the graphs below, the nearest one first
+-- the chosen edges of each graph below, the nearest graph first
 abbrev pub edges_below : Net → Case → List (List EdgeName)
 edges_below net [] = []
 edges_below net (choice ∷ below) = edges_of net below ∷ edges_below net below
@@ -43,16 +43,16 @@ pub record AreOfSame (net : Net) (before now : Standing) : Type 0 where
 abbrev pub HasUpper : Standing → EventId → ℤ → Type 0
 HasUpper bounds event value = upper_of bounds event.0 ≡ Some value
 
--- it is unbounded
+-- the greatest separation of an event from the source is unbounded
 abbrev pub HasNoUpper : Standing → EventId → Type 0
 HasNoUpper bounds event = upper_of bounds event.0 ≡ None
 
--- the greatest separation of a pair among the times that meet the usable edges of a case, or none where it is unbounded
+-- among the times that meet the usable edges of a case, this is the greatest separation of a pair, or there is none
 abbrev pub IsUpperIn : Net → Case → EventId → EventId → Option ℤ → Type 0
 IsUpperIn net chosen from to (Some value) = IsGreatestAmong (λ times. MeetsUsable net chosen times) from to value
 IsUpperIn net chosen from to None = IsUnboundedAmong (λ times. MeetsUsable net chosen times) from to
 
--- times that meet the usable edges of a case, and attain the greatest separation of each event from the source, where it is a number
+-- times that meet the usable edges of a case, and that attain each greatest separation from the source that is a number
 pub record AreTimesIn (net : Net) (chosen : Case) (bounds : Standing) (times : List ℤ) : Type 0 where
   pub meets : MeetsUsable net chosen times
   pub near : All IsTimely times

@@ -1,7 +1,7 @@
 -- By how much a separation has to rise.
 use Rattle.std.specs.Prelude.{ℕ, ℤ, pos, negsuc, ◌-ℤ◌, ◌+ℤ◌}
 
--- a number that is not below 0, or else 0
+-- a number, or 0 if it is below 0
 abbrev pub not_negative : ℤ → ℕ
 not_negative (pos n) = n
 not_negative (negsuc n) = 0

@@ -1,4 +1,4 @@
--- Where a right report stands between two lines, with what the lines to come are held to.
+-- The state of a right report between two lines, with what the lines to come have to agree with.
 use Rattle.std.specs.Prelude.{ℕ, ◌+◌, ℤ, Bool, true, false, ◌||◌, if◌then◌else◌, List, [], Option, Some, None}
 use Rattle.itv_base.specs.Names.{Name}
 use Rattle.itv_base.specs.Range.{Ends}
@@ -17,25 +17,25 @@ use Rattle.slack_report.specs.declared.words.Which.{Which}
 use Rattle.slack_report.specs.declared.words.Which.TheVariants as sorts
 use Rattle.drawn.specs.declared.row.Row.{Row}
 
--- what the end word goes by: the finding, whether some verdict was a fail, and whether some bound was left open
+-- what decides the end word: the finding, whether some verdict was a fail, and whether some bound was left open
 pub record ReportTally : Type 0 where
   pub found : FindingWord
   pub fails : Bool
   pub within : Bool
 
--- a row that is being told, by its number, behind what came before and before the later rows
+-- the row whose lines come: the tally before it, its number, the row itself, and the later rows
 pub record CurrentRow : Type 0 where
   pub course : ReportTally
   pub number : ℕ
   pub row : Row
   pub later : List Row
 
--- which bound of a row comes: the greatest, or the least behind the greatest
+-- which bound of the row comes next: the greatest, or the least after this greatest bound
 pub data NextBound : Type 0 where
   greatest : NextBound
   least_by : Bound → NextBound
 
--- where a report stands between two lines
+-- the state of a report between two lines
 pub data ReportState : Type 0 where
   at_heading : ReportState
   at_budget : ReportState
@@ -54,7 +54,7 @@ pub data ReportState : Type 0 where
   at_end : EndWord → ReportState
   at_last : ReportState
 
--- ---- where lines lead
+-- ---- the states after lines
 
 abbrev pub which_of : NextBound → Which
 which_of greatest = sorts.Max
@@ -77,47 +77,47 @@ with_bounds course least most = record course { within = course.within || (is_wi
 abbrev pub with_verdict : ReportTally → Verdict → ReportTally
 with_verdict course word = record course { fails = course.fails || is_fail word }
 
--- behind both bounds of a row
+-- the state after both bounds of a row
 abbrev pub judged : RowKind → CurrentRow → Bound → Bound → ReportState
 judged kinds.Ask row least most = at_row (with_bounds row.course least most) (row.number + 1) row.later
 judged (kinds.Req range) row least most = at_verdict row range least most
 
--- behind a bound and its lines
+-- the state after a bound and its lines
 abbrev pub bounded : CurrentRow → NextBound → Bound → ReportState
 bounded row greatest value = at_bound row (least_by value) []
 bounded row (least_by most) value = judged row.row.kind row value most
 
--- behind the line of a bound
+-- the state after the line of a bound
 abbrev pub behind_bound : CurrentRow → NextBound → Bound → ReportState
 behind_bound row side (bounds.Within limit None) = bounded row side (bounds.Within limit None)
 behind_bound row side (bounds.Within limit (Some found)) = at_times row side (bounds.Within limit (Some found))
 behind_bound row side (bounds.Closed value) = at_times row side (bounds.Closed value)
 behind_bound row side bounds.Unbounded = at_times row side bounds.Unbounded
 
--- behind the times of a bound
+-- the state after the times of a bound
 abbrev pub behind_times : CurrentRow → NextBound → Bound → List ℤ → ReportState
 behind_times row side bounds.Unbounded list = at_raise row side list
 behind_times row side (bounds.Closed value) list = bounded row side (bounds.Closed value)
 behind_times row side (bounds.Within limit attained) list = bounded row side (bounds.Within limit attained)
 
--- behind a verdict and the times that break the requirement
+-- the state after a verdict and the times that break the requirement
 abbrev pub behind_past : CurrentRow → Ends → Bound → Bound → Verdict → ReportState
 behind_past row range least most word = at_slack (with_verdict (with_bounds row.course least most) word) (row.number + 1) row.later range least most
 
--- behind a verdict
+-- the state after a verdict
 abbrev pub behind_verdict : CurrentRow → Ends → Bound → Bound → Verdict → ReportState
 behind_verdict row range least most word = if is_fail word then at_past row range least most else behind_past row range least most word
 
 abbrev pub course_of : FindingWord → ReportTally
 course_of word = record { found = word; fails = false; within = false }
 
--- behind a finding
+-- the state after a finding
 abbrev pub behind_finding : FindingWord → ReportState
 behind_finding findings.Consistent = at_known
 behind_finding findings.Inconsistent = at_end endings.Inconsistent
 behind_finding findings.Unsettled = at_rows findings.Unsettled
 
--- the word at the end where no verdict was a fail
+-- the word at the end if no verdict was a fail
 abbrev pub undecided_or_pass : FindingWord → Bool → EndWord
 undecided_or_pass findings.Consistent within = if within then endings.Undecided else endings.Pass
 undecided_or_pass findings.Inconsistent within = endings.Inconsistent

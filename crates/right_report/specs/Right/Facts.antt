@@ -1,4 +1,4 @@
--- What is asked of a right report.
+-- The claims that the lines of a right report make.
 use Rattle.std.specs.Prelude.{◌≡◌, ℤ, pos, neg_ℤ, ◌<ℤ◌, Bool, List, Option, IfSome, IsNone, IsSome, IsSomeAnd, option_map}
 use Rattle.itv_base.specs.Range.{Ends}
 use Rattle.event_graph.specs.Bounds.{IsGreatest, IsInconsistent, IsLeast, IsRay}
@@ -18,7 +18,7 @@ use Rattle.drawn.specs.declared.row.Row.{Row}
 use Rattle.right_report.specs.Right.At.{ReportState, NextBound, at_heading, at_last, greatest, least_by}
 use Rattle.right_report.specs.Right.Following.{LineClaims, LinesLead}
 
--- an unsettled finding leaves times that meet the always-edges
+-- a finding is right: no times satisfy if it is inconsistent, and some times meet the always-edges if it is unsettled
 abbrev pub IsFinding : Net → FindingWord → Type 0
 IsFinding net findings.Consistent = Unit {0}
 IsFinding net findings.Inconsistent = IsInconsistent net
@@ -29,12 +29,12 @@ abbrev pub IsClosed : Net → Row → NextBound → ℤ → Type 0
 IsClosed net r greatest value = IsGreatest net r.from r.to value
 IsClosed net r (least_by most) value = IsLeast net r.from r.to value
 
--- a limit is the root bound, and for a least separation minus that of the reversed pair
+-- a limit is the root bound of the pair; for a least separation it is minus the root bound of the reversed pair
 abbrev pub IsLimit : Net → Row → NextBound → Option ℤ → Type 0
 IsLimit net r greatest limit = IsRootBound net r.from r.to limit
 IsLimit net r (least_by most) limit = IsRootBound net r.to r.from (option_map neg_ℤ limit)
 
--- behind a consistent finding something was attained, and behind an unsettled one nothing
+-- a bound within limits has an attained number after a consistent finding, and none after an unsettled one
 abbrev pub HasAttained : FindingWord → Option ℤ → Type 0
 HasAttained findings.Consistent attained = IsSome attained
 HasAttained findings.Inconsistent attained = ⊥
@@ -45,13 +45,13 @@ IsBoundOf net found r side (bounds.Closed value) = (found ≡ findings.Consisten
 IsBoundOf net found r side bounds.Unbounded = found ≡ findings.Consistent
 IsBoundOf net found r side (bounds.Within limit attained) = IsLimit net r side limit × HasAttained found attained
 
--- the times have the separation that a bound tells
+-- the times have the separation that a bound says
 abbrev pub Attains : Row → Bound → List ℤ → Type 0
 Attains r (bounds.Closed value) list = separation list r.from r.to ≡ value
 Attains r bounds.Unbounded list = Unit {0}
 Attains r (bounds.Within limit attained) list = IfSome attained (λ value. separation list r.from r.to ≡ value)
 
--- the set can be raised by any number: for a greatest separation with the to-event, and for a least one with the from-event
+-- the set can be raised by any number; it has the to-event for a greatest separation, and the from-event for a least one
 abbrev pub CanRise : Net → Row → NextBound → List ℤ → List Bool → Type 0
 CanRise net r greatest list set = IsRay net r.from r.to list set
 CanRise net r (least_by most) list set = IsRay net r.to r.from list set
@@ -63,7 +63,7 @@ BreaksEnd r range verdicts.FailLow list = IsSomeAnd range.low (λ low. separatio
 BreaksEnd r range verdicts.Pass list = ⊥
 BreaksEnd r range verdicts.Undecided list = ⊥
 
--- what is asked of a right report
+-- the claims that a right report has to make truly
 abbrev pub right : Net → LineClaims
 right net = record {
   finding = λ lines word. IsFinding net word;
@@ -74,10 +74,10 @@ right net = record {
   past = λ r range word list. AreTimes net r list × BreaksEnd r range word list;
 }
 
--- a right report: whole, with each line right by those before it
+-- a right report: whole, and each line is right by the lines before it
 abbrev pub IsRightReport : Drawn → List Entry → Type 0
 IsRightReport drawn lines = LinesLead (right drawn.net) drawn at_heading lines at_last
 
--- lines that begin a right report, each right by those before it
+-- the lines begin a right report: each is right by the lines before it
 abbrev pub BeginsRightReport : Drawn → List Entry → Type 0
 BeginsRightReport drawn lines = (at : ReportState) × LinesLead (right drawn.net) drawn at_heading lines at

@@ -1,4 +1,4 @@
--- Which lines may follow, and lead where.
+-- Which lines may follow in a state, and to which state they lead.
 use Rattle.std.specs.Prelude.{◌≡◌, ◌⊎◌, ◌+◌, ℕ, ℤ, Bool, List, [], ◌∷◌, ◌++◌, length}
 use Rattle.itv_base.specs.Range.{Ends}
 use Rattle.event_graph.specs.Proof.{ProofLine}
@@ -14,7 +14,7 @@ use Rattle.drawn.specs.Drawn.{Drawn, name_of}
 use Rattle.drawn.specs.declared.row.Row.{Row}
 use Rattle.right_report.specs.Right.At.{ReportState, ReportTally, NextBound, CurrentRow, at_heading, at_budget, at_events, at_event, at_finding, at_known, at_rows, at_row, at_bound, at_times, at_raise, at_verdict, at_past, at_slack, at_end, at_last, behind_bound, behind_finding, behind_past, behind_times, behind_verdict, bounded, course_of, end_word, greatest, which_of}
 
--- What is asked of the lines that say something of the network. Several readers of a report ask several things.
+-- What each kind of line has to say truly of the network. Several readers of a report ask for several things.
 pub record LineClaims : Type 1 where
   pub finding : List ProofLine → FindingWord → Type 0
   pub known : List ℤ → Type 0
@@ -23,19 +23,19 @@ pub record LineClaims : Type 1 where
   pub raise : Row → NextBound → List ℤ → List Bool → Type 0
   pub past : Row → Ends → Verdict → List ℤ → Type 0
 
--- a line of a proof, or the finding behind the lines of its proof
+-- a line of a proof follows, or the finding after the lines of its proof
 abbrev pub MayFind : LineClaims → List ProofLine → Entry → ReportState → Type 0
 MayFind facts lines line next =
     ((more : ProofLine) × (line ≡ proof more) × (next ≡ at_finding (lines ++ more ∷ [])))
     ⊎ ((word : FindingWord) × (line ≡ finding word) × facts.finding lines word × (next ≡ behind_finding word))
 
--- a line of a proof, or the bound behind the lines of its proof
+-- a line of a proof follows, or the bound after the lines of its proof
 abbrev pub MayBound : LineClaims → CurrentRow → NextBound → List ProofLine → Entry → ReportState → Type 0
 MayBound facts told side lines line next =
     ((more : ProofLine) × (line ≡ proof more) × (next ≡ at_bound told side (lines ++ more ∷ [])))
     ⊎ ((value : Bound) × (line ≡ bound (which_of side) value) × facts.bound told.course.found told.row side lines value × (next ≡ behind_bound told side value))
 
--- a line leads from a place to another
+-- a line leads from a state to another
 abbrev pub MayFollow : LineClaims → Drawn → ReportState → Entry → ReportState → Type 0
 MayFollow facts drawn at_heading line next = (line ≡ heading) × (next ≡ at_budget)
 MayFollow facts drawn at_budget line next = (most : ℕ) × (line ≡ budget most) × (next ≡ at_events)
@@ -61,12 +61,12 @@ MayFollow facts drawn (at_slack course number later range least most) line next 
 MayFollow facts drawn (at_end word) line next = (line ≡ ending word) × (next ≡ at_last)
 MayFollow facts drawn at_last line next = ⊥
 
--- lines lead one after another from a place to another
+-- lines lead one after another from a state to another
 abbrev pub LinesLead : LineClaims → Drawn → ReportState → List Entry → ReportState → Type 0
 LinesLead facts drawn at [] last = at ≡ last
 LinesLead facts drawn at (line ∷ lines) last = (next : ReportState) × MayFollow facts drawn at line next × LinesLead facts drawn next lines last
 
--- what one reader asks gives what another does
+-- all that one reader accepts, another reader accepts too
 pub record Implies (facts other : LineClaims) : Type 0 where
   pub finding : (lines : List ProofLine) (word : FindingWord) → facts.finding lines word → other.finding lines word
   pub known : (list : List ℤ) → facts.known list → other.known list

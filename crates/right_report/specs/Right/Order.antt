@@ -1,4 +1,4 @@
--- The places of right reports among those of the order of texts.
+-- The places in the order of texts at which right reports are in their states.
 use Rattle.std.specs.Prelude.{◌≡◌, ◌+◌, ℕ, Bool, true, false, List, length, Some}
 use Rattle.requirements.specs.declared.bound.Bound.{Bound}
 use Rattle.requirements.specs.declared.bound.Bound.TheVariants as bounds
@@ -18,7 +18,7 @@ is_unbounded (bounds.Closed value) = false
 is_unbounded bounds.Unbounded = true
 is_unbounded (bounds.Within limit attained) = false
 
--- a row of a report with some number behind it, by whether it demands a range
+-- the spot of a row in the order of texts: the number of the row behind it, how many rows are left, and whether this row demands a range
 abbrev pub spot_behind : Drawn → ℕ → List Row → Bool → Spot
 spot_behind drawn number later required = record { events = length drawn.names; next = number; left = length later; is_required = required }
 
@@ -43,7 +43,7 @@ place_of drawn (at_slack course number later range least most) = at.Slack (spot_
 place_of drawn (at_end word) = at.End
 place_of drawn at_last = at.Nothing
 
--- a line that may follow in a right report may stand there in the order of texts, and leads to the same place
+-- a line that may follow in a right report may stand at the same place in the order of texts, and leads to the same place
 abbrev pub RightLinesKeepOrder : Type 0
 RightLinesKeepOrder = (drawn : Drawn) (here : ReportState) (line : Entry) (behind : ReportState) → MayFollow (right drawn.net) drawn here line behind
     → next (place_of drawn here) line ≡ Some (place_of drawn behind)

@@ -6,7 +6,7 @@ use Rattle.right_report.specs.Right.At.{ReportState}
 use Rattle.right_report.specs.Right.Following.{LineClaims}
 use Rattle.right_report.specs.Writing.{WroteLines, WroteFront}
 
--- what a step writes: lines that lead from a place to one that its answer names, or a front of such lines
+-- a step writes lines that lead from a state to the state that its answer names, or a front of such lines if it fails
 abbrev pub WritesLines : {B E : Type 0} → LineClaims → Drawn → ReportState → (B → ReportState) → SinkView → SinkView → Result B E → Type 0
 WritesLines facts drawn here to old new (Ok x) = WroteLines facts drawn here (to x) old new
 WritesLines facts drawn here to old new (Err e) = WroteFront facts drawn here old new

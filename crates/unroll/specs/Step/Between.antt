@@ -1,4 +1,4 @@
--- Rules and rows between marks below a number.
+-- Rules and rows between marks with numbers below a given one.
 use Rattle.std.specs.Prelude.{◌<◌, ℕ, length, All}
 use Rattle.sheet.specs.declared.row.SheetRow.{SheetRow}
 use Rattle.sheet.specs.declared.rule.Source.{Source}

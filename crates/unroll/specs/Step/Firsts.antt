@@ -5,12 +5,12 @@ use Rattle.sheet.specs.Contents.{SheetContents}
 use Rattle.compose.specs.Design.{Composed, IsDesign}
 use Rattle.compose.specs.Numbers.{mark_count}
 
--- where the first part has so many marks before it
+-- the numbers of the first marks of parts; the first mark of the first part has this number
 abbrev pub firsts_of : ℕ → List SheetContents → List ℕ
 firsts_of first [] = []
 firsts_of first (sheet ∷ sheets) = first ∷ firsts_of (first + length sheet.marks) sheets
 
--- a design with few marks, and the numbers of the first marks of its parts
+-- a design with few marks, and the number of the first mark of each part
 pub record IsNumbered (d : Composed) (firsts : List ℕ) : Type 0 where
   pub design : IsDesign d
   pub few : mark_count d.sheets ≤ MAX_EVENTS

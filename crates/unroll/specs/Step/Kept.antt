@@ -4,7 +4,7 @@ use Rattle.sheet.specs.declared.row.SheetRow.{SheetRow}
 use Rattle.sheet.specs.Rule.{SheetRule}
 use Rattle.unroll.specs.Cycles.{row_exists, rule_exists}
 
--- those that exist in the last cycle: what exists in a cycle exists in all that come after it
+-- the rules that exist in the last cycle; what exists in a cycle exists in every later one
 abbrev pub kept_rules : ℕ → List SheetRule → List SheetRule
 kept_rules cycles rules = filter (λ rule. rule_exists (cycles - 1) rule) rules
 

@@ -1,4 +1,4 @@
--- The names of events as they are kept: by the number of the part.
+-- The names of events as they are kept, with the number of the part in place of its name.
 use Rattle.std.specs.Prelude.{ℕ, ◌+◌, List, [], ◌∷◌, ◌++◌, map}
 use Rattle.drawn.specs.declared.event_label.EventLabel.{EventLabel}
 use Rattle.sheet.specs.declared.mark.Mark.{Mark}
@@ -7,7 +7,7 @@ use Rattle.sheet.specs.Contents.{SheetContents}
 abbrev pub label_of : ℕ → ℕ → Mark → EventLabel
 label_of part cycle mark = record { part = part; mark = mark.name; cycle = cycle }
 
--- those of the marks of parts in a cycle, of which the first has this number
+-- the labels of the marks of parts in a cycle; the first part has this number
 abbrev pub labels_from : ℕ → ℕ → List SheetContents → List EventLabel
 labels_from cycle part [] = []
 labels_from cycle part (sheet ∷ sheets) = map (label_of part cycle) sheet.marks ++ labels_from cycle (part + 1) sheets

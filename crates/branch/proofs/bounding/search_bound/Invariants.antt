@@ -5,7 +5,7 @@ use Rattle.branch.specs.Step.Cases.{work_left}
 use Rattle.branch.specs.Step.Searched.{IsBestSoFar, IsAtCase, IsBoundSearched, IsTrialFor, Keeps}
 use Rattle.branch.proofs.bounding.search_bound.Given as goal
 
--- the lines so far leave just the case at hand, on which the bounds stand, and the others of the choices
+-- the lines so far leave open just the case at hand, on which the bounds stand, and its siblings
 abbrev pub invariant-cases : goal.invariant-cases
 invariant-cases g l = record {
   lines : (lines : List ProofLine) × g.S.Scribe.Grew l.fn.scribe lines l.scribe

@@ -5,7 +5,7 @@ use Rattle.branch.specs.Step.Cases.{work_left}
 use Rattle.branch.specs.Step.Searched.{IsAtCase, IsFindSearched}
 use Rattle.branch.proofs.finding.find_times.Given as goal
 
--- the lines so far leave just the case at hand, on which the bounds stand, and the others of the choices
+-- the lines so far leave open just the case at hand, on which the bounds stand, and its siblings
 abbrev pub invariant-cases : goal.invariant-cases
 invariant-cases g l = record {
   lines : (lines : List ProofLine) × g.S.Scribe.Grew l.fn.scribe lines l.scribe × IsFindSearched l.net lines (open_cases l.net l.search.cases.chosen) l.search.leaves;

@@ -12,7 +12,7 @@ use Rattle.branch.proofs.UsableEdges.{meets_always}
 use Rattle.branch.proofs.look.look_at_bound.Goals as goal
 use Rattle.branch.proofs.look.look_at_bound.Goals.{After-times_in}
 
--- the candidate is what was written
+-- the candidate has the times that were written
 written : (c : After-times_in) → (with_items c.args.trial.now.candidate c.times_in.new.out).items ≡ c.times_in.new.out
 written c =
     let same : length c.times_in.new.out ≡ length c.args.trial.now.candidate.items = c.times_in.auto.out ∙ ap (λ (xs : List ℤ). length xs) c.deref_mut.ensures.value in

@@ -14,7 +14,7 @@ use Rattle.branch.proofs.UsableEdges.{meets_always}
 use Rattle.branch.proofs.look.look_at_ray.Goals as goal
 use Rattle.branch.proofs.look.look_at_ray.Goals.{After-raise}
 
--- the candidate and the ray are what was written
+-- the candidate and the ray have what was written
 first_written : (c : After-raise) → (with_items c.args.trial.now.candidate c.ray_in.new.out).items ≡ c.ray_in.new.out
 first_written c =
     let same : length c.ray_in.new.out ≡ length c.args.trial.now.candidate.items = c.ray_in.auto.out ∙ ap (λ (xs : List ℤ). length xs) c.deref_mut.ensures.value in

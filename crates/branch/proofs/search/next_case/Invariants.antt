@@ -5,7 +5,7 @@ use Rattle.branch.specs.Step.Searched.{Keeps}
 use Rattle.branch.specs.Step.Standing.{StandsBelow}
 use Rattle.branch.proofs.search.next_case.Given as goal
 
--- the other cases are those of what is left of the choices
+-- the siblings of the case at the start are the siblings of the choices that are left
 abbrev pub invariant-loop-choice : goal.invariant-loop-choice
 invariant-loop-choice l = record {
   others : siblings l.net l.fn.search.cases.chosen ≡ siblings l.net l.search.cases.chosen;

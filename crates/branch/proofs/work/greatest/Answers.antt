@@ -14,7 +14,7 @@ use Rattle.branch.proofs.work.greatest.Given.{Over}
 use Rattle.branch.proofs.work.greatest.Goals as goal
 use Rattle.branch.proofs.work.greatest.Goals.{After-separation_of-known}
 
--- the separation that the search starts from is that of the known times
+-- the search starts from the separation of the known times
 known_is : (g : Over) (c : After-separation_of-known g) → known_separation c.args.work.now c.args.from c.args.to ≡ to_z w64 (of_z w64 c.separation_of-known.result)
 known_is g c =
     let from = c.args.from in

@@ -10,7 +10,7 @@ use Rattle.branch.proofs.work.greatest_from.Given.{Over}
 use Rattle.branch.proofs.work.greatest_from.Goals as goal
 use Rattle.branch.proofs.work.greatest_from.Goals.{After-close_separation-known}
 
--- the separation that the search starts from is that of the given times
+-- the search starts from the separation of the given times
 start_is : (g : Over) (c : After-close_separation-known g) → separation c.args.times.now c.args.from c.args.to ≡ to_z w64 (of_z w64 c.close_separation-known.result)
 start_is g c =
     let start : ℤ = separation c.args.times.now c.args.from c.args.to in

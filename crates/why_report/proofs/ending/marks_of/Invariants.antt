@@ -4,7 +4,7 @@ use Rattle.right_report.specs.Right.At.{course_of}
 use Rattle.why_report.specs.Text.{with_rows}
 use Rattle.why_report.proofs.ending.marks_of.Given as goal
 
--- what the first rows come to, and the rows that are left, come to what all do
+-- the marks of the first rows, with the rows that are left, give the marks of all rows
 abbrev pub invariant-loop-number : goal.invariant-loop-number
 invariant-loop-number l =
     (w : FindingWord) → with_rows (record { found = w; fails = l.marks.fails; within = l.marks.within }) (drop l.number l.drawn.rows) (drop l.number l.found)
