@@ -55,7 +55,7 @@ impl<T: Drop> ByEvent<T> {
         Ok(ByEvent { lists })
     }
 
-    /// Puts a value at the end of the list of an event. If memory runs out, the lists are unchanged.
+    /// Puts a value at the end of the list of an event. Where memory is not found the lists are unchanged.
     pub fn push(&mut self, event: EventId, value: T) -> Result<(), NoMemory>
         requires { event.0 < length self.old }
         ensures ok { OnOk result (self.new ≡ set self.old event.0 (at_event self.old event.0 ++ value ∷ [])) }
