@@ -1,6 +1,6 @@
-//! Sessions: bounds of pairs of events that are kept while ranges of their network are edited.
-//! The contract: after any edits each bound is right for the network as it stands. A bound is kept exactly where what it keeps shows
-//! it right for that network, and is searched anew everywhere else.
+//! Sessions: bounds of pairs of events that are kept while ranges of their network are edited. The contract: after any
+//! edits each bound is right for the network as it stands. A bound is kept if and only if what it keeps shows that it
+//! is right for that network. Else it is searched anew.
 #![tactic(auto)]
 
 mod bound;
