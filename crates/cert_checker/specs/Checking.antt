@@ -1,4 +1,4 @@
--- What a checker of proofs stands at.
+-- Where a checker of proofs stands.
 use Rattle.std.specs.Prelude.{◌≡◌, ℕ, Bool, true, false, List, [], length, Option, Some, None, Result, Ok, Err}
 use Rattle.event_graph.specs.Cases.{IsCase}
 use Rattle.event_graph.specs.Cases as cases

@@ -44,7 +44,7 @@ pub record IsRightReportOf (files : Files) (design bytes : List ℕ) : Type 0 wh
   pub is_right : IsRightReport drawn lines
   pub text : bytes ≡ report_text lines
 
--- the words ask for a task that reads these files
+-- the words ask for a task whose files are given, not made for it
 pub record Asks (given : List (List ℕ)) (asked : Task) : Type 0 where
   pub words : taken given ≡ task asked
   pub own : made_for asked ≡ None

@@ -125,7 +125,7 @@ const ROWS: [Run<'static>; 17] = [
 const WIDEST: &str =
     r#"{"signal":[{"node":"a"},{"node":"b"}],"edge":["a->b @lin [0,*]","a->b @req [0,10000000000000]"]}"#;
 
-// Other jobs, bad words, help, and refusals.
+// The other jobs, and runs that end before their job begins.
 const JOBS: [Run<'static>; 18] = [
     (&[("s", LATEST)], &["--job=matrix", "s"], AllPass),
     (&[("s", CIRCLE)], &["--job=matrix", "s"], Inconsistent),

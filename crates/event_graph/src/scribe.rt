@@ -29,7 +29,7 @@ pub trait Scribe {
     /// The scribe grew by just these lines.
     ghost Grew: { Self → List ProofLine → Self → Type 0 };
 
-    /// The scribe failed in the last of these lines, and has those before it.
+    /// The scribe failed in the last of these lines, and has the lines before it.
     ghost WasCut: { Self → List ProofLine → Self → Type 0 };
 
     /// Writes that a case is split by the causes of a constraint.

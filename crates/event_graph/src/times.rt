@@ -5,7 +5,7 @@ ghost use Rattle.event_graph.specs.Times.{IsTime, moved, time_of};
 
 use itv_base::EventId;
 
-/// The time of an event, in picoseconds, or 0 where there is none.
+/// The time of an event, in picoseconds, or 0 if there is no such event.
 pub fn time_of(times: &[i64], event: EventId) -> i64
     ensures time { result ≡ time_of times.now event }
 {

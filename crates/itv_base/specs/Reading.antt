@@ -24,9 +24,9 @@ abbrev pub walk_to : {A F : Type 0} → (ℕ → A → Result A F) → ℕ → A
 walk_to step n done zero = Ok done
 walk_to step n done (suc left) = step n done >>= λ more. walk_to step (n + 1) more left
 
--- ---- answers
-
 -- ---- results
+
+-- what holds unless a test is met
 abbrev pub UnlessTrue : Bool → Type 0 → Type 0
 UnlessTrue true P = Unit {0}
 UnlessTrue false P = P

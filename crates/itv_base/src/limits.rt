@@ -1,5 +1,6 @@
-//! The limits of the program. Each number is allowed, and the next one is refused. Definitions and contracts cite them by name,
-//! and at the end of this file each is held to its number, so that a limit is changed in two places or not at all.
+//! The limits of the program. Each number is allowed, and the next one is refused. Definitions and contracts cite the
+//! limits by name. The end of this file states each number again, so that a limit is changed in two places or not at
+//! all.
 
 /// Bytes of a design file or a sheet file.
 pub const FILE_LIMIT: u32 = 4_194_304;
@@ -49,7 +50,7 @@ pub const MAX_MATRIX_EVENTS: u32 = 1_024;
 /// Cases that one search may close.
 pub const MAX_BUDGET: u64 = 1_000_000_000;
 
-/// Cases that one search may close where the words name no number.
+/// Cases that one search may close if the words name no number.
 pub const DEFAULT_BUDGET: u64 = 100_000;
 
 /// The size of the generated design.

@@ -38,7 +38,7 @@ impl Keeper {
         })
     }
 
-    /// Begins a new proof: no line is kept, and there is all the room.
+    /// Begins a new proof: no line is kept, and all the room is free.
     pub fn begin(&mut self)
         ensures empty { self.new ≡ record self.old { lines = Some [] } }
     {
