@@ -1,4 +1,4 @@
-//! Whether a report may have a finding or a bound behind proof lines of which it is known whether they are a whole
+//! Whether a report may have a finding or a bound behind some proof lines. It is known whether these lines are a whole
 //! proof.
 
 ghost use Rattle.std.specs.Prelude.{◌≡◌, ◌↔◌, ◌<◌, neg_ℤ, List, Some, IfSome, IsTrue};

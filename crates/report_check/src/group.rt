@@ -32,8 +32,8 @@ pub enum ProofGroup {
     Bound { told: CurrentRow, side: NextBound },
 }
 
-/// A step over the proof lines from a line on, and over the finding or the bound behind them. Returns the stage behind
-/// it with the number of its line, or the number of the first wrong line.
+/// A step over the proof lines from a line on, and over the finding or the bound behind them. Returns the next stage
+/// with the number of the next line, or the number of the first wrong line.
 pub fn step_group(
     drawn: &DrawnNetwork,
     checker: &mut Checker,

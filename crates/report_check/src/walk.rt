@@ -40,7 +40,7 @@ pub fn walk(
     if is_done(&stage) { Ok(()) } else { Err(start) }
 }
 
-// A step from a stage at a line. Returns the stage behind it with the number of its line, or the number of the first
+// A step from a stage at a line. Returns the next stage with the number of the next line, or the number of the first
 // wrong line.
 fn step<'a>(
     drawn: &DrawnNetwork,
@@ -64,7 +64,7 @@ fn step<'a>(
     }
 }
 
-// What proof lines stand before at a stage, if some may stand there.
+// The finding or the bound that proof lines at a stage stand before, if proof lines may stand there.
 fn group_of(drawn: &DrawnNetwork, stage: &Stage<'_>) -> Option<ProofGroup>
     requires fits { Fits drawn.now stage.now }
     ensures group { IfSome result (λ group. IsGroup drawn.now group

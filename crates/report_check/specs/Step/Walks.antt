@@ -11,7 +11,7 @@ use Rattle.report_check.specs.declared.check.Checked.TheVariants.{Accepted, Refu
 use Rattle.report_check.specs.declared.stage.Stage.{Stage}
 use Rattle.report_check.specs.Step.Stages.{Fits, at_of}
 
--- the number, among all lines, of the first wrong line from `start` on, where the report is in a state
+-- the number, among all lines, of the first wrong line from `start` on, where the report is in the state `here`
 abbrev pub IsWrongFrom : Drawn → List Entry → ReportState → ℕ → ℕ → Type 0
 IsWrongFrom drawn lines here start number = (later : ℕ) × IsFirstWrong drawn here (drop start lines) later × (number ≡ start + later)
 
