@@ -199,8 +199,8 @@ fn a_design_has_2097152_cells_of_the_search(rt: HostRuntime) -> Result<(), Fail>
     cycles_end(&rt, rt.alloc(), (shifted, 256, None))
 }
 
-// 1,000 events with 5 rows in each of 250 cycles are 1,250,000 cells; and two latest rules of
-// 256 cycles are 512 rules with two causes, and 4,096 * 513 cells of the search.
+// 1,000 events with 5 rows in each of 250 cycles are 1,250,000 cells. Two latest rules in 256 cycles are 512 rules with
+// two causes, and 4,096 * 513 cells of the search.
 #[test]
 fn cycles_multiply_what_a_sheet_holds(rt: HostRuntime) -> Result<(), Fail> {
     let alloc = rt.alloc();

@@ -70,7 +70,7 @@ abbrev pub ClosesByLoop : Net → Case → List EdgeName → Type 0
 ClosesByLoop net chosen names =
     ((event : EventId) × IsWalk net event names event) × All (IsUsable net chosen) names × (path_sum net names <ℤ pos 0) × (length names ≤ net.events)
 
--- the constraint is there, has causes to choose from, and none of them is chosen yet
+-- the constraint is there and has causes to choose from, and no cause of it is chosen yet
 abbrev pub MaySplit : Net → Case → ℕ → Type 0
 MaySplit net chosen number =
     IsSomeAnd (slice_get net.constraints number) (λ c. HasChoice c.kind) × All (λ (choice : Choice). choice.constraint ≡ number → ⊥) chosen

@@ -14,7 +14,7 @@ use Rattle.itv_base.specs.declared.shelf.FetchFault.TheVariants.{Failed, NoMemor
 abbrev pub next_call : ℕ → ℕ
 next_call calls = min (calls + 1) (2 ^ 32 - 1)
 
--- the files, the numbers of the calls that are to fail, and how many calls and faults there were, with the name that failed last
+-- the files; the numbers of the calls that are to fail; how many calls and faults there were; and the name that failed last
 pub record MemShelf : Type 0 where
   pub files : Files
   pub failing : List ℕ
@@ -61,7 +61,7 @@ abbrev pub is_named : Option ℕ → ℕ → Bool
 is_named None calls = false
 is_named (Some call) calls = call == calls
 
--- the next put succeeds if it is given this piece: its call isn't the named one, and the piece fits
+-- the next put succeeds if it is given this piece: its call is not the named one, and the piece fits
 abbrev pub takes : MemSink → List ℕ → Bool
 takes s piece = if is_named s.failing s.calls then false else nat_le (length s.bytes + length piece) s.room
 

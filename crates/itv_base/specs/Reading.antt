@@ -1,7 +1,7 @@
 -- Reading step by step up to the first fault, and what a result says of a reading.
 use Rattle.std.specs.Prelude.{◌≡◌, ℕ, zero, suc, ◌+◌, Bool, true, false, List, [], ◌∷◌, Option, Some, None, Result, Ok, Err}
 
--- one step after another: the fault of the first, or what the next makes of its value
+-- one step after another: the fault of the first step, or what the next step makes of its value
 infixl 10 ◌>>=◌
 abbrev pub ◌>>=◌ : {A B F : Type 0} → Result A F → (A → Result B F) → Result B F
 (Ok x) >>= f = f x

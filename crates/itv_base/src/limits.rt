@@ -41,7 +41,7 @@ pub const MAX_ROWS: u32 = 4_096;
 /// Events times rows.
 pub const MAX_CELLS: u64 = 1_000_000;
 
-/// Events times one more than the constraints with two or more causes.
+/// The number of events times one more than the number of constraints with two or more causes.
 pub const MAX_SEARCH_CELLS: u64 = 2_097_152;
 
 /// Events of a matrix of all pairs.

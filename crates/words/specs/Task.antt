@@ -50,11 +50,11 @@ size_of rows = option_and_then (number_in MAX_SELF_SIZE) (first_of (codes "size"
 abbrev pub wants_proofs : List Row → Bool
 wants_proofs rows = option_map_or (λ text. bytes_eq text (codes "true")) (first_of (codes "cert") rows) false
 
--- a job with the design's name, the budget and whether proofs are wanted
+-- a job with the name of the design, the budget and whether proofs are wanted
 abbrev pub searching : (Text → ℕ → Bool → Task) → List Row → Option Task
 searching job rows = option_and_then (λ design. option_map (λ budget. job design budget (wants_proofs rows)) (budget_of rows)) (first_of (codes "design") rows)
 
--- a job with the design's name and the budget; whether proofs are wanted is passed over
+-- a job with the name of the design and the budget; whether proofs are wanted is passed over
 abbrev pub searching_only : (Text → ℕ → Task) → List Row → Option Task
 searching_only job rows = searching (λ design budget proofs. job design budget) rows
 

@@ -10,8 +10,8 @@ pub enum Task<'a> {
         budget: u64,
         cert: bool,
     },
-    /// To bound the rows of a design by falling values: the name of its file, the lines that each derivation
-    /// may have, and whether they are written.
+    /// To bound the rows of a design by falling values: the name of its file, the lines that each derivation may have,
+    /// and whether the lines are written.
     Fall {
         design: &'a str,
         budget: u64,
