@@ -17,7 +17,7 @@ use Rattle.cert_checker.specs.declared.check_fault.CheckFault.{CheckFault}
 use Rattle.cert_checker.specs.declared.check_fault.CheckFault.TheVariants.{AlreadySplit, NoSuchConstraint}
 use Rattle.cert_checker.specs.Faults.{fault_of_constraint, fault_of_split, has_choice, is_choice_side, is_chosen, is_usable, may_use}
 
--- ---- tests that answer a fault or none
+-- ---- tests that return a fault or none
 
 pub if_none : (b : Bool) (fault : CheckFault) → (if b then None else Some fault) ≡ None → b ≡ true
 if_none true fault h = refl

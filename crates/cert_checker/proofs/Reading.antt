@@ -1,4 +1,4 @@
--- A line is read next exactly where it has no fault.
+-- A line is read next if and only if it has no fault.
 use Rattle.std.proofs.Common.{◌≡◌, ◌+◌, ◌≤◌, ◌==◌, ℕ, ℤ, pos, ◌≤ℤ◌, ◌<ℤ◌, Bool, true, false, if◌then◌else◌, List, [], ◌∷◌, ◌++◌, All, length, Option, Some, None, nat_le, int_le, int_lt, sym, ap, refl, subst, arith}
 use Rattle.std.specs.Option.{option_or}
 use Rattle.std.proofs.lemmas.Bool.{eq-eqb, eqb-true, le-leb, leb-true}
@@ -99,7 +99,7 @@ loop_none net chosen names h =
     let walk = walk_none net chosen begin 0 begin names more.0 in
     ((begin, walk.0), walk.1, lt_test (path_sum net names) (pos 0) (if_none (int_lt (path_sum net names) (pos 0)) (NotNegative (path_sum net names)) more.1), length_none net names parts.0)
 
--- a loop that is not empty begins where its first edge does
+-- a loop that is not empty begins where its first edge begins
 loop_walk : (net : Net) (event : EventId) (names : List EdgeName) → IsWalk net event names event → IsWalk net (loop_begin net names) names (loop_begin net names)
 loop_walk net event [] walk = refl
 loop_walk net event (name ∷ names) walk =
@@ -134,7 +134,7 @@ none_reads net goal (chosen ∷ cases) (Loop names) lines left reads = (none_loo
 pub lines_are_read_one_by_one : LinesAreReadOneByOne
 lines_are_read_one_by_one net goal cases line lines left = (none_reads net goal cases line lines left, reads_none net goal cases line lines left)
 
--- lines lead to one list of open cases alone
+-- lines lead to just one list of open cases
 reads_on : (net : Net) (goal : ProofGoal) (lines more : List ProofLine) (cases mid left : List Case) → ProofLeaves net goal cases lines mid → ProofLeaves net goal cases (lines ++ more) left
     → ProofLeaves net goal mid more left
 reads_on net goal [] more cases mid left first whole = subst (λ (cs : List Case). ProofLeaves net goal cs more left) first whole

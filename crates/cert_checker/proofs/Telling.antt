@@ -1,4 +1,4 @@
--- What the table of choices tells of a case.
+-- What the table of choices says of a case.
 use Rattle.std.proofs.Common.{◌≡◌, ◌==◌, ◌&&◌, ◌||◌, ℕ, Bool, true, false, if◌then◌else◌, eqb, IsTrue, [], ◌∷◌, All, length, Option, Some, None, IsSomeAnd, option_map, refl}
 use Rattle.std.specs.Option.{option_eq}
 use Rattle.std.proofs.lemmas.Bool.{ne_eqb, eqb-true}
@@ -17,7 +17,7 @@ unchosen [] number cause others = refl
 unchosen (choice ∷ above) number cause others =
     rw (ne_eqb choice.constraint number (All-head (IsOther number) choice above others), unchosen above number cause (All-tail (IsOther number) choice above others)) refl
 
--- in a case the table has a cause just where it is chosen
+-- in a case, the table has a cause if and only if it is chosen
 pub chosen_cause : (net : Net) (chosen : Case) (number cause : ℕ) → IsCase net chosen → option_eq eqb (cause_chosen chosen number) (Some cause) ≡ is_chosen chosen number cause
 chosen_cause net [] number cause case = refl
 chosen_cause net (choice ∷ above) number cause case =
@@ -33,7 +33,7 @@ chosen_cause net (choice ∷ above) number cause case =
           rw alone (or_false (own == cause))
       by_head false own o rest is same = same
 
--- ---- edges that are no always-edges
+-- ---- edges that are not always-edges
 
 pub unchosen_unusable : (chosen : Case) (name : EdgeName) (o : Option Constraint) → (IsSomeAnd o (λ c. IsTrue (holds_always c.kind (length c.causes) name.side)) → ⊥)
     → is_chosen chosen name.constraint name.cause ≡ false → may_use chosen name o ≡ false

@@ -18,7 +18,7 @@ use Rattle.cert_checker.specs.Faults.{edge_end, fault_of_edge, fault_of_walk, is
 abbrev pub farthest : ℕ → ℕ
 farthest place = unsigned_abs END_LIMIT * place
 
--- the fault of the whole walk is that of the rest from here, and the sum so far and that of the rest make the whole
+-- the fault of the whole walk is the fault of the rest from here, and the sum so far and the sum of the rest make the whole sum
 pub record Walks (net : Net) (chosen : Case) (from to : EventId) (names : List EdgeName) (place : ℕ) (at : EventId) (sum : ℤ) : Type 0 where
   pub fault : fault_of_walk net chosen to 0 from names ≡ fault_of_walk net chosen to place at (drop place names)
   pub total : path_sum net names ≡ sum +ℤ path_sum net (drop place names)
@@ -58,7 +58,7 @@ module _ (net : Net) (chosen : Case) (from to : EventId) (names : List EdgeName)
       at_drop_more (path_sum net) names place name within
       ∙ ap (λ (n : EdgeName). weight_of (edge net n) +ℤ path_sum net (drop (place + 1) names)) (sym is_name)
 
-  -- one edge more
+  -- the walk goes on by one edge
   pub walks_more : (e : Edge) → edge net name ≡ Some e → IsEnd (Some e.weight) → fault_of_edge place at (is_usable net chosen name) (edge net name) ≡ None
       → Walks net chosen from to names (place + 1) e.to (sum +ℤ e.weight)
   walks_more e is_edge is_end none =

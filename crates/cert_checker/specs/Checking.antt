@@ -1,4 +1,4 @@
--- What a checker of proofs stands at.
+-- Where a checker of proofs stands.
 use Rattle.std.specs.Prelude.{◌≡◌, ℕ, Bool, true, false, List, [], length, Option, Some, None, Result, Ok, Err}
 use Rattle.event_graph.specs.Cases.{IsCase}
 use Rattle.event_graph.specs.Cases as cases
@@ -27,12 +27,12 @@ open_by net false chosen = []
 abbrev pub open_cases : Net → Checking → List Case
 open_cases net checking = open_by net checking.is_open checking.chosen
 
--- a checker stands in a proof for a network
+-- a checker stands in a proof for a network: its room and its choices fit the network
 pub record IsProofCheckerFor (net : Net) (checking : Checking) : Type 0 where
   pub room : checking.room ≡ length net.constraints
   pub case : IsCase net checking.chosen
 
--- the answer is this fault, or it is a value where there is none
+-- the result is this fault, or a value if there is no fault
 abbrev pub AnswersFault : {A : Type 0} → Result A CheckFault → Option CheckFault → Type 0
 AnswersFault (Ok x) fault = fault ≡ None
 AnswersFault (Err e) fault = fault ≡ Some e

@@ -4,7 +4,7 @@ use Rattle.std.specs.Fmt.{decimal, signed_decimal}
 use Rattle.cert_checker.specs.declared.check_fault.CheckFault.{CheckFault}
 use Rattle.cert_checker.specs.declared.check_fault.CheckFault.TheVariants.{AfterEnd, AlreadySplit, BadEdge, Broken, NoSuchConstraint, NotChosen, NotNegative, PathHere, SumTooGreat, TooLong}
 
--- what a fault says, with its count, its place or its sum in decimal
+-- what a fault says, with its count, its place or its sum, if it has one, in decimal
 abbrev pub fault_text : CheckFault → List ℕ
 fault_text AfterEnd = codes "the proof is whole before this line"
 fault_text NoSuchConstraint = codes "there is no such constraint to split"

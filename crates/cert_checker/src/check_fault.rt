@@ -3,26 +3,28 @@
 use std::error::Error;
 use std::fmt;
 
-/// The first fault of a line of a proof, in the order in which they are looked for. The edges of a path or of a
+/// The first fault of a line of a proof, in the order in which the check looks for them. The edges of a path or of a
 /// loop have places from 0, and sums are in picoseconds.
 #[derive(Clone, Copy, Debug, PartialEq, Eq)]
 pub enum CheckFault {
     /// The lines before are a whole proof already.
     AfterEnd,
-    /// The constraint of a split is not there, or it is a linear one.
+    /// The constraint of a split is not there, or it is linear.
     NoSuchConstraint,
     /// The constraint of a split is split above already.
     AlreadySplit,
-    /// A path stands in a proof that no times satisfy.
+    /// A path stands in a proof of `Nothing`, that no times satisfy.
     PathHere,
     /// There are this many edges, more than the network has events.
     TooLong(usize),
     /// There is no edge of the name at this place.
     BadEdge(usize),
-    /// The edge at this place is no always-edge, nor the choice side of a cause that is chosen.
+    /// The edge at this place may not be used: it is no always-edge, and it is not on the choice side with its cause
+    /// chosen.
     NotChosen(usize),
-    /// The edge at this place does not begin where the one before ends, or the first edge of a path not at its
-    /// from-event; at the number of edges, that the path does not end at its to-event, or the loop where it began.
+    /// The walk is broken at this edge: it does not begin where the edge before ends, or where the path begins. A place
+    /// equal to the number of edges means that the walk ends at the wrong event: a path not at its to-event, or a loop
+    /// not where it began.
     Broken(usize),
     /// The path has this sum, which exceeds the value.
     SumTooGreat(i64),

@@ -17,14 +17,14 @@ use std::marker::Model;
 
 /// Checks the lines of proofs over one network, one after another.
 ///
-/// It is made for a network, and every later call is given the same one. After [`Checker::begin`] the whole
-/// question is open; each line that [`Checker::take`] accepts splits the first open case or closes it, and the
-/// lines are a proof where no case is open any more. No call but `new` takes memory.
+/// It is made for a network, and every later call is given the same network. After [`Checker::begin`] the whole question
+/// is open. Each line that [`Checker::take`] accepts splits the first open case or closes it. The lines are a proof once no
+/// case is open. No call but `new` takes memory.
 #[derive(Debug, Drop)]
 pub struct Checker {
     goal: Goal,
     is_open: bool,
-    // The choices of the first open case, which tell the other open cases too.
+    // The choices of the first open case. They give the other open cases too.
     chosen: Decisions,
 }
 
@@ -42,7 +42,7 @@ impl Model for Checker {
 }
 
 impl Checker {
-    /// A checker for a network, with room for every proof. No case is open yet.
+    /// A checker for a network, with room for every proof over it. No case is open yet.
     pub fn new(alloc: Global, net: &Network) -> Result<Checker, NoMemory>
         ensures room { IfOk result (λ c. c.room ≡ length net.now.constraints) }
         ensures closed { IfOk result (λ c. c.is_open ≡ false) }
@@ -66,7 +66,7 @@ impl Checker {
         self.chosen.clear();
     }
 
-    /// Takes the next line of the proof that was begun, or tells its first fault and changes nothing.
+    /// Takes the next line of the proof that was begun, or returns its first fault and changes nothing.
     pub fn take(&mut self, net: &Network, line: &Line<'_>) -> Result<(), CheckFault>
         requires stands { IsProofCheckerFor net.now self.old }
         ensures fault { AnswersFault result
@@ -102,7 +102,7 @@ impl Checker {
     }
 }
 
-// Splits a case by the causes of a constraint, and enters the case of the first one.
+// Splits a case by the causes of a constraint, and enters the case of the first cause.
 fn split(net: &Network, chosen: &mut Decisions, constraint: u32) -> Result<(), CheckFault>
     requires room { chosen.old.room ≡ length net.now.constraints }
     requires case { IsCase net.now chosen.old.chosen }
@@ -125,7 +125,7 @@ fn split(net: &Network, chosen: &mut Decisions, constraint: u32) -> Result<(), C
     Ok(())
 }
 
-// Goes on from a case that is closed to the next one that is open, and tells whether there is one.
+// Goes on from a closed case to the next open case. Returns whether there is one.
 fn next_case(net: &Network, chosen: &mut Decisions) -> bool
     requires room { chosen.old.room ≡ length net.now.constraints }
     requires case { IsCase net.now chosen.old.chosen }

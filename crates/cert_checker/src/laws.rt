@@ -2,12 +2,14 @@
 
 ghost use Rattle.cert_checker.specs.Laws.{LinesAreReadOneByOne, NoFaultIsRead};
 
-/// The reading of a proof accepts a line next exactly where it has no fault, and then leads to the cases behind it.
+/// The reading of a proof accepts a next line if and only if the line has no fault, and then the line leads to the
+/// cases behind it.
 pub fn lines_are_read_one_by_one()
     ensures law { LinesAreReadOneByOne }
 {}
 
-/// Behind lines that were read, one more is read exactly where it has no fault.
+/// After lines that were read, one more line is read if and only if it has no fault, and then it leads to the cases
+/// behind it.
 pub fn no_fault_is_read()
     ensures law { NoFaultIsRead }
 {}

@@ -13,8 +13,8 @@ use crate::goal::Goal;
 use event_graph::{Decisions, Edge, Network};
 use itv_base::{EdgeName, EventId, MAX_EVENTS, RuleKind, Side};
 
-/// Whether a path closes a case: the goal is a bound, and the path leads from its from-event to its to-event along
-/// edges that may be used, with a sum that is at most its value.
+/// Whether a path closes a case. The goal is a bound, and there are no more edges than events. The path leads from the
+/// from-event of the goal to its to-event along edges that may be used, and its sum is at most the value of the goal.
 pub fn check_path(
     net: &Network,
     chosen: &Decisions,
@@ -38,8 +38,8 @@ pub fn check_path(
     }
 }
 
-/// Whether a loop closes a case: it leads back to where it begins along edges that may be used, and its sum is
-/// negative.
+/// Whether a loop closes a case. There are no more edges than events. The loop leads back to where it begins along
+/// edges that may be used, and its sum is negative.
 pub fn check_loop(net: &Network, chosen: &Decisions, names: &[EdgeName]) -> Result<(), CheckFault>
     requires case { IsCase net.now chosen.now.chosen }
     ensures { AnswersFault result (fault_of_loop net.now chosen.now.chosen names.now) }
@@ -54,7 +54,7 @@ pub fn check_loop(net: &Network, chosen: &Decisions, names: &[EdgeName]) -> Resu
     }
 }
 
-// That there are no more edges than events.
+// Refuses more edges than events.
 fn check_length(net: &Network, names: &[EdgeName]) -> Result<(), CheckFault>
     ensures fault { AnswersFault result (fault_of_length net.now names.now) }
     ensures few { IfOk result (λ _. length names.now ≤ MAX_EVENTS) }
@@ -79,7 +79,7 @@ fn loop_begin(net: &Network, names: &[EdgeName]) -> EventId
     }
 }
 
-// The sum of the weights of edges that lead from an event to an event and may be used.
+// The sum of the weights of edges, which lead from an event to an event and may be used.
 fn check_walk(
     net: &Network,
     chosen: &Decisions,
@@ -106,7 +106,7 @@ fn check_walk(
     }
 }
 
-// The sum of the weights so far and one more.
+// The sum of the weights so far, and one weight more.
 fn plus(sum: i64, weight: i64) -> i64
     requires least { neg_ℤ (pos (2 ^ 62)) ≤ℤ sum }
     requires most { sum ≤ℤ pos (2 ^ 62) }
@@ -116,7 +116,7 @@ fn plus(sum: i64, weight: i64) -> i64
     sum + weight
 }
 
-// The edge at a place of a walk, which is to begin at an event.
+// The edge at a place of a walk. It is to begin at an event.
 fn check_edge(
     net: &Network,
     chosen: &Decisions,
@@ -153,7 +153,7 @@ fn is_usable(net: &Network, chosen: &Decisions, name: EdgeName) -> bool
             && is_choice_side(net.kind(name.constraint), name.side))
 }
 
-// Whether a side is that on which a chosen cause of a constraint of this kind is used.
+// Whether a side is the choice side of constraints of this kind.
 fn is_choice_side(kind: RuleKind, side: Side) -> bool
     ensures { result ≡ is_choice_side kind side }
 {

@@ -1,4 +1,4 @@
--- What the ends of runs say whose output, files or memory failed.
+-- What the ends of runs say when the output, the files or memory failed.
 use Rattle.std.proofs.Common.{◌≡◌, ◌∙◌, ℕ, Bool, List, [], ◌++◌, take, drop, Option, Some, None, sym, ap, subst}
 use Rattle.std.proofs.lemmas.List.{take-append-drop}
 use Rattle.std.proofs.lemmas.Option.{same_Some}
@@ -24,7 +24,7 @@ use Rattle.conformance.proofs.Telling.{came_over, ready_over, refused_over, same
 
 -- ---- an output that failed
 
--- a reading that goes on behind something comes to what it goes on to
+-- a reading that goes on behind another comes to what it goes on to
 on_by : {A B : Type 0} (files : Files) (next : List ℕ → FileReading A) (k : A → FileReading B) (most : ℕ) (place : RefusalPlace) (name : List ℕ) (x : A) (file : Option (List ℕ))
     → ((bytes : List ℕ) → told_end files (next bytes) ≡ ready x → told_end files (next bytes >>= k) ≡ told_end files (k x))
     → option_map_or (λ bytes. told_end files (next (take most bytes))) file (unread place name) ≡ ready x
@@ -37,12 +37,12 @@ told_on files (gives y) k x e = ap (λ z. told_end files (k z)) (same_ready y x 
 told_on files (refuses place why) k x e = absurd (cc e)
 told_on files (fetches place name most next) k x e = on_by files next k most place name x (file_of files name) (λ bytes h. told_on files (next bytes) k x h) e
 
--- the files of job bounds are had where they draw a network
+-- if the files of job bounds draw a network, they are all there
 bounds_ready : (files : Files) (design : List ℕ) (budget : ℕ) (cert : Bool) (drawn : Drawn) → Draws files design drawn → told_end files (opening (bounds design budget cert)) ≡ ready (given.Bounds drawn budget cert)
 bounds_ready files design budget cert drawn draws = told_on files (design_at design) (λ d. gives (given.Bounds d budget cert)) drawn draws
 
 module _ (call : Call) (files : Files) (asked : Task) (told : call.shelf_before.files ≡ Some files) (asks : Asks call.words asked) (quiet : ¬ (FaultCounted call.shelf_before.faults call.shelf_after.faults)) where
-  -- where no fetch failed, the reading came to the end that the files say
+  -- if no fetch failed, the reading came to the end that the files say
   told_is : (end : End Ready) → HasRead call end → told_end files (opening asked) ≡ end
   told_is (ready given) came = ready_over call files asked given told asks came
   told_is (refused place why) came = refused_over call files asked place why told asks came
@@ -56,14 +56,14 @@ module _ (call : Call) (files : Files) (asked : Task) (told : call.shelf_before.
   pub front_over : (text bytes : List ℕ) (n : ℕ) → IntendedText call text → take n text ≡ bytes → IsFrontOf files asked bytes
   front_over text bytes n wanted is = record { text = text; wanted = wanted_over text wanted; rest = drop n text; front = sym (take-append-drop n text) ∙ ap (λ front. front ++ drop n text) is }
 
--- of job bounds it is a front of a right report
+-- for job bounds it is a front of a right report
 pub front_right : (files : Files) (design : List ℕ) (budget : ℕ) (cert : Bool) (drawn : Drawn) (bytes : List ℕ) → Draws files design drawn → IsFrontOf files (bounds design budget cert) bytes → IsFrontOfRight drawn bytes
 front_right files design budget cert drawn bytes draws f =
     let begins : MayHaveBegun drawn budget cert f.text = subst (λ e. ToWrite e f.text) (bounds_ready files design budget cert drawn draws) f.wanted in
     let (lines, right, same) = begun_is_right drawn budget cert f.text begins in
     record { lines = lines; begins_right = right; rest = f.rest; text = sym same ∙ f.front }
 
--- what a sink in memory holds that was new before a text was cut short
+-- what a sink in memory holds that was empty before a text was cut short
 pub sink_cut : (old new : MemSink) (text : List ℕ) (cut : CutShort (sink_told old) (sink_told new) text) → old.bytes ≡ [] → take cut.front.0 text ≡ new.bytes
 sink_cut old new text cut fresh = sym (same_Some new.bytes (old.bytes ++ take cut.front.0 text) cut.front.2 ∙ ap (λ before. before ++ take cut.front.0 text) fresh)
 

@@ -43,7 +43,7 @@ use Rattle.itv_cli.specs.declared.ready.Ready.TheVariants as given
 use Rattle.conformance.proofs.JobEnds.{came_made}
 use Rattle.conformance.proofs.Telling.{never_refused, told_then}
 
--- an end of a reading is no refusal of a file that is too long
+-- the end of a reading is not the refusal of a file that is too long
 abbrev Fits : {A : Type 0} → End A → Type 0
 Fits (ready x) = Unit {0}
 Fits (refused place why) = why ≡ refusals.TooLong → ⊥
@@ -157,7 +157,7 @@ refused_by : (call : Call) (size budget : ℕ) → taken call.words ≡ task (ge
 refused_by call size budget is (inl m) = m
 refused_by call size budget is (inr m) = absurd (refused_made call size budget is m)
 
--- a run of job self that is refused is so for something else
+-- if a run of job self is refused, it is for something else
 pub self_fits : (call : Call) (size budget : ℕ) (result : Outcome) → taken call.words ≡ task (generated size budget) → OutcomeMeans call result → result ≡ ends.Refused
     → (place : RefusalPlace) × (why : Refusal) × (why ≡ refusals.TooLong → ⊥) × (call.sink_after ≡ grown call.sink_before (refusal_text place why))
 self_fits call size budget result is means e =

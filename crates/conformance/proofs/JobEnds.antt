@@ -1,4 +1,4 @@
--- What the ends of runs of one job say over files that are told.
+-- What the ends of runs of one job say over known files.
 use Rattle.std.proofs.Common.{◌≡◌, ◌∙◌, ◌+◌, ◌≤◌, ℕ, Bool, true, false, List, length, take, Option, Some, None, ◌⊎◌, inl, inr, refl, sym, ap, subst, arith, nat_lt, codes, if◌then◌else◌}
 use Rattle.std.proofs.lemmas.Bool.{ltb-false}
 use Rattle.std.proofs.lemmas.List.{length-take, take_all}
@@ -56,7 +56,7 @@ means_answered call answers.DesignRefused other m = absurd (other refl)
 pub answered_by : (call : Call) (result : Outcome) (answer : Answer) → (answer ≡ answers.DesignRefused → ⊥) → OutcomeMeans call result → result ≡ outcome_of answer → HasAnswered call answer
 answered_by call result answer other means e = means_answered call answer other (subst (λ end. OutcomeMeans call end) e means)
 
--- a reading that comes to something over told files comes to it
+-- if the end over known files is a value, a reading comes to it
 told_shelf : Files → ShelfView
 told_shelf files = record { files = Some files; faults = 0; last = codes ""; is_faithful = true }
 
@@ -187,7 +187,7 @@ module _ (call : Call) (files : Files) (report : List ℕ) (drawn : Drawn) (told
         subst (λ text. call.sink_after ≡ grown call.sink_before text) is m.wrote,
       )
 
-  -- a file without a wrong line is right, where the run answers
+  -- if the run answers, a file without a wrong line is right
   pub check_whole : (result : Outcome) → OutcomeMeans call result → (result ≡ ends.AllPass) ⊎ (result ≡ ends.CheckRefused) → ((bytes : List ℕ) (line : ℕ) → file_of files report ≡ Some bytes → IsRefusedText drawn bytes line → ⊥)
       → IsRightFile files report drawn
   check_whole result means (inl e) none = check_right result means e
@@ -244,7 +244,7 @@ module _ (call : Call) (files : Files) (drawn : Drawn) (told : call.shelf_before
 
 -- ---- job self
 
--- the end of a reading over made files is theirs
+-- the end of a reading over made files is the end that these files give
 pub came_made : (call : Call) (size budget : ℕ) (end : End Ready) → taken call.words ≡ task (generated size budget) → HasRead call end → end ≡ told_end (design_files size) (opening (generated size budget))
 came_made call size budget end is came =
     (subst (λ t. ReadsOver (made_for t) call.shelf_before call.shelf_after t end) (same_asked call.words (generated size budget) came.asked is came.words) came.ends).0

@@ -1,4 +1,4 @@
--- What the ends of runs of jobs why, brief and lint say over files that are told.
+-- What the ends of runs of jobs why, brief and lint say over known files.
 use Rattle.std.proofs.Common.{◌≡◌, ◌∙◌, ◌==◌, ◌<◌, ◌≤◌, ℕ, All, Bool, true, false, List, [], ◌∷◌, length, Some, None, Result, Ok, refl, sym, subst, arith}
 use Rattle.std.specs.Prelude.{◌&&◌, ◌||◌, if◌then◌else◌, not}
 use Rattle.std.proofs.lemmas.List.Elements.{All-head, All-tail}
@@ -52,7 +52,7 @@ use Rattle.conformance.proofs.Telling.{answer_over, never_refused, same_ready, t
 
 -- ---- jobs of a plan
 
--- A job that is opened by a plan answers of the plan and the network that the files give.
+-- A job that is opened by a plan answers for the plan and the network that the files give.
 module _ (job : List ℕ → ℕ → Task) (made : Planned × Drawn → ℕ → Ready) (opens : (design : List ℕ) (budget : ℕ) → opening (job design budget) ≡ (planned_at design >>= (λ both. gives (made both budget))))
     (own : (design : List ℕ) (budget : ℕ) → made_for (job design budget) ≡ None) where
   module _ (call : Call) (files : Files) (budget : ℕ) (plan : Planned) (drawn : Drawn) (told : call.shelf_before.files ≡ Some files) (asks : AsksPlanned job call.words files budget plan drawn) where
@@ -64,7 +64,7 @@ module _ (job : List ℕ → ℕ → Task) (made : Planned × Drawn → ℕ → 
         let same : other ≡ (plan, drawn) = same_ready other (plan, drawn) (sym plans ∙ asks.plans) in
         subst (λ (p : Planned × Drawn). Answers (made p budget) answer m.text) same (subst (λ g. Answers g answer m.text) (sym is) a.answers)
 
-    -- with an end of a report it writes a text
+    -- with an end of a report the job writes a text
     planned_wrote : (result : Outcome) → OutcomeMeans call result → (end : IsReportEnd result)
         → (text : List ℕ) × Answers (made (plan, drawn) budget) (answer_of end.0) text × (call.sink_after ≡ grown call.sink_before text)
     planned_wrote result means end =
@@ -96,14 +96,14 @@ no_end word rows found other e =
     let course : ReportTally = with_rows (course_of word) rows found in
     never_none course.fails course.found course.within (λ same. other (sym (rows_keep (course_of word) rows found) ∙ same)) e
 
--- where the answer is that the network is inconsistent, the finding is
+-- if the answer is that the network is inconsistent, it is
 none_found : (net : Net) (rows : List Row) (finding : Finding) (found : List RowFound) → IsFindingFound net finding → answers.Inconsistent ≡ answer_of (ending_of rows finding found)
     → IsInconsistent net
 none_found net rows Consistent found is e = absurd (no_end findings.Consistent rows found (λ same. cc same) e)
 none_found net rows (Inconsistent set) found is e = λ times satisfies. is.1 times ((only_is_of net set.items times).0 (only_is_wider net set.items times satisfies))
 none_found net rows Unsettled found is e = absurd (no_end findings.Unsettled rows found (λ same. cc same) e)
 
--- while the rows are settled no bound is left open
+-- where the bounds of rows are settled, none is within
 within_none : (least most : Bound) → IsBoundSettled least → IsBoundSettled most → (is_within least || is_within most) ≡ false
 within_none (bounds.Within limit attained) most l m = absurd l
 within_none (bounds.Closed value) (bounds.Within limit attained) l m = absurd m
@@ -134,7 +134,7 @@ consistent_end rows found all e =
     never_open course.fails course.within (rows_within (course_of findings.Consistent) rows found all refl)
     (subst (λ (w : FindingWord). answers.Undecided ≡ answer_of (if course.fails then endings.Fail else undecided_or_pass w course.within)) (rows_keep (course_of findings.Consistent) rows found) e)
 
--- where all is settled the answer is not that something is undecided
+-- if all is settled, the answer is not that something is undecided
 settled_end : (rows : List Row) (finding : Finding) (found : List RowFound) → (finding ≡ Unsettled → ⊥) → All IsRowSettled found → answers.Undecided ≡ answer_of (ending_of rows finding found) → ⊥
 settled_end rows Consistent found settled all e = consistent_end rows found all e
 settled_end rows (Inconsistent set) found settled all e = cc e
@@ -183,7 +183,7 @@ module _ (call : Call) (files : Files) (budget : ℕ) (plan : Planned) (drawn : 
 
 -- ---- job lint
 
--- where a design passes there is no warning
+-- if a design passes, there is no warning
 none_clean : (clean : Bool) → answers.AllPass ≡ answer_by clean → clean ≡ true
 none_clean true e = refl
 none_clean false e = absurd (cc e)

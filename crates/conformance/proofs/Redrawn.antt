@@ -1,4 +1,4 @@
--- What job bounds answers to a drawing of job redraw.
+-- What job bounds answers to the drawing of job redraw.
 use Rattle.std.proofs.Common.{◌≡◌, ◌<◌, ◌≤◌, ◌∙◌, ◌⊎◌, inl, inr, ℕ, ℤ, pos, neg_ℤ, ◌<ℤ◌, Bool, true, false, ◌&&◌, ◌==◌, cond, int_le, if◌then◌else◌, List, [], ◌∷◌, length, take, All, Option, Some, None, option_map, IsNone, IsSomeAnd, slice_get, unwrap_or, refl, sym, ap, subst, arith}
 use Rattle.std.specs.FinMap as finite
 use Rattle.std.specs.Option.{option_map_or}
@@ -59,7 +59,7 @@ use Rattle.itv_cli.specs.declared.ready.Ready.TheVariants as given
 use Rattle.conformance.specs.Clients.{Asks, IsAnswerOf}
 use Rattle.conformance.proofs.Telling.{answer_over, came_over, refused_over, reported_over, same_ready, told_then}
 
--- ---- a reading over told files, step by step
+-- ---- a reading over known files, step by step
 
 abbrev told_by : Files → ShelfView
 told_by files = record { files = Some files; faults = 0; last = []; is_faithful = true }
@@ -70,7 +70,7 @@ by_file : {A : Type 0} (files : Files) (place : RefusalPlace) (most : ℕ) (next
 by_file files place most next name x None is more e = absurd (cc e)
 by_file files place most next name x (Some bytes) is more e = inr (take most bytes, ap (option_map (take most)) is, more (take most bytes) e)
 
--- what a reading of told files comes to
+-- what a reading over known files comes to
 comes_of : {A : Type 0} (files : Files) (o : FileReading A) (x : A) → told_end files o ≡ ready x → RunsTo (told_by files) o (ready x)
 comes_of files (gives y) x e = sym e
 comes_of files (refuses place why) x e = absurd (cc e)
@@ -124,7 +124,7 @@ pub record AlwaysBreaks (again : Drawn) : Type 0 where
   breaks : (others : List ℤ) → Satisfies others again.net → Allows range (separation others asked.from asked.to) → ⊥
   choices : cause_choices again.net.constraints ≡ 1
 
--- job bounds answers it with a fail
+-- job bounds answers such a network with a fail
 by_word : (again : Drawn) (budget : ℕ) (lines : List Entry) (answer : Answer) (word : EndWord) → 1 ≤ budget → AlwaysBreaks again → BeginsRightReport again lines → end_in lines ≡ Some word
     → answer ≡ answer_of word → (answer ≡ answers.Undecided → budget < cause_choices again.net.constraints) → answer ≡ answers.SomeFail
 by_word again budget lines answer endings.Pass some always begins ends is decides =
@@ -156,7 +156,7 @@ not_wide : (b : Bool) → answers.SomeFail ≡ (if b then answers.DesignRefused 
 not_wide true e = absurd (cc e)
 not_wide false e = refl
 
--- the end that a row breaks, where the row is there and demands a range
+-- the end that a row breaks, if the row is there and demands a range
 side_of_row : (drawn : Drawn) (failed : Failed) (b : IsBroken drawn failed) → is_wide drawn failed ≡ is_wide_on b.range failed.side
 side_of_row drawn failed b =
     ap (λ (o : Option Row). is_wide_on (demand_of (unwrap_or o nowhere).kind) failed.side) b.is_row ∙ ap (λ (k : RowKind). is_wide_on (demand_of k) failed.side) b.demands
@@ -207,7 +207,7 @@ pub record IsDrawnAgain (files : Files) (name : List ℕ) : Type 0 where
   reads : told_end files (design_at name) ≡ ready again
   always : AlwaysBreaks again
 
--- what answer a run gives to it
+-- the answer that a run gives to such a design
 fails_so : (call : Call) (files : Files) (name : List ℕ) (budget : ℕ) (cert : Bool) (answer : Answer) → call.shelf_before.files ≡ Some files → taken call.words ≡ task (bounds name budget cert) → 1 ≤ budget
     → IsDrawnAgain files name → HasAnswered call answer → answer ≡ answers.SomeFail
 fails_so call files name budget cert answer told words some d m =
@@ -256,7 +256,7 @@ module _ (call : Call) (files : Files) (name : List ℕ) (budget : ℕ) (cert : 
   ends_with_fail BadWords m = absurd (cc (m.words, words))
   ends_with_fail CheckRefused m = absurd (cc (fails_so call files name budget cert answers.CheckRefused told words some d m))
 
--- ---- a run of job redraw, and one of job bounds on what it drew
+-- ---- a run of job redraw, and a run of job bounds on what it drew
 
 there : (files : Files) (name bytes : List ℕ) → file_of (finite.insert files name bytes) name ≡ Some bytes
 there files name bytes =

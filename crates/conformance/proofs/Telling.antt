@@ -1,4 +1,4 @@
--- What the ends of runs say over files that are told.
+-- What the ends of runs say over known files.
 use Rattle.std.proofs.Common.{◌≡◌, ◌<◌, ◌∙◌, ◌⊎◌, inl, inr, ℕ, ℤ, ◌≤ℤ◌, ◌<ℤ◌, Bool, true, false, if◌then◌else◌, nat_lt, List, [], ◌++◌, length, take, Option, Some, None, Result, Ok, Err, IfSome, IsSomeAnd, refl, sym, ap, subst, arith}
 use Rattle.std.proofs.lemmas.Int.{ints}
 use Rattle.std.proofs.lemmas.Option.{same_Some}
@@ -65,7 +65,7 @@ use Rattle.itv_cli.specs.declared.ready.Ready.{Ready}
 use Rattle.itv_cli.specs.declared.ready.Ready.TheVariants as given
 use Rattle.conformance.specs.Clients.{Asks, Draws, IsAnswerOf, IsRefusalOf, IsRightReportOf}
 
--- a reading that comes to something behind another one comes to it by what that one gives
+-- if a reading behind another comes to something, the first comes to a value and the second comes to this by the value
 then_by : {A B : Type 0} (files : Files) (next : List ℕ → FileReading A) (k : A → FileReading B) (most : ℕ) (place : RefusalPlace) (name : List ℕ) (y : B) (file : Option (List ℕ))
     → ((bytes : List ℕ) → told_end files (next bytes >>= k) ≡ ready y → (x : A) × (told_end files (next bytes) ≡ ready x) × (told_end files (k x) ≡ ready y))
     → option_map_or (λ bytes. told_end files (next (take most bytes) >>= k)) file (unread place name) ≡ ready y
@@ -90,7 +90,7 @@ task_is a b e = cc
 pub same_asked : (given : List (List ℕ)) (asked other : Task) → taken given ≡ task asked → taken given ≡ task other → other ≡ asked
 same_asked given asked other is also = task_is other asked (sym also ∙ is)
 
--- over told files the end of a run's reading is theirs
+-- the end of a run's reading over known files is the end that these files give
 pub came_over : (call : Call) (asked : Task) (end : End Ready) → Asks call.words asked → HasRead call end → RunsToEnd call.shelf_before call.shelf_after (opening asked) end
 came_over call asked end asks came =
     rw asks.own at (subst (λ t. ReadsOver (made_for t) call.shelf_before call.shelf_after t end) (same_asked call.words asked came.asked asks.words came.words) came.ends)
@@ -102,14 +102,14 @@ pub refused_over : (call : Call) (files : Files) (asked : Task) (place : Refusal
     → told_end files (opening asked) ≡ refused place why
 refused_over call files asked place why told asks came = told_refused call.shelf_before files (opening asked) place why told (came_over call asked (refused place why) asks came).0
 
--- what was answered, over told files
+-- what was answered, over known files
 pub answer_over : (call : Call) (files : Files) (asked : Task) (answer : Answer) (bytes : List ℕ) → call.shelf_before.files ≡ Some files → (m : HasAnswered call answer) → m.text ≡ bytes → Asks call.words asked
     → IsAnswerOf files asked answer bytes
 answer_over call files asked answer bytes told m is asks = record { given = m.given; reads = ready_over call files asked m.given told asks m.came; answers = subst (λ t. Answers m.given answer t) is m.answers }
 
 -- ---- job bounds
 
--- what job bounds answered, over told files
+-- what job bounds answered, over known files
 pub record HasReported (files : Files) (design : List ℕ) (budget : ℕ) (cert : Bool) (answer : Answer) (bytes : List ℕ) : Type 0 where
   pub drawn : Drawn
   pub draws : Draws files design drawn
@@ -138,13 +138,13 @@ below_over files design budget cert bytes drawn h draws =
 
 -- ---- job fall
 
--- what job fall answered, over told files
+-- what job fall answered, over known files
 pub record HasFallen (files : Files) (design : List ℕ) (budget : ℕ) (cert : Bool) (answer : Answer) (bytes : List ℕ) : Type 0 where
   pub drawn : Drawn
   pub draws : Draws files design drawn
   pub answers : AnswersFall drawn budget cert answer bytes
 
--- a network that is not refused is given with its view
+-- if a network is not refused, it is given with its view
 given_unmixed : (files : Files) (budget : ℕ) (cert : Bool) (drawn : Drawn) (seen : Result View Mixed) (to : Ready) → told_end files (fall_in budget cert drawn seen) ≡ ready to
     → (view : View) × (given.Fall drawn view budget cert ≡ to)
 given_unmixed files budget cert drawn (Ok view) to e = (view, same_ready (given.Fall drawn view budget cert) to e)
@@ -156,7 +156,7 @@ fallen_over files design budget cert answer bytes h =
     let (view, is) = given_unmixed files budget cert drawn (view_of drawn.net) h.given comes in
     record { drawn = drawn; draws = draws; answers = subst (λ g. Answers g answer bytes) (sym is) h.answers }
 
--- what was fallen of a network that is drawn
+-- what job fall answered for a network that is drawn
 fallen_of : (files : Files) (design : List ℕ) (budget : ℕ) (cert : Bool) (answer : Answer) (bytes : List ℕ) (drawn : Drawn) → HasFallen files design budget cert answer bytes → Draws files design drawn
     → AnswersFall drawn budget cert answer bytes
 fallen_of files design budget cert answer bytes drawn h draws =
@@ -168,7 +168,7 @@ fallen_of files design budget cert answer bytes drawn h draws =
 pub sink_bytes : (old new : MemSink) (text : List ℕ) → sink_told new ≡ grown (sink_told old) text → new.bytes ≡ old.bytes ++ text
 sink_bytes old new text e = same_Some new.bytes (old.bytes ++ text) (ap (λ (t : SinkView). t.written) e)
 
--- where it was new, that text
+-- a sink that was empty holds that text
 pub sink_holds : (old new : MemSink) (text : List ℕ) → sink_told new ≡ grown (sink_told old) text → old.bytes ≡ [] → text ≡ new.bytes
 sink_holds old new text e fresh = sym (sink_bytes old new text e ∙ ap (λ before. before ++ text) fresh)
 
@@ -180,7 +180,7 @@ bounds_below call files result design budget cert drawn told means is draws e =
     below_over files design budget cert m.text drawn
     (reported_over files design budget cert answers.Undecided m.text (answer_over call files (bounds design budget cert) answers.Undecided m.text told m refl (record { words = is; own = refl }))) draws
 
--- a run that passes, over told files, and what the sink holds then
+-- what a run that passes writes, over known files
 pub passed : (call : Call) (files : Files) (bytes : List ℕ) → call.shelf_before.files ≡ Some files → (m : HasAnswered call answers.AllPass) → m.text ≡ bytes → (asked : Task) → Asks call.words asked
     → IsAnswerOf files asked answers.AllPass bytes
 passed call files bytes told m is asked asks = answer_over call files asked answers.AllPass bytes told m is asks
@@ -196,7 +196,7 @@ refused_so : (call : Call) (files : Files) (bytes : List ℕ) → call.shelf_bef
     → IsRefusalOf files asked bytes
 refused_so call files bytes told m is asked asks = record { place = m.place; why = m.why; reads = refused_over call files asked m.place m.why told asks m.came; text = sym is }
 
--- the line that it wrote
+-- the line that a refused run wrote
 abbrev pub refused_line : (call : Call) → HasRefused call → List ℕ
 refused_line call (inl m) = refusal_text m.place m.why
 refused_line call (inr m) = m.text
@@ -211,7 +211,7 @@ pub refused_over_files : (call : Call) (files : Files) (bytes : List ℕ) → ca
 refused_over_files call files bytes told (inl m) is asked asks = inl (refused_so call files bytes told m is asked asks)
 refused_over_files call files bytes told (inr m) is asked asks = inr (answer_over call files asked answers.DesignRefused bytes told m is asks)
 
--- a network that a matrix is not refused of
+-- a network that is not too large for a matrix is given
 small_by : (files : Files) (b : Bool) (drawn : Drawn) (why : Refusal) (to : Ready) → told_end files (if b then refuses Design why else gives (given.Matrix drawn)) ≡ ready to → given.Matrix drawn ≡ to
 small_by files true drawn why to e = absurd (cc e)
 small_by files false drawn why to e = same_ready (given.Matrix drawn) to e
@@ -286,7 +286,7 @@ pub refused_others : (files : Files) (asked : Task) (bytes : List ℕ) → made_
 refused_others files asked bytes own other (inl h) = h
 refused_others files asked bytes own other (inr h) = let (design, budget, is) = refused_redraws files asked bytes own h in absurd (other design budget is)
 
--- the reading of a task gave something over some files, so that it is not refused over them
+-- a task whose reading gave something over some files is not refused over these files
 pub not_both : (first second : Call) (files : Files) (asked : Task) → first.shelf_before.files ≡ Some files → second.shelf_before.files ≡ Some files → Asks first.words asked → Asks second.words asked
     → HasAnswered first answers.AllPass → IsRefused second → ⊥
 not_both first second files asked told again asks also m r =
@@ -298,14 +298,14 @@ drawn_or_refused : (b : Bool) (answer : Answer) → answer ≡ answers.AllPass �
 drawn_or_refused true answer e f = cc (e, f)
 drawn_or_refused false answer e f = cc (e, f)
 
--- what the word at the end says where nothing failed
+-- if a run passes, the word at the end is `Pass`
 passes_end : (drawn : Drawn) (lines : List Entry) (word : EndWord) (text : List ℕ) → AnswersEndWord drawn lines word answers.AllPass text → word ≡ endings.Pass
 passes_end drawn lines endings.Pass text s = refl
 passes_end drawn lines endings.Fail text s = absurd (drawn_or_refused (is_wide drawn s.failed) answers.AllPass refl s.is_answer)
 passes_end drawn lines endings.Inconsistent text s = absurd (cc s.0)
 passes_end drawn lines endings.Undecided text s = absurd (cc s.0)
 
--- and where a design is refused
+-- if a design is refused, a requirement is broken
 refused_fails : (drawn : Drawn) (lines : List Entry) (word : EndWord) (text : List ℕ) → AnswersEndWord drawn lines word answers.DesignRefused text → (failed : Failed) × IsBroken drawn failed
 refused_fails drawn lines endings.Pass text s = absurd (cc s.0)
 refused_fails drawn lines endings.Fail text s = (s.failed, s.broken)
@@ -342,7 +342,7 @@ redraws_once files design budget one two a b =
     let same : given.Redraw found.0 budget ≡ b.given = found.2 ∙ same_ready a.given b.given (sym a.reads ∙ b.reads) in
     passed_not_refused found.0 budget one two (subst (λ g. Answers g answers.AllPass one) (sym found.2) a.answers).0 (subst (λ g. Answers g answers.DesignRefused two) (sym same) b.answers).0
 
--- what passed is not refused for what was found
+-- a task that passed is not refused for what was found
 pub not_found : (first second : Call) (files : Files) (asked : Task) → first.shelf_before.files ≡ Some files → second.shelf_before.files ≡ Some files → Asks first.words asked → Asks second.words asked
     → HasAnswered first answers.AllPass → HasAnswered second answers.DesignRefused → ⊥
 not_found first second files asked told again asks also m r =
@@ -351,11 +351,11 @@ not_found first second files asked told again asks also m r =
     let (design, budget, is) = refused_redraws files asked r.text asks.own b in
     redraws_once files design budget m.text r.text (subst (λ t. IsAnswerOf files t answers.AllPass m.text) is a) (subst (λ t. IsAnswerOf files t answers.DesignRefused r.text) is b)
 
--- the shelf of a run that passed tells the files that it told
+-- a run that passed leaves what contracts see of the shelf as it was
 pub passed_kept : (call : Call) → HasAnswered call answers.AllPass → (asked : Task) → Asks call.words asked → call.shelf_after ≡ call.shelf_before
 passed_kept call m asked asks = (came_over call asked (ready m.given) asks m.came).1
 
--- two runs on a shelf, of which the first passed
+-- two runs on a shelf, the first of which passed
 pub twice : (words : List (List ℕ)) (shelf mid last : ShelfView) (one one' two two' : SinkView) (files : Files) (asked : Task) (once again : Outcome) → shelf.files ≡ Some files
     → OutcomeMeans (call_of words shelf mid one one') once → OutcomeMeans (call_of words mid last two two') again → Asks words asked → once ≡ ends.AllPass → again ≡ ends.Refused → ⊥
 twice words shelf mid last one one' two two' files asked once again told means means' asks e e' =
@@ -366,7 +366,7 @@ twice words shelf mid last one one' two two' files asked once again told means m
       | inr r ↦ not_found (call_of words shelf mid one one') (call_of words mid last two two') files asked told again_told asks asks m r
     ]
 
--- which end comes over told files
+-- which end a run comes to over known files
 pub decided : (call : Call) (files : Files) (result : Outcome) (asked : Task) → call.shelf_before.files ≡ Some files → Completes call result → Asks call.words asked → ¬ (FaultCounted call.shelf_before.faults call.shelf_after.faults)
     → ¬ (FaultCounted call.sink_before.faults call.sink_after.faults) → (result ≡ ends.NoMemory) ⊎ OutcomeBy (told_end files (opening asked)) result
 decided call files result asked told completes asks quiet silent = by_files (rw asks.own at (completes asked asks.words (record { shelf = quiet; sink = silent })))
@@ -388,14 +388,14 @@ fall_answered call files answer design budget cert drawn told m is draws = (
       (fallen_over files design budget cert answer m.text (answer_over call files (fall design budget cert) answer m.text told m refl (record { words = is; own = refl }))) draws,
 )
 
--- one that ends undecided
+-- a run of job fall that ends undecided
 pub fall_below : (call : Call) (files : Files) (result : Outcome) (design : List ℕ) (budget : ℕ) (cert : Bool) (drawn : Drawn) → call.shelf_before.files ≡ Some files → OutcomeMeans call result
     → taken call.words ≡ task (fall design budget cert) → Draws files design drawn → result ≡ ends.Undecided → budget < enough_turns drawn.net
 fall_below call files result design budget cert drawn told means is draws e =
     let (bytes, a) = fall_answered call files answers.Undecided design budget cert drawn told (subst (λ end. OutcomeMeans call end) e means) is draws in
     undecided_has_few_turns drawn budget cert bytes a
 
--- one that ends inconsistent
+-- a run of job fall that ends inconsistent
 pub fall_none : (call : Call) (files : Files) (result : Outcome) (design : List ℕ) (budget : ℕ) (cert : Bool) (drawn : Drawn) → call.shelf_before.files ≡ Some files → OutcomeMeans call result
     → taken call.words ≡ task (fall design budget cert) → Draws files design drawn → result ≡ ends.Inconsistent → IsInconsistent drawn.net
 fall_none call files result design budget cert drawn told means is draws e =

@@ -32,7 +32,7 @@ use Rattle.itv_cli.specs.Run.{ToWrite, outcome_of}
 use Rattle.itv_cli.specs.declared.outcome.Outcome.{Outcome}
 use Rattle.itv_cli.specs.declared.ready.Ready.{Ready}
 
--- what the design of a file draws, over some files
+-- the network that the design of a file draws, over some files
 abbrev pub Draws : Files → List ℕ → Drawn → Type 0
 Draws files design drawn = told_end files (design_at design) ≡ ready drawn
 
@@ -44,12 +44,12 @@ pub record IsRightReportOf (files : Files) (design bytes : List ℕ) : Type 0 wh
   pub is_right : IsRightReport drawn lines
   pub text : bytes ≡ report_text lines
 
--- the words ask for a task that reads these files
+-- the words ask for a task whose files are given, not made for it
 pub record Asks (given : List (List ℕ)) (asked : Task) : Type 0 where
   pub words : taken given ≡ task asked
   pub own : made_for asked ≡ None
 
--- the files of a task are all had, and the bytes are what its job writes with an answer
+-- the files of a task are all there, and the bytes are what its job writes with an answer
 pub record IsAnswerOf (files : Files) (asked : Task) (answer : Answer) (bytes : List ℕ) : Type 0 where
   pub given : Ready
   pub reads : told_end files (opening asked) ≡ ready given
@@ -62,7 +62,7 @@ pub record IsRefusalOf (files : Files) (asked : Task) (bytes : List ℕ) : Type 
   pub reads : told_end files (opening asked) ≡ refused place why
   pub text : bytes ≡ refusal_text place why
 
--- the bytes are a front of what is to be written for a task by its files
+-- the bytes are a front of what is to be written for a task with these files
 pub record IsFrontOf (files : Files) (asked : Task) (bytes : List ℕ) : Type 0 where
   pub text : List ℕ
   pub wanted : ToWrite (told_end files (opening asked)) text
@@ -76,8 +76,8 @@ pub record IsFrontOfRight (drawn : Drawn) (bytes : List ℕ) : Type 0 where
   pub rest : List ℕ
   pub text : report_text lines ≡ bytes ++ rest
 
--- the reading of a task came to a file whose fetch failed, so that its name is the last that failed, and the bytes are the line of
--- its place
+-- the reading of a task came to a file whose fetch failed. The name of this file is the last that failed. The bytes are the line for the place of the
+-- file.
 pub record IsUnreadOf (old new : ShelfView) (asked : Task) (bytes : List ℕ) : Type 0 where
   pub place : RefusalPlace
   pub name : List ℕ
@@ -91,41 +91,41 @@ pub record IsUnreadOf (old new : ShelfView) (asked : Task) (bytes : List ℕ) : 
 abbrev pub WroteOne : MemSink → MemSink → (List ℕ → Type 0) → Type 0
 WroteOne old new Is = (text : List ℕ) × Is text × (new.bytes ≡ old.bytes ++ text)
 
--- the run ended as a whole report ends
+-- the run ended with one of the ends of a whole report
 abbrev pub IsReportEnd : Outcome → Type 0
 IsReportEnd outcome = (word : EndWord) × (outcome ≡ outcome_of (answer_of word))
 
--- the words ask for the bounds of a design, and its files draw a network
+-- the words ask for the bounds of a design, and the files of the design draw a network
 pub record AsksBounds (given : List (List ℕ)) (files : Files) (budget : ℕ) (cert : Bool) (drawn : Drawn) : Type 0 where
   pub design : List ℕ
   pub words : taken given ≡ task (bounds design budget cert)
   pub draws : Draws files design drawn
 
--- the words ask whether a file is a right report of a design, whose files draw a network
+-- the words ask whether a file is a right report of a design, and the files of the design draw a network
 pub record AsksCheck (given : List (List ℕ)) (files : Files) (report : List ℕ) (drawn : Drawn) : Type 0 where
   pub design : List ℕ
   pub words : taken given ≡ task (check design report)
   pub draws : Draws files design drawn
 
--- the words ask whether a file is a text of job settle of a design, whose files draw a network
+-- the words ask whether a file is a text of job settle for a design, and the files of the design draw a network
 pub record AsksConfirm (given : List (List ℕ)) (files : Files) (report : List ℕ) (drawn : Drawn) : Type 0 where
   pub design : List ℕ
   pub words : taken given ≡ task (confirm design report)
   pub draws : Draws files design drawn
 
--- the words ask for the bounds of a design whatever its choices, with proofs or without, and its files draw a network
+-- the words ask job settle for the bounds of a design, with proofs or without, and the files of the design draw a network
 pub record AsksSettle (given : List (List ℕ)) (files : Files) (budget : ℕ) (cert : Bool) (drawn : Drawn) : Type 0 where
   pub design : List ℕ
   pub words : taken given ≡ task (settle design budget cert)
   pub draws : Draws files design drawn
 
--- the words ask for the matrix of a design, whose files draw a network
+-- the words ask for the matrix of a design, and the files of the design draw a network
 pub record AsksMatrix (given : List (List ℕ)) (files : Files) (drawn : Drawn) : Type 0 where
   pub design : List ℕ
   pub words : taken given ≡ task (matrix design)
   pub draws : Draws files design drawn
 
--- the words ask for a job of a design and of what was read of it: its plan, and the network that this draws
+-- the words ask for a job of a design, and its files give a plan and the network that the plan draws
 pub record AsksPlanned (job : List ℕ → ℕ → Task) (given : List (List ℕ)) (files : Files) (budget : ℕ) (plan : Planned) (drawn : Drawn) : Type 0 where
   pub design : List ℕ
   pub words : taken given ≡ task (job design budget)
@@ -139,38 +139,38 @@ AsksWhy given files budget plan drawn = AsksPlanned tasks.why given files budget
 abbrev pub AsksBrief : List (List ℕ) → Files → ℕ → Planned → Drawn → Type 0
 AsksBrief given files budget plan drawn = AsksPlanned tasks.brief given files budget plan drawn
 
--- the words ask what of a design may say something else than was meant
+-- the words ask what in a design may say something else than was meant
 abbrev pub AsksLint : List (List ℕ) → Files → ℕ → Planned → Drawn → Type 0
 AsksLint given files budget plan drawn = AsksPlanned tasks.lint given files budget plan drawn
 
--- a design that a plan draws has no warning of the drawing
+-- the design that a plan draws, if it draws one, has no warning
 abbrev pub HasNoWarning : Planned → Type 0
 HasNoWarning plan = (design : Composed) → composed_on plan.netlist (sheets_on plan.sheets plan.netlist.parts) ≡ Ok design → warnings_of plan design ≡ []
 
--- the file of a name is there, and is the text of a right report
+-- the file with a name is there, and is the text of a right report
 pub record IsRightFile (files : Files) (report : List ℕ) (drawn : Drawn) : Type 0 where
   pub bytes : List ℕ
   pub is_file : file_of files report ≡ Some bytes
   pub is_right : IsRightText drawn bytes
 
--- the file of a name is there, and is a text of job settle with its proofs
+-- the file with a name is there, and is a text of job settle with its proofs
 pub record IsSettledFile (files : Files) (report : List ℕ) (drawn : Drawn) : Type 0 where
   pub bytes : List ℕ
   pub is_file : file_of files report ≡ Some bytes
   pub is_settled : IsSettleText drawn true bytes
 
--- the file of a name is there, and this is its one wrong line
+-- the file with a name is there, and this line is its one wrong line
 pub record IsWrongFile (files : Files) (report : List ℕ) (drawn : Drawn) (line : ℕ) : Type 0 where
   pub bytes : List ℕ
   pub is_file : file_of files report ≡ Some bytes
   pub is_wrong : IsRefusedText drawn bytes line
   pub one : (other : ℕ) → IsRefusedText drawn bytes other → other ≡ line
 
--- no line of the file of a name is a wrong one
+-- the file with a name has no wrong line
 abbrev pub HasNoWrong : Files → List ℕ → Drawn → Type 0
 HasNoWrong files report drawn = (bytes : List ℕ) (line : ℕ) → file_of files report ≡ Some bytes → IsRefusedText drawn bytes line → ⊥
 
--- the text is what a right report comes to of what the generated design of a size draws
+-- the text is the summary of a right report of the generated design of a size
 pub record IsSummaryOf (size : ℕ) (text : List ℕ) : Type 0 where
   pub drawn : Drawn
   pub draws : Draws (design_files size) (codes "bus.json") drawn

@@ -9,8 +9,8 @@ use Rattle.reading.specs.Design.{design_at}
 use Rattle.reading.specs.Opening.{RunsTo, ready}
 use Rattle.bounds_report.specs.Reports.{IsWrittenReport}
 
--- where the reading of a design comes to a drawn network, the text of a report that job bounds writes for it with the lines of proofs is
--- one that job check accepts for it
+-- if the reading of a design comes to a drawn network, and job bounds writes a report for it with the lines of proofs, job check accepts the text of
+-- this report for the network
 abbrev pub OwnReportIsAccepted : Type 0
 OwnReportIsAccepted = (shelf : ShelfView) (design : List ℕ) (drawn : Drawn) (most : ℕ) (lines : List Entry) → RunsTo shelf (design_at design) (ready drawn)
     → IsWrittenReport drawn most true lines → IsAcceptedText drawn (report_text lines)

@@ -1,5 +1,5 @@
-//! Callers of `run` over files and a sink in memory, proved from its clauses alone. Each says what one of the clauses gives, so
-//! that a weaker clause leaves its caller without a proof.
+//! Callers of `run` over files and a sink in memory, proved from the clauses of `run` alone. Each caller says what one
+//! clause gives, so that a weaker clause leaves its caller without a proof.
 
 ghost use Rattle.std.specs.Prelude.{◌≡◌, ◌<◌, ◌⊎◌, ℕ, Bool, List, IfOk, IfSome};
 ghost use Rattle.event_graph.specs.Bounds.{IsInconsistent};
@@ -21,7 +21,8 @@ use itv_base::{NoMemory, ShelfMem, SinkMem, Texts};
 use itv_cli::{Outcome, run};
 use std::alloc::Global;
 
-/// The bytes that a run writes, where it passes: what its job writes then, which for job bounds is the text of a right report.
+/// The bytes that a run writes if it passes: what its job writes with this answer. For job bounds this is the text of a
+/// right report.
 pub fn report_of(
     alloc: Global,
     words: &Texts,
@@ -41,8 +42,8 @@ pub fn report_of(
     }
 }
 
-/// The bytes that a run writes, where its files are refused: the line of the first refusal. Job redraw alone may refuse a design for
-/// what its search found, with the line that it answers then.
+/// The bytes that a run writes if its files are refused: the line of the first refusal. Job redraw alone may also
+/// refuse a design for what its search found, with the line that it answers then.
 pub fn refusal_of(
     alloc: Global,
     words: &Texts,
@@ -63,8 +64,8 @@ pub fn refusal_of(
     }
 }
 
-/// The bytes that a run writes, where its output fails and no fetch does: a front of what it was to write, which for job bounds is a
-/// front of the text of lines that begin a right report.
+/// The bytes that a run writes if its output fails and no fetch fails: a front of what it was to write. For job bounds
+/// this is a front of the text of lines that begin a right report.
 pub fn front_of(
     alloc: Global,
     words: &Texts,
@@ -86,8 +87,8 @@ pub fn front_of(
     }
 }
 
-/// The bytes that a run writes, where a file could not be read: the line of the place of that file. Where the task reads these files,
-/// its name is the last that the shelf tells then.
+/// The bytes that a run writes if a file could not be read: the line for the place of that file. If the task reads the
+/// files of the shelf, the name of the file is the last that failed.
 pub fn unread_of(
     alloc: Global,
     words: &Texts,
@@ -106,7 +107,8 @@ pub fn unread_of(
     }
 }
 
-/// A run that ends for want of memory has written nothing, and its files and its output tell what they told before.
+/// A run that ends for want of memory has written nothing. It leaves what contracts see of the files and the output as
+/// it was.
 pub fn untouched_of(
     alloc: Global,
     words: &Texts,
@@ -119,7 +121,8 @@ pub fn untouched_of(
     run(alloc, words, shelf, sink)
 }
 
-/// Two runs on the same words and files: what passed once is not refused then, since a run leaves the files as they are.
+/// Two runs on the same words and files. If the first passes, the second is not refused, since a run leaves the files
+/// as they are.
 pub fn run_twice(
     alloc: Global,
     words: &Texts,
@@ -134,7 +137,7 @@ pub fn run_twice(
     (once, again)
 }
 
-/// A run where nothing fails ends as its files say, or memory was not found.
+/// A run in which nothing fails ends as its files say, unless memory runs out.
 pub fn end_of(alloc: Global, words: &Texts, shelf: &mut ShelfMem, sink: &mut SinkMem) -> Outcome
     ensures ends { (asked : Task) → Asks words.now asked
         → ¬ (FaultCounted shelf.old.faults shelf.new.faults) → ¬ (FaultCounted sink.old.faults sink.new.faults)
@@ -150,7 +153,7 @@ pub fn end_of(alloc: Global, words: &Texts, shelf: &mut ShelfMem, sink: &mut Sin
     run(alloc, words, shelf, sink)
 }
 
-/// A run of job bounds: it ends undecided only where its budget is below the number of cause choices.
+/// A run of job bounds. It ends undecided only if its budget is below the number of cause choices.
 pub fn bounds_of(alloc: Global, words: &Texts, shelf: &mut ShelfMem, sink: &mut SinkMem) -> Outcome
     ensures decides { (design : List ℕ) (budget : ℕ) (cert : Bool) (drawn : Drawn)
         → taken words.now ≡ task (bounds design budget cert) → Draws shelf.old.files design drawn
@@ -159,7 +162,7 @@ pub fn bounds_of(alloc: Global, words: &Texts, shelf: &mut ShelfMem, sink: &mut 
     run(alloc, words, shelf, sink)
 }
 
-/// A run of job fall: it ends undecided only where its turns are fewer than are enough, and inconsistent only where no times
+/// A run of job fall. It ends undecided only if its turns are fewer than are enough, and inconsistent only if no times
 /// satisfy the network.
 pub fn fall_of(alloc: Global, words: &Texts, shelf: &mut ShelfMem, sink: &mut SinkMem) -> Outcome
     ensures decides { (design : List ℕ) (budget : ℕ) (cert : Bool) (drawn : Drawn)

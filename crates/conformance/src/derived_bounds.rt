@@ -12,8 +12,8 @@ use falling::FallChecker;
 use falling::laws::{derivation_bounds, ended_is_inconsistent};
 use itv_base::EventId;
 
-/// What the lines show that a checker has taken: a value below the far line, in picoseconds, that bounds every satisfying separation from
-/// the source, and whether they show that no times satisfy.
+/// What the lines that a checker has taken show: a value, and whether no times satisfy. If the value is below the far
+/// line, it bounds every satisfying separation from the source to `to`, in picoseconds.
 pub fn bound_of(net: &Network, checker: &FallChecker, to: EventId) -> (i64, bool)
     requires begun { IsBegun net.now checker.now }
     requires to { to.0 < net.now.events }

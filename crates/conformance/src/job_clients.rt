@@ -1,4 +1,4 @@
-//! Callers of `run` for one job each, over files and a sink in memory, proved from its clauses alone.
+//! Callers of `run` for one job each, over files and a sink in memory, proved from the clauses of `run` alone.
 
 ghost use Rattle.std.specs.Prelude.{◌≡◌, ◌<◌, ◌⊎◌, ◌++◌, ℕ, Bool, List, IfOk, IfSome, true};
 ghost use Rattle.event_graph.specs.Bounds.{IsInconsistent};
@@ -26,9 +26,9 @@ use itv_base::{NoMemory, ShelfMem, SinkMem, Texts};
 use itv_cli::{Outcome, run};
 use std::alloc::Global;
 
-/// A run of job bounds. Where it passes, some times satisfy the network and all that do meet every requirement. Where it fails,
-/// satisfying times break one, and where it ends inconsistent no times satisfy. With the lines of proofs it writes a text that job
-/// check accepts, whatever its end.
+/// A run of job bounds. If it passes, some times satisfy the network, and all satisfying times meet every requirement.
+/// If it fails, satisfying times break a requirement. If it ends inconsistent, no times satisfy. With the lines of
+/// proofs it writes a text that job check accepts, whatever the end of the report.
 pub fn report_said(
     alloc: Global,
     words: &Texts,
@@ -47,8 +47,8 @@ pub fn report_said(
     run(alloc, words, shelf, sink)
 }
 
-/// A run of job check. Where it passes, the file is the text of a right report, whoever wrote it. Where it refuses, it writes the
-/// number of the one wrong line. So where it answers, a file without a wrong line is right.
+/// A run of job check. If it passes, the file is the text of a right report, whoever wrote it. If it refuses the file,
+/// it writes the number of the one wrong line. So if it answers, a file without a wrong line is right.
 pub fn checked_of(alloc: Global, words: &Texts, shelf: &mut ShelfMem, sink: &mut SinkMem) -> Outcome
     ensures right { (report : List ℕ) (drawn : Drawn) → AsksCheck words.now shelf.old.files report drawn
         → result ≡ Outcome.AllPass → IsRightFile shelf.old.files report drawn }
@@ -62,7 +62,7 @@ pub fn checked_of(alloc: Global, words: &Texts, shelf: &mut ShelfMem, sink: &mut
     run(alloc, words, shelf, sink)
 }
 
-/// A run of job settle. With any end of a report it writes what is found of the network and of each row.
+/// A run of job settle. With any end of a report it writes what was found of the network and of each row.
 pub fn settled_of(alloc: Global, words: &Texts, shelf: &mut ShelfMem, sink: &mut SinkMem) -> Outcome
     ensures wrote { (budget : ℕ) (cert : Bool) (drawn : Drawn) → AsksSettle words.now shelf.old.files budget cert drawn
         → (end : IsReportEnd result) → WroteOne sink.old sink.new (AnswersSettle drawn cert (answer_of end.0)) }
@@ -70,7 +70,7 @@ pub fn settled_of(alloc: Global, words: &Texts, shelf: &mut ShelfMem, sink: &mut
     run(alloc, words, shelf, sink)
 }
 
-/// A run of job confirm. Where it passes, the file is a text of job settle with its proofs, whoever wrote it.
+/// A run of job confirm. If it passes, the file is a text of job settle with its proofs, whoever wrote it.
 pub fn confirmed_of(
     alloc: Global,
     words: &Texts,
@@ -83,8 +83,9 @@ pub fn confirmed_of(
     run(alloc, words, shelf, sink)
 }
 
-/// A run of job why. With any end of a report it writes what is found of the network and of each row, with what makes it so. Where it
-/// ends inconsistent no times satisfy the network. It ends undecided only if the budget is below the number of cause choices.
+/// A run of job why. With any end of a report it writes what was found of the network and of each row, and what makes
+/// it so. If it ends inconsistent, no times satisfy the network. It ends undecided only if the budget is below the
+/// number of cause choices.
 pub fn explained_of(
     alloc: Global,
     words: &Texts,
@@ -112,7 +113,7 @@ pub fn briefed_of(alloc: Global, words: &Texts, shelf: &mut ShelfMem, sink: &mut
     run(alloc, words, shelf, sink)
 }
 
-/// A run of job lint. Where it passes, the design has no warning of the drawing.
+/// A run of job lint. If it passes, the design has no warning.
 pub fn warned_of(alloc: Global, words: &Texts, shelf: &mut ShelfMem, sink: &mut SinkMem) -> Outcome
     ensures wrote { (budget : ℕ) (plan : Planned) (drawn : Drawn) → AsksLint words.now shelf.old.files budget plan drawn
         → (end : IsReportEnd result) → WroteOne sink.old sink.new (AnswersLint plan drawn budget (answer_of end.0)) }
@@ -122,7 +123,8 @@ pub fn warned_of(alloc: Global, words: &Texts, shelf: &mut ShelfMem, sink: &mut 
     run(alloc, words, shelf, sink)
 }
 
-/// A run of job matrix. Where it passes it writes the root bounds of all pairs, and where it ends inconsistent there are none.
+/// A run of job matrix. If it passes, it writes the root bounds of all pairs. If it ends inconsistent, there are no
+/// root bounds.
 pub fn matrix_of(alloc: Global, words: &Texts, shelf: &mut ShelfMem, sink: &mut SinkMem) -> Outcome
     ensures bounds { (drawn : Drawn) → AsksMatrix words.now shelf.old.files drawn
         → result ≡ Outcome.AllPass → WroteOne sink.old sink.new (IsMatrixText drawn) }
@@ -132,8 +134,8 @@ pub fn matrix_of(alloc: Global, words: &Texts, shelf: &mut ShelfMem, sink: &mut 
     run(alloc, words, shelf, sink)
 }
 
-/// A run of job self. With any end of a report it writes what a right report of the design of that size comes to. It is never refused
-/// for a file that is too long.
+/// A run of job self. With any end of a report it writes the summary of a right report of the design of that size. It
+/// is never refused for a file that is too long.
 pub fn self_of(alloc: Global, words: &Texts, shelf: &mut ShelfMem, sink: &mut SinkMem) -> Outcome
     ensures sums { (size budget : ℕ) → taken words.now ≡ task (generated size budget)
         → IsReportEnd result → WroteOne sink.old sink.new (IsSummaryOf size) }
@@ -144,8 +146,8 @@ pub fn self_of(alloc: Global, words: &Texts, shelf: &mut ShelfMem, sink: &mut Si
     run(alloc, words, shelf, sink)
 }
 
-/// A run of job redraw, and where it draws a counterexample one of job bounds on the drawing, which is the file of a name then: it ends
-/// with a fail, unless its output or memory fails.
+/// A run of job redraw. If it draws a counterexample, a run of job bounds on the drawing follows; the drawing is the
+/// file with this name. The second run ends with a fail, unless its output or memory fails.
 pub fn redrawn_of(
     alloc: Global,
     words: &Texts,

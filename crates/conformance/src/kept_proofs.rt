@@ -1,4 +1,4 @@
-//! A search whose proof is kept in memory, by the public clauses of the search and of the scribe alone.
+//! A search whose proof is kept in memory, proved from the public clauses of the search and of the scribe alone.
 
 ghost use Rattle.std.specs.Prelude.{◌<◌, IfOk, IfSome};
 ghost use Rattle.event_graph.specs.Network.{IsNet};
@@ -10,8 +10,8 @@ use event_graph::Network;
 use itv_base::NoMemory;
 use std::alloc::Global;
 
-/// The lines of a proof that no times satisfy a network, kept in room for so many lines and edges; `None` where some times do, where
-/// the budget ended the search, or where the lines did not fit.
+/// The lines of a proof that no times satisfy a network, kept in room for so many lines and edges. `None` if some times
+/// satisfy, if the budget ended the search, or if the lines did not fit.
 pub fn kept_proof(
     alloc: Global,
     net: &Network,

@@ -2,7 +2,8 @@
 
 ghost use Rattle.conformance.specs.Laws.{OwnReportIsAccepted};
 
-/// What job bounds writes with the lines of proofs for the design of some files, job check accepts for the same files.
+/// If job bounds writes a report with the lines of proofs for the design of some files, job check accepts it for the
+/// same files.
 pub fn own_report_is_accepted()
     ensures law { OwnReportIsAccepted }
 {}

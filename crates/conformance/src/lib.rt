@@ -1,6 +1,7 @@
-//! What callers may rest on. Clients are callers that are proved from the clauses of `itv_cli::run` alone, or from those of a crate below
-//! it, and say what each of them gives; laws say how the jobs stand to one another. What the program writes is shown by the tests of the
-//! crates `conformance_answers`, `conformance_designs` and `conformance_faults`.
+//! What callers may rest on. Clients are callers that are proved from the clauses of `itv_cli::run` alone, or from the
+//! clauses of a crate below it. Each says what these clauses give. Laws say how the jobs stand to one another. What the
+//! program writes is shown by the tests of the crates `conformance_answers`, `conformance_designs` and
+//! `conformance_faults`.
 #![tactic(auto)]
 
 mod clients;

@@ -1,4 +1,5 @@
-//! Labels that are read and written again, by the public clauses of reading and writing and by the laws of labels alone.
+//! Labels that are read and written again, proved from the public clauses of reading and writing and from the laws of
+//! labels alone.
 
 ghost use Rattle.std.specs.Prelude.{◌≡◌, IfOk, IfSome, Some};
 ghost use Rattle.itv_base.specs.Range.{Ends};
@@ -9,8 +10,9 @@ use itv_base::{NoMemory, PutFailed, SinkMem};
 use label_grammar::{read_label, reading_inverts_spelling, write_label};
 use std::alloc::Global;
 
-/// A label that is read from a text and written again, in room for so many bytes: just the text, and the one label that has this
-/// spelling is read from it. `None` where the text is no label or the room does not suffice.
+/// A label that is read from a text and written again, in room for so many bytes: it is just the text. Only one label
+/// has this spelling, and it is the one that is read from it. `None` if the text is no label or the room does not
+/// suffice.
 pub fn written_again(alloc: Global, text: &str, room: u32) -> Result<Option<SinkMem>, NoMemory>
     ensures same { IfOk result (λ written. IfSome written (λ sink. sink.bytes ≡ text.now)) }
     ensures one { IfOk result (λ written. IfSome written (λ sink. (l : LooseLabel Ends) → IsLoose version_1 l

@@ -1,4 +1,4 @@
-//! Files that can't be read and output that can't be written.
+//! Files that cannot be read, and output that cannot be written.
 
 use conformance_kit::{
     BOARD, CIRCLE, CONTRADICTS, EARLIEST, FIRST, FIRST_PROVED, FIRST_REPORT, LATEST, MEMORY, MET,
@@ -16,7 +16,7 @@ use std::process::Abort;
 use std::str;
 use std::test::Fail;
 
-// Fetches are counted over runs, also those of a file that isn't there.
+// Fetches are counted over several runs. A fetch of a file that is not there counts too.
 #[test]
 fn a_file_that_fails_is_not_read(rt: HostRuntime) -> Result<(), Fail> {
     let unread = (ReadFault, "cannot read file 0\n");
@@ -51,7 +51,8 @@ const SMALL: &str = r#"{"signal":[{"node":"a"}]}"#;
 const PARTS: &str =
     r#"{"itv":1,"cycles":1,"parts":[{"name":"A","sheet":"s"},{"name":"B","sheet":"t"}]}"#;
 
-// Each fetch of a netlist of two sheets fails in turn, in the order of the files, and each of job check. One that isn't made fails nothing.
+// Each fetch of a netlist with two sheets fails in turn, in the order of the files, and so does each fetch of job
+// check. A fetch that is not made fails nothing.
 #[test]
 fn each_fetch_may_fail(rt: HostRuntime) -> Result<(), Fail> {
     let design: &[&str] = &["n"];
@@ -84,7 +85,7 @@ fn each_fetch_may_fail(rt: HostRuntime) -> Result<(), Fail> {
     Ok(())
 }
 
-// The files of a run, its words, and its end where nothing fails.
+// The files of a run, its words, and its end if nothing fails.
 type Run<'a> = (&'a [(&'a str, &'a str)], &'a [&'a str], Outcome);
 
 const CYCLES: &str = r#"{"itv":1,"cycles":3,"parts":[{"name":"U1","sheet":"s"}]}"#;
@@ -124,7 +125,7 @@ const ROWS: [Run<'static>; 17] = [
 const WIDEST: &str =
     r#"{"signal":[{"node":"a"},{"node":"b"}],"edge":["a->b @lin [0,*]","a->b @req [0,10000000000000]"]}"#;
 
-// The other jobs, and lines of a few words.
+// The other jobs, and runs that end before their job begins.
 const JOBS: [Run<'static>; 18] = [
     (&[("s", LATEST)], &["--job=matrix", "s"], AllPass),
     (&[("s", CIRCLE)], &["--job=matrix", "s"], Inconsistent),
@@ -162,7 +163,7 @@ const JOBS: [Run<'static>; 18] = [
     (&[("s", "{}")], &["s"], Refused),
 ];
 
-// The text that a run writes where nothing fails.
+// The text that a run writes if nothing fails.
 fn whole_text(rt: &impl Abort, alloc: Global, entry: Run<'_>) -> Result<String, Fail> {
     let (files, words, end) = entry;
     let mut sink = SinkMem::new(alloc, ROOM)?;
@@ -171,7 +172,8 @@ fn whole_text(rt: &impl Abort, alloc: Global, entry: Run<'_>) -> Result<String, 
     Ok(String::from_str(alloc, str::from_utf8(sink.bytes())?)?)
 }
 
-// A run into a sink that may fail writes a front of the text, and ends as the text is whole or not. Answers how long the front is.
+// A run into a sink that may fail writes a front of the text. It ends with its own end if the text is whole, and else
+// with a write fault. Returns how long the front is.
 fn front_of(
     rt: &impl Abort,
     alloc: Global,
@@ -191,8 +193,8 @@ fn front_of(
     Ok(bytes.len())
 }
 
-// Fails each put of a run in turn, until one ends as if none failed. The first put that fails leaves nothing, and each later one no less
-// than the one before.
+// Fails each put of a run in turn, until a run ends as if none failed. If the first put fails, nothing is written. Each
+// later put leaves no less than the one before.
 fn fail_each_put(rt: &impl Abort, alloc: Global, entry: Run<'_>) -> Result<(), Fail> {
     let text = whole_text(rt, alloc, entry)?;
     let mut before = 0;
@@ -220,7 +222,8 @@ fn a_put_that_fails_ends_the_run(rt: HostRuntime) -> Result<(), Fail> {
     Ok(())
 }
 
-// Gives a run each room of bytes in turn, from none to all: the sink holds just so many.
+// Gives a run each room in turn, from no bytes to all bytes of its text. The sink then holds as many bytes as there is
+// room.
 fn fill_each_room(rt: &impl Abort, alloc: Global, entry: Run<'_>) -> Result<(), Fail> {
     let text = whole_text(rt, alloc, entry)?;
     for room in 0..=text.len() {

@@ -8,7 +8,7 @@ use std::alloc::Global;
 use std::str;
 use std::test::Fail;
 
-// The matrix of each lone sheet, told by its marks and its rows. Both may name the limit of an end.
+// The matrix of each lone sheet, given by its marks and its rows. The sheet and the rows may name the limit of an end.
 fn matrices(alloc: Global, table: &[(&str, &str, &str)]) -> Result<(), Fail> {
     for (file, marks, rows) in table {
         let mut text = format!(in alloc; "itv matrix 1\nevents {}\n", marks.len())?;
@@ -28,8 +28,9 @@ fn matrices(alloc: Global, table: &[(&str, &str, &str)]) -> Result<(), Fail> {
     Ok(())
 }
 
-// An entry is the least sum of the rules that always hold, from the row's event to the column's: both sides of a linear rule, the low
-// sides of a latest one, the high sides of an earliest one, and both sides of each with one cause.
+// An entry is the least sum of the rules that always hold, from the row's event to the column's event. The rules that
+// always hold are both sides of a linear rule, the low sides of a latest rule, the high sides of an earliest rule, and
+// both sides of each rule with one cause.
 #[test]
 fn a_matrix_holds_the_bounds_without_a_choice(rt: HostRuntime) -> Result<(), Fail> {
     matrices(
@@ -68,7 +69,7 @@ fn a_matrix_holds_the_bounds_without_a_choice(rt: HostRuntime) -> Result<(), Fai
                 "abcd",
                 "row 0 MOST TWICE THRICE\nrow MOST 0 MOST TWICE\nrow * * 0 MOST\nrow * * * 0\n",
             ),
-            // the way over two rules is shorter than the one rule
+            // the way over two rules is shorter than the way over one
             (
                 r#"{"signal":[{"node":"abc"}],"edge":["a->c @lin [*,9]","a->b @lin [*,4]","b->c @lin [*,-2]"]}"#,
                 "abc",
@@ -102,7 +103,7 @@ fn a_matrix_may_be_refused(rt: HostRuntime) -> Result<(), Fail> {
     files_end(alloc, &[], &["--job=matrix", "s"], unread)
 }
 
-// The choices that no rule without one decides don't make a matrix inconsistent: no times satisfy this sheet.
+// Rules with a choice do not make a matrix inconsistent. No times satisfy this sheet, but it has a matrix.
 #[test]
 fn a_matrix_thinks_of_no_choice(rt: HostRuntime) -> Result<(), Fail> {
     matrices(
@@ -132,7 +133,8 @@ fn a_matrix_has_at_most_1024_events(rt: HostRuntime) -> Result<(), Fail> {
     Ok(())
 }
 
-// A size, its events, constraints and rows: 6 * size + 8, 9 * size + 11 and 2 * size + 1. The one requirement passes.
+// For each size: its events, constraints and rows, which are 6 * size + 8, 9 * size + 11 and 2 * size + 1. The one
+// requirement passes.
 #[test]
 fn a_generated_design_is_summed_up(rt: HostRuntime) -> Result<(), Fail> {
     let alloc = rt.alloc();
@@ -151,7 +153,7 @@ fn a_generated_design_is_summed_up(rt: HostRuntime) -> Result<(), Fail> {
     Ok(())
 }
 
-// A budget that is too small is told by the end; the sums of the design stay.
+// If a budget is too small, the end says so. The counts of the design stay the same.
 #[test]
 fn a_summary_may_be_undecided(rt: HostRuntime) -> Result<(), Fail> {
     let words = ["--job=self", "--size=2", "--budget=1"];
@@ -176,7 +178,7 @@ fn a_summary_may_be_undecided(rt: HostRuntime) -> Result<(), Fail> {
     Ok(())
 }
 
-// The greatest generated design passes no limit: job check draws it whole before it asks for the report.
+// The greatest generated design exceeds no limit: job check draws it whole before it asks for the report.
 #[test]
 fn the_greatest_generated_design_is_drawn(rt: HostRuntime) -> Result<(), Fail> {
     let mut shelf = make(rt.alloc(), 64)?;

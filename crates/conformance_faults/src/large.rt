@@ -1,4 +1,4 @@
-//! Reports with the greatest numbers: one job writes them with proofs, and another one accepts them.
+//! Reports with the greatest numbers: one job writes them with proofs, and another job accepts them.
 
 use conformance_kit::{ended, run_ends, shelf_with};
 use itv_base::{END_LIMIT, MAX_EVENTS, ShelfMem, SinkMem};
@@ -11,10 +11,10 @@ use std::test::Fail;
 // Room for the greatest report that is written here.
 const WIDE: u32 = 8_000_000;
 
-// 64 marks, which in 256 parts are as many events as there may be.
+// 64 marks. In 256 parts they are as many events as there may be.
 const MARKS: &str = "abcdefghijklmnopqrstuvwxyzABCDEFGHIJKLMNOPQRSTUVWXYZ0123456789!?";
 
-// A sheet with a rule from each mark to the next one.
+// A sheet with a rule from each mark to the next mark.
 fn sheet_of(alloc: Global, range: &str) -> Result<String, Fail> {
     let mut sheet = format!(in alloc; r#"{{"signal":[{{"node":"{MARKS}"}}],"edge":["#)?;
     let mut before = 'a';
@@ -29,7 +29,8 @@ fn sheet_of(alloc: Global, range: &str) -> Result<String, Fail> {
     Ok(sheet)
 }
 
-// A netlist of 256 parts with this sheet, a rule from the last mark of each to the first one of the next, and one more edge.
+// A netlist of 256 parts with this sheet, a rule from the last mark of each part to the first mark of the next part,
+// and one more edge.
 fn netlist_of(alloc: Global, range: &str, edge: &str) -> Result<String, Fail> {
     let mut parts = String::from_str(alloc, r#"{"name":"P0","sheet":"s.json"}"#)?;
     let mut edges = format!(in alloc; r#""{edge}""#)?;
@@ -41,8 +42,8 @@ fn netlist_of(alloc: Global, range: &str, edge: &str) -> Result<String, Fail> {
     Ok(format!(in alloc; r#"{{"itv":1,"cycles":1,"parts":[{parts}],"edges":[{edges}]}}"#)?)
 }
 
-// The chain of all events, each of them in this range after the one before, and one more edge, whose requirement fails: its report with
-// proofs has these lines, and job check accepts it.
+// A chain of all events: each comes in this range after the event before. One more edge is a requirement that fails.
+// The report with proofs has these lines, and job check accepts it.
 fn chain_is_reported(
     rt: &impl Abort,
     alloc: Global,
@@ -63,7 +64,8 @@ fn chain_is_reported(
     run_ends(alloc, &check, &mut shelf, accepted)
 }
 
-// Each event comes the greatest end after the one before, so the last one is as far from the first as events can be.
+// Each event comes the greatest end after the event before. So the last event is as far from the first event as events
+// can be.
 #[test]
 fn the_longest_chain_is_reported_and_checked(rt: HostRuntime) -> Result<(), Fail> {
     let alloc = rt.alloc();
@@ -74,8 +76,9 @@ fn the_longest_chain_is_reported_and_checked(rt: HostRuntime) -> Result<(), Fail
     chain_is_reported(&rt, alloc, range.as_str(), edge.as_str(), line.as_str())
 }
 
-// Each event comes at least the greatest end before the one before, and may come any time earlier. So the last event is as far before the
-// first one as events can be, in the times that are found first, and the first one can come any time after it.
+// Each event comes at least the greatest end before the event before it, and may come any time earlier. So in the times
+// that are found first, the last event is as far before the first event as events can be. The first event can come any
+// time after the last.
 #[test]
 fn the_farthest_ray_is_reported_and_checked(rt: HostRuntime) -> Result<(), Fail> {
     let alloc = rt.alloc();

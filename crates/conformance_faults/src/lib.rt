@@ -1,5 +1,6 @@
-//! What a run makes of its surroundings: words, files that can't be read, output that can't be written, designs at and past each limit,
-//! and the jobs beside the report, by `run` over files and sinks in memory and over the real ones.
+//! What a run makes of its surroundings: words, files that cannot be read, output that cannot be written, designs at
+//! and past each limit, and the jobs beside the report. The tests call `run` over files and sinks in memory and over
+//! the real ones.
 #![tactic(auto)]
 
 #[cfg(test)]

@@ -1,4 +1,4 @@
-//! How much a design may hold: each limit is taken, and the next number is refused.
+//! How much a design may hold: each limit is allowed, and the next number is refused.
 
 use conformance_kit::{
     FIRST, all_refused, bytes_end, events_of, run_ends, shelf_of, shelf_with, words_of,
@@ -13,7 +13,7 @@ use std::test::Fail;
 // Room for the greatest report that is written here.
 const WIDE: u32 = 32_000_000;
 
-// A file on the marks `a` and `b` with an edge as often as is said, and other edges behind it.
+// A file on the marks `a` and `b` with `count` times the same edge, and other edges behind.
 fn file_of(alloc: Global, edge: &str, count: u32, others: &str) -> Result<String, Fail> {
     let mut file = String::new(alloc);
     file.push_str(r#"{"signal":[{"node":"ab"}],"edge":["#)?;
@@ -47,7 +47,8 @@ fn ends_with_report(
     Ok(())
 }
 
-// The 64th cause is taken and the 65th refused, in edges counted from 0. Groups of other kinds, tags and targets don't count.
+// The 64th cause is taken and the 65th is refused. Edges are counted from 0. Groups of other kinds, tags and targets do
+// not count.
 #[test]
 fn a_rule_has_at_most_64_causes(rt: HostRuntime) -> Result<(), Fail> {
     let alloc = rt.alloc();
@@ -80,7 +81,7 @@ fn a_rule_has_at_most_64_causes(rt: HostRuntime) -> Result<(), Fail> {
             r#""a->b @late+1 [5,6] note""#,
             "refused file 0 TooManyCauses 64\n",
         ),
-        // the first faulty edge is told
+        // the first faulty edge is reported
         (
             late,
             66,
@@ -123,7 +124,7 @@ fn a_design_has_at_most_4096_rows(rt: HostRuntime) -> Result<(), Fail> {
     let more = file_of(alloc, row, 4_097, r#""a->b @lin [0,1]""#)?;
     let line = "refused design TooMany Rows 4097\n";
     all_refused(alloc, &[(more.as_str(), line)])?;
-    // two limits: constraints are looked at before rows, and both before cells
+    // two limits: constraints are counted before rows, and both before cells
     let both = file_of(
         alloc,
         r#""a->b @ask","a->b @lin [0,1]""#,
@@ -134,10 +135,10 @@ fn a_design_has_at_most_4096_rows(rt: HostRuntime) -> Result<(), Fail> {
     all_refused(alloc, &[(both.as_str(), line)])
 }
 
-// A sheet, the number of its cycles, and the line of the refusal, or none where the design is taken.
+// A sheet, the number of its cycles, and the line of the refusal, or none if the design is taken.
 type Cycled<'a> = (&'a str, u32, Option<&'a str>);
 
-// A sheet over cycles ends with a report, or is refused by a line.
+// A sheet over cycles ends with a report, or is refused with a line.
 fn cycles_end(rt: &impl Abort, alloc: Global, entry: Cycled<'_>) -> Result<(), Fail> {
     let (sheet, cycles, refusal) = entry;
     let design = format!(in alloc;
@@ -161,7 +162,7 @@ fn a_design_has_all_its_events(rt: HostRuntime) -> Result<(), Fail> {
     cycles_end(&rt, rt.alloc(), (WIDE_SHEET, 256, None))
 }
 
-// Each of the 93 marks that there are, and 52 of them, over 113 cycles are one event more.
+// All 93 marks of one part and 52 marks of another, over 113 cycles, are one event more than the limit.
 #[test]
 fn a_design_has_no_event_more(rt: HostRuntime) -> Result<(), Fail> {
     let alloc = rt.alloc();
@@ -188,8 +189,8 @@ fn a_design_has_1000000_cells(rt: HostRuntime) -> Result<(), Fail> {
     cycles_end(&rt, rt.alloc(), (four, 250, None))
 }
 
-// A latest rule whose causes stand one cycle before is there in 255 cycles. With one that is there in all 256 these are 511 rules with
-// two causes, and 4,096 * 512 cells of the search.
+// A latest rule whose causes come one cycle before is there in 255 cycles. With a rule that is there in all 256 cycles,
+// these are 511 rules with two causes, and 4,096 * 512 cells of the search.
 #[test]
 fn a_design_has_2097152_cells_of_the_search(rt: HostRuntime) -> Result<(), Fail> {
     let shifted =
@@ -198,8 +199,8 @@ fn a_design_has_2097152_cells_of_the_search(rt: HostRuntime) -> Result<(), Fail>
     cycles_end(&rt, rt.alloc(), (shifted, 256, None))
 }
 
-// 1,000 events with 5 rows in each of 250 cycles are 1,250,000 cells; and two latest rules of
-// 256 cycles are 512 rules with two causes, and 4,096 * 513 cells of the search.
+// 1,000 events with 5 rows in each of 250 cycles are 1,250,000 cells. Two latest rules in 256 cycles are 512 rules with
+// two causes, and 4,096 * 513 cells of the search.
 #[test]
 fn cycles_multiply_what_a_sheet_holds(rt: HostRuntime) -> Result<(), Fail> {
     let alloc = rt.alloc();
@@ -223,7 +224,7 @@ fn cycles_multiply_what_a_sheet_holds(rt: HostRuntime) -> Result<(), Fail> {
     Ok(())
 }
 
-// A netlist of parts, each with a sheet of its own name up to a number of names, and one mark on each sheet.
+// A netlist of `parts` parts with `sheets` different sheets in turn. Each sheet has one mark.
 fn parts_of(alloc: Global, parts: u32, sheets: u32) -> Result<ShelfMem, Fail> {
     let mut shelf = ShelfMem::new(alloc)?;
     let mut list = String::new(alloc);
@@ -261,7 +262,7 @@ fn a_netlist_has_at_most_256_parts_and_64_sheets(rt: HostRuntime) -> Result<(), 
     Ok(())
 }
 
-// The events of one part with 2 marks in 256 cycles stand cycle by cycle.
+// The events of one part with 2 marks in 256 cycles come cycle by cycle.
 #[test]
 fn the_last_cycle_is_255(rt: HostRuntime) -> Result<(), Fail> {
     let alloc = rt.alloc();
@@ -278,7 +279,7 @@ fn the_last_cycle_is_255(rt: HostRuntime) -> Result<(), Fail> {
     Ok(())
 }
 
-// A report of 67,108,864 bytes is read, and this one is none from its first line on. A longer one isn't looked at.
+// A report of 67,108,864 bytes is read, and refused at its first line. A longer report is not read.
 #[test]
 fn a_report_has_at_most_67108864_bytes(rt: HostRuntime) -> Result<(), Fail> {
     let words = ["--job=check", "--report=r", "s"];

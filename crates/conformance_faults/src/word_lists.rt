@@ -1,4 +1,5 @@
-//! The words that `run` takes, by what they give over a shelf on which `sheet.json` is the first file of the worked rows.
+//! Lists of words for `run`, and what each gives over a shelf on which `sheet.json` is the first file of the worked
+//! rows.
 
 use conformance_kit::{FIRST, FIRST_PROVED, FIRST_REPORT, ROOM, ended, files_end, shelf_of};
 use itv_base::SinkMem;
@@ -73,7 +74,7 @@ const JOBS: [Entry<'static>; 23] = [
     (&["--job", "nope", "sheet.json"], BAD),
 ];
 
-// Numbers, options that stand twice, values that are missing or in excess, and names that are none.
+// Numbers, options that are given twice, values that are missing or in excess, and names of no option.
 const OPTIONS: [Entry<'static>; 31] = [
     (&["--budget", "100000", "sheet.json"], PASSES),
     (&["--budget", "0", "sheet.json"], BAD),
@@ -111,7 +112,7 @@ const OPTIONS: [Entry<'static>; 31] = [
     (&["--version"], BAD),
 ];
 
-// Designs: one, with any name that is no option.
+// Designs: exactly one, with any name that is no option.
 const DESIGNS: [Entry<'static>; 10] = [
     (&["sheet.json", "sheet.json"], BAD),
     (&["sheet.json", ""], BAD),
@@ -125,7 +126,7 @@ const DESIGNS: [Entry<'static>; 10] = [
     (&["help"], UNREAD),
 ];
 
-// Each list of words ends its run as it says.
+// Each list of words ends its run as its entry says.
 fn all_end(alloc: Global, table: &[Entry<'_>]) -> Result<(), Fail> {
     for (words, wanted) in table {
         let files = [
@@ -153,7 +154,7 @@ fn a_name_that_is_no_option_is_the_design(rt: HostRuntime) -> Result<(), Fail> {
     all_end(rt.alloc(), &DESIGNS)
 }
 
-// Wishes for help.
+// Words that ask for help.
 const WISHES: [&[&str]; 6] = [
     &["--help"],
     &["-h"],
@@ -163,14 +164,15 @@ const WISHES: [&[&str]; 6] = [
     &["--help", "a", "b"],
 ];
 
-// Faults that stand before a wish for help.
+// Faults that come before the words that ask for help.
 const FAULTS: [Entry<'static>; 3] = [
     (&["--bogus", "--help"], BAD),
     (&["--budget", "0", "--help"], BAD),
     (&["--budget", "--help"], BAD),
 ];
 
-// The words are read from left to right: the first fault or wish for help decides. Of the help text only its line of use is looked at.
+// The words are read from left to right. The first fault or the first word that asks for help decides. Of the help text
+// only the line of use is compared.
 #[test]
 fn help_is_given_unless_a_fault_stands_before_it(rt: HostRuntime) -> Result<(), Fail> {
     for words in WISHES {

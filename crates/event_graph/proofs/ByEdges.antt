@@ -15,14 +15,14 @@ use Rattle.event_graph.specs.Proof.{HasChoice}
 use Rattle.event_graph.specs.Laws.{HoldsByEdges, MeetsAlwaysOf, MeetsSomeChoice, NoRootIsInconsistent, RootBoundEncloses, SatisfyingIsMeetingAlways, SatisfyingMeetsAlways, SingleCauseIsLinear}
 use Rattle.event_graph.proofs.EdgesMet.{All-found, Allows, allows_side, always_allows, at_some, cause_of, edge-at, found_below, meets_side, met_if_some}
 
--- the sides of a constraint that is there
+-- an always-edge of a constraint that is there is on a side that always holds
 always_of : (net : Net) (name : EdgeName) (k : Constraint) → slice_get net.constraints name.constraint ≡ Some k → IsAlways net name
     → IsTrue (holds_always k.kind (length k.causes) name.side)
 always_of net name k at_k always =
     let P : Option Constraint → Type 0 = λ o. IsSomeAnd o (λ c. IsTrue (holds_always c.kind (length c.causes) name.side)) in
     subst P at_k always.1
 
--- a constraint that holds has its always-edges met
+-- times meet the always-edges of a constraint that holds
 pub holds_always_edges : (net : Net) (number : ℕ) (k : Constraint) (times : List ℤ) → slice_get net.constraints number ≡ Some k → Holds times k
     → MeetsAlwaysOf times net number
 holds_always_edges net number k times at_k h name e is_number always is_edge =
@@ -37,7 +37,7 @@ is_always : (net : Net) (name : EdgeName) (k : Constraint) (e : Edge) → slice_
     → IsTrue (holds_always k.kind (length k.causes) name.side) → IsAlways net name
 is_always net name k e at_k is_edge always = (rw is_edge refl, rw at_k always)
 
--- times that meet the edge of a cause on a side, if there is one, are allowed by that side
+-- if times meet the edge of a cause on a side, or there is no such edge, that side allows the times
 allowed_by_edge : (net : Net) (name : EdgeName) (k : Constraint) (c : Cause) (times : List ℤ) → slice_get net.constraints name.constraint ≡ Some k
     → slice_get k.causes name.cause ≡ Some c → IfSome (edge net name) (Meets times) → Allows name.side times k.target c
 allowed_by_edge net name k c times at_k at_c h = allows_side name.side times k.target c (rw (edge-at net name k c at_k at_c) at h)
@@ -55,7 +55,7 @@ all_allowed : (net : Net) (number : ℕ) (k : Constraint) (times : List ℤ) (si
 all_allowed net number k times side at_k always meets =
     λ i d within. allowed_always net number k times side i (get_or k.causes i d) at_k (slice_get-get_or k.causes i d within) always meets
 
--- a met choice allows the times on the choice side
+-- if times meet a choice, some cause allows them on the choice side
 some_allowed : (net : Net) (number : ℕ) (k : Constraint) (times : List ℤ) → slice_get net.constraints number ≡ Some k → MeetsSomeChoice times net number k
     → Any (Allows (choice_side k.kind) times k.target) k.causes
 some_allowed net number k times at_k (cause, within, met) =
@@ -74,7 +74,7 @@ holds_from_edges Early net number k times is_kind at_k meets choice =
     let some = some_allowed net number k times at_k (choice tt) in
     (all_allowed net number k times Upper at_k (rw is_kind refl) meets, rw is_kind at some)
 
--- a cause on a side that it allows has its edge there met
+-- if some cause allows the times on a side, they meet its edge there
 met_choice : (net : Net) (number : ℕ) (k : Constraint) (times : List ℤ) (side : Side) → slice_get net.constraints number ≡ Some k → Any (Allows side times k.target) k.causes
     → (cause : ℕ) × (cause < length k.causes) × IfSome (edge net (record { constraint = number; cause = cause; side = side })) (Meets times)
 met_choice net number k times side at_k (cause, c, within, here, allows) =
@@ -93,7 +93,7 @@ holds_by_edges net number k times is_net at_k = (
   (λ met. holds_from_edges k.kind net number k times refl at_k met.0 met.1),
 )
 
--- a constraint of one cause holds always on both sides
+-- both sides of a constraint of one cause always hold
 single_always : (kind : RuleKind) (count : ℕ) (side : Side) → count ≡ 1 → IsTrue (holds_always kind count side)
 single_always Lin count side single = refl
 single_always Late count Lower single = refl
@@ -131,7 +131,7 @@ satisfying_meets_always net times h = record {
       is_edge;
 }
 
--- a constraint of one cause holds where its always-edges are met
+-- a constraint of one cause holds if the times meet its always-edges
 single_holds : (net : Net) (number : ℕ) (k : Constraint) (times : List ℤ) → slice_get net.constraints number ≡ Some k → length k.causes ≡ 1
     → MeetsAlwaysOf times net number → Holds times k
 single_holds net number k times at_k single meets =

@@ -20,14 +20,14 @@ unsplit_others (choice ∷ above) number h =
     let parts = or_parts (choice.constraint == number) (is_split above number) h in
     All-cons (IsOther number) choice above (λ same. true≢false (sym (eq-eqb choice.constraint number same) ∙ parts.0)) (unsplit_others above number parts.1)
 
--- a choice of another constraint splits it no more
+-- a choice of another constraint does not change whether a constraint is split
 pub split-other : (number other cause : ℕ) (chosen : Case) → (other ≡ number → ⊥) → is_split ((record { constraint = other; cause = cause }) ∷ chosen) number ≡ is_split chosen number
 split-other number other cause chosen apart = rw (ne_eqb other number apart) refl
 
 pub split-same : (number other cause : ℕ) (chosen : Case) → other ≡ number → is_split ((record { constraint = other; cause = cause }) ∷ chosen) number ≡ true
 split-same number other cause chosen same = rw (eq-eqb other number same) refl
 
--- a constraint is split where a cause of it is chosen
+-- a constraint is split if and only if a cause of it is chosen
 pub split_cause : (chosen : Case) (number : ℕ) → is_some (cause_chosen chosen number) ≡ is_split chosen number
 split_cause [] number = refl
 split_cause (choice ∷ above) number = by_head (choice.constraint == number) choice.cause (cause_chosen above number) (is_split above number) (split_cause above number) where
@@ -35,7 +35,7 @@ split_cause (choice ∷ above) number = by_head (choice.constraint == number) ch
   by_head true cause o split rest = refl
   by_head false cause o split rest = rest
 
--- so none is chosen where all choices are of others
+-- so no cause of a constraint is chosen if and only if all choices are of other constraints
 pub free_others : (chosen : Case) (number : ℕ) → cause_chosen chosen number ≡ None → All (IsOther number) chosen
 free_others chosen number free = unsplit_others chosen number (sym (split_cause chosen number) ∙ ap is_some free)
 

@@ -18,7 +18,7 @@ if_unchosen false cause o h = (refl, h)
 differs : (a b : ℕ) → (a == b) ≡ false → (b == a) ≡ false
 differs a b h = ne_eqb b a (λ same. true≢false (sym (eq-eqb a b (sym same)) ∙ h))
 
--- no choice is of a constraint of which no cause is chosen
+-- if no cause of a constraint is chosen, no choice is of this constraint
 apart : (number : ℕ) (chosen : Case) → cause_chosen chosen number ≡ None → AllByRecursion (λ y. eqb number y ≡ false) (map number_of chosen)
 apart number [] free = tt
 apart number (choice ∷ above) free =
@@ -45,7 +45,7 @@ length_within room chosen h =
     length-le_from_distinct_below (map number_of chosen) room (distinct room chosen h) (λ number any. below room chosen number h any) in
     omega (arith, length-map chosen number_of)
 
--- no cause is chosen of a constraint beyond the room
+-- no cause of a constraint beyond the room is chosen
 pub cause_beyond : (room : ℕ) (chosen : Case) (number : ℕ) → AreChoices room chosen → room ≤ number → cause_chosen chosen number ≡ None
 cause_beyond room [] number h beyond = refl
 cause_beyond room (choice ∷ above) number h beyond =

@@ -16,7 +16,7 @@ use Rattle.event_graph.specs.Satisfying.{HoldsAs, IsAfter, IsBefore}
 use Rattle.event_graph.specs.Times.{time_of}
 use Rattle.event_graph.specs.Edges.{Meets, edge, holds_always, side_edge}
 
--- the first ones of a list, and one more
+-- the first elements of a list, and one more
 pub take_next : {A : Type 0} (xs : List A) (i : ℕ) (x : A) → slice_get xs i ≡ Some x → take (i + 1) xs ≡ take i xs ++ x ∷ []
 take_next xs i x at = take_more xs i x (slice_get_within xs i x at) ∙ ap (λ y. take i xs ++ y ∷ []) (get_or_from_slice_get xs i x x at)
 
@@ -45,7 +45,7 @@ upper_asks : (times : List ℤ) (target event : EventId) (high : Option ℤ) →
 upper_asks times target event None h = tt
 upper_asks times target event (Some l) h = omega (arith, ints)
 
--- the edge on a side asks just that
+-- times meet the edge on a side if and only if the side allows them
 pub meets_side : (side : Side) (times : List ℤ) (target : EventId) (c : Cause) → Allows side times target c → IfSome (side_edge side target c) (Meets times)
 meets_side Lower times target c h = lower_met times target c.event c.range.low h
 meets_side Upper times target c h = upper_met times target c.event c.range.high h
@@ -77,7 +77,7 @@ pub met_if_some : {X : Type 0} (o : Option X) (P : X → Type 0) → ((x : X) �
 met_if_some None P h = tt
 met_if_some (Some x) P h = h x refl
 
--- what holds of each element holds of one that is found
+-- what holds of each element holds of an element that is found
 pub All-found : {X : Type 0} (P : X → Type 0) (xs : List X) (i : ℕ) (x : X) → slice_get xs i ≡ Some x → All P xs → P x
 All-found P xs i x at_x h = subst P (get_or_from_slice_get xs i x x at_x) (h i x (slice_get_within xs i x at_x))
 
@@ -87,13 +87,13 @@ found_below [] i within = absurd (omega arith)
 found_below (x ∷ xs) zero within = (x, refl)
 found_below (x ∷ xs) (suc i) within = found_below xs i (omega arith)
 
--- of one element alone, what some element meets that one meets
+-- in a list of one element, what holds of some element holds of this one
 only_one : (P : Cause → Type 0) (causes : List Cause) (i : ℕ) (c : Cause) → length causes ≡ 1 → slice_get causes i ≡ Some c → Any P causes → P c
 only_one P causes i c single at_c (k, x, within, here, h) =
     let here_too : k ≡ i = omega (arith, slice_get_within causes i c at_c) in
     subst P ((sym here ∙ ap (λ n. get_or causes n x) here_too) ∙ get_or_from_slice_get causes i c x at_c) h
 
--- a constraint that holds allows each side that always holds
+-- a constraint that holds allows the times on each side that always holds
 pub always_allows : (kind : RuleKind) (side : Side) (times : List ℤ) (target : EventId) (causes : List Cause) (i : ℕ) (c : Cause) → HoldsAs kind times target causes
     → slice_get causes i ≡ Some c → IsTrue (holds_always kind (length causes) side) → Allows side times target c
 always_allows Lin Lower times target causes i c h at_c always = All-found (IsAfter times target) causes i c at_c h.0

@@ -1,4 +1,4 @@
--- Lists by event: empty at first, and then with another list of one event.
+-- Lists by event: empty at first, and then with another list for one event.
 use Rattle.std.proofs.Common.{◌≡◌, ◌<◌, ℕ, inl, inr, Result, Ok, Err, List, [], length, get_or, set, replicate, sym, ◌∙◌, ap, subst, refl, arith}
 use Rattle.std.specs.Global.{Vec}
 use Rattle.std.specs.Result.{OnErr}
@@ -14,7 +14,7 @@ empty_at {T} events event = elim (cases_lt event events) [
   | inr past ↦ get_or_past (replicate events []) event [] (omega (arith, length-replicate {A = List T}))
 ]
 
--- what holds of each list, at its event, and of another list of one event, holds of each list once the event has the other list
+-- a property that each list has at its event is kept when one event gets another list with the property
 pub each_at : {T : Type 0} (P : ℕ → List T → Type 0) (lists : List (List T)) (event : ℕ) (list : List T) → event < length lists
     → ((other : ℕ) → P other (at_event lists other)) → P event list → (other : ℕ) → P other (at_event (set lists event list) other)
 each_at P lists event list within each here other = elim (cases_eq other event) [
@@ -33,7 +33,7 @@ list_at : {T : Type 0} (vectors : List (Vec T)) (event : ℕ) (x : Vec T) → ev
 list_at {T} vectors event x within is =
     get_or-map (λ (list : Vec T). list.items) vectors event x [] within ∙ ap (λ (list : Vec T). list.items) (sym is)
 
--- a vector of an event is set, whose items are made of those that were there
+-- a vector of an event is set to one whose items are made of the old items
 pub vector_set : {T : Type 0} (vectors : List (Vec T)) (lists : List (List T)) (event : ℕ) (x y : Vec T) (made : List T → List T) → lists_of vectors ≡ lists
     → event < length lists → x ≡ get_or vectors event x → y.items ≡ made x.items → lists_of (set vectors event y) ≡ set lists event (made (at_event lists event))
 vector_set {T} vectors lists event x y made view within is items =
@@ -50,7 +50,7 @@ pub vector_kept : {T : Type 0} (vectors : List (Vec T)) (lists : List (List T)) 
 vector_kept {T} vectors lists event x y view within is items =
     vector_set vectors lists event x y (λ (list : List T). list) view within is items ∙ set-get_or lists event []
 
--- what holds, holds where there is an error
+-- what holds also holds if there is an error
 pub on_err_of : {X E P : Type 0} (r : Result X E) → P → OnErr r P
 on_err_of (Ok x) p = tt
 on_err_of (Err e) p = p

@@ -1,4 +1,4 @@
--- Times with that of an event taken from all.
+-- Times less the time of one event.
 use Rattle.std.proofs.Common.{◌≡◌, ◌<◌, ℕ, ℤ, pos, neg_ℤ, ◌+ℤ◌, Bool, true, false, List, [], ◌∷◌, length, refl, sym, subst, ap, arith}
 use Rattle.std.proofs.lemmas.Int.{ints}
 use Rattle.std.proofs.lemmas.List.{get_or-map, length-map}
@@ -33,7 +33,7 @@ raised-shifted (true ∷ set) n (time ∷ times) by = cons_eq ((time +ℤ by) +�
     cons_eq a b xs ys e f = cc (e, f)
 raised-shifted (false ∷ set) n (time ∷ times) by = ap (λ ts. (time +ℤ by) ∷ ts) (raised-shifted set n times by)
 
--- a ray of times is one of moved times
+-- if times and a set are a ray, so are the moved times and the set
 pub ray-moved : (net : Net) (origin from to : EventId) (times : List ℤ) (set : List Bool) → IsNet net → IsRay net from to times set → IsRay net from to (moved origin times) set
 ray-moved net origin from to times set is_net ray = record {
   count = ray.count;

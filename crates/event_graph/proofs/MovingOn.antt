@@ -1,4 +1,4 @@
--- Taking a number from one time after another.
+-- Subtracting a number from one time after another.
 use Rattle.std.proofs.Common.{◌≡◌, ◌<◌, ◌≤◌, ◌+◌, ℕ, zero, suc, ℤ, pos, negsuc, neg_ℤ, ◌+ℤ◌, ◌-ℤ◌, List, [], ◌∷◌, ◌++◌, length, get_or, take, drop, All, refl, sym, subst, ap, ◌∙◌, add-one, arith, w64}
 use Rattle.std.proofs.Math.ListN.{set}
 use Rattle.std.specs.Prelude.{FitsSigned}
@@ -14,7 +14,7 @@ fits_time (negsuc n) h = record { sfits = omega (arith, ints) }
 pub read_time : (z : ℤ) → IsTime z → to_z w64 (of_z w64 z) ≡ z
 read_time z h = to_z-of_z w64 z (fits_time z h)
 
--- the first ones have a number added, and the others are as they were
+-- the first times have a number added, and the others are as they were
 abbrev pub shifted_front : ℕ → List ℤ → ℤ → List ℤ
 shifted_front i times by = shifted (take i times) by ++ drop i times
 

@@ -31,13 +31,13 @@ product_more cs i c product factor within here is_factor whole =
     ap cause_choices (drop_more cs i c within) ∙ ap (λ n. n * cause_choices (drop (i + 1) cs)) own in
     mul_assoc product factor (cause_choices (drop (i + 1) cs)) ∙ (sym (ap (λ n. product * n) step) ∙ whole)
 
--- a product of the front that passes a number carries the whole product past it
+-- if the product of the first constraints exceeds a number, the whole product does
 pub product_passes : (events most : ℕ) (cs : List Constraint) (i product : ℕ) → All (IsConstraint events) cs
     → product * cause_choices (drop i cs) ≡ cause_choices cs → most < product → most < cause_choices cs
 product_passes events most cs i product all whole past =
     let rest : 1 ≤ cause_choices (drop i cs) = cause_choices-some events (drop i cs) (All-drop (IsConstraint events) i cs all) in
     rw (← whole) (omega (arith, mul-le-mul_left product rest))
 
--- what does not fit is greater than what does
+-- a number that does not fit in 64 bits is greater than one that does
 pub not_below : (small large : ℕ) → small < 2 ^ 64 → (large < 2 ^ 64 → ⊥) → small < large
 not_below small large fits over = grind arith

@@ -13,7 +13,7 @@ use Rattle.event_graph.specs.Cases.{is_split}
 use Rattle.event_graph.proofs.Choices.{others_unsplit, split-other, split-same}
 use Rattle.event_graph.proofs.Products.{choices_of-some}
 
--- the product of the numbers of causes of those constraints, numbered from one on, of which no cause is chosen
+-- the product of the numbers of causes of all constraints of which no cause is chosen; the constraints are numbered from `number` on
 abbrev pub left_from : ℕ → List Constraint → Case → ℕ
 left_from number [] chosen = 1
 left_from number (k ∷ ks) chosen = cond (is_split chosen number) 1 (choices_of k.kind (length k.causes)) * left_from (number + 1) ks chosen
@@ -71,7 +71,7 @@ left_of_all-append : (net : Net) (xs ys : List Case) → left_of_all net (xs ++ 
 left_of_all-append net [] ys = omega arith
 left_of_all-append net (x ∷ xs) ys = omega (arith, left_of_all-append net xs ys)
 
--- each case of a split has as many choices left
+-- if each case of a split has the same number of choices left, the product gives how many are left in all
 left_of_all-cases : (net : Net) (chosen : Case) (number cause count each : ℕ)
     → ((other : ℕ) → left_from 0 net.constraints ((record { constraint = number; cause = other }) ∷ chosen) ≡ each)
     → left_of_all net (cases_from chosen number cause count) ≡ count * each

@@ -10,9 +10,9 @@ use Rattle.event_graph.specs.Network.{AreEnds, Constraint, IsCauseCount, IsConst
 use Rattle.event_graph.proofs.EdgesMet.{All-found}
 use Rattle.event_graph.proofs.Ends.{HasOwnEnds, all_own, ends_of_all, found, own_ends}
 
--- ---- the network stays one
+-- ---- the network stays a network
 
--- what all causes have, and the cause with another range has too, all have after
+-- a property that all causes have is kept when one cause gets another range, if the cause keeps it with that range
 all_causes : (P : Cause → Type 0) (causes : List Cause) (number : ℕ) (range : Ends) (found : Option Cause) → slice_get causes number ≡ found → All P causes
     → ((c : Cause) → P c → P (record c { range = range })) → All P (causes_with causes number range found)
 all_causes P causes number range None at all keeps = all

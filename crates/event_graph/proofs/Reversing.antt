@@ -1,4 +1,4 @@
--- The least separation of a pair and the greatest of the reversed one.
+-- The least separation of a pair and the greatest separation of the reversed pair.
 use Rattle.std.proofs.Common.{◌≡◌, ℤ, neg_ℤ, ◌-ℤ◌, ◌≤ℤ◌, arith}
 use Rattle.std.proofs.lemmas.Int.{ints}
 use Rattle.event_graph.specs.Times.{time_of}

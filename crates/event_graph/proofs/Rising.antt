@@ -32,7 +32,7 @@ raised_at (in_set ∷ set) by (time ∷ times) (suc k) same = raised_at set by t
 abbrev Risen : ℤ → ℤ → Bool → Bool → ℕ → Type 0
 Risen u v in_u in_v by = (u +ℤ pos (rise in_u by)) ≤ℤ (v +ℤ pos (rise in_v by))
 
--- far enough that an inequality with only its left side raised fails
+-- an inequality fails if only its left side is raised, and far enough
 far_fails : (u v : ℤ) (by : ℕ) → unsigned_abs (v -ℤ u) < by → Risen u v true false by → ⊥
 far_fails u v by far h = let most : (v -ℤ u) ≤ℤ pos (unsigned_abs (v -ℤ u)) = at_most_abs (v -ℤ u) in omega (arith, ints)
 
@@ -54,7 +54,7 @@ risen u v true false by le kept = absurd (let e : false ≡ true = kept refl in 
 risen u v false true by le kept = omega (arith, ints)
 risen u v false false by le kept = omega (arith, ints)
 
--- an inequality in which the right side is raised only with the left, and which holds raised by something, held before
+-- if the right side is raised only with the left, an inequality that holds raised held before
 le_back : (u v : ℤ) (in_u in_v : Bool) (by : ℕ) → (in_v ≡ true → in_u ≡ true) → Risen u v in_u in_v by → u ≤ℤ v
 le_back u v true true by kept h = omega (arith, ints)
 le_back u v true false by kept h = omega (arith, ints)
@@ -69,7 +69,7 @@ RisenEnd o u v in_u in_v by = IfSome o (λ e. Risen (u e) (v e) in_u in_v by)
 abbrev KeptEnd : Option ℤ → (ℤ → ℤ) → (ℤ → ℤ) → Bool → Bool → Type 0
 KeptEnd o u v in_u in_v = IfSome o (λ e. u e ≤ℤ v e) × (IsSome o → in_u ≡ true → in_v ≡ true)
 
--- how far is far enough
+-- a rise of more than this is far enough
 abbrev reach : Option ℤ → (ℤ → ℤ) → (ℤ → ℤ) → ℕ
 reach None u v = 0
 reach (Some e) u v = unsigned_abs (v e -ℤ u e)
@@ -86,13 +86,13 @@ end_kept : (o : Option ℤ) (u v : ℤ → ℤ) (in_u in_v : Bool) (by : ℕ) �
 end_kept None u v in_u in_v by h = tt
 end_kept (Some e) u v in_u in_v by h = risen (u e) (v e) in_u in_v by h.0 (h.1 refl)
 
--- one that holds far enough, where the right side is raised only with the left
+-- if the right side is raised only with the left, an end that holds when raised far enough is kept
 kept_far : (o : Option ℤ) (u v : ℤ → ℤ) (in_u in_v : Bool) (by : ℕ) → reach o u v < by → (in_v ≡ true → in_u ≡ true) → RisenEnd o u v in_u in_v by
     → KeptEnd o u v in_u in_v
 kept_far None u v in_u in_v by far back h = (tt, λ some. absurd (none_is some))
 kept_far (Some e) u v in_u in_v by far back h = (le_back (u e) (v e) in_u in_v by back h, λ _. in_from_far (u e) (v e) in_u in_v by far h)
 
--- one that holds before, where the left side is raised only with the right
+-- if the left side is raised only with the right, an end that holds before it is raised is kept
 kept_here : (o : Option ℤ) (u v : ℤ → ℤ) (in_u in_v : Bool) → (in_u ≡ true → in_v ≡ true) → RisenEnd o u v in_u in_v 0 → KeptEnd o u v in_u in_v
 kept_here None u v in_u in_v kept h = (tt, λ some. absurd (none_is some))
 kept_here (Some e) u v in_u in_v kept h = (le_from_risen (u e) (v e) in_u in_v h, λ _. kept)
@@ -219,7 +219,7 @@ module _ (times : List ℤ) (set : List Bool) (same : length set ≡ length time
   as_stays Late cs by h = ((λ k d within. after_stays by (get_or cs k d) (h.0 k d within)), any_by (StaysBefore times set target) (IsBefore (raised set by times) target) cs (before_stays by) h.1)
   as_stays Early cs by h = ((λ k d within. before_stays by (get_or cs k d) (h.0 k d within)), any_by (StaysAfter times set target) (IsAfter (raised set by times) target) cs (after_stays by) h.1)
 
--- times satisfy however far a set is raised exactly where each constraint stays
+-- times satisfy a network however far a set is raised if and only if each constraint stays
 pub raised_satisfy : (net : Net) (times : List ℤ) (set : List Bool) → length times ≡ net.events → length set ≡ net.events
     → (((by : ℕ) → Satisfies (raised set by times) net) ↔ All (Stays times set) net.constraints)
 raised_satisfy net times set count set_count =

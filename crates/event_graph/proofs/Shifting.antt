@@ -23,7 +23,7 @@ before_same : (high : Option ℤ) (a b a' b' : ℤ) → (b -ℤ a) ≡ (b' -ℤ 
 before_same None a b a' b' same h = tt
 before_same (Some l) a b a' b' same h = omega (arith, ints)
 
--- what holds of each element, or of some, holds as well of what follows from it at the elements with a property
+-- if all elements have R, and P and R together give Q, then Q holds of all elements, or of some, if P does
 all_follow : (P Q R : Cause → Type 0) (xs : List Cause) → All R xs → ((x : Cause) → R x → P x → Q x) → All P xs → All Q xs
 all_follow P Q R xs in' follows h = λ k d within. follows (get_or xs k d) (in' k d within) (h k d within)
 

@@ -22,7 +22,7 @@ abbrev pub Refutes : List ℤ → ProofGoal → Type 0
 Refutes times (Bound from to value) = value <ℤ separation times from to
 Refutes times Nothing = Unit {0}
 
--- the times meet the edge of a choice, where there is one
+-- the times meet the edge of a choice, if there is such an edge
 abbrev pub MeetsChoice : List ℤ → Net → Choice → Type 0
 MeetsChoice times net choice = (k : Constraint) (e : Edge) → slice_get net.constraints choice.constraint ≡ Some k
     → edge net (record { constraint = choice.constraint; cause = choice.cause; side = choice_side k.kind }) ≡ Some e → Meets times e
@@ -112,7 +112,7 @@ walk_rise times net chosen (name ∷ names) from to satisfies covers usable walk
     let weight : weight_of (edge net name) ≡ found.0.weight = ap weight_of found.1 in
     rw weight (omega (arith, ints))
 
--- a case that times cover, which refute the goal, is closed by nothing
+-- nothing closes a case that refuting times cover
 path_uncovered : (times : List ℤ) (net : Net) (goal : ProofGoal) (chosen : Case) (names : List EdgeName) → Satisfies times net → Refutes times goal
     → Covers times net chosen → ClosesByPath net goal chosen names → ⊥
 path_uncovered times net (Bound from to value) chosen names satisfies refutes covers closes =
@@ -129,7 +129,7 @@ loop_uncovered times net chosen names satisfies covers closes =
     let negative : path_sum net names <ℤ pos 0 = closes.2 in
     omega (arith, ints)
 
--- lines that leave no case open leave none that refuting times cover
+-- if lines leave no case open, refuting times cover none of the cases from which the lines start
 reads_uncovered : (times : List ℤ) (net : Net) (goal : ProofGoal) (lines : List ProofLine) (cases : List Case) → Satisfies times net → Refutes times goal
     → ProofLeaves net goal cases lines [] → SomeCovers times net cases → ⊥
 reads_uncovered times net goal [] cases satisfies refutes reads covered = subst (SomeCovers times net) reads covered

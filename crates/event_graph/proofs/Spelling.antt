@@ -1,4 +1,4 @@
--- The lines of trees are read, and lines that are read are those of trees.
+-- The lines of trees are read, and all lines that are read are lines of trees.
 use Rattle.std.proofs.Common.{◌≡◌, ◌≤◌, ℕ, zero, suc, List, [], ◌∷◌, ◌++◌, length, sym, ap, ◌∙◌, refl, subst, arith, append-nil, append_assoc}
 use Rattle.event_graph.specs.Network.{Net}
 use Rattle.event_graph.specs.Proof.{Case, Loop, MaySplit, Path, ProofGoal, ProofLine, ProofLeaves, Split, cases_of}
@@ -22,9 +22,9 @@ mutual
       subst (λ lines. ProofLeaves net goal (chosen ∷ (each ++ cases)) lines left) (sym (append_assoc (tree_lines tree) (trees_lines trees) more))
       (tree_read net goal chosen tree (each ++ cases) left (trees_lines trees ++ more) prove.0 (trees_read net goal each trees cases left more prove.1 rest))
 
--- ---- lines that are read are those of trees
+-- ---- all lines that are read are lines of trees
 
--- what is read of the first cases, and the lines behind
+-- the trees that are read for the first cases, and the lines behind them
 record Spelled (net : Net) (goal : ProofGoal) (each cases : List Case) (lines : List ProofLine) : Type 0 where
   trees : Trees
   more : List ProofLine
@@ -45,7 +45,7 @@ closed net goal chosen each cases tree line lines proves own s = record {
   shorter = omega (arith, s.shorter);
 }
 
--- lines split the first case, and then come those of the others
+-- lines split the first case, and the lines of the other cases come behind
 split_up : (net : Net) (goal : ProofGoal) (chosen : Case) (number : ℕ) (each cases : List Case) (lines : List ProofLine) → MaySplit net chosen number
     → (s : Spelled net goal (cases_of net chosen number) (each ++ cases) lines) → Spelled net goal each cases s.more → Spelled net goal (chosen ∷ each) cases (Split number ∷ lines)
 split_up net goal chosen number each cases lines may s t = record {

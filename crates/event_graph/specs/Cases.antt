@@ -3,7 +3,7 @@ use Rattle.std.specs.Prelude.{◌==◌, ◌+◌, ◌-◌, ◌<◌, ◌||◌, ◌
 use Rattle.event_graph.specs.Network.{Net}
 use Rattle.event_graph.specs.Proof.{Case, MaySplit, cases_from, count_causes}
 
--- for how many constraints there is room, and the choices of a case, the latest one first
+-- the number of constraints for which there is room, and the choices of a case, the latest one first
 pub record Chosen : Type 0 where
   pub room : ℕ
   pub chosen : Case
@@ -18,7 +18,7 @@ abbrev pub is_split : Case → ℕ → Bool
 is_split [] number = false
 is_split (choice ∷ above) number = (choice.constraint == number) || is_split above number
 
--- each choice is of a constraint that may be split in the case before it, and of one of its causes
+-- each choice names a constraint that may be split in the case of the choices before it, and one of the causes of this constraint
 abbrev pub IsCase : Net → Case → Type 0
 IsCase net [] = Unit {0}
 IsCase net (choice ∷ above) =
@@ -28,8 +28,8 @@ IsCase net (choice ∷ above) =
 abbrev pub first_of : ℕ → Case → Case
 first_of number chosen = (record { constraint = number; cause = 0 }) ∷ chosen
 
--- The choices of one case tell all other open cases of a proof that is read in order: the causes after the chosen one, of the latest choice and
--- then of each one before it.
+-- All other open cases of a proof that is read in order, by the choices of the case at hand: one case for each cause after the chosen one, for the
+-- latest choice first and then for each choice before it.
 abbrev pub siblings : Net → Case → List Case
 siblings net [] = []
 siblings net (choice ∷ above) =

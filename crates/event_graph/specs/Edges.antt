@@ -26,7 +26,8 @@ edge net name =
 abbrev pub Meets : List ℤ → Edge → Type 0
 Meets times e = separation times e.from e.to ≤ℤ e.weight
 
--- whether satisfying times meet the edges of every cause on a side, by the number of causes: with a single cause they do so on both
+-- whether satisfying times meet the edges of every cause on a side, for a kind and a number of causes; with a single cause they meet the edges on
+-- both sides
 abbrev pub holds_always : RuleKind → ℕ → Side → Bool
 holds_always Lin count side = true
 holds_always Late count Lower = true
@@ -34,19 +35,19 @@ holds_always Late count Upper = count == 1
 holds_always Early count Lower = count == 1
 holds_always Early count Upper = true
 
--- the name of an edge that is there, on a side that always holds
+-- the name of an edge that is there, on a side on which satisfying times meet every edge
 abbrev pub IsAlways : Net → EdgeName → Type 0
 IsAlways net name =
     IsSome (edge net name)
     × IsSomeAnd (slice_get net.constraints name.constraint) (λ c. IsTrue (holds_always c.kind (length c.causes) name.side))
 
--- the side on which times meet the edge of some cause alone (a linear constraint has no such side)
+-- the side on which satisfying times need only meet the edge of some cause; a linear constraint has no such side, and gets `Upper`
 abbrev pub choice_side : RuleKind → Side
 choice_side Lin = Upper
 choice_side Late = Upper
 choice_side Early = Lower
 
--- the number of causes to choose from, of a number
+-- how many causes there are to choose from, for a kind and a number of causes; for a linear constraint it is 1
 abbrev pub choices_of : RuleKind → ℕ → ℕ
 choices_of Lin count = 1
 choices_of Late count = count

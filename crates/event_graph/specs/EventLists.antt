@@ -2,7 +2,7 @@
 use Rattle.std.specs.Prelude.{ℕ, List, [], map, slice_index_or}
 use Rattle.std.specs.Global.{Vec}
 
--- the list of an event, which is empty where there is no such event
+-- the list of an event, which is empty if there is no such event
 abbrev pub at_event : {T : Type 0} → List (List T) → ℕ → List T
 at_event lists event = slice_index_or lists event []
 

@@ -15,11 +15,11 @@ use Rattle.event_graph.specs.RootBound.{HasNoRoot, IsRootBound, MeetsAlways}
 use Rattle.event_graph.specs.Satisfying.{Holds, Satisfies}
 use Rattle.event_graph.specs.Times.{separation, shifted}
 
--- times satisfy a network exactly where they do with one number added to all of them
+-- times satisfy a network if and only if they do so with one number added to all of them
 abbrev pub ShiftKeepsSatisfying : Type 0
 ShiftKeepsSatisfying = (net : Net) (times : List ℤ) (by : ℤ) → IsNet net → (Satisfies times net ↔ Satisfies (shifted times by) net)
 
--- the least separation of a pair is minus the greatest of the reversed pair
+-- the least separation of a pair is minus the greatest separation of the reversed pair
 abbrev pub LeastIsReversedGreatest : Type 0
 LeastIsReversedGreatest = (net : Net) (from to : EventId) (value : ℤ) → (IsLeast net from to value ↔ IsGreatest net to from (neg_ℤ value))
 
@@ -27,7 +27,7 @@ LeastIsReversedGreatest = (net : Net) (from to : EventId) (value : ℤ) → (IsL
 abbrev pub RayIsUnbounded : Type 0
 RayIsUnbounded = (net : Net) (from to : EventId) (times : List ℤ) (set : List Bool) → IsRay net from to times set → IsUnbounded net from to
 
--- the times meet the always-edges of the constraint of a number
+-- the times meet the always-edges of the constraint with a number
 abbrev pub MeetsAlwaysOf : List ℤ → Net → ℕ → Type 0
 MeetsAlwaysOf times net number = (name : EdgeName) (e : Edge) → name.constraint ≡ number → IsAlways net name → edge net name ≡ Some e → Meets times e
 
@@ -36,16 +36,16 @@ abbrev pub MeetsSomeChoice : List ℤ → Net → ℕ → Constraint → Type 0
 MeetsSomeChoice times net number c =
     (cause : ℕ) × (cause < length c.causes) × IfSome (edge net (record { constraint = number; cause = cause; side = choice_side c.kind })) (Meets times)
 
--- a constraint holds exactly where its always-edges are met and, if it is a latest or an earliest one, so is some choice
+-- a constraint holds if and only if the times meet its always-edges and, for a latest or earliest constraint, some choice
 abbrev pub HoldsByEdges : Type 0
 HoldsByEdges = (net : Net) (number : ℕ) (c : Constraint) (times : List ℤ) → IsNet net → slice_get net.constraints number ≡ Some c
     → (Holds times c ↔ (MeetsAlwaysOf times net number × (HasChoice c.kind → MeetsSomeChoice times net number c)))
 
--- the times meet the edges of the first cause of the constraint of a number, on both sides
+-- the times meet the edges of the first cause of the constraint with a number, on both sides
 abbrev pub MeetsBothSides : List ℤ → Net → ℕ → Type 0
 MeetsBothSides times net number = (side : Side) → IfSome (edge net (record { constraint = number; cause = 0; side = side })) (Meets times)
 
--- a constraint of one cause holds exactly where both its edges are met, whatever its kind
+-- a constraint of one cause holds if and only if the times meet both its edges, whatever its kind
 abbrev pub SingleCauseIsLinear : Type 0
 SingleCauseIsLinear = (net : Net) (number : ℕ) (c : Constraint) (times : List ℤ) → IsNet net → slice_get net.constraints number ≡ Some c
     → length c.causes ≡ 1 → (Holds times c ↔ MeetsBothSides times net number)
@@ -54,25 +54,25 @@ SingleCauseIsLinear = (net : Net) (number : ℕ) (c : Constraint) (times : List 
 abbrev pub SatisfyingMeetsAlways : Type 0
 SatisfyingMeetsAlways = (net : Net) (times : List ℤ) → Satisfies times net → MeetsAlways times net
 
--- a network without choices is its always-edges: times satisfy it exactly where they meet those
+-- times satisfy a network without choices if and only if they meet its always-edges
 abbrev pub SatisfyingIsMeetingAlways : Type 0
 SatisfyingIsMeetingAlways = (net : Net) (times : List ℤ) → IsNet net → HasNoChoices net → (Satisfies times net ↔ MeetsAlways times net)
 
--- the root bound of a pair, where it is a number, is at least every satisfying separation
+-- no satisfying separation exceeds the root bound of the pair, where that is a number
 abbrev pub RootBoundEncloses : Type 0
 RootBoundEncloses = (net : Net) (from to : EventId) (value : ℤ) (times : List ℤ) → IsRootBound net from to (Some value) → Satisfies times net
     → separation times from to ≤ℤ value
 
--- where no times meet the always-edges no times satisfy
+-- if no times meet the always-edges, no times satisfy
 abbrev pub NoRootIsInconsistent : Type 0
 NoRootIsInconsistent = (net : Net) → HasNoRoot net → IsInconsistent net
 
--- no satisfying separation exceeds a value for which there is a proof
+-- if there is a proof of a value for a pair, no satisfying separation of the pair exceeds it
 abbrev pub ProofBounds : Type 0
 ProofBounds = (net : Net) (from to : EventId) (value : ℤ) (lines : List ProofLine) (times : List ℤ) → IsProof net (Bound from to value) lines
     → Satisfies times net → separation times from to ≤ℤ value
 
--- no times satisfy a network for which there is a proof of nothing
+-- if there is a proof of `Nothing`, no times satisfy the network
 abbrev pub ProofOfNothing : Type 0
 ProofOfNothing = (net : Net) (lines : List ProofLine) → IsProof net Nothing lines → IsInconsistent net
 
@@ -91,7 +91,7 @@ abbrev pub StoppedProofIsBelowChoices : Type 0
 StoppedProofIsBelowChoices = (net : Net) (goal : ProofGoal) (lines : List ProofLine) (count : ℕ) → IsNet net → IsStoppedProof net goal lines count
     → count < cause_choices net.constraints
 
--- the range that a cause had, set again, gives the network that was there
+-- if a cause gets another range and then its old range again, the network is as before
 abbrev pub RangeSetAgain : Type 0
 RangeSetAgain = (net : Net) (constraint cause : ℕ) (range : Ends) (c : Cause) → cause_at net constraint cause ≡ Some c
     → with_range (with_range net constraint cause range) constraint cause c.range ≡ net

@@ -3,7 +3,7 @@ use Rattle.event_graph.specs.declared.line.Line.{Line}
 use Rattle.event_graph.specs.declared.line.Line.TheVariants as lent
 use Rattle.event_graph.specs.Proof.{Loop, Path, ProofLine, Split}
 
--- the line of a proof that is lent
+-- a lent line as a line of a proof
 abbrev pub lent_line : Line → ProofLine
 lent_line (lent.Split constraint) = Split constraint
 lent_line (lent.Path edges) = Path edges.now

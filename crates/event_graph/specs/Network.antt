@@ -32,7 +32,7 @@ pub record Net : Type 0 where
   pub events : ℕ
   pub constraints : List Constraint
 
--- the cause of a number of the constraint of a number
+-- the cause with a number, of the constraint with a number, if both are there
 abbrev pub cause_at : Net → ℕ → ℕ → Option Cause
 cause_at net constraint cause = option_and_then (λ (c : Constraint). slice_get c.causes cause) (slice_get net.constraints constraint)
 
@@ -42,7 +42,7 @@ IsCauseCount Lin count = count ≡ 1
 IsCauseCount Late count = (1 ≤ count) × (count ≤ MAX_CAUSES)
 IsCauseCount Early count = (1 ≤ count) × (count ≤ MAX_CAUSES)
 
--- a constraint between events below a number
+-- a constraint between events with numbers below `events`, with as many causes as its kind may have
 pub record IsConstraint (events : ℕ) (c : Constraint) : Type 0 where
   pub target : c.target.0 < events
   pub causes : All (λ (cause : Cause). cause.event.0 < events) c.causes
@@ -52,7 +52,7 @@ pub record IsConstraint (events : ℕ) (c : Constraint) : Type 0 where
 abbrev pub AreEnds : Ends → Type 0
 AreEnds range = IsEnd range.low × IsEnd range.high
 
--- so are those of the ranges of all causes
+-- the finite ends of the ranges of all causes are within the limit
 abbrev pub HasEnds : Net → Type 0
 HasEnds net = (constraint cause : ℕ) (c : Cause) → cause_at net constraint cause ≡ Some c → AreEnds c.range
 
@@ -63,7 +63,7 @@ pub record IsNet (net : Net) : Type 0 where
   pub count : length net.constraints ≤ MAX_CONSTRAINTS
   pub ends : HasEnds net
 
--- the number of causes to name of a constraint: a linear one has none
+-- how many causes of a constraint are named, for a kind and a number of causes; a linear constraint has none to name
 abbrev pub named_causes : RuleKind → ℕ → ℕ
 named_causes Lin count = 0
 named_causes Late count = count
@@ -84,25 +84,25 @@ HasNoChoices net = All (λ (c : Constraint). length c.causes ≡ 1) net.constrai
 abbrev pub with_constraint : Net → Constraint → Net
 with_constraint net c = record net { constraints = net.constraints ++ c ∷ [] }
 
--- why a constraint was not added, by the number of constraints that are there: the network is full, or else memory is wanted
+-- why a constraint was not added, for the number of constraints that are there: the network is full, or it has room and memory ran out
 abbrev pub IsPushFault : ℕ → PushFault → Type 0
 IsPushFault count (Full n) = (n ≡ count) × (count ≡ MAX_CONSTRAINTS)
 IsPushFault count NoMemory = count < MAX_CONSTRAINTS
 
 -- ---- another range for one cause
 
--- the causes with another range for the one of a number, where it is there
+-- the causes with another range for the cause with a number, if it is there
 abbrev pub causes_with : List Cause → ℕ → Ends → Option Cause → List Cause
 causes_with causes number range None = causes
 causes_with causes number range (Some cause) = set causes number (record cause { range = range })
 
--- the constraints with another range for a cause of the one of a number, where both are there
+-- the constraints with another range for a cause of the constraint with a number, if both are there
 abbrev pub constraints_with : List Constraint → ℕ → ℕ → Ends → Option Constraint → List Constraint
 constraints_with constraints number cause range None = constraints
 constraints_with constraints number cause range (Some c) =
     set constraints number (record c { causes = causes_with c.causes cause range (slice_get c.causes cause) })
 
--- the network with another range for one cause of one constraint, and as it is where that cause is not there
+-- the network with another range for one cause of one constraint; it is unchanged if that cause is not there
 abbrev pub with_range : Net → ℕ → ℕ → Ends → Net
 with_range net constraint cause range =
     record net { constraints = constraints_with net.constraints constraint cause range (slice_get net.constraints constraint) }

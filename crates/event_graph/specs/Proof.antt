@@ -1,4 +1,4 @@
--- Proofs by cases that no separation of a pair exceeds a value, or that no times satisfy, as they are read from their lines.
+-- Proofs by cases, as they are read from their lines. A proof shows that no separation of a pair exceeds a value, or that no times satisfy.
 use Rattle.std.specs.Prelude.{◌≡◌, ◌+◌, ◌≤◌, ℕ, zero, suc, ℤ, pos, ◌+ℤ◌, ◌≤ℤ◌, ◌<ℤ◌, ◌⊎◌, List, [], ◌∷◌, ◌++◌, length, All, Contains, Option, Some, None, IsSomeAnd, slice_get}
 use Rattle.itv_base.specs.declared.names.EdgeName.{EdgeName}
 use Rattle.itv_base.specs.declared.names.EventId.{EventId}
@@ -38,7 +38,7 @@ HasChoice Early = Unit {0}
 abbrev pub IsOnChoiceSide : Net → EdgeName → Type 0
 IsOnChoiceSide net name = IsSomeAnd (slice_get net.constraints name.constraint) (λ c. HasChoice c.kind × (name.side ≡ choice_side c.kind))
 
--- an edge may be used in a case where it is an always-edge, or where its cause is chosen and it is on the choice side
+-- an edge may be used in a case if it is an always-edge, or if its cause is chosen and it is on the choice side
 abbrev pub IsUsable : Net → Case → EdgeName → Type 0
 IsUsable net chosen name =
     IsAlways net name
@@ -49,7 +49,7 @@ abbrev pub IsWalk : Net → EventId → List EdgeName → EventId → Type 0
 IsWalk net from [] to = from ≡ to
 IsWalk net from (name ∷ names) to = IsSomeAnd (edge net name) (λ e. (e.from ≡ from) × IsWalk net e.to names to)
 
--- the weight of an edge that is there
+-- the weight of an edge, and 0 if there is none
 abbrev pub weight_of : Option Edge → ℤ
 weight_of None = pos 0
 weight_of (Some e) = e.weight
@@ -70,12 +70,12 @@ abbrev pub ClosesByLoop : Net → Case → List EdgeName → Type 0
 ClosesByLoop net chosen names =
     ((event : EventId) × IsWalk net event names event) × All (IsUsable net chosen) names × (path_sum net names <ℤ pos 0) × (length names ≤ net.events)
 
--- the constraint is there, has causes to choose from, and none of them is chosen yet
+-- the constraint is there and has causes to choose from, and no cause of it is chosen yet
 abbrev pub MaySplit : Net → Case → ℕ → Type 0
 MaySplit net chosen number =
     IsSomeAnd (slice_get net.constraints number) (λ c. HasChoice c.kind) × All (λ (choice : Choice). choice.constraint ≡ number → ⊥) chosen
 
--- the case with one more choice, for each of some causes of a constraint from one on
+-- the case with one more choice, for each of `count` causes of a constraint from the cause with a number on
 abbrev pub cases_from : Case → ℕ → ℕ → ℕ → List Case
 cases_from chosen number cause zero = []
 cases_from chosen number cause (suc count) = ((record { constraint = number; cause = cause }) ∷ chosen) ∷ cases_from chosen number (cause + 1) count
@@ -88,7 +88,7 @@ count_causes (Some c) = length c.causes
 abbrev pub cases_of : Net → Case → ℕ → List Case
 cases_of net chosen number = cases_from chosen number 0 (count_causes (slice_get net.constraints number))
 
--- Reading lines turns a list of open cases into another: each line closes the first open case, or puts its split in its place.
+-- Reading lines turns a list of open cases into another. Each line closes the first open case, or replaces it by the cases of its split.
 abbrev pub ProofLeaves : Net → ProofGoal → List Case → List ProofLine → List Case → Type 0
 ProofLeaves net goal cases [] left = cases ≡ left
 ProofLeaves net goal [] (line ∷ lines) left = ⊥
@@ -103,11 +103,11 @@ closing_lines (Split number ∷ lines) = closing_lines lines
 closing_lines (Path names ∷ lines) = closing_lines lines + 1
 closing_lines (Loop names ∷ lines) = closing_lines lines + 1
 
--- the lines are a proof: from the one case where nothing is chosen, reading them leaves no open case
+-- the lines are a proof: reading starts with the one case where nothing is chosen, and leaves no case open
 abbrev pub IsProof : Net → ProofGoal → List ProofLine → Type 0
 IsProof net goal lines = ProofLeaves net goal ([] ∷ []) lines []
 
--- the lines are a proof that was stopped: reading them leaves a case open, and a number of them close cases
+-- the lines are a proof that was stopped: reading them leaves a case open, and `count` of the lines close a case
 pub record IsStoppedProof (net : Net) (goal : ProofGoal) (lines : List ProofLine) (count : ℕ) : Type 0 where
   pub open_case : (chosen : Case) × (cases : List Case) × ProofLeaves net goal ([] ∷ []) lines (chosen ∷ cases)
   pub closed : closing_lines lines ≡ count

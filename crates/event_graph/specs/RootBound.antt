@@ -7,12 +7,12 @@ use Rattle.event_graph.specs.Bounds.{IsGreatestAmong, IsUnboundedAmong}
 use Rattle.event_graph.specs.Edges.{IsAlways, Meets, edge}
 use Rattle.event_graph.specs.Network.{Net}
 
--- as many times as events, which meet each always-edge
+-- there are as many times as events, and they meet each always-edge
 pub record MeetsAlways (times : List ℤ) (net : Net) : Type 0 where
   pub count : length times ≡ net.events
   pub each : (name : EdgeName) (e : Edge) → IsAlways net name → edge net name ≡ Some e → Meets times e
 
--- the greatest separation of a pair among the times that meet the always-edges, or none where it is unbounded
+-- the greatest separation of a pair among the times that meet the always-edges, or `None` if it is unbounded
 abbrev pub IsRootBound : Net → EventId → EventId → Option ℤ → Type 0
 IsRootBound net from to (Some value) = IsGreatestAmong (λ times. MeetsAlways times net) from to value
 IsRootBound net from to None = IsUnboundedAmong (λ times. MeetsAlways times net) from to

@@ -25,16 +25,16 @@ HoldsAs Early times target causes = All (IsBefore times target) causes × Any (I
 abbrev pub Holds : List ℤ → Constraint → Type 0
 Holds times c = HoldsAs c.kind times c.target c.causes
 
--- as many times as events, and each constraint holds
+-- there are as many times as events, and each constraint holds
 pub record Satisfies (times : List ℤ) (net : Net) : Type 0 where
   pub count : length times ≡ net.events
   pub each : All (Holds times) net.constraints
 
--- the times break the constraint of a number
+-- the times break the constraint with a number
 abbrev pub Breaks : List ℤ → Net → ℕ → Type 0
 Breaks times net number = IsSomeAnd (slice_get net.constraints number) (λ c. Holds times c → ⊥)
 
--- the least number, from one on, of a constraint that the times break
+-- the number of the first constraint, from `start` on, that the times break
 pub record IsFirstBroken (times : List ℤ) (net : Net) (start number : ℕ) : Type 0 where
   pub reached : start ≤ number
   pub broken : Breaks times net number

@@ -2,7 +2,7 @@
 use Rattle.std.specs.Prelude.{◌^◌, ℕ, ℤ, pos, neg_ℤ, ◌+ℤ◌, ◌-ℤ◌, ◌<ℤ◌, Bool, List, [], ◌∷◌, map, slice_index_or, if◌then◌else◌}
 use Rattle.itv_base.specs.declared.names.EventId.{EventId}
 
--- the time of an event
+-- the time of an event, and 0 if there is no such event
 abbrev pub time_of : List ℤ → EventId → ℤ
 time_of times event = slice_index_or times event.0 (pos 0)
 
@@ -14,11 +14,11 @@ separation times from to = time_of times to -ℤ time_of times from
 abbrev pub shifted : List ℤ → ℤ → List ℤ
 shifted times by = map (λ time. time +ℤ by) times
 
--- the times with that of an event taken from all
+-- the times less the time of one event
 abbrev pub moved : EventId → List ℤ → List ℤ
 moved origin times = shifted times (neg_ℤ (time_of times origin))
 
--- the times with a number added to those of a set of events, which has a flag for each event
+-- the times with a number added at the events of a set; the set is a list with a flag for each event
 abbrev pub raised : List Bool → ℕ → List ℤ → List ℤ
 raised [] by times = times
 raised (is_in ∷ set) by [] = []

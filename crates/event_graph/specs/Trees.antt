@@ -41,7 +41,7 @@ abbrev mutual
   ProveEach net goal (chosen ∷ cases) no_more = ⊥
   ProveEach net goal (chosen ∷ cases) (one_more tree trees) = Proves net goal chosen tree × ProveEach net goal cases trees
 
--- lines spell a proof exactly where they are those of a tree that proves the goal with nothing chosen
+-- lines are a proof if and only if they are the lines of a tree that proves the goal where nothing is chosen
 abbrev pub ProofIsTree : Type 0
 ProofIsTree = (net : Net) (goal : ProofGoal) (lines : List ProofLine)
     → (IsProof net goal lines ↔ ((tree : Tree) × Proves net goal [] tree × (lines ≡ tree_lines tree)))

@@ -44,7 +44,7 @@ impl<T> ByEvent<T> {
 }
 
 impl<T: Drop> ByEvent<T> {
-    /// An empty list for each of so many events. Takes the memory of the lists themselves, or answers `NoMemory`.
+    /// An empty list for each of so many events. Takes memory for the lists, not yet for values, or returns `NoMemory`.
     pub fn new(alloc: Global, events: u32) -> Result<ByEvent<T>, NoMemory>
         ensures empty { IfOk result (λ b. b ≡ replicate events []) }
     {
@@ -55,7 +55,7 @@ impl<T: Drop> ByEvent<T> {
         Ok(ByEvent { lists })
     }
 
-    /// Puts a value at the end of the list of an event. Where memory is not found, the lists are as they were.
+    /// Puts a value at the end of the list of an event. Where memory is not found the lists are unchanged.
     pub fn push(&mut self, event: EventId, value: T) -> Result<(), NoMemory>
         requires { event.0 < length self.old }
         ensures ok { OnOk result (self.new ≡ set self.old event.0 (at_event self.old event.0 ++ value ∷ [])) }
@@ -65,7 +65,7 @@ impl<T: Drop> ByEvent<T> {
         Ok(())
     }
 
-    /// Puts a value at a place of the list of an event, counted from 0, in place of the one that is there.
+    /// Replaces the value at a place of the list of an event. Places are counted from 0.
     pub fn replace(&mut self, event: EventId, place: usize, value: T)
         requires event { event.0 < length self.old }
         requires place { place < length (at_event self.old event.0) }

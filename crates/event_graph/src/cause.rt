@@ -48,7 +48,7 @@ impl Cause {
             .is_none_or(|high| limit <= delayed(time, high))
     }
 
-    // Whether the target comes no earlier than the cause and its low end, however far a set is raised.
+    // Whether the target comes no earlier than the cause and its low end, however far the events of a set are raised.
     pub(crate) fn low_stays(&self, times: &[i64], set: &[bool], target: EventId) -> bool
         requires cause { self.now.event.0 < length times.now }
         requires target { target.0 < length times.now }
@@ -60,7 +60,7 @@ impl Cause {
             && (self.range.low().is_none() || !set[self.event.0 as usize] || set[target.0 as usize])
     }
 
-    // Whether the target comes no later than the cause and its high end, however far a set is raised.
+    // Whether the target comes no later than the cause and its high end, however far the events of a set are raised.
     pub(crate) fn high_stays(&self, times: &[i64], set: &[bool], target: EventId) -> bool
         requires cause { self.now.event.0 < length times.now }
         requires target { target.0 < length times.now }
@@ -94,7 +94,7 @@ impl Cause {
     }
 }
 
-// Reads the ends of the ranges of causes, and so tells that they are within the limit.
+// Reads the ends of the ranges of causes. So contracts know that the ends are within the limit.
 pub(crate) fn read_ends(causes: &[Cause])
     ensures { All (λ (c : Cause). AreEnds c.range) causes.now }
 {

@@ -2,7 +2,7 @@
 
 use std::marker::Model;
 
-/// A cause of a constraint that is chosen, by their numbers from 0.
+/// A cause of a constraint that is chosen: the numbers of both, from 0.
 #[derive(Clone, Copy, Debug, PartialEq, Eq)]
 pub struct Choice {
     pub constraint: u32,

@@ -76,7 +76,7 @@ impl Constraint {
         }
     }
 
-    /// Sets the range of a cause, and tells whether that cause is there. Where it is not, the constraint is unchanged.
+    /// Sets the range of a cause. Returns whether that cause is there. If it is not, the constraint is unchanged.
     pub fn set_range(&mut self, cause: u32, range: Range) -> bool
         ensures there { IsTrue result ↔ IsSome (slice_get self.old.causes cause) }
         ensures set { self.new ≡ record self.old {
@@ -110,7 +110,7 @@ impl Constraint {
         }
     }
 
-    /// The number of causes to choose from: that of a latest or earliest constraint, else 1.
+    /// The number of causes to choose from: all causes of a latest or earliest constraint, and 1 for a linear one.
     pub fn choices(&self) -> u64
         requires { IsCauseCount self.now.kind (length self.now.causes) }
         ensures value { result ≡ choices_of self.now.kind (length self.now.causes) }

@@ -9,13 +9,13 @@ use itv_base::NoMemory;
 use std::alloc::Global;
 use std::marker::Model;
 
-/// A stack of choices, at most one of each constraint, and a table that tells the choice of a constraint at one
-/// look. Contracts see for how many constraints there is room, and the choices, the latest one first.
+/// A stack of choices, at most one of each constraint, and a table that gives the choice of a constraint without a
+/// search. Contracts see the number of constraints for which there is room, and the choices, the latest one first.
 #[derive(Debug, Drop)]
 pub struct Decisions {
     // The choices, the oldest one first.
     choices: Vec<Choice>,
-    // The cause that is chosen of each constraint, where one is.
+    // For each constraint, the cause that is chosen, if one is.
     causes: Vec<Option<u32>>,
 }
 
@@ -31,7 +31,8 @@ impl Model for Decisions {
 }
 
 impl Decisions {
-    /// No choices, and room for one of each of so many constraints. Takes all the memory that is ever needed.
+    /// No choices, and room for one of each of so many constraints. Takes all the memory that it ever needs, or returns
+    /// `NoMemory`.
     pub fn new(alloc: Global, room: u32) -> Result<Decisions, NoMemory>
         ensures { IfOk result (λ d. d ≡ record { room = room; chosen = [] }) }
     {
@@ -49,7 +50,7 @@ impl Decisions {
         while self.pop().is_some() {}
     }
 
-    /// Whether there are none.
+    /// Whether there are no choices.
     pub fn is_empty(&self) -> bool
         ensures { IsTrue result ↔ (self.now.chosen ≡ []) }
     {
@@ -93,7 +94,7 @@ impl Decisions {
     {
         match self.causes.get(constraint as usize) {
             Some(cause) => *cause,
-            // Of a constraint beyond the room none is.
+            // No cause is chosen of a constraint beyond the room.
             None => None,
         }
     }

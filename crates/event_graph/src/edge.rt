@@ -2,7 +2,7 @@
 
 use itv_base::EventId;
 
-/// An edge between two events: the time of `to` less that of `from` is at most `weight`, in picoseconds.
+/// An edge between two events: the time of `to` less the time of `from` is at most `weight`, in picoseconds.
 #[derive(Clone, Copy, Debug, PartialEq, Eq)]
 pub struct Edge {
     pub from: EventId,

@@ -3,12 +3,12 @@
 ghost use Rattle.event_graph.specs.Trees.{ProofIsTree};
 ghost use Rattle.event_graph.specs.Laws.{HoldsByEdges, LeastIsReversedGreatest, NoRootIsInconsistent, ProofBounds, ProofIsWithinChoices, ProofOfNothing, RangeSetAgain, RayIsUnbounded, ReadingLeavesCases, RootBoundEncloses, SatisfyingIsMeetingAlways, SatisfyingMeetsAlways, ShiftKeepsSatisfying, SingleCauseIsLinear, StoppedProofIsBelowChoices};
 
-/// Times satisfy a network exactly where they do with one number added to all of them.
+/// Times satisfy a network if and only if they do so with one number added to all of them.
 pub fn shift_keeps_satisfying()
     ensures law { ShiftKeepsSatisfying }
 {}
 
-/// The least separation of a pair is minus the greatest of the reversed pair.
+/// The least separation of a pair is minus the greatest separation of the reversed pair.
 pub fn least_is_reversed_greatest()
     ensures law { LeastIsReversedGreatest }
 {}
@@ -18,13 +18,13 @@ pub fn ray_is_unbounded()
     ensures law { RayIsUnbounded }
 {}
 
-/// A constraint holds exactly where its always-edges are met and, if it is a latest or an earliest one,
-/// the edge of some cause on the choice side is met or that end is open.
+/// A constraint holds if and only if the times meet its always-edges and, for a latest or earliest constraint, some
+/// choice: they meet the edge of some cause on the choice side, or that end is open.
 pub fn holds_by_edges()
     ensures law { HoldsByEdges }
 {}
 
-/// A constraint of one cause holds exactly where both its edges are met, whatever its kind.
+/// A constraint of one cause holds if and only if the times meet both its edges, whatever its kind.
 pub fn single_cause_is_linear()
     ensures law { SingleCauseIsLinear }
 {}
@@ -34,38 +34,37 @@ pub fn satisfying_meets_always()
     ensures law { SatisfyingMeetsAlways }
 {}
 
-/// A network whose constraints have a single cause each is its always-edges: times satisfy it exactly where
-/// they meet those.
+/// Times satisfy a network whose constraints have a single cause each if and only if they meet its always-edges.
 pub fn satisfying_is_meeting_always()
     ensures law { SatisfyingIsMeetingAlways }
 {}
 
-/// The root bound of a pair, where it is a number, is at least every satisfying separation.
+/// No satisfying separation exceeds the root bound of the pair, where that is a number.
 pub fn root_bound_encloses()
     ensures law { RootBoundEncloses }
 {}
 
-/// Where no times meet the always-edges no times satisfy.
+/// If no times meet the always-edges, no times satisfy.
 pub fn no_root_is_inconsistent()
     ensures law { NoRootIsInconsistent }
 {}
 
-/// No satisfying separation exceeds a value for which there is a proof.
+/// If there is a proof of a value for a pair, no satisfying separation of the pair exceeds it.
 pub fn proof_bounds()
     ensures law { ProofBounds }
 {}
 
-/// No times satisfy a network for which there is a proof of nothing.
+/// If there is a proof of `Nothing`, no times satisfy the network.
 pub fn proof_of_nothing()
     ensures law { ProofOfNothing }
 {}
 
-/// Lines spell a proof exactly where they are those of a tree that proves its goal.
+/// Lines are a proof if and only if they are the lines of a tree that proves its goal.
 pub fn proof_is_tree()
     ensures law { ProofIsTree }
 {}
 
-/// The cases that the accepted lines of a proof leave open do not depend on what is to be shown.
+/// The cases that accepted lines leave open do not depend on what the lines show.
 pub fn reading_leaves_cases()
     ensures law { ReadingLeavesCases }
 {}
@@ -80,7 +79,7 @@ pub fn stopped_proof_is_below_choices()
     ensures law { StoppedProofIsBelowChoices }
 {}
 
-/// The range that a cause had, set again, gives the network that was there.
+/// If a cause gets another range and then its old range again, the network is as before.
 pub fn range_set_again()
     ensures law { RangeSetAgain }
 {}

@@ -1,6 +1,6 @@
-//! Networks of timing constraints between events, linear, latest and earliest: which times satisfy one,
-//! its edges, its cause choices and the choices of a case. The contract of the crate: `broken` gives none exactly where the times
-//! satisfy the network, else the least number of a constraint that they break.
+//! Networks of linear, latest and earliest timing constraints between events: which times satisfy a network, its edges,
+//! its cause choices and the choices of a case. The contract of the crate: `broken` returns none if and only if the
+//! times satisfy the network, and else the number of the first constraint that they break.
 #![tactic(auto)]
 
 mod by_event;

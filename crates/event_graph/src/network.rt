@@ -50,7 +50,8 @@ impl Network {
         })
     }
 
-    /// The number of events. What a network is holds of each: it is within the limits, and so are the ends of its ranges.
+    /// The number of events. A call also gives the invariant: the sizes and the ends of ranges are within the limits,
+    /// and all constraints are between events of the network.
     pub fn events(&self) -> u32
         ensures count { result ≡ self.now.events }
         ensures net { IsNet self.now }
@@ -72,9 +73,9 @@ impl Network {
         self.constraints.is_empty()
     }
 
-    /// Adds the constraint that the time of `to` less that of `from`, which are events of the network,
-    /// lies in the range. The answer is `Full` with the number of constraints exactly where there are
-    /// [`MAX_CONSTRAINTS`] of them. After a refusal the network is unchanged.
+    /// Adds the constraint that the time of `to` less the time of `from` lies in the range. Both are events of the
+    /// network. Returns `Full` with the number of constraints if and only if there are [`MAX_CONSTRAINTS`] of them.
+    /// After a refusal the network is unchanged.
     pub fn push_linear(
         &mut self,
         alloc: Global,
@@ -92,10 +93,10 @@ impl Network {
         self.push(alloc, RuleKind::Lin, to, &[Cause { event: from, range }])
     }
 
-    /// Adds the constraint that the target comes at the latest of its causes, each delayed within its
-    /// range: no earlier than every cause with its low end, and no later than some cause with its high
-    /// end. There are 1 to [`MAX_CAUSES`] causes, and all events are of the network. The answer is
-    /// `Full` as for [`Network::push_linear`]. After a refusal the network is unchanged.
+    /// Adds the constraint that the target comes at the latest of its causes, each delayed within its range: no earlier
+    /// than every cause with its low end, and no later than some cause with its high end. There are 1 to [`MAX_CAUSES`]
+    /// causes, and all events are of the network. Returns `Full` as [`Network::push_linear`] does. After a refusal the
+    /// network is unchanged.
     pub fn push_late(
         &mut self,
         alloc: Global,
@@ -114,10 +115,10 @@ impl Network {
         self.push(alloc, RuleKind::Late, target, causes)
     }
 
-    /// Adds the constraint that the target comes at the earliest of its causes, each delayed within its
-    /// range: no later than every cause with its high end, and no earlier than some cause with its low
-    /// end. There are 1 to [`MAX_CAUSES`] causes, and all events are of the network. The answer is
-    /// `Full` as for [`Network::push_linear`]. After a refusal the network is unchanged.
+    /// Adds the constraint that the target comes at the earliest of its causes, each delayed within its range: no later
+    /// than every cause with its high end, and no earlier than some cause with its low end. There are 1 to
+    /// [`MAX_CAUSES`] causes, and all events are of the network. Returns `Full` as [`Network::push_linear`] does. After
+    /// a refusal the network is unchanged.
     pub fn push_early(
         &mut self,
         alloc: Global,
@@ -136,8 +137,8 @@ impl Network {
         self.push(alloc, RuleKind::Early, target, causes)
     }
 
-    /// Adds a constraint that is there in a network of as many events, by its number. There is room for one more.
-    /// After a refusal the network is unchanged.
+    /// Adds a copy of a constraint that is there in `net`, by its number. Both networks have as many events, and there
+    /// is room for one more constraint. After a refusal the network is unchanged.
     pub fn push_copy(&mut self, alloc: Global, net: &Network, number: u32) -> Result<(), NoMemory>
         requires there { number < length net.now.constraints }
         requires events { self.old.events ≡ net.now.events }
@@ -197,7 +198,7 @@ impl Network {
         self.constraints[constraint as usize].kind
     }
 
-    /// The target of a constraint that is there. That of a linear one is its to-event.
+    /// The target of a constraint that is there. The target of a linear constraint is its to-event.
     pub fn target(&self, constraint: u32) -> EventId
         requires there { constraint < length self.now.constraints }
         ensures target { option_map (λ (c : Constraint). c.target)
@@ -206,8 +207,8 @@ impl Network {
         self.constraints[constraint as usize].target
     }
 
-    /// The number of causes of a latest or earliest constraint that is there, and 0 for a linear one.
-    /// Each constraint has a cause 0, though.
+    /// The number of causes of a latest or earliest constraint that is there, and 0 for a linear one. Each constraint,
+    /// even a linear one, has a cause 0.
     pub fn cause_count(&self, constraint: u32) -> u32
         requires there { constraint < length self.now.constraints }
         ensures count { option_map cause_count_of
@@ -222,8 +223,7 @@ impl Network {
         }
     }
 
-    /// A cause that is there of a constraint. Cause 0 of a linear one, the only one that it has, is its
-    /// from-event with its range.
+    /// A cause of a constraint; it is there. A linear constraint has cause 0 only: its from-event with its range.
     pub fn cause(&self, constraint: u32, cause: u32) -> Cause
         requires there { IsSome (cause_at self.now constraint cause) }
         ensures cause { cause_at self.now constraint cause ≡ Some result }
@@ -232,7 +232,7 @@ impl Network {
         constraint.causes[cause as usize]
     }
 
-    /// Whether a cause of a constraint is there. Cause 0 of a linear one is its from-event.
+    /// Whether a cause of a constraint is there. Cause 0 of a linear constraint is its from-event.
     pub fn has_cause(&self, constraint: u32, cause: u32) -> bool
         ensures there { IsTrue result ↔ IsSome (cause_at self.now constraint cause) }
     {
@@ -242,8 +242,8 @@ impl Network {
         }
     }
 
-    /// Sets the range of a cause of a constraint. Cause 0 of a linear one, the only one that it has, is its from-event. The answer
-    /// is whether that cause is there; where it is not, the network is unchanged. Takes no memory.
+    /// Sets the range of a cause of a constraint. A linear constraint has cause 0 only: its from-event. Returns whether
+    /// that cause is there. If it is not, the network is unchanged. Takes no memory.
     pub fn set_range(&mut self, constraint: u32, cause: u32, range: Range) -> bool
         ensures there { IsTrue result ↔ IsSome (cause_at self.old constraint cause) }
         ensures set { self.new ≡ with_range self.old constraint cause range }
@@ -257,9 +257,9 @@ impl Network {
         self.constraints[place].set_range(cause, range)
     }
 
-    /// The edge of a name. There is none exactly where the constraint or the cause is not there, or the
-    /// end on that side is open. The upper edge leads from the cause to the target, and its weight is the
-    /// high end. The lower edge leads back, and its weight is minus the low end.
+    /// The edge of a name. There is none if and only if the constraint or the cause is not there, or the end on that
+    /// side is open. The upper edge leads from the cause to the target, and its weight is the high end. The lower edge
+    /// leads back, and its weight is minus the low end.
     pub fn edge(&self, name: EdgeName) -> Option<Edge>
         ensures edge { result ≡ edge self.now name }
         ensures weight { IfSome result (λ e. IsEnd (Some e.weight)) }
@@ -271,9 +271,9 @@ impl Network {
         cause.edge(constraint.target, name.side)
     }
 
-    /// Whether there is an edge of this name, and it is an always-edge, which is met whatever cause is
-    /// chosen: on both sides of a linear constraint, on the lower side of a latest one, on the upper side
-    /// of an earliest one, and on both sides where there is a single cause.
+    /// Whether there is an edge of this name, and it is an always-edge. All satisfying times meet an always-edge,
+    /// whatever cause is chosen. Always-edges are on both sides of a linear constraint, on the lower side of a latest
+    /// one, on the upper side of an earliest one, and on both sides where there is a single cause.
     pub fn is_always(&self, name: EdgeName) -> bool
         ensures always { IsTrue result ↔ IsAlways self.now name }
     {
@@ -283,8 +283,8 @@ impl Network {
         }
     }
 
-    /// Whether the cause choices, the product of the numbers of causes of the latest and earliest
-    /// constraints, are at most this many. They may be more than a number of 64 bits can tell.
+    /// Whether the cause choices, the product of the numbers of causes of the latest and earliest constraints, are at
+    /// most this many. The product may be too large for a number of 64 bits.
     pub fn choices_fit(&self, most: u64) -> bool
         ensures fit { IsTrue result ↔ (cause_choices self.now.constraints ≤ most) }
     {
@@ -308,8 +308,8 @@ impl Network {
             .count() as u32
     }
 
-    /// The least number of a constraint that the times break, or none exactly where the times satisfy the
-    /// network. The times are in picoseconds, one per event, each below 2^61 in absolute value.
+    /// The number of the first constraint that the times break, or none if and only if the times satisfy the network.
+    /// The times are in picoseconds, one per event, each below 2^61 in absolute value.
     pub fn broken(&self, times: &[i64]) -> Option<u32>
         requires count { length times.now ≡ self.now.events }
         requires times { All IsTime times.now }
@@ -319,9 +319,9 @@ impl Network {
         self.broken_from(times, 0)
     }
 
-    /// The least number, from one on, of a constraint that the times break, or none exactly where they meet
-    /// all of those. So a loop that goes on behind each answer goes over the constraints once. The times are as
-    /// for [`Network::broken`].
+    /// The number of the first constraint, from `start` on, that the times break, or none if and only if they break
+    /// none of these constraints. So a loop that goes on behind each result passes over the constraints once. The times
+    /// are as for [`Network::broken`].
     pub fn broken_from(&self, times: &[i64], start: u32) -> Option<u32>
         requires count { length times.now ≡ self.now.events }
         requires times { All IsTime times.now }
@@ -337,8 +337,8 @@ impl Network {
         None
     }
 
-    /// Whether the times satisfy the network however far the events of a set are raised, all by one number.
-    /// There are a time and a flag for each event, and the times are as for [`Network::broken`].
+    /// Whether the times satisfy the network however far the events of a set are raised, all by the same number. There
+    /// are a time and a flag for each event, and the times are as for [`Network::broken`].
     pub fn stays(&self, times: &[i64], set: &[bool]) -> bool
         requires count { length times.now ≡ self.now.events }
         requires set { length set.now ≡ self.now.events }
@@ -348,9 +348,9 @@ impl Network {
         all_stay(&self.constraints, times, set)
     }
 
-    /// Whether times and a set of events show that a pair of events of the network is unbounded: the set holds
-    /// `to` and not `from`, and the times satisfy the network however far its events are raised. The times and
-    /// the set are as for [`Network::stays`].
+    /// Whether times and a set of events show that a pair of events of the network is unbounded. The set holds `to` and
+    /// not `from`. The times satisfy the network however far the events of the set are raised. The times and the set
+    /// are as for [`Network::stays`].
     pub fn is_ray(&self, times: &[i64], set: &[bool], from: EventId, to: EventId) -> bool
         requires count { length times.now ≡ self.now.events }
         requires set { length set.now ≡ self.now.events }

@@ -11,7 +11,7 @@ use std::fmt;
 /// Why a constraint was not added to a network.
 #[derive(Clone, Copy, Debug, PartialEq, Eq)]
 pub enum PushFault {
-    /// The network has as many constraints as it may, which is this number.
+    /// The network is full: it has this many constraints, the most that it may have.
     Full(u32),
     /// Memory was wanted and not found.
     NoMemory,

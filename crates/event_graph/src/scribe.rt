@@ -1,4 +1,4 @@
-//! Who writes down the lines of a proof while it is found.
+//! Writers of the lines of a proof while it is found.
 
 ghost use Rattle.std.specs.Prelude.{◌≡◌, ℕ, List, [], ◌∷◌, ◌++◌, OnOk, OnErr};
 ghost use Rattle.itv_base.specs.Outside.{FaultCounted};
@@ -20,16 +20,16 @@ impl fmt::Display for ScribeFailed {
 
 impl Error for ScribeFailed {}
 
-/// Takes the lines of a proof, one after another. Each call writes its line, or fails: then the scribe has
+/// Takes the lines of a proof, one after another. Each call writes its line, or fails. After a failure the scribe has
 /// some front of the line at its end, and its count of faults rose.
 pub trait Scribe {
-    /// How often it has failed. The count never falls.
+    /// How often the scribe has failed. The count never falls.
     ghost faults: { Self → ℕ };
 
     /// The scribe grew by just these lines.
     ghost Grew: { Self → List ProofLine → Self → Type 0 };
 
-    /// The scribe failed in the last of these lines, and has those before it.
+    /// The scribe failed in the last of these lines, and has the lines before it.
     ghost WasCut: { Self → List ProofLine → Self → Type 0 };
 
     /// Writes that a case is split by the causes of a constraint.
@@ -50,13 +50,13 @@ pub trait Scribe {
         ensures cut { OnErr result (WasCut self.old (Loop edges.now ∷ []) self.new) }
         ensures rose { OnErr result (FaultCounted (faults self.old) (faults self.new)) };
 
-    /// It grows by no lines where nothing is written.
+    /// The scribe grows by no lines where nothing is written.
     ghost grew_none: { (s : Self) → Grew s [] s };
 
-    /// Lines and then more of them.
+    /// The scribe grows by some lines and then by more of them.
     ghost grew_more: { (s t u : Self) (xs ys : List ProofLine) → Grew s xs t → Grew t ys u → Grew s (xs ++ ys) u };
 
-    /// Lines, and then some in which it failed.
+    /// The scribe grows by some lines, and then fails in others.
     ghost cut_after: { (s t u : Self) (xs ys : List ProofLine) → Grew s xs t → WasCut t ys u → WasCut s (xs ++ ys) u };
 
     /// Lines that are written leave the count of faults as it is.

@@ -5,7 +5,7 @@ ghost use Rattle.event_graph.specs.Times.{IsTime, moved, time_of};
 
 use itv_base::EventId;
 
-/// The time of an event, in picoseconds, or 0 where there is none.
+/// The time of an event, in picoseconds, or 0 if there is no such event.
 pub fn time_of(times: &[i64], event: EventId) -> i64
     ensures time { result ≡ time_of times.now event }
 {
@@ -15,7 +15,8 @@ pub fn time_of(times: &[i64], event: EventId) -> i64
     }
 }
 
-/// Takes the time of an event from all. The event is there, and all are below 2^61 picoseconds in absolute value.
+/// Subtracts the time of an event from all times. The event is there, and all times are below 2^61 picoseconds in
+/// absolute value.
 pub fn move_all(times: &mut [i64], origin: EventId)
     requires event { origin.0 < length times.old }
     requires times { All IsTime times.old }
@@ -27,7 +28,7 @@ pub fn move_all(times: &mut [i64], origin: EventId)
     }
 }
 
-// How long a time is after an origin.
+// How long after an origin a time is.
 fn since(origin: i64, time: i64) -> i64
     requires origin { IsTime origin }
     requires time { IsTime time }

@@ -43,7 +43,7 @@ stripped_some (c ∷ front) (b ∷ text) rest e = stripped_at (eqb b c) refl e (
     stripped_at true h e tail = let is : b ≡ c = eqb-true b c h in let is_tail = tail e in cc
     stripped_at false h e tail = absurd cc
 
--- what `strip_prefix` answers
+-- what `strip_prefix` returns
 pub strips : (front text : List ℕ) (r : Option (Bor (List ℕ)))
     → MatchOption r (FindsTextPrefix front text None) (λ x. StripsPrefix (FindsTextPrefix front) text x.now) → option_copied r ≡ stripped front text
 strips front text None h = none_at (stripped front text) refl

@@ -10,12 +10,12 @@ handed_on : {A B F : Type 0} (b : Bool) (reading : Result A F) (more : Result B 
 handed_on true reading more fault on h = tt
 handed_on false reading more fault on h = on fault h
 
--- what has each fault of something else has this one
+-- if one reading has each fault of another, a fault of the other is a fault of this one
 pub IsReadingFault-on : {A B F : Type 0} (is_memory : F → Bool) (reading : Result A F) (more : Result B F) (fault : F)
     → ((d : F) → reading ≡ Err d → more ≡ Err d) → IsReadingFault is_memory reading fault → IsReadingFault is_memory more fault
 IsReadingFault-on is_memory reading more fault on h = handed_on (is_memory fault) reading more fault on h
 
--- the fault of the first step is that of all steps
+-- the fault of the first step is the fault of all steps
 pub IsReadingFault-first : {A B F : Type 0} (is_memory : F → Bool) (reading : Result A F) (f : A → Result B F) (fault : F)
     → IsReadingFault is_memory reading fault → IsReadingFault is_memory (reading >>= f) fault
 IsReadingFault-first is_memory reading f fault h = IsReadingFault-on is_memory reading (reading >>= f) fault (λ d is. ap (λ r. r >>= f) is) h
@@ -35,7 +35,7 @@ pub walk_on : {X A F : Type 0} (step : ℕ → A → X → Result A F) (n k : �
     → walk step n done (drop k xs) ≡ walk step (n + 1) more (drop (k + 1) xs)
 walk_on step n k done more xs x h is next = rw (drop-next xs k x h is, next) refl
 
--- the fault of an element is that of the walk
+-- the fault of an element is the fault of the walk
 pub walk_fault : {X A F : Type 0} (is_memory : F → Bool) (step : ℕ → A → X → Result A F) (n k : ℕ) (done : A) (xs : List X) (x : X) (fault : F) → k < length xs → x ≡ get_or xs k x
     → IsReadingFault is_memory (step n done x) fault → IsReadingFault is_memory (walk step n done (drop k xs)) fault
 walk_fault is_memory step n k done xs x fault h is next =
@@ -58,7 +58,7 @@ pub IfOk-bind : {A B F : Type 0} (P : A → Type 0) (Q : B → Type 0) (reading 
 IfOk-bind P Q (Ok x) f h then = then x h
 IfOk-bind P Q (Err fault) f h then = tt
 
--- what holds of a value with nothing wrong holds of what comes
+-- what holds of a value with nothing wrong holds of what `unless` gives
 pub IfOk-unless : {A X F : Type 0} (P : A → Type 0) (o : Option X) (fault : X → F) (value : A) → (o ≡ None → P value) → IfOk (unless o fault value) P
 IfOk-unless P None fault value h = h refl
 IfOk-unless P (Some x) fault value h = tt
@@ -84,7 +84,7 @@ pub walk_to_on : {A F : Type 0} (step : ℕ → A → Result A F) (n count : ℕ
     → walk_to step n done (count - n) ≡ walk_to step (n + 1) more (count - (n + 1))
 walk_to_on step n count done more h next = walk_to_step step n count done h ∙ rw next refl
 
--- the fault of a number is that of the walk
+-- the fault of a number is the fault of the walk
 pub walk_to_fault : {A F : Type 0} (is_memory : F → Bool) (step : ℕ → A → Result A F) (n count : ℕ) (done : A) (fault : F) → n < count → IsReadingFault is_memory (step n done) fault
     → IsReadingFault is_memory (walk_to step n done (count - n)) fault
 walk_to_fault is_memory step n count done fault h next =

@@ -17,7 +17,7 @@ pub found_at : (files : List (List ℕ × List ℕ)) (i : ℕ) (entry : List ℕ
 found_at files i entry known name bytes whole h is k b eq w =
     sym (w ∙ find_at files i entry name h is ∙ rw (← k, ← eq) (ap Some (sym b)))
 
--- it has another
+-- the entry at a place has another name
 pub passed_at : (files : List (List ℕ × List ℕ)) (i : ℕ) (entry : List ℕ × List ℕ) (known name : List ℕ) (whole : Option (List ℕ)) → i < length files → entry ≡ get_or files i entry
     → known ≡ entry.0 → false ≡ pointwise nat_eq known name → whole ≡ find (slice_cmp nat_cmp) name (drop i files) → whole ≡ find (slice_cmp nat_cmp) name (drop (i + 1) files)
 passed_at files i entry known name whole h is k eq w =

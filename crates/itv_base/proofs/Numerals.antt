@@ -11,7 +11,7 @@ use Rattle.std.proofs.lemmas.Int.Digits.{digits_value_is, digits_of_step, all_be
 use Rattle.itv_base.specs.Numerals.{number_text, is_numeral, value_of}
 use Rattle.itv_base.proofs.Numbers.{digit_range, IsNumeral, numeral_is}
 
--- the digits of a number that digits follow, where the number is not 0
+-- if digits follow a number above 0, the digits of the whole are its digits and then these
 digits_after : (n : ℕ) (ds : List ℕ) → 0 < n → AllBelowBase 10 ds → digits_of 10 (number_from_digits_after 10 n ds) ≡ digits_of 10 n ++ ds
 digits_after n [] above fits = sym (append-nil (digits_of 10 n))
 digits_after n (d ∷ ds) above fits =
@@ -27,7 +27,7 @@ one_digit d above below =
     let ones : d % 10 ≡ d = omega arith in
     digits_of_step 10 d (omega arith) above ∙ rw (tens, ones) refl
 
--- the digits of a number that digits write, the first of them above 0
+-- the digits of the number that digits write are these digits, if the first is above 0
 digits_from : (d : ℕ) (ds : List ℕ) → 0 < d → AllBelowBase 10 (d ∷ ds) → digits_of 10 (number_from_digits 10 (d ∷ ds)) ≡ d ∷ ds
 digits_from d ds above fits =
     let start : number_from_digits 10 (d ∷ ds) ≡ number_from_digits_after 10 d ds = ap (λ n. number_from_digits_after 10 n ds) (omega arith) in

@@ -37,7 +37,7 @@ reads_then a b c xs ys zs p q = record {
   taken = consumes_then a b c p.more q.more p.taken q.taken;
 }
 
--- what was read is the front of what was left, where enough was read or nothing is left
+-- what was read is the front of what was left, if enough was read or nothing is left
 pub front_is : (a b : Option (List ℕ)) (xs : List ℕ) (cap : ℕ) → ReadsOn a b [] xs → length xs ≤ cap → (cap ≤ length xs) ⊎ IsAtEnd b → IfSome a (λ left. xs ≡ take cap left)
 front_is None b xs cap r few done = tt
 front_is (Some u) b xs cap r few done = front_at b r.taken done
@@ -69,7 +69,7 @@ appends_none : (known : Option (List ℕ)) → Appends known known []
 appends_none None = tt
 appends_none (Some xs) = sym (append-nil xs)
 
--- Of a piece some is written, and the rest is left.
+-- Some of a piece is written, and the rest is left.
 pub record WritesSome (before after : Option (List ℕ)) (rest piece : List ℕ) : Type 0 where
   pub done : List ℕ
   pub parts : done ++ rest ≡ piece
@@ -110,13 +110,13 @@ writes_front a b rest piece w = record {
   written = subst (Appends a b) (sym (ap (take (length w.done)) (sym w.parts) ∙ take-append_seam w.done rest)) w.written;
 }
 
--- ---- a sink that tells no bytes
+-- ---- a sink whose bytes contracts do not see
 
 -- a count of faults rises to the next one
 pub raised_rose : (count : ℕ) → count ≤ last_count → FaultCounted count (one_more_fault count)
 raised_rose count small = elim (cases_lt count last_count) [ inl less ↦ inl (omega arith) | inr ge ↦ inr (omega arith) ]
 
--- a put by a writer of which nothing is told but the count
+-- a put by a writer of which contracts see the count only
 pub untold_puts : {E : Type 0} (old new : ℕ) (bytes : List ℕ) (r : Result ⊤ E) → OnOk r (new ≡ old) → OnErr r (old ≤ new) → OnErr r (FaultCounted old new)
     → Puts (record { written = None; faults = old }) (record { written = None; faults = new }) bytes r
 untold_puts old new bytes (Ok x) still count rose = ap (λ n. record { written = None; faults = n }) still

@@ -22,7 +22,7 @@ grown-append told a b = ap (λ o. record told { written = o }) (known-append tol
 
 -- ---- one put after another
 
--- a front of a text was put, which is a front of a longer one
+-- a front of a text was put; it is a front of a longer text too
 pub cut_more : (old new : SinkView) (xs ys : List ℕ) → CutShort old new xs → CutShort old new (xs ++ ys)
 cut_more old new xs ys c =
     let n : ℕ = c.front.0 in
@@ -59,7 +59,7 @@ puts_same old new xs ys (Err fault) e p = rw (← e) p
 
 -- ---- loops
 
--- Of the whole text some is put, without a fault, and the rest is left.
+-- Some of the whole text is put, without a fault, and the rest is left.
 pub record Left (old now : SinkView) (left whole : List ℕ) : Type 0 where
   pub done : List ℕ
   pub parts : done ++ left ≡ whole
@@ -92,7 +92,7 @@ left_cut old now next piece rest left whole l e c =
 pub left_last : {E : Type 0} (old now next : SinkView) (piece whole : List ℕ) (r : Result ⊤ E) → Left old now piece whole → Puts now next piece r → Puts old next whole r
 left_last old now next piece whole r l p = puts_same old next (l.done ++ piece) whole r l.parts (puts_then old now next l.done piece r l.grew p)
 
--- the bytes of the pieces from one on
+-- the bytes of the pieces from a number on
 pub pieces_at : (pieces : List (Bor (List ℕ))) (i : ℕ) (d : Bor (List ℕ)) → i < length pieces
     → concat (drop i (map (λ (p : Bor (List ℕ)). p.now) pieces)) ≡ (get_or pieces i d).now ++ concat (drop (i + 1) (map (λ (p : Bor (List ℕ)). p.now) pieces))
 pieces_at pieces i d h = rw (drop-map, drop-map, add-one, drop-cons pieces i d h) refl

@@ -8,7 +8,7 @@ use Rattle.itv_base.specs.declared.limits.TheConstants.{MAX_NAME_LEN}
 abbrev pub is_name_byte : ℕ → Bool
 is_name_byte b = is_ascii_alphanumeric b || b == 95
 
--- one of these or more, up to the limit: a tag, or the name of a part
+-- 1 to `MAX_NAME_LEN` such characters: a tag, or the name of a part
 abbrev pub is_name : List ℕ → Bool
 is_name name = (nat_le 1 (length name) && nat_le (length name) MAX_NAME_LEN) && list_all is_name_byte name
 

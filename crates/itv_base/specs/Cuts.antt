@@ -16,7 +16,7 @@ stripped [] text = Some text
 stripped (c ∷ front) [] = None
 stripped (c ∷ front) (b ∷ text) = if b == c then stripped front text else None
 
--- one thing of the text behind a front, and another where the front does not stand there
+-- what a function makes of the text behind a front, or another value if the front does not stand there
 abbrev pub after : {R : Type 0} → Option (List ℕ) → (List ℕ → R) → R → R
 after None f other = other
 after (Some rest) f other = f rest

@@ -1,3 +1,4 @@
+-- The definitions of this crate: ranges, names, what shelves and sinks do, readings step by step, texts and numerals.
 pub mod Range
 pub mod Names
 pub mod Outside

@@ -14,7 +14,7 @@ use Rattle.itv_base.specs.declared.shelf.FetchFault.TheVariants.{Failed, NoMemor
 abbrev pub next_call : ℕ → ℕ
 next_call calls = min (calls + 1) (2 ^ 32 - 1)
 
--- the files, the numbers of the calls that are to fail, and how many calls and faults there were, with the name that failed last
+-- the files; the numbers of the calls that are to fail; how many calls and faults there were; and the name that failed last
 pub record MemShelf : Type 0 where
   pub files : Files
   pub failing : List ℕ
@@ -28,15 +28,15 @@ mem_shelf_code =
     code_by (Files × (List ℕ × (ℕ × (ℕ × List ℕ)))) (coded× (map.code {R = slice_cmp nat_cmp} (coded_list coded_ℕ) (coded_list coded_ℕ)) (coded× (coded_list coded_ℕ) (coded× coded_ℕ (coded× coded_ℕ (coded_list coded_ℕ)))))
     (λ s. (s.files, (s.failing, (s.calls, (s.faults, s.last))))) (λ p. record { files = p.0; failing = p.1.0; calls = p.1.1.0; faults = p.1.1.1.0; last = p.1.1.1.1 }) (λ _. refl)
 
--- What such a shelf tells. It is faithful where no call is to fail.
+-- The view of such a shelf. The shelf is faithful if no call is to fail.
 abbrev pub shelf_told : MemShelf → ShelfView
 shelf_told s = record { files = Some s.files; faults = s.faults; last = s.last; is_faithful = length s.failing == 0 }
 
--- the next fetch fails if it asks for this name: the call is listed, or there is no such file
+-- the next fetch fails if it asks for this name: its call is listed, or there is no such file
 abbrev pub is_refused : MemShelf → List ℕ → Bool
 is_refused s name = list_any (λ call. call == s.calls) s.failing || not (is_some (file_of s.files name))
 
--- what a fetch answers and leaves
+-- what a fetch returns and leaves
 abbrev pub MemFetches : MemShelf → MemShelf → List ℕ → ℕ → Result (Vec ℕ) FetchFault → Type 0
 MemFetches old new name most (Ok bytes) =
     (is_refused old name ≡ false) × (option_map (take most) (file_of old.files name) ≡ Some bytes.items) × (new ≡ record old { calls = next_call old.calls })
@@ -44,7 +44,7 @@ MemFetches old new name most (Err Failed) =
     (is_refused old name ≡ true) × (new ≡ record old { calls = next_call old.calls; faults = one_more_fault old.faults; last = name })
 MemFetches old new name most (Err NoMemory) = new ≡ old
 
--- what was written, how much may be, the call that is to fail, and how many calls and faults there were
+-- what was written, how much may be written, the call that is to fail, and how many calls and faults there were
 pub record MemSink : Type 0 where
   pub bytes : List ℕ
   pub room : ℕ
@@ -52,7 +52,7 @@ pub record MemSink : Type 0 where
   pub calls : ℕ
   pub faults : ℕ
 
--- what such a sink tells
+-- the view of such a sink
 abbrev pub sink_told : MemSink → SinkView
 sink_told s = record { written = Some s.bytes; faults = s.faults }
 
@@ -61,7 +61,7 @@ abbrev pub is_named : Option ℕ → ℕ → Bool
 is_named None calls = false
 is_named (Some call) calls = call == calls
 
--- the next put succeeds if it is given this piece: its call isn't the named one, and the piece fits
+-- the next put succeeds if it is given this piece: its call is not the named one, and the piece fits
 abbrev pub takes : MemSink → List ℕ → Bool
 takes s piece = if is_named s.failing s.calls then false else nat_le (length s.bytes + length piece) s.room
 

@@ -8,6 +8,6 @@ pub record Name : Type 0 where
   pub mark : ℕ
   pub cycle : ℕ
 
--- the name as a report tells it
+-- the name as a report prints it
 abbrev pub name_view : EventName → Name
 name_view name = record { part = name.part.now; mark = name.mark; cycle = name.cycle }

@@ -9,7 +9,7 @@ use Rattle.std.specs.Str.Parse.{digits_value}
 abbrev pub number_text : ℕ → List ℕ
 number_text n = if n == 0 then codes "0" else map (λ d. 48 + d) (digits_of 10 n)
 
--- likewise, with a minus in front where it is below 0
+-- a whole number in decimal, with a minus in front if it is below 0
 abbrev pub signed_text : ℤ → List ℕ
 signed_text (pos n) = number_text n
 signed_text (negsuc n) = codes "-" ++ number_text (suc n)

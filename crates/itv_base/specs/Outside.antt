@@ -1,4 +1,4 @@
--- What the calls of a shelf and of a sink do, and what a failure of theirs says.
+-- What the calls of a shelf and of a sink do, and what their failures say.
 use Rattle.std.specs.Prelude.{◌≡◌, ℕ, ⊤, ◌+◌, ◌-◌, ◌^◌, ◌<◌, ◌≤◌, ◌⊎◌, min, Bool, true, List, ◌++◌, length, take, Option, Some, IfSome, IsNone, option_map, Result, Ok, Err}
 use Rattle.std.specs.Ordering.{nat_cmp}
 use Rattle.std.specs.Cmp.Lexicographic.{slice_cmp}
@@ -23,34 +23,35 @@ last_count = 2 ^ 64 - 1
 abbrev pub one_more_fault : ℕ → ℕ
 one_more_fault count = min (count + 1) last_count
 
--- a count of faults rose in a call: it grew, or it stands at its last value after it
+-- a count of faults rose in a call: it grew, or after the call it stands at its last value
 abbrev pub FaultCounted : ℕ → ℕ → Type 0
 FaultCounted before now = (before < now) ⊎ (now ≡ last_count)
 
--- What a shelf tells: its files, if it does; how often its fetches have failed; the name that was asked in the latest one that did; and
--- whether its fetches fail only for names that it has no file of.
+-- What contracts see of a shelf: its files, if they see them; how often its fetches have failed; the name in the latest failed fetch; and whether its
+-- fetches fail only for names of which it has no file.
 pub record ShelfView : Type 0 where
   pub files : Option Files
   pub faults : ℕ
   pub last : List ℕ
   pub is_faithful : Bool
 
--- what a sink tells: what was written, if it does, and how often its puts have failed
+-- what contracts see of a sink: what was written, if they see it, and how often its puts have failed
 pub record SinkView : Type 0 where
   pub written : Option (List ℕ)
   pub faults : ℕ
 
 -- ---- fetches
 
--- where the files are told, the file of a name is there, and these are its first bytes, or all where there are fewer
+-- if contracts see the files, the file of a name is there, and these are its first bytes, or all its bytes if there are fewer
 abbrev pub HasFront : Option Files → List ℕ → ℕ → List ℕ → Type 0
 HasFront told name most bytes = IfSome told (λ files. option_map (take most) (file_of files name) ≡ Some bytes)
 
--- where the files are told, there is none of a name
+-- if contracts see the files, there is no file of a name
 abbrev pub IsMissing : Option Files → List ℕ → Type 0
 IsMissing told name = IfSome told (λ files. IsNone (file_of files name))
 
--- a fetch of a name failed: the count rose, the name is the last that failed, and what else is told stands
+-- a fetch of a name failed: the count rose, the name is the last that failed, and the rest of the view is unchanged; a faithful shelf has no file of
+-- the name
 pub record FailedFor (name : List ℕ) (old new : ShelfView) : Type 0 where
   pub files : new.files ≡ old.files
   pub faithful : new.is_faithful ≡ old.is_faithful
@@ -59,21 +60,21 @@ pub record FailedFor (name : List ℕ) (old new : ShelfView) : Type 0 where
   pub last : new.last ≡ name
   pub missing : old.is_faithful ≡ true → IsMissing old.files name
 
--- What a fetch answers, and what it leaves: at most so many bytes, which are the first of the file where files are told. A failure
--- alone changes what the shelf tells.
+-- What a fetch returns and leaves. It returns at most so many bytes. If contracts see the files, these are the first bytes of the file. Only a fetch
+-- that failed changes the view of the shelf.
 abbrev pub Fetches : ShelfView → ShelfView → List ℕ → ℕ → Result (Vec ℕ) FetchFault → Type 0
 Fetches old new name most (Ok bytes) = (new ≡ old) × (length bytes.items ≤ most) × HasFront old.files name most bytes.items
 Fetches old new name most (Err Failed) = FailedFor name old new
 Fetches old new name most (Err NoMemory) = new ≡ old
 
--- how often the fetches of a shelf that tells no files have failed, and the name that was asked in the latest one
+-- for a shelf whose files contracts do not see: how often its fetches have failed, and the name in the latest failed fetch
 pub record Failures : Type 0 where
   pub faults : ℕ
   pub last : List ℕ
 
 -- ---- puts
 
--- what a sink tells with some bytes more
+-- the view of a sink with some bytes more
 abbrev pub grown : SinkView → List ℕ → SinkView
 grown told bytes = record told { written = option_map (λ known. known ++ bytes) told.written }
 

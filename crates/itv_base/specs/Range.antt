@@ -2,12 +2,12 @@
 use Rattle.std.specs.Prelude.{ℤ, neg_ℤ, ◌≤ℤ◌, Bool, false, ◌||◌, Option, Some, None, IfSome, int_lt}
 use Rattle.itv_base.specs.declared.limits.TheConstants.{END_LIMIT}
 
--- the two ends; one that is `None` is open
+-- the two ends; an end that is `None` is open
 pub record Ends : Type 0 where
   pub low : Option ℤ
   pub high : Option ℤ
 
--- a number lies in a range where each end that is not open allows it
+-- a number lies in a range if each end that is not open allows it
 abbrev pub Allows : Ends → ℤ → Type 0
 Allows ends value = IfSome ends.low (λ low. low ≤ℤ value) × IfSome ends.high (λ high. value ≤ℤ high)
 

@@ -2,13 +2,13 @@
 use Rattle.std.specs.Prelude.{◌≡◌, ℕ, ◌≤◌, List, ◌++◌, length, take, Option}
 use Rattle.std.specs.Io.KnownBytes.{Appends, Consumes}
 
--- Bytes were read and put behind others. They stood next in what the reader had left, where that is known.
+-- Bytes were read and put behind others. They came next in what the reader had left, if that is known.
 pub record ReadsOn (before after : Option (List ℕ)) (old new : List ℕ) : Type 0 where
   pub more : List ℕ
   pub grew : new ≡ old ++ more
   pub taken : Consumes before after more
 
--- A front of some bytes was written, where it is known what the writer holds.
+-- A front of some bytes was written, if it is known what the writer holds.
 pub record WritesFront (before after : Option (List ℕ)) (bytes : List ℕ) : Type 0 where
   pub count : ℕ
   pub within : count ≤ length bytes

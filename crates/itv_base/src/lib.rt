@@ -1,6 +1,7 @@
-//! What every crate of the verifier stands on: limits, ranges of delays, names, texts and the numbers in them, and the outside.
-//! The contract of the outside: a fetch gives the first bytes of the told file, and a put appends its piece. Each fails only
-//! where its count of faults rose in the call, and a fetch that failed leaves its name as the last one.
+//! What every crate of the verifier stands on: limits, ranges of delays, names, texts and the numbers in them, and the
+//! outside. The contract of the outside: a fetch gives the first bytes of the file, if contracts see the files, and a
+//! put appends its piece. Each fails only if its count of faults rose in the call. A failed fetch leaves its name as
+//! the last that failed.
 #![tactic(auto)]
 
 mod characters;

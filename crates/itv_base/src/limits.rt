@@ -1,5 +1,6 @@
-//! The limits of the program. Each number is allowed, and the next one is refused. Definitions and contracts cite them by name,
-//! and at the end of this file each is held to its number, so that a limit is changed in two places or not at all.
+//! The limits of the program. Each number is allowed, and the next one is refused. Definitions and contracts cite the
+//! limits by name. The end of this file states each number again, so that a limit is changed in two places or not at
+//! all.
 
 /// Bytes of a design file or a sheet file.
 pub const FILE_LIMIT: u32 = 4_194_304;
@@ -40,7 +41,7 @@ pub const MAX_ROWS: u32 = 4_096;
 /// Events times rows.
 pub const MAX_CELLS: u64 = 1_000_000;
 
-/// Events times one more than the constraints with two or more causes.
+/// The number of events times one more than the number of constraints with two or more causes.
 pub const MAX_SEARCH_CELLS: u64 = 2_097_152;
 
 /// Events of a matrix of all pairs.
@@ -49,7 +50,7 @@ pub const MAX_MATRIX_EVENTS: u32 = 1_024;
 /// Cases that one search may close.
 pub const MAX_BUDGET: u64 = 1_000_000_000;
 
-/// Cases that one search may close where the words name no number.
+/// Cases that one search may close if the words name no number.
 pub const DEFAULT_BUDGET: u64 = 100_000;
 
 /// The size of the generated design.

@@ -15,7 +15,7 @@ pub enum RuleKind {
     Early,
 }
 
-/// A side of a range: that of its low end, or that of its high end.
+/// A side of a range: the side of its low end, or the side of its high end.
 #[derive(Clone, Copy, Debug, PartialEq, Eq, Hash)]
 pub enum Side {
     Lower,

@@ -50,8 +50,8 @@ fn is_beyond(end: Option<i64>) -> bool
 }
 
 impl Range {
-    /// The range of two ends in picoseconds, `None` being an open one. An end that is too wide is told before ends that are
-    /// the wrong way round.
+    /// The range of two ends in picoseconds; an end that is `None` is open. If an end is too wide, the fault is
+    /// `TooWide`, even where the ends are the wrong way round.
     pub fn new(low: Option<i64>, high: Option<i64>) -> Result<Range, RangeFault>
         ensures ok { IfOk result (λ r. r ≡ record { low = low; high = high }) }
         ensures range { OnOk result (IsRange (record { low = low; high = high })) }

@@ -11,7 +11,7 @@ use thiserror::Error;
 /// Why a fetch gave no bytes.
 #[derive(Clone, Copy, Debug, PartialEq, Eq, Error)]
 pub enum FetchFault {
-    /// The file is not to be had. The shelf's count of faults rose.
+    /// The file could not be read. The shelf's count of faults rose.
     #[error("the file could not be read")]
     Failed,
     #[error("out of memory")]
@@ -44,12 +44,13 @@ impl From<OutOfMemory> for FetchFault {
 
 /// Gives the bytes of files by their names.
 pub trait Shelf {
-    /// What the shelf tells: its files, if it does; how often a fetch has failed, a count that never falls and stays at the last
-    /// value of 64 bits; the name that was asked in the latest fetch that failed; and whether fetches fail only for absent files.
+    /// What contracts see of the shelf: its files, if they see them; how often a fetch has failed, a count that never
+    /// falls and stays at the last value of 64 bits; the name in the latest failed fetch; and whether fetches fail only
+    /// for absent files.
     ghost told: { Self → ShelfView };
 
-    /// The first `cap` bytes of a file, or all of them where it is shorter. It fails only where the count of faults rose, and
-    /// then the name is the last one that failed. Want of memory changes nothing that is told.
+    /// The first `cap` bytes of a file, or all its bytes if there are fewer. It fails only if the count of faults rose,
+    /// and then the name is the last that failed. Want of memory changes nothing of the view.
     fn fetch(&mut self, alloc: Global, name: &str, cap: u32) -> Result<Vec<u8>, FetchFault>
         ensures fetches { Fetches (told self.old) (told self.new) name.now cap result };
 }

@@ -13,7 +13,7 @@ use std::io::{ErrorKind, Read};
 use std::marker::Model;
 use std::rt::Files;
 
-/// The files of the system: a name is a path from the working directory. It tells no files.
+/// The files of the system: a name is a path from the working directory. Contracts do not see the files.
 #[derive(Drop)]
 pub struct ShelfDir<R: Files + Drop> {
     runtime: R,
@@ -45,7 +45,7 @@ impl<R: Files + Drop> ShelfDir<R> {
 // How many bytes one read takes.
 const BLOCK: usize = 4_096;
 
-// Puts one read at the end, and tells whether there may be more.
+// Puts one read at the end. Returns whether there may be more.
 fn read_block<F: Read>(file: &mut F, bytes: &mut Vec<u8>, cap: usize) -> io::Result<bool>
     requires { length bytes.old.items < cap }
     ensures few { OnOk result (length bytes.new.items ≤ cap) }
@@ -66,7 +66,7 @@ fn read_block<F: Read>(file: &mut F, bytes: &mut Vec<u8>, cap: usize) -> io::Res
     }
 }
 
-// The first `cap` bytes that a reader has left, or all where there are fewer.
+// The first `cap` bytes that a reader has left, or all of them if there are fewer.
 fn read_front<F: Read>(alloc: Global, file: &mut F, cap: usize) -> io::Result<Vec<u8>>
     ensures few { IfOk result (λ bytes. length bytes.items ≤ cap) }
     ensures front { IfOk result (λ bytes.

@@ -25,11 +25,11 @@ impl Model for Entry {
     ghost view = { λ e. (e.name, e.bytes.items) };
 }
 
-/// Files in memory by name. A fetch fails exactly where there is no file of the name, or where the number of the call, from 0,
-/// is listed.
+/// Files in memory by name. A fetch fails if and only if there is no file of the name, or the number of the call, from
+/// 0, is listed.
 #[derive(Drop)]
 pub struct ShelfMem {
-    // The newest first, so that it is the first with its name.
+    // The newest file first, so that it is the first with its name.
     files: Vec<Entry>,
     failing: Vec<u32>,
     calls: u32,
@@ -98,7 +98,7 @@ fn newest<'f>(files: &'f [Entry], name: &str) -> Option<&'f [u8]>
     None
 }
 
-// The first `cap` bytes, or all where there are fewer.
+// The first `cap` bytes, or all of them if there are fewer.
 fn front_of(alloc: Global, bytes: &[u8], cap: usize) -> Result<Vec<u8>, NoMemory>
     ensures few { IfOk result (λ front. length front.items ≤ cap) }
     ensures front { IfOk result (λ front. front.items ≡ take cap bytes.now) }

@@ -13,11 +13,11 @@ pub struct PutFailed;
 
 /// Takes bytes, piece by piece.
 pub trait Sink {
-    /// What the sink tells: what was written, if it does, and how often a put has failed, a count that never falls and stays at
-    /// the last value of 64 bits.
+    /// What contracts see of the sink: what was written, if they see it, and how often a put has failed, a count that
+    /// never falls and stays at the last value of 64 bits.
     ghost told: { Self → SinkView };
 
-    /// Appends the piece. Where the put failed a front of the piece was appended, and the count of faults rose.
+    /// Appends the piece. If the put failed, it appended a front of the piece, and the count of faults rose.
     fn put(&mut self, piece: &[u8]) -> Result<(), PutFailed>
         ensures puts { Puts (told self.old) (told self.new) piece.now result };
 }

@@ -9,8 +9,8 @@ use crate::text::NoMemory;
 use std::alloc::Global;
 use std::marker::Model;
 
-/// Room for a number of bytes. A put fails exactly where the number of the call, from 0, is the named one, and then takes
-/// nothing, or where the piece doesn't fit, and then takes as much of it as does.
+/// Room for a number of bytes. A put fails if and only if the number of the call, from 0, is the named one, or the
+/// piece does not fit. At the named call the put takes nothing. Of a piece that does not fit it takes as much as fits.
 #[derive(Drop)]
 pub struct SinkMem {
     bytes: Vec<u8>,

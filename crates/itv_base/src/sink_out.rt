@@ -10,7 +10,7 @@ use std::io;
 use std::io::{ErrorKind, Write};
 use std::marker::Model;
 
-/// Standard output. It tells nothing of what was written.
+/// Standard output. Contracts do not see what was written.
 #[derive(Drop)]
 pub struct SinkOut<R: Print + Drop> {
     runtime: R,
@@ -59,7 +59,7 @@ fn write_whole<W: Write>(out: &mut W, piece: &[u8]) -> io::Result<()>
     Err(io::Error::from(ErrorKind::WriteZero))
 }
 
-// A put by a writer, of which the count of faults tells.
+// A put by a writer, with its count of faults.
 fn put_by<W: Write>(out: &mut W, piece: &[u8], faults: &mut u64) -> Result<(), PutFailed>
     ensures whole { OnOk result (Appends (W.contents out.old) (W.contents out.new) piece.now) }
     ensures front { OnErr result (WritesFront (W.contents out.old) (W.contents out.new) piece.now) }

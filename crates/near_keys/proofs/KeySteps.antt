@@ -1,4 +1,4 @@
--- Keys beside those that are known, and the keys of members read one by one.
+-- Known keys and near keys, and the keys of members read one by one.
 use Rattle.std.proofs.Common.{◌≡◌, ℕ, ◌-◌, ◌≤◌, ◌<◌, ◌||◌, Bool, true, false, List, [], ◌∷◌, ◌++◌, length, map, filter, take, get_or, String, string_bytes, Bor, refl, ap, sym, ◌∙◌, arith}
 use Rattle.std.specs.Prelude.{◌==◌}
 use Rattle.std.specs.List.{list_any}
@@ -20,15 +20,15 @@ module _ (text : List ℕ) (some : 1 ≤ length text) where
       let within : length text - 1 < length text = omega arith in
       rw (length-map text small, slice_get-map small text (length text - 1), slice_get-get_or text (length text - 1) 0 within) refl
 
-  -- the final one is dropped
+  -- the final `s` is dropped
   pub without_s-cut : (small (get_or text (length text - 1) 0) == 115) ≡ true → map small (take (length text - 1) text) ≡ without_s (map small text)
   without_s-cut is = rw (ends-small, is, length-map text small, take-map small (length text - 1) text) refl
 
-  -- there is none
+  -- there is no final `s`
   pub without_s-kept : (small (get_or text (length text - 1) 0) == 115) ≡ false → map small text ≡ without_s (map small text)
   without_s-kept is = rw (ends-small, is) refl
 
--- ---- the keys that are known
+-- ---- known keys
 
 list_any-map : {X Y : Type 0} (p : Y → Bool) (f : X → Y) (xs : List X) → list_any p (map f xs) ≡ list_any (λ x. p (f x)) xs
 list_any-map p f [] = refl
@@ -39,13 +39,13 @@ module _ (known : List (Bor (List ℕ))) (key : List ℕ) where
   pub is_near-known : list_any (λ k. bytes_eq key k.now) known ≡ true → false ≡ is_near (map (λ k. k.now) known) key
   is_near-known is = rw (list_any-map (bytes_eq key) (λ k. k.now) known, is) refl
 
-  -- any other is where its stem is one of theirs
+  -- any other key is near if and only if its stem is the stem of a known key
   pub is_near-other : list_any (λ k. bytes_eq key k.now) known ≡ false → list_any (λ k. bytes_eq (stem key) (stem k.now)) known ≡ is_near (map (λ k. k.now) known) key
   is_near-other is = rw (list_any-map (bytes_eq key) (λ k. k.now) known, is, list_any-map (λ other. bytes_eq (stem key) (stem other)) (λ k. k.now) known) refl
 
 -- ---- members
 
--- the keys of members that nearly are known
+-- the near keys among the keys of members
 abbrev pub near_of_members : List (List ℕ) → List (String Global × Value) → List (List ℕ)
 near_of_members known entries = filter (is_near known) (map (λ at. at.0) (members (members_view entries)))
 

@@ -1,4 +1,4 @@
--- Keys of objects that are passed over, and that nearly are keys which are read.
+-- Near keys: keys of objects that are passed over, and that nearly are keys that are read.
 use Rattle.std.specs.Prelude.{ℕ, ◌+◌, ◌-◌, ◌==◌, ◌&&◌, nat_le, Bool, false, not, if◌then◌else◌, List, [], ◌∷◌, ◌++◌, length, map, filter, take, codes, Option, option_and_then, slice_get}
 use Rattle.std.specs.List.{flat_map, list_any}
 use Rattle.std.specs.Option.{option_map_or}
@@ -17,7 +17,7 @@ small byte = if nat_le 65 byte && nat_le byte 90 then byte + 32 else byte
 abbrev pub ends_in_s : List ℕ → Bool
 ends_in_s text = option_map_or (λ byte. byte == 115) (slice_get text (length text - 1)) false
 
--- without one final `s`
+-- a text without one final `s`
 abbrev pub without_s : List ℕ → List ℕ
 without_s text = if ends_in_s text then take (length text - 1) text else text
 
@@ -25,7 +25,7 @@ without_s text = if ends_in_s text then take (length text - 1) text else text
 abbrev pub stem : List ℕ → List ℕ
 stem key = without_s (map small key)
 
--- no known key, and one but for capitals or one final `s`
+-- a key that is not known, but differs from a known key only by capitals or by one final `s`
 abbrev pub is_near : List (List ℕ) → List ℕ → Bool
 is_near known key = not (list_any (bytes_eq key) known) && list_any (λ other. bytes_eq (stem key) (stem other)) known
 
@@ -35,11 +35,11 @@ is_near known key = not (list_any (bytes_eq key) known) && list_any (λ other. b
 abbrev pub keys_of : Data → List (List ℕ)
 keys_of d = option_map_or (map (λ at. at.0)) (members_of d) []
 
--- those of its keys that nearly are known
+-- the near keys of an object
 abbrev pub near_keys : List (List ℕ) → Data → List (List ℕ)
 near_keys known d = filter (is_near known) (keys_of d)
 
--- those of the objects of a list under a key
+-- the near keys of the objects of a list under a key
 abbrev pub near_below : List (List ℕ) → Option Data → List (List ℕ)
 near_below known listed = option_map_or (flat_map (near_keys known)) (option_and_then list_of listed) []
 
@@ -51,7 +51,7 @@ sheet_keys = codes "signal" ∷ codes "edge" ∷ codes "itv_grades" ∷ []
 abbrev pub lane_keys : List (List ℕ)
 lane_keys = codes "name" ∷ codes "wave" ∷ codes "node" ∷ []
 
--- those of the lanes of an element of `signal`, which is a lane, a group of elements, or passed over
+-- the near keys of the lanes of an element of `signal`; an element is a lane, a group of elements, or passed over
 abbrev mutual
   pub near_at : Data → List (List ℕ)
   near_at (array group) = near_within group
@@ -62,7 +62,7 @@ abbrev mutual
   near_within no_items = []
   near_within (item d rest) = near_at d ++ near_within rest
 
--- the keys of a sheet that nearly are known: its own, and then those of its lanes in order
+-- the near keys of a sheet: its own near keys, and then the near keys of its lanes in order
 abbrev pub near_in_sheet : Data → List (List ℕ)
 near_in_sheet tree = near_keys sheet_keys tree ++ option_map_or near_within (option_and_then as_array (get (codes "signal") tree)) []
 
@@ -77,6 +77,6 @@ part_keys = codes "name" ∷ codes "sheet" ∷ codes "grade" ∷ []
 abbrev pub net_keys : List (List ℕ)
 net_keys = codes "pins" ∷ codes "delay" ∷ []
 
--- the keys of a netlist that nearly are known: its own, and then those of its parts and of its nets in order
+-- the near keys of a netlist: its own near keys, then the near keys of its parts, and then the near keys of its nets, in order
 abbrev pub near_in_netlist : Data → List (List ℕ)
 near_in_netlist tree = near_keys netlist_keys tree ++ (near_below part_keys (get (codes "parts") tree) ++ near_below net_keys (get (codes "nets") tree))

@@ -1,4 +1,4 @@
-//! One key beside those that are known.
+//! One key beside the known keys.
 
 ghost use Rattle.std.specs.Prelude.{◌≡◌, map};
 ghost use Rattle.std.specs.List.{list_any};
@@ -7,7 +7,7 @@ ghost use Rattle.near_keys.specs.NearKeys.{is_near, stem};
 
 use crate::letters::have_one_stem;
 
-/// Whether a key is none of those that are known, and one of them but for capitals or one final `s`.
+/// Whether a key is not known, but differs from a known key only by capitals or by one final `s`.
 pub(crate) fn is_near(known: &[&str], key: &str) -> bool
     ensures { result ≡ is_near (map (λ k. k.now) known.now) key.now }
 {
@@ -21,7 +21,7 @@ fn is_known(known: &[&str], key: &str) -> bool
     known.iter().any(|other| key == *other)
 }
 
-// Whether a key is one of those that are known but for capitals or one final `s`.
+// Whether a key differs from some known key at most by capitals and by one final `s`.
 fn is_like_one(known: &[&str], key: &str) -> bool
     ensures { result ≡ list_any (λ k. bytes_eq (stem key.now) (stem k.now)) known.now }
 {

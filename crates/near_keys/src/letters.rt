@@ -4,14 +4,14 @@ ghost use Rattle.std.specs.Prelude.{◌≡◌, ◌==◌, map};
 ghost use Rattle.std.specs.Str.{bytes_eq};
 ghost use Rattle.near_keys.specs.NearKeys.{small, stem, without_s};
 
-/// Whether two texts are one but for capitals and for one final `s`.
+/// Whether two texts differ at most by capitals and by one final `s`.
 pub(crate) fn have_one_stem(left: &str, right: &str) -> bool
     ensures { result ≡ bytes_eq (stem left.now) (stem right.now) }
 {
     are_one_in_small_letters(without_s(left.as_bytes()), without_s(right.as_bytes()))
 }
 
-// A text without one final `s`, which may be a capital.
+// A text without one final `s`, small or capital.
 fn without_s(text: &[u8]) -> &[u8]
     ensures { map small result.now ≡ without_s (map small text.now) }
 {
@@ -28,7 +28,7 @@ fn is_s(byte: u8) -> bool
     matches!(byte, b's' | b'S')
 }
 
-// Whether two texts are one but for capitals.
+// Whether two texts differ at most by capitals.
 fn are_one_in_small_letters(left: &[u8], right: &[u8]) -> bool
     ensures { result ≡ bytes_eq (map small left.now) (map small right.now) }
 {

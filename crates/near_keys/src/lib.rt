@@ -1,4 +1,5 @@
-//! The keys of JSON objects that are passed over, and that nearly are keys which are read: one but for capitals or for one final `s`.
+//! Near keys: keys of JSON objects that are passed over, and that differ from keys that are read only by capitals or by
+//! one final `s`.
 //! The one contract: a call gives the near keys of a sheet or of a netlist in order, and copies no other key.
 #![tactic(auto)]
 

@@ -11,8 +11,8 @@ use json_tree::list_at;
 use serde_json::Value;
 use std::alloc::Global;
 
-/// The keys of a netlist that are passed over and nearly are keys which are read: its own, and then those of its parts and of its
-/// nets in order.
+/// The near keys of a netlist, which are passed over and nearly are keys that are read: its own near keys, then the
+/// near keys of its parts, and then the near keys of its nets, in order.
 pub fn near_in_netlist(alloc: Global, tree: &Value) -> Result<Texts, NoMemory>
     ensures { IfOk result (λ keys. keys ≡ near_in_netlist (view tree.now)) }
 {
@@ -28,7 +28,8 @@ pub fn near_in_netlist(alloc: Global, tree: &Value) -> Result<Texts, NoMemory>
     Ok(near)
 }
 
-// Puts the near keys of the objects of the list under a key at the end. Where memory is not found, some of them may be there.
+// Puts the near keys of the objects of the list under a key at the end. Where memory is not found, some of them may be
+// there.
 fn push_near_below(
     alloc: Global,
     near: &mut Texts,

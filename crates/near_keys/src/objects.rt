@@ -11,7 +11,7 @@ use itv_base::{NoMemory, Texts};
 use serde_json::{Map, Value};
 use std::alloc::Global;
 
-/// Puts the keys of an object that nearly are known at the end. What is no object has none. Where memory is not found, some of
+/// Puts the near keys of an object at the end. A value that is no object has none. Where memory is not found, some of
 /// them may be there.
 pub(crate) fn push_near(
     alloc: Global,
@@ -27,7 +27,7 @@ pub(crate) fn push_near(
     }
 }
 
-// Puts the keys of members that nearly are known at the end.
+// Puts the near keys among the keys of members at the end.
 fn push_near_of_members(
     alloc: Global,
     near: &mut Texts,
@@ -42,7 +42,7 @@ fn push_near_of_members(
     Ok(())
 }
 
-// Puts a key at the end if it nearly is known.
+// Puts a key at the end if it is near.
 fn push_if_near(alloc: Global, near: &mut Texts, known: &[&str], key: &str) -> Result<(), NoMemory>
     ensures { OnOk result (near.new ≡ near.old ++ filter (is_near (map (λ k. k.now) known.now)) (key.now ∷ [])) }
 {
@@ -52,7 +52,7 @@ fn push_if_near(alloc: Global, near: &mut Texts, known: &[&str], key: &str) -> R
     Ok(())
 }
 
-/// Puts the keys of the objects of a list that nearly are known at the end. Where memory is not found, some of them may be there.
+/// Puts the near keys of the objects of a list at the end. Where memory is not found, some of them may be there.
 pub(crate) fn push_near_of_each(
     alloc: Global,
     near: &mut Texts,

@@ -9,7 +9,8 @@ use itv_base::{NoMemory, Texts};
 use serde_json::Value;
 use std::alloc::Global;
 
-/// The keys of a sheet that are passed over and nearly are keys which are read: its own, and then those of its lanes in order.
+/// The near keys of a sheet, which are passed over and nearly are keys that are read: its own near keys, and then the
+/// near keys of its lanes in order.
 pub fn near_in_sheet(alloc: Global, tree: &Value) -> Result<Texts, NoMemory>
     ensures { IfOk result (λ keys. keys ≡ near_in_sheet (view tree.now)) }
 {

@@ -1,4 +1,4 @@
--- Two origins have two texts.
+-- Different origins have different texts.
 use Rattle.std.proofs.Common.{◌≡◌, ℕ, true, List, [], ◌∷◌, ◌++◌, refl, sym, ap, ◌∙◌}
 use Rattle.std.specs.Prelude.{codes}
 use Rattle.std.specs.List.{list_all}
@@ -13,7 +13,7 @@ use Rattle.origin.specs.declared.origin.Origin.TheVariants.{Lane, Edge, Pin, Wir
 same_number : (a b : ℕ) → number_text a ≡ number_text b → a ≡ b
 same_number a b e = sym (value-text a) ∙ ap value_of e ∙ value-text b
 
--- digits before a space end there
+-- digits end before the first space
 digits_end : (xs ys rest other : List ℕ) → list_all is_ascii_digit xs ≡ true → list_all is_ascii_digit ys ≡ true → xs ++ (32 ∷ rest) ≡ ys ++ (32 ∷ other) → (xs ≡ ys) × (rest ≡ other)
 digits_end [] [] rest other in_x in_y e = (refl, cc e)
 digits_end [] (y ∷ ys) rest other in_x in_y e =
@@ -30,7 +30,7 @@ digits_end (x ∷ xs) (y ∷ ys) rest other in_x in_y e =
     let next = digits_end xs ys rest other (and_parts (is_ascii_digit x) (list_all is_ascii_digit xs) in_x).1 (and_parts (is_ascii_digit y) (list_all is_ascii_digit ys) in_y).1 more in
     (rw (first, next.0) refl, next.1)
 
--- numbers before a space are one
+-- if two texts begin with a number and a space, and are the same, so are the numbers
 numbers_end : (a b : ℕ) (rest other : List ℕ) → number_text a ++ (32 ∷ rest) ≡ number_text b ++ (32 ∷ other) → (a ≡ b) × (rest ≡ other)
 numbers_end a b rest other e =
     let cut = digits_end (number_text a) (number_text b) rest other (digits-text a) (digits-text b) e in

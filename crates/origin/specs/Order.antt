@@ -3,7 +3,7 @@ use Rattle.std.specs.Prelude.{Bool, true, false}
 use Rattle.origin.specs.declared.origin.Origin.{Origin}
 use Rattle.origin.specs.declared.origin.Origin.TheVariants.{Lane, Edge, Pin, Wire}
 
--- the order of the marks on a lane draws it
+-- the order of the marks on a lane draws the cause or the row
 abbrev pub is_lane : Origin → Bool
 is_lane (Lane number) = true
 is_lane (Edge number) = false

@@ -1,5 +1,5 @@
-//! Where the causes of constraints and the rows of a drawn network come from: what of a sheet or of a netlist draws them.
-//! The contract: `put_origin` puts the text of an origin, and two origins have two texts.
+//! Where the causes of constraints and the rows of a drawn network come from: what in a sheet or a netlist draws them.
+//! The contract: `put_origin` puts the text of an origin, and different origins have different texts.
 #![tactic(auto)]
 
 pub mod laws;

@@ -1,4 +1,4 @@
--- Lines of a proof before a finding or a bound.
+-- Proof lines before a finding or a bound.
 use Rattle.std.proofs.Common.{◌≡◌, ◌+◌, ◌<◌, ◌≤◌, ℕ, zero, suc, Bool, false, List, [], ◌∷◌, ◌++◌, length, drop, map, Option, Some, None, IsSomeAnd, Ok, Err, slice_get, inl, inr, refl, sym, ap, subst, ◌∙◌, arith, append-nil, append_assoc}
 use Rattle.std.proofs.Math.Seq.{drop-nil}
 use Rattle.event_graph.specs.Network.{Net}
@@ -20,7 +20,7 @@ use Rattle.report_check.specs.Step.Stages.{Decides, at_of, is_proof}
 use Rattle.report_check.specs.Step.Walks.{IsWrongFrom, CheckLeads, StepsOn}
 use Rattle.report_check.proofs.Leading.{end_wrong, leads_then, line_leads, line_wrong}
 
--- ---- reading lines of a proof
+-- ---- reading proof lines
 
 pub reads_front : (net : Net) (goal : ProofGoal) (lines more : List ProofLine) (cases left : List Case) → proofs.ProofLeaves net goal cases (lines ++ more) left
     → (mid : List Case) × proofs.ProofLeaves net goal cases lines mid
@@ -30,7 +30,7 @@ reads_front net goal (Split number ∷ lines) more (chosen ∷ cases) left h = l
 reads_front net goal (Path names ∷ lines) more (chosen ∷ cases) left h = let r = reads_front net goal lines more cases left h.1 in (r.0, (h.0, r.1))
 reads_front net goal (Loop names ∷ lines) more (chosen ∷ cases) left h = let r = reads_front net goal lines more cases left h.1 in (r.0, (h.0, r.1))
 
--- they lead to one list of open cases
+-- the same lines lead to the same list of open cases
 pub reads_same : (net : Net) (goal : ProofGoal) (lines : List ProofLine) (cases a b : List Case) → proofs.ProofLeaves net goal cases lines a → proofs.ProofLeaves net goal cases lines b → a ≡ b
 reads_same net goal [] cases a b x y = sym x ∙ y
 reads_same net goal (line ∷ lines) [] a b x y = absurd x
@@ -52,7 +52,7 @@ same_goal : (o : Option ProofGoal) (g h : ProofGoal) → o ≡ Some g → o ≡ 
 same_goal None g h a b = absurd (cc)
 same_goal (Some x) g h a b = cc
 
--- lines of a proof before others leave the goal as it is
+-- more proof lines in front leave the goal as it is
 ahead_past : (here : ReportState) (more : List ProofLine) (rest : List Entry) → goal_ahead here (map proof more ++ rest) ≡ goal_ahead here rest
 ahead_past here [] rest = refl
 ahead_past here (line ∷ more) rest = ahead_past here more rest
@@ -61,7 +61,7 @@ pub ahead_other : (here : ReportState) (line : Entry) (rest : List Entry) → is
 ahead_other here (proof line) rest other = absurd (cc other)
 ahead_other here line rest other = refl
 
--- the goal does not hang on the lines before
+-- the goal does not depend on the lines before
 by_same : (drawn : Drawn) (group : ProofGroup) (lines : List ProofLine) (line : Entry) → goal_by (behind_lines drawn group lines) line ≡ goal_by (behind_lines drawn group []) line
 by_same drawn (groups.Finding number) [] line = refl
 by_same drawn (groups.Finding number) (first ∷ lines) (finding findings.Consistent) = refl
@@ -78,7 +78,7 @@ ahead_same drawn group lines [] = refl
 ahead_same drawn group lines (proof line ∷ rest) = ahead_same drawn group lines rest
 ahead_same drawn group lines (line ∷ rest) = by_same drawn group lines line
 
--- ---- the places among lines of a proof
+-- ---- the states among proof lines
 
 so_far : (drawn : Drawn) (group : ProofGroup) (lines : List ProofLine) → proof_so_far (behind_lines drawn group lines) ≡ lines
 so_far drawn (groups.Finding number) [] = refl
@@ -101,7 +101,7 @@ not_last drawn (groups.Bound told side) lines is = absurd (cc is)
 append_nothing : (xs : List ProofLine) → xs ≡ [] ++ xs
 append_nothing xs = refl
 
--- some lines, that many, lead to others
+-- `count` lines lead from a state to another
 record Passes (drawn : Drawn) (here : ReportState) (lines : List Entry) (next : ReportState) (behind : List Entry) (count : ℕ) : Type 0 where
   reads : LinesLead (checked drawn.net) drawn next behind at_last → LinesLead (checked drawn.net) drawn here lines at_last
   wrong : (number : ℕ) → IsFirstWrong drawn next behind number → IsFirstWrong drawn here lines (number + count)
@@ -178,7 +178,7 @@ get-drop zero b xs = let e : b ≡ 0 + b = omega arith in ap (slice_get xs) e
 get-drop (suc a) b [] = refl
 get-drop (suc a) b (x ∷ xs) = let e : suc (a + b) ≡ suc a + b = omega arith in get-drop a b xs ∙ ap (slice_get (x ∷ xs)) e
 
--- the line behind the lines of a proof is none of a proof
+-- the line behind the proof lines is no proof line
 pub end_other : (lines : List Entry) (start end : ℕ) (line : Entry) → end ≡ start + length (proof_front (drop start lines)) → slice_get lines end ≡ Some line → is_proof line ≡ false
 end_other lines start end line is there =
     front_other (drop start lines) line (get-drop start (length (proof_front (drop start lines))) lines ∙ subst (λ k. slice_get lines k ≡ Some line) is there)
@@ -193,7 +193,7 @@ module _ (drawn : Drawn) (group : ProofGroup) (lines : List Entry) (start end : 
       front_parts (drop start lines)
       ∙ ap (λ xs. map proof (proof_front (drop start lines)) ++ xs) (drop_drop start (length (proof_front (drop start lines))) lines ∙ ap (λ k. drop k lines) (sym is_end))
 
-  -- lines that are taken, where something is to be shown, lead to the line behind them
+  -- if the proof lines are taken for their goal, or have no goal, they lead to the line behind them
   pub group_leads : ((g : ProofGoal) → goal_ahead (behind_lines drawn group []) (drop end lines) ≡ Some g → Takes drawn.net g (proof_front (drop start lines)))
       → CheckLeads drawn lines (behind_lines drawn group []) start (behind_lines drawn group (proof_front (drop start lines))) end
   group_leads taken =
@@ -207,7 +207,7 @@ module _ (drawn : Drawn) (group : ProofGroup) (lines : List Entry) (start end : 
         );
       }
 
-  -- where the report ends with lines of a proof
+  -- if the report ends with proof lines, the line that is missing is wrong
   pub group_ends : length lines ≤ end → drop end lines ≡ [] → IsWrongFrom drawn lines (behind_lines drawn group []) start end
   group_ends past none =
       let leads = group_leads (λ g is. absurd (let e : goal_ahead (behind_lines drawn group []) [] ≡ Some g = subst (λ xs. goal_ahead (behind_lines drawn group []) xs ≡ Some g) none is in cc e)) in
@@ -236,7 +236,7 @@ module _ (drawn : Drawn) (group : ProofGroup) (lines : List Entry) (start end : 
     takes_for None whole checks g is = absurd (cc is)
     takes_for (Some x) whole checks g is = let same : x ≡ g = cc in subst (λ y. Takes drawn.net y (proof_front (drop start lines))) same (checks.cases, checks.reads)
 
-    -- what the checker tells of the whole lines
+    -- what the checker says of all the proof lines
     pub told_of : (wanted : Option ProofGoal) (whole : Bool) → ChecksFor drawn.net wanted (proof_front (drop start lines)) start (Ok whole)
         → IsToldOf drawn.net wanted (proof_front (drop start lines)) whole
     told_of None whole checks = tt

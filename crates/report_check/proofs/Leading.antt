@@ -16,7 +16,7 @@ use Rattle.report_check.specs.declared.stage.Stage.{Stage}
 use Rattle.report_check.specs.Step.Stages.{Decides, Fits, at_of, is_proof}
 use Rattle.report_check.specs.Step.Walks.{IsWrongFrom, CheckLeads, StepsOn}
 
--- a line that is none of a proof is not refused as one
+-- a line that is no proof line is not refused as one
 pub not_refused : (net : Net) (here : ReportState) (line : Entry) (rest : List Entry) → is_proof line ≡ false → IsLineRefused net here line rest → ⊥
 not_refused net here (proof line) rest other refused = absurd (cc other)
 not_refused net here line rest other refused = refused
@@ -43,7 +43,7 @@ module _ (drawn : Drawn) (lines : List Entry) where
           );
         }
 
-    -- or is the first wrong one
+    -- or it is the first wrong line
     pub line_wrong : Decides drawn here line None → IsWrongFrom drawn lines here start start
     line_wrong bars =
         let parts : drop start lines ≡ line ∷ drop (start + 1) lines = drop-read lines start line is in
@@ -62,7 +62,7 @@ module _ (drawn : Drawn) (lines : List Entry) where
   pub walk_wrong : (here : ReportState) (number : ℕ) → IsWrongFrom drawn lines here 0 number → IsFirstWrong drawn here lines number
   walk_wrong here number w = let sum : number ≡ 0 + w.0 = w.2 in let same : w.0 ≡ number = omega arith in subst (IsFirstWrong drawn here lines) same w.1
 
-  -- where the lines end too early the one that is wanting is wrong
+  -- if the lines end too early, the line that is missing is wrong
   pub end_wrong : (here : ReportState) (start : ℕ) → length lines ≤ start → (here ≡ at_last → ⊥) → IsWrongFrom drawn lines here start start
   end_wrong here start past other =
       let none : drop start lines ≡ [] = drop_of_length-le lines past in
@@ -73,7 +73,7 @@ module _ (drawn : Drawn) (lines : List Entry) where
       let none : drop start lines ≡ [] = drop_of_length-le lines past in
       leads.reads (subst (λ xs. LinesLead (checked drawn.net) drawn last xs at_last) (sym none) is)
 
--- the first wrong line is one of the lines, or the one behind them
+-- the first wrong line is one of the lines, or the missing line behind them
 pub wrong_within : (drawn : Drawn) (here : ReportState) (lines : List Entry) (number : ℕ) → IsFirstWrong drawn here lines number → number ≤ length lines
 wrong_within drawn here [] number w = let e : number ≡ 0 = w.1 in omega arith
 wrong_within drawn here (line ∷ lines) number (inl w) = let e : number ≡ 0 = w.1 in omega arith

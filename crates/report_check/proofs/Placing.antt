@@ -28,7 +28,7 @@ pub names_from : (names : List Name) (number : ℕ) (name : Name) → number < l
     → drop number names ≡ name ∷ drop (number + 1) names
 names_from names number name within is = drop-read names number name (unwrapped (slice_get names number) name (there names number within) (sym is))
 
--- the row of a number as it is told
+-- the row with a number is the first of the rows from this number on
 pub rows_from : (rows : List Row) (number : ℕ) (row : Row) → slice_get rows number ≡ Some row
     → drop number rows ≡ row ∷ drop (number + 1) rows
 rows_from rows number row is = drop-read rows number row is

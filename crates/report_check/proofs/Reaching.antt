@@ -49,7 +49,7 @@ module _ (net : Net) (ends : HasEnds net) where
   weight_within : (name : EdgeName) → weight_of (edge net name) ≤ℤ END_LIMIT
   weight_within name = by_constraint name (slice_get net.constraints name.constraint) refl
 
-  -- a sum is no more than that of as many greatest ends
+  -- a sum is at most the sum of as many greatest weights
   sum_within : (names : List EdgeName) → path_sum net names ≤ℤ pos (weight_limit * length names)
   sum_within [] = omega (arith, ints)
   sum_within (name ∷ names) =
@@ -57,7 +57,7 @@ module _ (net : Net) (ends : HasEnds net) where
       let rest : path_sum net names ≤ℤ pos (weight_limit * length names) = sum_within names in
       omega (arith, ints)
 
--- the values are alike for sums of paths
+-- a sum of a path within reach that is at most `value` is at most `other` too
 abbrev pub AreAlike : ℤ → ℤ → Type 0
 AreAlike value other = (sum : ℤ) → sum ≤ℤ pos reach_limit → sum ≤ℤ value → sum ≤ℤ other
 
@@ -82,7 +82,7 @@ min_first x y = grind (arith, ints)
 min_both : (s x y : ℤ) → s ≤ℤ x → s ≤ℤ y → s ≤ℤ int_min x y
 min_both s x y a b = grind (arith, ints)
 
--- in place of a number past 64 bits the greatest one does
+-- a number past 64 bits may be replaced by the greatest number of 64 bits
 pub least_alike : (net : Net) → IsNet net → (from to : EventId) (value : ℤ) → ReadsAlike net (Bound from to value) (Bound from to (int_min value (pos (2 ^ 63 - 1))))
 least_alike net is from to value cases left lines = (
   reads_on net is from to value (int_min value (pos (2 ^ 63 - 1)))
@@ -96,7 +96,7 @@ least_alike net is from to value cases left lines = (
 pub same_alike : (net : Net) (goal : ProofGoal) → ReadsAlike net goal goal
 same_alike net goal cases left lines = (λ h. h, λ h. h)
 
--- what lines before a least bound are to show
+-- what proof lines before a least bound are to show
 pub least_goal : (net : Net) → IsNet net → (row : Row) (side : NextBound) (most : given.Bound) (value minus : ℤ) → side ≡ sides.LeastBy most
     → minus ≡ int_min (neg_ℤ value) (pos (2 ^ 63 - 1)) → ReadsAlike net (goal_of row (side_told side) value) (Bound row.to row.from minus)
 least_goal net is row sides.Greatest most value minus on same = absurd (cc on)

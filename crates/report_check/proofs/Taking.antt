@@ -1,4 +1,4 @@
--- A checker that takes the lines of a proof in a report.
+-- A checker that takes the proof lines of a report.
 use Rattle.std.proofs.Common.{◌≡◌, ◌+◌, ◌≤◌, ℕ, Bool, true, false, IsTrue, List, [], ◌∷◌, ◌++◌, length, drop, Result, Ok, Err, Option, Some, None, slice_get, refl, sym, ap, subst, ◌∙◌, arith, append-nil, append_assoc, length-append}
 use Rattle.std.proofs.Math.ListN.{drop_of_length-le}
 use Rattle.std.specs.Bool.{⊤}
@@ -19,7 +19,7 @@ use Rattle.slack_report.specs.Entry.{Entry, proof}
 use Rattle.report_check.specs.Step.Groups.{AreTaken, IsOneRefused, proof_front}
 use Rattle.report_check.specs.Step.Stages.{is_proof}
 
--- ---- the lines of a proof that stand from a number on
+-- ---- the proof lines from a number on
 
 front_one : (line : Entry) (rest : List Entry) → is_proof line ≡ true → length (proof_front (line ∷ rest)) ≡ length (proof_front rest) + 1
 front_one (proof line) rest is = omega arith
@@ -110,7 +110,7 @@ module _ (net : Net) (goal : ProofGoal) (lines : List Entry) (start number room 
         is_whole = is_whole;
       }
 
--- ---- what a call of the checker told
+-- ---- what a call of the checker returned
 
 pub tells_none : (r : Result ⊤ CheckFault) (fault : Option CheckFault) → is_err r ≡ false → AnswersFault r fault → fault ≡ None
 tells_none (Ok x) fault is told = told

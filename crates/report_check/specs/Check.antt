@@ -8,19 +8,19 @@ use Rattle.right_report.specs.Texts.{IsAcceptedText, IsRefusedText}
 use Rattle.report_check.specs.declared.check.Checked.{Checked}
 use Rattle.report_check.specs.declared.check.Checked.TheVariants.{Accepted, Refused}
 
--- what becomes of the bytes
+-- the bytes are accepted, or refused at a line
 abbrev pub IsCheckOf : Drawn → List ℕ → Checked → Type 0
 IsCheckOf drawn bytes Accepted = IsAcceptedText drawn bytes
 IsCheckOf drawn bytes (Refused line) = IsRefusedText drawn bytes line
 
--- the line that tells it
+-- the line that says so
 abbrev pub accepted_text : List ℕ
 accepted_text = codes "report accepted\n"
 
 abbrev pub refused_text : ℕ → List ℕ
 refused_text line = codes "report refused at line " ++ (decimal line ++ codes "\n")
 
--- what is answered and written of bytes that are accepted, or refused by a line
+-- what is answered and written for bytes that are accepted, or refused at a line
 abbrev pub AnswersBy : Type 0 → (ℕ → Type 0) → Answer → List ℕ → Type 0
 AnswersBy Accepts Refuses AllPass text = Accepts × (text ≡ accepted_text)
 AnswersBy Accepts Refuses SomeFail text = ⊥
@@ -33,6 +33,6 @@ AnswersBy Accepts Refuses DesignRefused text = ⊥
 abbrev pub AnswersCheck : Drawn → List ℕ → Answer → List ℕ → Type 0
 AnswersCheck drawn bytes answer text = AnswersBy (IsAcceptedText drawn bytes) (IsRefusedText drawn bytes) answer text
 
--- what it may have begun to write
+-- what the job may have begun to write
 abbrev pub BeginsCheck : Drawn → List ℕ → List ℕ → Type 0
 BeginsCheck drawn bytes text = (answer : Answer) × AnswersCheck drawn bytes answer text

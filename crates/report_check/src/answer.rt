@@ -1,4 +1,4 @@
-//! The line that tells what becomes of a report.
+//! The line that says what becomes of a report.
 
 ghost use Rattle.std.specs.Prelude.{ℕ, List};
 ghost use Rattle.itv_base.specs.Outside.{Puts};
@@ -14,8 +14,8 @@ use itv_base::{NoMemory, PutFailed, Sink, number_text, put_all};
 use jobs::{Answer, Unanswered};
 use std::alloc::Global;
 
-/// Checks a text as a report of a drawn network, and writes a line that tells what becomes of it. All memory is taken before the
-/// first put.
+/// Checks a text as a report of a drawn network, and writes a line that says what becomes of it. All memory is taken
+/// before the first put.
 pub fn answer_check<K: Sink>(
     alloc: Global,
     drawn: &DrawnNetwork,
@@ -51,7 +51,7 @@ fn answer_of(checked: Checked) -> Answer
     }
 }
 
-// Writes what becomes of a report.
+// Writes the line that says what becomes of a report.
 fn put_checked<K: Sink>(checked: Checked, sink: &mut K) -> Result<(), PutFailed>
     ensures puts { Puts (K.told sink.old) (K.told sink.new) (checked_text checked) result }
 {
@@ -61,7 +61,7 @@ fn put_checked<K: Sink>(checked: Checked, sink: &mut K) -> Result<(), PutFailed>
     }
 }
 
-/// Writes the number of the first wrong line.
+/// Writes the line with the number of the first wrong line, counted from 1.
 pub fn put_refused<K: Sink>(line: u64, sink: &mut K) -> Result<(), PutFailed>
     ensures puts { Puts (K.told sink.old) (K.told sink.new) (refused_text line) result }
 {

@@ -1,4 +1,5 @@
-//! Whether findings and bounds are such as a report may tell, behind lines of which it is known whether they prove them.
+//! Whether a report may have a finding or a bound behind some proof lines. It is known whether these lines are a whole
+//! proof.
 
 ghost use Rattle.std.specs.Prelude.{◌≡◌, ◌↔◌, ◌<◌, neg_ℤ, List, Some, IfSome, IsTrue};
 ghost use Rattle.branch.specs.Answers.{IsRoot, IsRootReach};
@@ -22,7 +23,7 @@ use itv_base::EventId;
 use requirements::Bound;
 use slack_report::FindingWord;
 
-/// Whether a finding may stand behind lines, of which it is told whether they prove that no times satisfy.
+/// Whether a finding may stand behind proof lines. `whole` says whether they prove that no times satisfy.
 pub fn proves_finding(net: &Network, work: &mut Work, word: FindingWord, whole: bool) -> bool
     requires made { IsMadeFor net.now work.old }
     ensures proves { (lines : List ProofLine) → (word ≡ FindingWord.Inconsistent → IsToldOf net.now (Some Nothing) lines whole)
@@ -59,7 +60,8 @@ fn is_bound(root: Root) -> bool
     }
 }
 
-/// Whether a bound of a row may stand behind a finding and behind lines, of which it is told whether they prove it.
+/// Whether a bound of a row may stand behind a finding and behind proof lines. `whole` says whether these lines prove
+/// it.
 pub fn proves_bound(
     net: &Network,
     work: &mut Work,
@@ -87,7 +89,7 @@ pub fn proves_bound(
     }
 }
 
-// Whether the number that was attained is there, or not, as the finding has it.
+// Whether the attained number is there if the finding is consistent, and not there if it is unsettled.
 fn has_attained(found: FindingWord, attained: Option<i64>) -> bool
     ensures attained { IsTrue result ↔ HasAttained found attained }
 {

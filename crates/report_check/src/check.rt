@@ -17,7 +17,7 @@ use std::alloc::Global;
 pub enum Checked {
     /// Each line meets the check: the report is right.
     Accepted,
-    /// This line, from 1, is the first that is wrong.
+    /// This line, counted from 1, is the first wrong line.
     Refused { line: u64 },
 }
 

@@ -1,4 +1,4 @@
-//! Lines of a proof, with the finding or the bound that stands behind them.
+//! Proof lines, with the finding or the bound that stands behind them.
 
 ghost use Rattle.std.specs.Prelude.{◌≡◌, ◌↔◌, IsTrue, ◌+◌, ◌<◌, ◌≤◌, ◌^◌, ◌-◌, neg_ℤ, pos, List, [], Option, false, length, drop};
 ghost use Rattle.std.specs.Int.{int_min};
@@ -23,17 +23,17 @@ use event_graph::Network;
 use requirements::Bound;
 use slack_report::{FindingWord, Item, Items, Which};
 
-/// What lines of a proof stand before.
+/// What some proof lines stand before.
 #[derive(Clone, Copy, Debug)]
 pub enum ProofGroup {
-    /// Before the finding, behind so many events.
+    /// The finding, behind so many events.
     Finding(u32),
-    /// Before a bound of a row.
+    /// A bound of a row.
     Bound { told: CurrentRow, side: NextBound },
 }
 
-/// A step over lines of a proof from a line on, and over the finding or the bound behind them: the stage behind it with the number of
-/// its line, or the number of the first wrong line.
+/// A step over the proof lines from a line on, and over the finding or the bound behind them. Returns the next stage
+/// with the number of the next line, or the number of the first wrong line.
 pub fn step_group(
     drawn: &DrawnNetwork,
     checker: &mut Checker,
@@ -66,7 +66,7 @@ pub fn step_group(
     }
 }
 
-// The number of the first line, from one on, that is none of a proof.
+// The number of the first line from `start` on that is no proof line, or the number of all lines if there is none.
 fn proof_end(items: &Items, start: u64) -> u64
     requires start { start ≤ length items.now }
     ensures end { result ≡ start + length (proof_front (drop start items.now)) }
@@ -90,7 +90,7 @@ fn is_proof(item: &Item<'_>) -> bool
     }
 }
 
-// What lines are to show by the line behind them, if something is.
+// What the proof lines before a line are to show, if anything.
 fn goal_by(net: &Network, group: &ProofGroup, item: &Item<'_>) -> Option<Goal>
     ensures goal { (drawn : Drawn) → StandsForGoal net.now (goal_by (behind_lines drawn group.now []) (item_view item.now)) result }
 {
@@ -107,7 +107,7 @@ fn goal_by(net: &Network, group: &ProofGroup, item: &Item<'_>) -> Option<Goal>
     }
 }
 
-// What lines before a closed bound are to show.
+// What the proof lines before a closed bound are to show.
 fn goal_of(net: &Network, row: &Row, side: NextBound, value: i64) -> Goal
     ensures goal { ReadsAlike net.now (goal_of row.now (side_told side) value) (goal_view result) }
 {
@@ -127,7 +127,7 @@ fn goal_of(net: &Network, row: &Row, side: NextBound, value: i64) -> Goal
     }
 }
 
-// Minus a number of picoseconds. In place of a number past 64 bits it is the greatest one: no sum of a path comes near.
+// Minus a number of picoseconds, or the greatest number of 64 bits if that is less. No sum of a path comes near it.
 fn minus(value: i64) -> i64
     ensures value { result ≡ int_min (neg_ℤ value) (pos (2 ^ 63 - 1)) }
 {
@@ -137,7 +137,7 @@ fn minus(value: i64) -> i64
     }
 }
 
-// Takes the lines of a proof from a line on for what they are to show, if something is.
+// Takes the proof lines from a line on for a goal. If there is none, the lines are passed over.
 fn check_for(
     net: &Network,
     checker: &mut Checker,
@@ -157,7 +157,8 @@ fn check_for(
     }
 }
 
-// Takes the lines of a proof from a line on, and tells whether they are whole, or the number of the first that is refused.
+// Takes the proof lines from a line on. Returns whether they are a whole proof, or the number of the first line that is
+// refused.
 fn check_lines(
     net: &Network,
     checker: &mut Checker,
@@ -185,7 +186,8 @@ fn check_lines(
     Ok(checker.is_done())
 }
 
-// Where the line behind lines of a proof leads, of which it is told whether they prove what it wants shown.
+// The next stage after proof lines and the line they support, or none if that line is wrong here. `whole` says whether
+// the proof is complete.
 fn judge_behind(
     drawn: &DrawnNetwork,
     work: &mut Work,
@@ -259,7 +261,7 @@ fn judge_bound(
     }
 }
 
-// Whether a bound is that of a side.
+// Whether a bound is the bound of a side.
 fn is_which(which: Which, side: NextBound) -> bool
     ensures which { IsTrue result ↔ (which ≡ which_of (side_told side)) }
 {

@@ -1,4 +1,4 @@
-//! Where a line leads that is none of a proof, or that it may not follow.
+//! The next stage after a line that is no proof line, or none if the line is wrong here.
 
 ghost use Rattle.std.specs.Prelude.{◌≡◌, ◌↔◌, ◌<◌, ◌≤◌, ◌^◌, All, IsTrue, Some, length, slice_get};
 ghost use Rattle.event_graph.specs.Times.{IsTime};
@@ -20,7 +20,7 @@ use itv_base::{EventId, EventName, Range};
 use requirements::{BothBounds, Bound, judge as verdict_of, slack as slack_of};
 use slack_report::{EndWord, FindingWord, Item};
 
-/// Where a line leads at a stage that is before no line of a proof, or none where the line may not follow.
+/// The next stage after a line, or none if the line may not follow. No proof line may come at the stage.
 pub fn judge<'a>(drawn: &DrawnNetwork, stage: &Stage<'a>, item: &Item<'a>) -> Option<Stage<'a>>
     requires line { IsLineStage drawn.now stage.now }
     requires fits { Fits drawn.now stage.now }
@@ -34,7 +34,7 @@ pub fn judge<'a>(drawn: &DrawnNetwork, stage: &Stage<'a>, item: &Item<'a>) -> Op
         Stage::Known => judge_known(drawn, item),
         Stage::Rows(word) => judge_rows(drawn, *word, item),
         Stage::Row { course, number } => judge_row(drawn, *course, *number, item),
-        // Lines of a proof may stand before a bound.
+        // Proof lines may stand before a bound.
         Stage::Bound { .. } => unreachable!(),
         Stage::Times { told, side, value } => judge_times(drawn, told, *side, *value, item),
         Stage::Raise { told, side, times } => judge_raise(drawn, told, *side, times, item),
@@ -82,7 +82,7 @@ fn judge_event(drawn: &DrawnNetwork, number: u32, item: &Item<'_>) -> Option<Sta
     requires there { number < drawn.now.net.events }
     ensures decides { Decides drawn.now (at_of drawn.now (Stage.Event number)) (item_view item.now) result }
 {
-    // The number of events is one of 32 bits, and so is the next number.
+    // The number of events fits in 32 bits, and so does the next number.
     let _events = drawn.network().events();
     if is_event(item, number, drawn.name(EventId(number))) {
         return Some(Stage::Event(number + 1));
@@ -166,7 +166,7 @@ fn judge_row_line(
     None
 }
 
-// Whether a line tells what is asked of a row.
+// Whether a line says what is asked of a row.
 fn is_row(item: &Item<'_>, number: u64, drawn: &DrawnNetwork, row: &Row) -> bool
     requires between { IsRowOf drawn.now.net row.now }
     ensures row { IsTrue result ↔ (item_view item.now
@@ -219,7 +219,7 @@ fn judge_times<'a>(
     }
 }
 
-// Behind the times of a bound.
+// The stage behind the times of a bound.
 fn behind_times<'a>(told: &CurrentRow, side: NextBound, value: Bound, times: &'a [i64]) -> Stage<'a>
     requires number { told.now.number < 2 ^ 32 }
     ensures stage { (drawn : Drawn) → at_of drawn result ≡ behind_times (telling_of drawn told.now) (side_told side) value times.now }

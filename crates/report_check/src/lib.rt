@@ -1,6 +1,6 @@
 //! Job check: whether a report of a drawn network is right, without any search.
-//! The contract of the crate: a text is accepted exactly where it is that of a report each line of which meets the check, which a
-//! right report alone does; any other is refused at its first wrong line.
+//! The contract of the crate: a text is accepted if and only if it is the text of a report each line of which meets the
+//! check. Only a right report meets it. Any other text is refused at its first wrong line.
 #![tactic(auto)]
 
 mod answer;

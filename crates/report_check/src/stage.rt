@@ -1,4 +1,4 @@
-//! Where a check stands between two lines of a report, with what the lines to come are held to.
+//! Where a check stands between two lines of a report, with what the following lines must agree with.
 
 ghost use Rattle.std.specs.Prelude.{◌≡◌, ◌<◌, ◌^◌, length};
 ghost use Rattle.requirements.specs.Bounds.{HasTimes};
@@ -12,7 +12,8 @@ use requirements::{BothBounds, Bound, Verdict};
 use right_report::{is_fail, is_within};
 use slack_report::{EndWord, FindingWord, Which};
 
-/// What the word at the end goes by: the finding, whether some verdict was a fail, and whether some bound was left open.
+/// What decides the word at the end: the finding, whether some verdict was a fail, and whether some bound was left
+/// open.
 #[derive(Clone, Copy, Debug, PartialEq, Eq)]
 pub struct ReportTally {
     pub found: FindingWord,
@@ -20,14 +21,14 @@ pub struct ReportTally {
     pub within: bool,
 }
 
-/// Which bound of a row comes: the greatest, or the least behind the greatest.
+/// Which bound of a row comes next: the greatest, or the least behind the greatest.
 #[derive(Clone, Copy, Debug, PartialEq, Eq)]
 pub enum NextBound {
     Greatest,
     LeastBy(Bound),
 }
 
-/// A row that is being told, with its number from 0, behind what came before.
+/// The row at which a report stands, with its number from 0, and the tally of what came before.
 #[derive(Clone, Copy, Debug, PartialEq, Eq)]
 pub struct CurrentRow {
     pub course: ReportTally,
@@ -35,19 +36,19 @@ pub struct CurrentRow {
     pub row: Row,
 }
 
-/// Where a check stands: before the line that the stage is named for. Lines of a proof are taken together with the finding or the
-/// bound behind them, so that no stage stands among them.
+/// Where a check stands: before the line that the stage is named for. Proof lines are taken together with the finding
+/// or the bound behind them, so that no stage stands among them.
 #[derive(Clone, Copy, Debug)]
 pub enum Stage<'a> {
     Heading,
     Budget,
     Events,
-    /// Before the event of a number from 0; behind all events before the finding.
+    /// Before the event with this number, from 0. Behind all events: before the finding.
     Event(u32),
     /// Before the times of a consistent finding.
     Known,
     Rows(FindingWord),
-    /// Before the row of a number from 0; behind all rows before the end.
+    /// Before the row with this number, from 0. Behind all rows: before the end.
     Row {
         course: ReportTally,
         number: u64,
@@ -79,7 +80,7 @@ pub enum Stage<'a> {
         range: Range,
         both: BothBounds,
     },
-    /// Before the slack of a row, behind which the row of a number comes.
+    /// Before the slack of a row. The row with this number comes behind it.
     Slack {
         course: ReportTally,
         number: u64,
@@ -92,7 +93,7 @@ pub enum Stage<'a> {
 }
 
 impl ReportTally {
-    /// Behind a finding.
+    /// The tally behind a finding.
     pub fn new(found: FindingWord) -> ReportTally
         ensures course { course_told result ≡ course_of found }
     {
@@ -136,7 +137,7 @@ impl ReportTally {
 }
 
 impl NextBound {
-    /// Which bound it is.
+    /// Which bound comes next.
     pub fn which(self) -> Which
         ensures which { result ≡ which_of (side_told self) }
     {
@@ -147,7 +148,7 @@ impl NextBound {
     }
 }
 
-/// Behind a finding.
+/// The stage behind a finding.
 pub fn behind_finding(word: FindingWord) -> Stage<'static>
     ensures stage { (drawn : Drawn) → at_of drawn result ≡ behind_finding word }
     ensures fits { (drawn : Drawn) → Fits drawn result }
@@ -159,7 +160,7 @@ pub fn behind_finding(word: FindingWord) -> Stage<'static>
     }
 }
 
-// Behind both bounds of a row.
+// The stage behind both bounds of a row.
 fn behind_both(told: &CurrentRow, both: &BothBounds) -> Stage<'static>
     requires number { told.now.number < 2 ^ 32 }
     ensures stage { (drawn : Drawn) → at_of drawn result ≡ bounded (telling_of drawn told.now) (side_told (NextBound.LeastBy both.now.greatest)) both.now.least }
@@ -178,7 +179,7 @@ fn behind_both(told: &CurrentRow, both: &BothBounds) -> Stage<'static>
     }
 }
 
-/// Behind a bound and its lines.
+/// The stage behind a bound and its lines.
 pub fn bounded(told: &CurrentRow, side: NextBound, value: Bound) -> Stage<'static>
     requires number { told.now.number < 2 ^ 32 }
     ensures stage { (drawn : Drawn) → at_of drawn result ≡ bounded (telling_of drawn told.now) (side_told side) value }
@@ -199,7 +200,7 @@ pub fn bounded(told: &CurrentRow, side: NextBound, value: Bound) -> Stage<'stati
     }
 }
 
-/// Behind the line of a bound.
+/// The stage behind the line of a bound.
 pub fn behind_bound(told: &CurrentRow, side: NextBound, value: Bound) -> Stage<'static>
     requires number { told.now.number < 2 ^ 32 }
     ensures stage { (drawn : Drawn) → at_of drawn result ≡ behind_bound (telling_of drawn told.now) (side_told side) value }
@@ -215,7 +216,7 @@ pub fn behind_bound(told: &CurrentRow, side: NextBound, value: Bound) -> Stage<'
     }
 }
 
-/// Behind a verdict and the times that break the requirement.
+/// The stage behind a verdict and the times that break the requirement.
 pub fn behind_past(
     told: &CurrentRow,
     range: Range,
@@ -234,7 +235,7 @@ pub fn behind_past(
     }
 }
 
-/// Behind a verdict.
+/// The stage behind a verdict.
 pub fn behind_verdict(
     told: &CurrentRow,
     range: Range,

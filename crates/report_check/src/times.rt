@@ -1,4 +1,4 @@
-//! Whether times and sets of events are such as a report may tell.
+//! Whether a report may have some times or a set of events.
 
 ghost use Rattle.std.specs.Prelude.{◌≡◌, ◌<◌, ◌↔◌, ◌-ℤ◌, IsTrue, All, length};
 ghost use Rattle.event_graph.specs.Satisfying.{Satisfies};
@@ -35,14 +35,14 @@ fn satisfy(net: &Network, times: &[i64]) -> bool
     times.len() == net.events() as usize && are_within(times) && net.broken(times).is_none()
 }
 
-/// Whether times satisfy the network with event 0 at 0, as behind a consistent finding.
+/// Whether times satisfy the network and event 0 is at 0, as the times behind a consistent finding must.
 pub fn are_known(net: &Network, times: &[i64]) -> bool
     ensures known { IsTrue result ↔ (checked net.now).known times.now }
 {
     satisfy(net, times) && time_of(times, EventId(0)) == 0
 }
 
-/// Whether times satisfy the network with the from-event of a row at 0.
+/// Whether times satisfy the network and the from-event of a row is at 0.
 pub fn are_times(net: &Network, row: &Row, times: &[i64]) -> bool
     ensures times { IsTrue result ↔ (All IsTime times.now × AreTimes net.now row.now times.now) }
 {
@@ -65,7 +65,7 @@ fn separation(times: &[i64], from: EventId, to: EventId) -> i64
     difference(time_of(times, from), time_of(times, to))
 }
 
-/// Whether times have the separation that a bound of a row tells.
+/// Whether times have the separation that a bound of a row gives.
 pub fn attains(row: &Row, value: Bound, times: &[i64]) -> bool
     requires times { All IsTime times.now }
     ensures attains { IsTrue result ↔ Attains row.now value times.now }
@@ -91,8 +91,8 @@ pub fn breaks(row: &Row, range: Range, word: Verdict, times: &[i64]) -> bool
     }
 }
 
-/// Whether a set of events can be raised from times without end, and a separation of a row with it: the greatest with the
-/// to-event, and the least with the from-event.
+/// Whether a set of events can be raised from times without end, and a bound of a row with it. For the greatest bound the
+/// set holds the to-event and not the from-event, and for the least bound the from-event and not the to-event.
 pub fn can_rise(net: &Network, row: &Row, side: NextBound, times: &[i64], set: &[bool]) -> bool
     requires times { All IsTime times.now }
     requires count { length times.now ≡ net.now.events }

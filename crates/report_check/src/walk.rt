@@ -16,7 +16,8 @@ use cert_checker::Checker;
 use drawn::DrawnNetwork;
 use slack_report::Items;
 
-/// Walks over all lines of a report of a drawn network, and tells the number from 0 of the first wrong one, if there is one.
+/// Walks over all lines of a report of a drawn network. Returns the number, from 0, of the first wrong line, if there
+/// is one.
 pub fn walk(
     drawn: &DrawnNetwork,
     checker: &mut Checker,
@@ -39,7 +40,8 @@ pub fn walk(
     if is_done(&stage) { Ok(()) } else { Err(start) }
 }
 
-// A step from a stage at a line: the stage behind it with the number of its line, or the number of the first wrong line.
+// A step from a stage at a line. Returns the next stage with the number of the next line, or the number of the first
+// wrong line.
 fn step<'a>(
     drawn: &DrawnNetwork,
     checker: &mut Checker,
@@ -62,7 +64,7 @@ fn step<'a>(
     }
 }
 
-// What lines of a proof stand before at a stage, if some may.
+// The finding or the bound that proof lines at a stage stand before, if proof lines may stand there.
 fn group_of(drawn: &DrawnNetwork, stage: &Stage<'_>) -> Option<ProofGroup>
     requires fits { Fits drawn.now stage.now }
     ensures group { IfSome result (λ group. IsGroup drawn.now group

@@ -17,14 +17,14 @@ position_or_len-map p f (x ∷ xs) = ap (λ n. cond (not (p (f x))) (1 + n) 0) (
 pub position-map : {X Y : Type 0} (p : Y → Bool) (f : X → Y) (xs : List X) → position p (map f xs) ≡ position (λ x. p (f x)) xs
 position-map p f xs = rw (position_or_len-map p f xs, length-map xs f) refl
 
--- the texts of what stands under `edge`, where it is an array
+-- the texts of what stands under `edge`, if it is an array
 pub edge_texts-array : (found : Option Data) (edge : Data) (vs : List Value) → Some edge ≡ found → Some (items_view vs) ≡ as_array edge → edge_texts found ≡ texts_of (map view vs)
 edge_texts-array found edge vs is list = rw (← is, ← list, elements-items_view vs) refl
 
--- an element is no string
+-- some element is no string
 pub texts_of-fault : (vs : List Value) (place : ℕ) → Some place ≡ position (λ v. is_no_string (view v)) vs → texts_of (map view vs) ≡ Err (EdgeNotText place)
 texts_of-fault vs place first = rw (position-map is_no_string view vs, ← first) refl
 
--- all are strings
+-- all elements are strings
 pub texts_of-strings : (vs : List Value) → None ≡ position (λ v. is_no_string (view v)) vs → texts_of (map view vs) ≡ Ok (filter_map as_str (map view vs))
 texts_of-strings vs first = rw (position-map is_no_string view vs, ← first) refl

@@ -15,7 +15,7 @@ abbrev pub unless_empty : List ℕ → Option (List ℕ)
 unless_empty [] = None
 unless_empty (byte ∷ bytes) = Some (byte ∷ bytes)
 
--- the lane of an object; what is no string counts as absent, and an empty name too
+-- the lane of an object; a value that is no string counts as absent, and so does an empty name
 abbrev pub lane_of : Data → LaneText
 lane_of d = record { name = option_and_then unless_empty (text_at (codes "name") d); wave = text_at (codes "wave") d; node = text_at (codes "node") d }
 
@@ -35,28 +35,28 @@ abbrev mutual
 abbrev pub is_no_string : Data → Bool
 is_no_string d = is_none (as_str d)
 
--- the texts of elements that are all strings, or the place of the first that is none
+-- the texts of elements that are all strings, or the place, from 0, of the first element that is no string
 abbrev pub texts_of : List Data → Result (List (List ℕ)) DiagramFault
 texts_of ds = option_map_or (λ place. Err (EdgeNotText place)) (position is_no_string ds) (Ok (filter_map as_str ds))
 
--- the edge texts of what stands under `edge`: a key that is missing gives none
+-- the edge texts of what stands under `edge`; a missing key gives no texts
 abbrev pub edge_texts : Option Data → Result (List (List ℕ)) DiagramFault
 edge_texts None = Ok []
 edge_texts (Some edge) = do
   list ← ok_or (as_array edge) EdgesNotList
   texts_of (elements list)
 
--- what a diagram holds: its lanes, its edge texts, and those of its keys that are passed over and nearly are keys which are read
+-- what a diagram holds: its lanes, its edge texts and its near keys, which are passed over and nearly are keys that are read
 pub record Drawing : Type 0 where
   pub lanes : List LaneText
   pub edges : List (List ℕ)
   pub near : List (List ℕ)
 
--- the elements of `signal`, where it is an array
+-- the elements of `signal`, if it is an array
 abbrev pub signal_of : Data → Option Items
 signal_of tree = option_and_then as_array (get (codes "signal") tree)
 
--- The drawing of a tree, or its first fault. No other key of the tree is read, and of those only the near ones are told.
+-- The drawing of a tree, or its first fault. No other key of the tree is read, and only the near keys are kept.
 abbrev pub diagram_of : Data → Result Drawing DiagramFault
 diagram_of tree = do
   _ ← ok_or (as_object tree) NotObject

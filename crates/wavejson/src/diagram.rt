@@ -17,7 +17,7 @@ use serde_json::Value;
 use std::alloc::Global;
 use std::marker::Model;
 
-/// The lanes and the edge texts of a tree, and those of its keys that nearly are keys which are read. Contracts see a drawing.
+/// The lanes, the edge texts and the near keys of a tree. Contracts see a drawing.
 #[derive(Debug, Drop)]
 pub struct Diagram {
     lanes: Lanes,
@@ -41,14 +41,15 @@ impl Diagram {
         &self.lanes
     }
 
-    /// The texts of `edge` in order, as they are written. A missing `edge` gives none.
+    /// The texts of `edge` in order, as they are written. A missing `edge` gives no texts.
     pub fn edges(&self) -> &Texts
         ensures edges { result.now ≡ self.now.edges }
     {
         &self.edges
     }
 
-    /// The keys of the tree that are passed over and nearly are keys which are read: its own, and then those of its lanes in order.
+    /// The near keys of the tree, which are passed over and nearly are keys that are read: its own near keys, and then
+    /// the near keys of its lanes in order.
     pub fn near(&self) -> &Texts
         ensures near { result.now ≡ self.now.near }
     {
@@ -57,16 +58,16 @@ impl Diagram {
 }
 
 /// The diagram of a tree, or the first fault of the tree in the order of [`DiagramFault`]. Faults are found before memory is
-/// taken, so `NoMemory` is answered only for a tree that has a drawing; then nothing was made.
+/// taken, so `NoMemory` is returned only for a tree that has a drawing. Then nothing was made.
 ///
-/// Lanes are the objects in `signal`. An array there is a group, whose elements are read the same way at any depth; all else
-/// in it is passed over, a group's title too. Of a lane only `name`, `wave` and `node` are read, of the tree only `signal` and
-/// `edge`. Of the keys that are passed over those are kept that nearly are known: [`near_in_sheet`] says which.
+/// The objects in `signal` are lanes. An array there is a group, whose elements are read the same way at any depth. All else
+/// in it is passed over, and so is the title of a group. In a lane only `name`, `wave` and `node` are read, in the tree only
+/// `signal` and `edge`. Of the keys that are passed over the near ones are kept: [`near_in_sheet`] says which they are.
 pub fn read_diagram(alloc: Global, tree: &Value) -> Result<Diagram, DiagramFault>
     ensures answer { AgreesWith is_memory (λ drawing. drawing) result (diagram_of (view tree.now)) }
     ensures memory { IsErrOf result DiagramFault.NoMemory → IsOk (diagram_of (view tree.now)) }
 
-    // When each fault comes, in the order in which they are told.
+    // When each fault comes, in the order in which the faults are reported.
     ensures not_object { IsErrOf result DiagramFault.NotObject ↔ IsNone (as_object (view tree.now)) }
     ensures no_signal { IsErrOf result DiagramFault.NoSignal
         ↔ (IsSome (as_object (view tree.now)) × IsNone (signal_of (view tree.now))) }

@@ -11,7 +11,7 @@ use itv_base::{NoMemory, Texts};
 use serde_json::Value;
 use std::alloc::Global;
 
-/// The elements of `edge`, which are strings, or the first fault of what stands there.
+/// The elements of `edge`, all strings, or the first fault of what stands there.
 pub(crate) fn edge_list(tree: &Value) -> Result<&[Value], DiagramFault>
     ensures { MatchResult result
         (λ list. edge_texts (get (codes "edge") (view tree.now)) ≡ Ok (filter_map as_str (map view list.now)))
@@ -35,7 +35,7 @@ fn first_no_string(list: &[Value]) -> Option<usize>
     list.iter().position(|element| !element.is_string())
 }
 
-/// The texts of a list of strings. What is no string is passed over.
+/// The texts of a list of strings. A value that is no string is passed over.
 pub(crate) fn read_texts(alloc: Global, list: &[Value]) -> Result<Texts, NoMemory>
     ensures { IfOk result (λ texts. texts ≡ filter_map as_str (map view list.now)) }
 {

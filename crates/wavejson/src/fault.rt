@@ -6,16 +6,16 @@ ghost use Rattle.wavejson.specs.declared.fault.DiagramFault.TheVariants.{NoMemor
 use itv_base::NoMemory as OutOfMemory;
 use thiserror::Error;
 
-/// What is wrong with a tree, or want of memory. The faults stand in the order in which they are told.
+/// What is wrong with a tree, or want of memory. The faults stand in the order in which they are reported.
 #[derive(Clone, Copy, Debug, PartialEq, Eq, Error)]
 pub enum DiagramFault {
     /// The tree is no object.
     #[error("the diagram is no object")]
     NotObject,
-    /// `signal` is missing or no array.
+    /// `signal` is missing, or it is no array.
     #[error("the diagram has no array `signal`")]
     NoSignal,
-    /// `edge` is there and no array.
+    /// `edge` is there, and it is no array.
     #[error("`edge` is no array")]
     EdgesNotList,
     /// The first element of `edge` that is no string, by its place counted from 0.

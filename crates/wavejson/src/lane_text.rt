@@ -13,7 +13,7 @@ use std::alloc::Global;
 /// What a lane says of itself. A key that is missing or holds no string gives `None`.
 #[derive(Debug, Drop)]
 pub struct LaneText {
-    /// The name of the lane. An empty one counts as absent.
+    /// The name of the lane. An empty name counts as absent.
     pub name: Option<Text>,
     /// The drawn wave, one character for each brick.
     pub wave: Option<Text>,
@@ -21,7 +21,7 @@ pub struct LaneText {
     pub node: Option<Text>,
 }
 
-/// The lane of an object. Every other key of it is passed over.
+/// The lane of an object. All its other keys are passed over.
 pub(crate) fn read_lane(alloc: Global, object: &Value) -> Result<LaneText, NoMemory>
     ensures { IfOk result (λ lane. lane ≡ lane_of (view object.now)) }
 {

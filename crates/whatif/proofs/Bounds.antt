@@ -78,7 +78,7 @@ kept_right old net budget b right may = record {
 
 -- ---- a bound that is searched
 
--- what a search that started from some times keeps of the lines of a closed bound
+-- what is kept of the lines of a closed bound, by a search that started from some times
 closed_keeps : (net : Net) (pair : Pair) (known : List ℤ) (value : ℤ) (lines : List ProofLine) (now : Option (List ProofLine))
     → KeptOn MAX_KEPT_LINES MAX_KEPT_EDGES (Some []) lines now → IsProof net (Bound pair.from pair.to value) lines → Satisfies known net
     → AtEachSplit net (IsNeededToBound net pair.from pair.to (separation known pair.from pair.to)) lines → HasProof net pair value now
@@ -94,7 +94,7 @@ search_keeps net budget pair known times ray (Closed value) lines leaves now kep
 search_keeps net budget pair known times ray Unbounded lines leaves now kept is satisfies needed = refl
 search_keeps net budget pair known times ray (Enclosed upper attained) lines leaves now kept is satisfies needed = refl
 
--- an answer speaks of the events to raise only where it is unbounded
+-- only an unbounded answer says anything of the events to raise
 answers_with : (net : Net) (budget : ℕ) (pair : Pair) (times : List ℤ) (ray other : List Bool) (answer : GreatestAnswer) (lines : List ProofLine) (leaves : ℕ)
     → (answer ≡ Unbounded → other ≡ ray) → IsGreatestAnswer (pair_search net pair budget) (left_by lines leaves times ray) answer
     → IsGreatestAnswer (pair_search net pair budget) (left_by lines leaves times other) answer
@@ -109,7 +109,7 @@ answers_with net budget pair times ray other (Enclosed upper attained) lines lea
   below_choices = is.below_choices;
 }
 
--- the events to raise are as many as the events
+-- there are as many flags of events to raise as events
 pub ray_places : (net : Net) (budget : ℕ) (pair : Pair) (times : List ℤ) (ray : List Bool) (answer : GreatestAnswer) (lines : List ProofLine) (leaves : ℕ)
     → IsGreatestAnswer (pair_search net pair budget) (left_by lines leaves times ray) answer → answer ≡ Unbounded → length ray ≡ net.events
 ray_places net budget pair times ray (Closed value) lines leaves is same = absurd (cc)
@@ -120,7 +120,7 @@ pub known_satisfies : (net : Net) (known : Option (List ℤ)) → IsSomeAnd know
 known_satisfies net None h = absurd h
 known_satisfies net (Some times) h = h
 
--- what a bound is behind a search that a keeper took the lines of
+-- what a bound is after a search whose lines a keeper took
 pub searched_is : (net : Net) (budget leaves : ℕ) (old : KeptBound) (known times : List ℤ) (ray kept_ray : List Bool) (answer : GreatestAnswer) (begun grown last : Keeping)
     (lines : List ProofLine) → begun.lines ≡ Some [] → begun.line_room ≡ MAX_KEPT_LINES → begun.edge_room ≡ MAX_KEPT_EDGES → KeeperGrew begun lines grown
     → IsPairSearched net old.pair budget known (left_by lines leaves times ray) answer → (answer ≡ Unbounded → kept_ray ≡ ray)
@@ -144,7 +144,7 @@ searched_is net budget leaves old known times ray kept_ray answer begun grown la
       least = is.least;
     }
 
--- times of a search are within what is asked of times
+-- times that are close are within the limit of times
 time_close : (time : ℤ) → IsClose time → IsTime time
 time_close time close = (omega (arith, ints, close.0), omega (arith, ints, close.1))
 

@@ -31,7 +31,7 @@ cause_set causes number range (Some c) i there =
     let within : i < length causes = some_within causes i there in
     within_some new i (omega (arith, length-set causes number (record c { range = range })))
 
--- the causes of the constraint at a place of a list in which another constraint stands at a place
+-- whether the constraint at a place has a cause, after another constraint was put at some place of the list
 causes_set : (constraints : List Constraint) (number : ℕ) (c new : Constraint) (k i : ℕ) → slice_get constraints number ≡ Some c
     → (IsSome (slice_get c.causes i) → IsSome (slice_get new.causes i))
     → IsSome (option_and_then (λ (d : Constraint). slice_get d.causes i) (slice_get constraints k))
@@ -124,7 +124,7 @@ run_more s now next edits k notes more d change n run within edit right is grows
           ∙ sym (map-append (λ (u : EditedSession). note_of u.change u.session) run.later (t ∷ []))));
     }
 
--- the same, by the parts of the edit that a slice gives
+-- the same, by the parts of the edit as a slice gives them
 pub run_more_at : (s now next : SessionView) (edits : List RangeEdit) (k : ℕ) (notes more : List Note) (d e f : RangeEdit) (change : Change) (n : Note) → IsRun s (take k edits) now notes
     → k < length edits → IsEdited now (get_or edits k d).constraint (get_or edits k e).cause (get_or edits k f).range next change → IsRight next → n ≡ note_of change next
     → more ≡ notes ++ n ∷ [] → IsRun s (take (k + 1) edits) next more

@@ -11,7 +11,7 @@ use Rattle.cert_checker.specs.Faults.{behind_line, fault_of_line}
 use Rattle.cert_checker.specs.declared.check_fault.CheckFault.{CheckFault}
 use Rattle.cert_checker.proofs.Reading.{lines_are_read_one_by_one, no_fault_is_read}
 
--- lines that are read, and then more: those are read from where the first ones lead
+-- lines that are read, and then more lines, which are read from where the first ones lead
 reads_behind : (net : Net) (goal : ProofGoal) (lines more : List ProofLine) (cases mid left : List Case) → ProofLeaves net goal cases lines mid → ProofLeaves net goal cases (lines ++ more) left
     → ProofLeaves net goal mid more left
 reads_behind net goal [] more cases mid left first whole = subst (λ cs. ProofLeaves net goal cs more left) first whole
@@ -33,7 +33,7 @@ line_read : (net : Net) (goal : ProofGoal) (lines : List ProofLine) (k : ℕ) (l
 line_read net goal lines k line cases now at reads none behind =
     subst (λ ls. ProofLeaves net goal ([] ∷ []) ls now) (sym (take_next lines k line at)) ((no_fault_is_read net goal (take k lines) cases line now reads).1 (none, sym behind))
 
--- where a line has a fault the lines are no proof
+-- if a line has a fault, the lines are no proof
 line_refused : (net : Net) (goal : ProofGoal) (lines : List ProofLine) (k : ℕ) (line : ProofLine) (cases : List Case) (fault : CheckFault) → slice_get lines k ≡ Some line
     → ProofLeaves net goal ([] ∷ []) (take k lines) cases → fault_of_line net goal cases line ≡ Some fault → IsProof net goal lines → ⊥
 line_refused net goal lines k line cases fault at reads has proof =
@@ -46,7 +46,7 @@ line_refused net goal lines k line cases fault at reads has proof =
     none-and-some None fault none has = cc
     none-and-some (Some other) fault none has = cc
 
--- lines that are read are a proof exactly where they leave no case
+-- lines that are read are a proof if and only if they leave no case open
 all_read : (net : Net) (goal : ProofGoal) (lines : List ProofLine) (cases : List Case) (result : Bool) → ProofLeaves net goal ([] ∷ []) lines cases
     → (IsTrue result ↔ (cases ≡ [])) → IsTrue result ↔ IsProof net goal lines
 all_read net goal lines cases result reads done = (

@@ -53,16 +53,16 @@ of_map events (b ∷ bounds) all =
     All-cons (IsPairIn events) b bounds (All-head (IsPairOf events) b.pair (map (λ (d : KeptBound). d.pair) bounds) all)
     (of_map events bounds (All-tail (IsPairOf events) b.pair (map (λ (d : KeptBound). d.pair) bounds) all))
 
--- the bounds of pairs of events are of pairs of events
+-- if pairs are of events of the network, so are the pairs of their bounds
 pub pairs_in : (events : ℕ) (pairs : List Pair) (bounds : List KeptBound) → map (λ (b : KeptBound). b.pair) bounds ≡ both_ways pairs → All (IsPairOf events) pairs
     → All (IsPairIn events) bounds
 pairs_in events pairs bounds same all = of_map events bounds (subst (All (IsPairOf events)) (sym same) (all_both events pairs all))
 
--- there are two of each
+-- there are two bounds for each pair
 pub count_bounds : (pairs : List Pair) (bounds : List KeptBound) → map (λ (b : KeptBound). b.pair) bounds ≡ both_ways pairs → length bounds ≡ length pairs + length pairs
 count_bounds pairs bounds same = sym (length-map bounds (λ (b : KeptBound). b.pair)) ∙ (ap length same ∙ length-both_ways pairs)
 
--- ---- what bounds are that were settled
+-- ---- bounds that were settled
 
 right_all : (old net : Net) (budget : ℕ) (was : SearchFinding) (known : List ℤ) (before now : List KeptBound) (kept searched : ℕ)
     → AreUpdated (MayKeepFrom was net) (IsSearchedAnew net budget known) before now kept searched
@@ -115,7 +115,7 @@ close_before s right is = close_of s.net s.budget s.bounds (right.bounds is)
 
 -- ---- sessions that are begun
 
--- a new session is sound, where its parts are known by several names
+-- a new session is sound; its parts have several names
 pub sound_begun : (own net : Net) (budget : ℕ) (given pairs : List Pair) (found : SearchFinding) (before begun now shown : List KeptBound) (room made : ℕ) → own ≡ net → pairs ≡ given
     → map (λ (b : KeptBound). b.pair) before ≡ both_ways given → begun ≡ before → shown ≡ now → All (IsPairOf net.events) given → length given ≤ MAX_PAIRS
     → IsNet own → IsRightFinding own budget found → ((change : Change) × AreBoundsUpdated own budget Unsettled found begun now change) → All (HasPlaces own.events) now
@@ -164,7 +164,7 @@ two_more events pairs k bounds more a b d same places within is_a is_b places_a 
 
 -- ---- sessions that are edited
 
--- a session that was edited is sound, where the bounds before and behind are known by other names
+-- a session that was edited is sound; the bounds before and behind the edit have other names
 pub sound_behind : (old : SessionView) (constraint cause : ℕ) (range : Ends) (net : Net) (found : SearchFinding) (before now shown : List KeptBound) (change : Change) (room room_now : ℕ) → IsSoundSession old room
     → net ≡ with_range old.net constraint cause range → IsNet net → IsRightFinding net old.budget found → AreBoundsUpdated net old.budget old.found found before now change
     → room_now ≡ room → All (HasPlaces net.events) now → before ≡ old.bounds → shown ≡ now

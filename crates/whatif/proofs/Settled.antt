@@ -6,14 +6,14 @@ use Rattle.std.proofs.lemmas.List.Elements.{All-cons, All-head, All-tail}
 use Rattle.std.proofs.lemmas.Option.{same_Some, slice_get-get_or}
 use Rattle.whatif.specs.Session.{AreUpdated, KeptBound}
 
--- one more is kept or searched
+-- one more bound is kept or searched
 abbrev pub Goes : (KeptBound → Type 0) → (KeptBound → KeptBound → Type 0) → KeptBound → KeptBound → ℕ → ℕ → ℕ → ℕ → Type 0
 Goes May Searched a b kept searched kept_now searched_now =
     (May a × (b ≡ a) × (kept_now ≡ kept + 1) × (searched_now ≡ searched))
     ⊎ ((May a → ⊥) × Searched a b × (kept_now ≡ kept) × (searched_now ≡ searched + 1))
 
 module _ (May : KeptBound → Type 0) (Searched : KeptBound → KeptBound → Type 0) where
-  -- the bounds before a place are settled, and those from it on are as they were
+  -- the bounds before a place are settled, and the others are as they were
   pub record Settling (before now : List KeptBound) (place kept searched : ℕ) : Type 0 where
     pub done : AreUpdated May Searched (take place before) (take place now) kept searched
     pub rest : drop place now ≡ drop place before
@@ -91,7 +91,7 @@ module _ (May : KeptBound → Type 0) (Searched : KeptBound → KeptBound → Ty
       subst (λ xs. Settling before xs (place + 1) (kept + 1) searched) (set_here now place a at)
       (settles before now place kept searched (kept + 1) searched a a s within within_now at (inl (may, refl, refl, refl)))
 
-  -- what bounds that are kept go on to be, and those that are searched are, all are
+  -- if each bound that is kept stays with a property, and each that is searched gets it, all bounds have it
   pub settled_all : (Was Is : KeptBound → Type 0) (before now : List KeptBound) (kept searched : ℕ)
       → ((a : KeptBound) → May a → Was a → Is a) → ((a b : KeptBound) → Searched a b → Is b) → AreUpdated May Searched before now kept searched → All Was before → All Is now
   settled_all Was Is [] [] kept searched stays is settled was = λ k d within. absurd (omega arith)
@@ -103,7 +103,7 @@ module _ (May : KeptBound → Type 0) (Searched : KeptBound → KeptBound → Ty
   settled_all Was Is (x ∷ before) (y ∷ now) kept searched stays is (inr s) was =
       All-cons Is y now (is x y s.3) (settled_all Was Is before now kept s.0 stays is s.4 (All-tail Was x before was))
 
-  -- what searches leave as it is stays
+  -- what searches do not change stays as it is
   pub settled_same : {A : Type 0} (part : KeptBound → A) (before now : List KeptBound) (kept searched : ℕ)
       → ((a b : KeptBound) → Searched a b → part b ≡ part a) → AreUpdated May Searched before now kept searched → map part now ≡ map part before
   settled_same part [] [] kept searched same settled = refl
@@ -114,7 +114,7 @@ module _ (May : KeptBound → Type 0) (Searched : KeptBound → KeptBound → Ty
   settled_same part (x ∷ before) (y ∷ now) kept searched same (inr s) =
       ap (λ z. z ∷ map part now) (same x y s.3) ∙ ap (λ zs. part x ∷ zs) (settled_same part before now kept s.0 same s.4)
 
--- two elements at one place are one
+-- two elements at one place are the same
 pub same_here : (xs : List KeptBound) (i : ℕ) (a b : KeptBound) → i < length xs → a ≡ get_or xs i a → b ≡ get_or xs i b → a ≡ b
 same_here xs i a b within at_a at_b =
     at_a ∙ (same_Some (get_or xs i a) (get_or xs i b) (sym (slice_get-get_or xs i a within) ∙ slice_get-get_or xs i b within) ∙ sym at_b)

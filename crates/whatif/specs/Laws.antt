@@ -11,8 +11,8 @@ IsSettledAnswer (Closed value) = Unit {0}
 IsSettledAnswer Unbounded = Unit {0}
 IsSettledAnswer (Enclosed upper attained) = ⊥
 
--- Two bounds of one pair that are right for one network and are settled have one answer, whatever their budgets and however they came about: a bound
--- that was kept is the one that a search from scratch settles.
+-- Two bounds of one pair have one answer if both are right for one network and both are settled, whatever their budgets and however they came about.
+-- So a bound that was kept is the bound that a search from scratch settles.
 abbrev pub SettledBoundsAgree : Type 0
 SettledBoundsAgree = (net : Net) (budget other : ℕ) (a b : KeptBound) → IsRightBound net budget a → IsRightBound net other b → a.pair ≡ b.pair
     → IsSettledAnswer a.answer → IsSettledAnswer b.answer → a.answer ≡ b.answer

@@ -1,3 +1,4 @@
+-- The definitions of this crate: sessions, their runs along edits, and their laws.
 pub mod KeeperLaws
 pub mod Session
 pub mod Runs

@@ -12,14 +12,14 @@ pub record EditedSession : Type 0 where
   pub session : SessionView
   pub change : Change
 
--- from a session edits lead through these, one behind each edit, and each is right
+-- edits lead from a session through these sessions, one behind each edit, and each of them is right
 abbrev pub Runs : SessionView → List RangeEdit → List EditedSession → Type 0
 Runs s [] [] = Unit {0}
 Runs s [] (t ∷ later) = ⊥
 Runs s (e ∷ edits) [] = ⊥
 Runs s (e ∷ edits) (t ∷ later) = IsEdited s e.constraint e.cause e.range t.session t.change × IsRight t.session × Runs t.session edits later
 
--- the session behind all of them
+-- the session behind all edits
 abbrev pub last_of : SessionView → List EditedSession → SessionView
 last_of s [] = s
 last_of s (t ∷ later) = last_of t.session later
@@ -31,7 +31,7 @@ edited net (e ∷ edits) = edited (with_range net e.constraint e.cause e.range) 
 
 -- ---- what is noted of a session
 
--- the change, the finding and the answers
+-- the change, the finding and the answers of all bounds
 pub record Note : Type 0 where
   pub change : Change
   pub found : SearchFinding
@@ -43,7 +43,7 @@ note_of change s = record { change = change; found = s.found; answers = answers_
 abbrev pub notes_of : List EditedSession → List Note
 notes_of later = map (λ (t : EditedSession). note_of t.change t.session) later
 
--- the notes are of sessions that edits lead through, and the last of these is there
+-- the notes are of the sessions that edits lead through, and `last` is the last of these sessions
 pub record IsRun (first : SessionView) (edits : List RangeEdit) (last : SessionView) (notes : List Note) : Type 0 where
   pub later : List EditedSession
   pub runs : Runs first edits later

@@ -30,8 +30,8 @@ use Rattle.whatif.specs.declared.bound.TheConstants.{MAX_KEPT_EDGES, MAX_KEPT_LI
 
 -- ---- a bound
 
--- What is kept of the greatest separation of a pair: what the search answered, the times and the events to raise that it left, and the lines of
--- its proof, where they fitted.
+-- What is kept of the greatest separation of a pair: the answer of the search, the times and the events to raise that it left, and the lines of its
+-- proof, if they fitted.
 pub record KeptBound : Type 0 where
   pub pair : Pair
   pub answer : GreatestAnswer
@@ -39,8 +39,8 @@ pub record KeptBound : Type 0 where
   pub ray : List Bool
   pub proof : Option (List ProofLine)
 
--- An answer may be kept for a network: a closed one where its proof is a proof for this network and its times satisfy it, an unbounded one where
--- its times and events show this network unbounded, and no other.
+-- An answer may be kept for a network. A closed answer may be kept if its proof is a proof for this network and its times satisfy the network. An
+-- unbounded answer may be kept if its times and its events to raise show that the pair is unbounded in this network. No other answer may be kept.
 abbrev pub MayKeepAs : Net → Pair → List ℤ → List Bool → Option (List ProofLine) → GreatestAnswer → Type 0
 MayKeepAs net pair times ray proof (Closed value) = IsSomeAnd proof (IsProof net (Bound pair.from pair.to value)) × Satisfies times net
 MayKeepAs net pair times ray proof Unbounded = IsRay net pair.from pair.to times ray
@@ -49,7 +49,7 @@ MayKeepAs net pair times ray proof (Enclosed upper attained) = ⊥
 abbrev pub MayKeep : Net → KeptBound → Type 0
 MayKeep net b = MayKeepAs net b.pair b.times b.ray b.proof b.answer
 
--- Lines of a search for a bound that don't fit the room of a proof: reading accepts each of them for some value, and each split was needed beside
+-- Lines of a search for a bound that do not fit the room of a proof. Reading accepts each of the lines for some value. Each split was needed beside
 -- some known times that satisfy.
 pub record AreTooMany (net : Net) (pair : Pair) (lines : List ProofLine) : Type 0 where
   pub accepted : (value : ℤ) × IsAccepted net (Bound pair.from pair.to value) lines
@@ -61,13 +61,13 @@ abbrev pub HasProof : Net → Pair → ℤ → Option (List ProofLine) → Type 
 HasProof net pair value (Some lines) = IsProof net (Bound pair.from pair.to value) lines
 HasProof net pair value None = (lines : List ProofLine) × AreTooMany net pair lines
 
--- a closed bound has a proof, or its lines were too many
+-- a closed bound has a proof, or its lines were too many to keep; no other bound keeps a proof
 abbrev pub KeepsProof : Net → Pair → Option (List ProofLine) → GreatestAnswer → Type 0
 KeepsProof net pair proof (Closed value) = HasProof net pair value proof
 KeepsProof net pair proof Unbounded = proof ≡ None
 KeepsProof net pair proof (Enclosed upper attained) = proof ≡ None
 
--- the search for the greatest separation of a pair, which closes at most so many cases
+-- the search for the greatest separation of a pair, which closes at most `budget` cases
 abbrev pub pair_search : Net → Pair → ℕ → PairSearch
 pair_search net pair budget = record { net = net; from = pair.from; to = pair.to; budget = budget }
 
@@ -75,14 +75,14 @@ pair_search net pair budget = record { net = net; from = pair.from; to = pair.to
 abbrev pub left_by : List ProofLine → ℕ → List ℤ → List Bool → Evidence
 left_by lines leaves times ray = record { lines = lines; leaves = leaves; times = times; ray = ray }
 
--- the bound is right for a network and a budget: it is what a search may answer there, and its times satisfy
+-- the bound is right for a network and a budget: it is what a search may answer there, its times satisfy, and its proof is kept if it fits
 pub record IsRightBound (net : Net) (budget : ℕ) (b : KeptBound) : Type 0 where
   pub answers : (lines : List ProofLine) × (leaves : ℕ) × IsGreatestAnswer (pair_search net b.pair budget) (left_by lines leaves b.times b.ray) b.answer
   pub satisfies : Satisfies b.times net
   pub close : All IsClose b.times
   pub proof : KeepsProof net b.pair b.proof b.answer
 
--- there is a time and a flag for each of so many events
+-- there are a time and a flag for each event
 pub record HasPlaces (events : ℕ) (b : KeptBound) : Type 0 where
   pub times : length b.times ≡ events
   pub ray : length b.ray ≡ events
@@ -96,13 +96,14 @@ IsRightFinding net budget found =
 
 -- ---- a session
 
--- the pair of each of two bounds for each pair: its own, and the reversed one, whose greatest separation is minus the least one of the pair
+-- the pairs of the bounds, two for each pair: the pair itself, and the reversed pair, whose greatest separation is minus the least separation of the
+-- pair
 abbrev pub both_ways : List Pair → List Pair
 both_ways [] = []
 both_ways (pair ∷ pairs) = pair ∷ (record { from = pair.to; to = pair.from }) ∷ both_ways pairs
 
--- the network, the budget of each search, the pairs, the finding, and two bounds for each pair one after another, of which nothing is said where
--- the finding isn't consistent
+-- the network, the budget of each search, the pairs, the finding, and two bounds for each pair, one after another. Nothing is said of the bounds if
+-- the finding is not consistent.
 pub record SessionView : Type 0 where
   pub net : Net
   pub budget : ℕ
@@ -110,11 +111,11 @@ pub record SessionView : Type 0 where
   pub found : SearchFinding
   pub bounds : List KeptBound
 
--- the pair is of events below a number
+-- both events of the pair have numbers below `events`
 abbrev pub IsPairOf : ℕ → Pair → Type 0
 IsPairOf events pair = (pair.from.0 < events) × (pair.to.0 < events)
 
--- the finding is right, and so is each bound where the finding is consistent
+-- the finding is right, and each bound is right if the finding is consistent
 pub record IsRight (s : SessionView) : Type 0 where
   pub net : IsNet s.net
   pub pairs : map (λ (b : KeptBound). b.pair) s.bounds ≡ both_ways s.pairs
@@ -122,13 +123,13 @@ pub record IsRight (s : SessionView) : Type 0 where
   pub finding : IsRightFinding s.net s.budget s.found
   pub bounds : s.found ≡ Consistent → All (IsRightBound s.net s.budget) s.bounds
 
--- the bound of a number, where the finding is consistent
+-- the bound with a number, if the finding is consistent
 abbrev pub bound_at : SearchFinding → List KeptBound → ℕ → Option KeptBound
 bound_at Consistent bounds number = slice_get bounds number
 bound_at Inconsistent bounds number = None
 bound_at Unsettled bounds number = None
 
--- what was answered for each bound, where the finding is consistent
+-- the answer of each bound, if the finding is consistent
 abbrev pub answers_of : SearchFinding → List KeptBound → List GreatestAnswer
 answers_of Consistent bounds = map (λ (b : KeptBound). b.answer) bounds
 answers_of Inconsistent bounds = []
@@ -147,14 +148,14 @@ IsKeptOf (Some lent) bound = IsSomeAnd bound (IsLent lent)
 
 -- ---- an edit
 
--- a bound was searched anew from known times: it is right, and attains no less than they do
+-- a bound was searched anew from known times: it is right, and its times have no lesser separation than the known times
 pub record IsSearchedAnew (net : Net) (budget : ℕ) (known : List ℤ) (old new : KeptBound) : Type 0 where
   pub pair : new.pair ≡ old.pair
   pub right : IsRightBound net budget new
   pub least : separation known old.pair.from old.pair.to ≤ℤ separation new.times old.pair.from old.pair.to
 
--- One bound after another, each was kept as it was, which it may be, or was searched anew, as it may not be kept. So many were kept and so many
--- searched.
+-- One bound after another was kept as it was or searched anew: kept if it may be kept, and searched if it may not. `kept` and `searched` count the
+-- two.
 abbrev pub AreUpdated : (KeptBound → Type 0) → (KeptBound → KeptBound → Type 0) → List KeptBound → List KeptBound → ℕ → ℕ → Type 0
 AreUpdated May Searched [] [] kept searched = (kept ≡ 0) × (searched ≡ 0)
 AreUpdated May Searched [] (b ∷ now) kept searched = ⊥
@@ -163,29 +164,29 @@ AreUpdated May Searched (a ∷ before) (b ∷ now) kept searched =
     ((fewer : ℕ) × (kept ≡ fewer + 1) × May a × (b ≡ a) × AreUpdated May Searched before now fewer searched)
     ⊎ ((fewer : ℕ) × (searched ≡ fewer + 1) × (May a → ⊥) × Searched a b × AreUpdated May Searched before now kept fewer)
 
--- which bounds may be kept by an edit: where the finding before was consistent, those that may be kept for the network behind it
+-- which bounds an edit may keep: if the finding before it was consistent, all that may be kept for the network behind it, and else none
 abbrev pub MayKeepFrom : SearchFinding → Net → KeptBound → Type 0
 MayKeepFrom Consistent net b = MayKeep net b
 MayKeepFrom Inconsistent net b = ⊥
 MayKeepFrom Unsettled net b = ⊥
 
--- what becomes of the bounds: where the finding is consistent now, each is kept or searched anew, and where not nothing is done
+-- what becomes of the bounds: each is kept or searched anew if the finding is consistent now, and else all stay as they are
 abbrev pub AreBoundsUpdated : Net → ℕ → SearchFinding → SearchFinding → List KeptBound → List KeptBound → Change → Type 0
 AreBoundsUpdated net budget was Consistent before now change =
     (known : List ℤ) × Satisfies known net × AreUpdated (MayKeepFrom was net) (IsSearchedAnew net budget known) before now change.kept change.searched
 AreBoundsUpdated net budget was Inconsistent before now change = (now ≡ before) × (change.kept ≡ 0) × (change.searched ≡ 0)
 AreBoundsUpdated net budget was Unsettled before now change = (now ≡ before) × (change.kept ≡ 0) × (change.searched ≡ 0)
 
--- an edit of one range that is there
+-- an edit of the range of one cause
 pub record IsEdited (old : SessionView) (constraint cause : ℕ) (range : Ends) (new : SessionView) (change : Change) : Type 0 where
   pub net : new.net ≡ with_range old.net constraint cause range
   pub budget : new.budget ≡ old.budget
   pub pairs : new.pairs ≡ old.pairs
   pub bounds : AreBoundsUpdated new.net new.budget old.found new.found old.bounds new.bounds change
 
--- ---- why there is none
+-- ---- refusals
 
--- why a session of so many pairs was not made
+-- why a session of `count` pairs was not made
 abbrev pub IsSessionFault : ℕ → SessionFault → Type 0
 IsSessionFault count (TooManyPairs n) = (n ≡ count) × (MAX_PAIRS < count)
 IsSessionFault count sessions.NoMemory = count ≤ MAX_PAIRS
@@ -197,14 +198,14 @@ IsEditFault net constraint cause edits.NoMemory = IsSome (cause_at net constrain
 
 -- ---- new sessions
 
--- where the finding is consistent each bound attains no less than some known times
+-- if the finding is consistent, some satisfying times are known, and the times of no bound have a lesser separation
 abbrev pub AttainsKnown : SessionView → Type 0
 AttainsKnown s = s.found ≡ Consistent → (known : List ℤ) × Satisfies known s.net
     × All (λ (b : KeptBound). separation known b.pair.from b.pair.to ≤ℤ separation b.times b.pair.from b.pair.to) s.bounds
 
 -- ---- inside
 
--- a session with a checker of some room is sound
+-- a session with a checker for `room` constraints is sound
 pub record IsSoundSession (s : SessionView) (room : ℕ) : Type 0 where
   pub right : IsRight s
   pub room_is : room ≡ length s.net.constraints

@@ -1,2 +1,3 @@
+-- Words of contracts within this crate.
 pub mod Keeping
 pub mod Bounds

@@ -26,14 +26,14 @@ use itv_base::NoMemory;
 use std::alloc::Global;
 use std::marker::Model;
 
-/// How many lines of a proof a bound keeps at most.
+/// How many lines of its proof a bound keeps at most.
 pub const MAX_KEPT_LINES: u32 = 1_024;
 
-/// How many edges a bound keeps at most in all lines of its proof.
+/// How many edges a bound keeps at most, in all lines of its proof.
 pub const MAX_KEPT_EDGES: u32 = 16_384;
 
-/// What a bound keeps, lent: the times in picoseconds that the search left, for each event whether it is raised where the bound is
-/// unbounded, and the lines of the proof, where they fit.
+/// What a bound keeps, lent: the times in picoseconds that the search left; for each event, whether it is raised, if
+/// the bound is unbounded; and the lines of the proof, if they fit.
 #[derive(Clone, Copy)]
 pub struct Kept<'a> {
     pub times: &'a [i64],
@@ -64,7 +64,7 @@ impl Model for KeptBound {
 }
 
 impl KeptBound {
-    /// Room for the bound of a pair in networks of a number of events. Nothing was searched yet.
+    /// Room for the bound of a pair in networks with this number of events. Nothing is searched yet.
     pub fn new(alloc: Global, pair: Pair, events: u32) -> Result<KeptBound, NoMemory>
         ensures pair { IfOk result (λ b. b.pair ≡ pair) }
         ensures places { IfOk result (HasPlaces events) }
@@ -79,14 +79,14 @@ impl KeptBound {
         })
     }
 
-    /// What was answered.
+    /// The answer of the search.
     pub fn answer(&self) -> GreatestAnswer
         ensures { result ≡ self.now.answer }
     {
         self.answer
     }
 
-    /// What it keeps.
+    /// What the bound keeps.
     pub fn kept(&self) -> Kept<'_>
         ensures { IsLent result self.now }
     {
@@ -97,7 +97,7 @@ impl KeptBound {
         }
     }
 
-    /// Whether it may be kept for a network.
+    /// Whether the bound may be kept for a network.
     pub fn may_keep(&self, net: &Network, checker: &mut Checker) -> bool
         requires pair { IsPairOf net.now.events self.now.pair }
         requires places { HasPlaces net.now.events self.now }
@@ -119,8 +119,8 @@ impl KeptBound {
         }
     }
 
-    /// Searches it anew, where the finding was this one before. The search starts from the times that the bound has, where they are a
-    /// start no worse than the known times of the working memory, and from the known times everywhere else.
+    /// Searches the bound anew; `was` is the finding before. The search starts from the times of the bound if they are
+    /// no worse a start than the known times of the working memory, and else from the known times.
     pub fn search(&mut self, net: &Network, work: &mut Work, budget: u64, was: SearchFinding)
         requires pair { IsPairOf net.now.events self.old.pair }
         requires places { HasPlaces net.now.events self.old }
@@ -150,7 +150,7 @@ impl KeptBound {
     }
 }
 
-// Searches the greatest separation of a pair, from these times or else from the known ones.
+// Searches the greatest separation of a pair, from the times `start` if there are any, and else from the known times.
 fn search_pair(
     net: &Network,
     work: &mut Work,
@@ -183,7 +183,7 @@ fn search_pair(
     }
 }
 
-// Whether times of a bound are a start no worse than the known times, where the finding was this one before.
+// Whether the times of a bound are no worse a start than the known times; `was` is the finding before.
 fn is_start(net: &Network, was: SearchFinding, pair: Pair, times: &[i64], known: &[i64]) -> bool
     requires pair { IsPairOf net.now.events pair }
     requires places { length times.now ≡ net.now.events }
@@ -201,14 +201,14 @@ fn is_start(net: &Network, was: SearchFinding, pair: Pair, times: &[i64], known:
     }
 }
 
-// Whether a search may start from times with this separation, which is no less than a known one.
+// Whether a search may start from times with the separation `own`, and this is no less than the known separation.
 fn is_no_worse(own: i64, known: i64) -> bool
     ensures { IsTrue result → IsStart own × (known ≤ℤ own) }
 {
     known <= own && -MAX_START <= own && own <= MAX_START
 }
 
-// The separation of a pair in close times.
+// The separation of a pair in times that are close.
 fn separation_of(times: &[i64], pair: Pair) -> i64
     requires pair { IsPairOf (length times.now) pair }
     requires close { All IsClose times.now }
@@ -242,7 +242,7 @@ fn has_proof(
     is_proof(net, checker, goal, proof)
 }
 
-// Takes the events to raise of an answer that has them.
+// Takes the events to raise, if the answer has any.
 fn take_ray(ray: &mut [bool], answer: GreatestAnswer, found: &[bool])
     requires places { answer ≡ answers.Unbounded → length found.now ≡ length ray.old }
     ensures ray { answer ≡ answers.Unbounded → ray.new ≡ found.now }
@@ -254,7 +254,7 @@ fn take_ray(ray: &mut [bool], answer: GreatestAnswer, found: &[bool])
     }
 }
 
-// Lets the lines of an answer go that has no proof.
+// Lets the lines go if the answer has no proof.
 fn keep_by(keeper: &mut Keeper, answer: GreatestAnswer)
     ensures { keeper.new ≡ record keeper.old { lines = kept_of answer keeper.old.lines } }
 {

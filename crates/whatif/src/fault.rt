@@ -10,7 +10,7 @@ use thiserror::Error;
 /// Why a session was not made.
 #[derive(Clone, Copy, Debug, PartialEq, Eq, Error)]
 pub enum SessionFault {
-    /// There are more pairs than [`MAX_PAIRS`](crate::MAX_PAIRS), so many.
+    /// There are this many pairs, more than [`MAX_PAIRS`](crate::MAX_PAIRS).
     #[error("{0} pairs are too many")]
     TooManyPairs(u64),
     /// Memory was wanted and not found.

@@ -12,7 +12,7 @@ use itv_base::{EdgeName, NoMemory};
 use std::alloc::Global;
 use std::marker::Model;
 
-/// Keeps the lines of a proof, or lets all of them go where they don't fit. It takes every line, so it never fails.
+/// Keeps the lines of a proof, or lets all of them go if they do not fit. It takes every line, so it never fails.
 #[derive(Debug, Drop)]
 pub struct Keeper {
     tree: TreeScribe,
@@ -28,7 +28,7 @@ impl Model for Keeper {
 }
 
 impl Keeper {
-    /// Room for a number of lines with a number of edges in all of them, and no line yet.
+    /// Room for this number of lines, with this number of edges in all of them. There is no line yet.
     pub fn new(alloc: Global, lines: u32, edges: u32) -> Result<Keeper, NoMemory>
         ensures empty { IfOk result (λ k. k ≡ record { lines = Some []; line_room = lines; edge_room = edges }) }
     {
@@ -38,7 +38,7 @@ impl Keeper {
         })
     }
 
-    /// Begins a new proof: no line is kept, and there is all the room.
+    /// Begins a new proof: no line is kept, and all the room is free.
     pub fn begin(&mut self)
         ensures empty { self.new ≡ record self.old { lines = Some [] } }
     {
@@ -46,14 +46,14 @@ impl Keeper {
         self.is_full = false;
     }
 
-    /// Lets the lines go.
+    /// Lets all lines go.
     pub fn forget(&mut self)
         ensures empty { self.new ≡ record self.old { lines = None } }
     {
         self.is_full = true;
     }
 
-    /// The lines, where none was let go.
+    /// The lines, unless they were let go.
     pub fn proof(&self) -> Option<&TreeScribe>
         ensures lines { option_map (λ (tree : Tree). tree.lines) (option_copied result) ≡ self.now.lines }
     {

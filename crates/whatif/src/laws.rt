@@ -2,8 +2,8 @@
 
 ghost use Rattle.whatif.specs.Laws.{SettledBoundsAgree};
 
-/// Two bounds of one pair that are right for one network and are settled have one answer: a bound that was kept is the one that a
-/// search from scratch settles.
+/// Two bounds of one pair have one answer if both are right for one network and both are settled. So a bound that was
+/// kept is the bound that a search from scratch settles.
 pub fn settled_bounds_agree()
     ensures law { SettledBoundsAgree }
 {}

@@ -2,7 +2,7 @@
 
 use itv_base::EventId;
 
-/// A pair of events, whose separation is the time of `to` less that of `from`.
+/// A pair of events. Its separation is the time of `to` less the time of `from`.
 #[derive(Clone, Copy, Debug, PartialEq, Eq)]
 pub struct Pair {
     pub from: EventId,

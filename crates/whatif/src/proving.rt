@@ -8,8 +8,8 @@ use cert_checker::{Checker, Goal};
 use certificate::TreeScribe;
 use event_graph::Network;
 
-/// Whether lines that were kept are a proof of a goal for a network. The checker is for networks with as many constraints. Takes no
-/// memory.
+/// Whether lines that were kept are a proof of a goal for a network. The checker is made for networks with as many
+/// constraints. Takes no memory.
 pub fn is_proof(net: &Network, checker: &mut Checker, goal: Goal, proof: &TreeScribe) -> bool
     requires room { checker.old.room ≡ length net.now.constraints }
     ensures proof { IsTrue result ↔ IsProof net.now (goal_view goal) proof.now.lines }
@@ -24,7 +24,7 @@ pub fn is_proof(net: &Network, checker: &mut Checker, goal: Goal, proof: &TreeSc
     checker.is_done()
 }
 
-// Takes the next line, where it has no fault.
+// Takes the next line. Returns whether it has no fault.
 fn takes(net: &Network, checker: &mut Checker, proof: &TreeScribe, k: u64) -> bool
     requires stands { IsProofCheckerFor net.now checker.old }
     requires line { k < length proof.now.lines }

@@ -13,8 +13,8 @@ use itv_base::NoMemory;
 use std::alloc::Global;
 use std::marker::Model;
 
-/// What a session comes to behind an edit: what the edit did, the finding, and the answers of all bounds, two for each pair, or none
-/// where the finding isn't consistent.
+/// What a session comes to behind an edit: what the edit did, the finding, and the answers of all bounds, two for each
+/// pair. There are no answers if the finding is not consistent.
 #[derive(Debug, Drop)]
 pub struct Note {
     pub change: Change,
@@ -41,7 +41,7 @@ pub fn note_session(alloc: Global, session: &Session, change: Change) -> Result<
     })
 }
 
-/// Makes the edits one after another, each of a cause that is there, and notes the session behind each.
+/// Makes the edits one after another, and notes the session behind each. The cause of each edit is there.
 pub fn run_edits(
     alloc: Global,
     session: &mut Session,

@@ -23,11 +23,11 @@ use itv_base::{NoMemory, Range};
 use std::alloc::Global;
 use std::marker::Model;
 
-/// The most pairs of a session.
+/// The most pairs that a session may have.
 pub const MAX_PAIRS: usize = 64;
 
-/// A network whose ranges are edited, and the bounds of pairs of its events, which are kept from one edit to the next. It has a copy of
-/// the network of its own.
+/// A network whose ranges are edited, and the bounds of pairs of its events. The bounds are kept from one edit to the
+/// next. The session has its own copy of the network.
 #[derive(Debug, Drop)]
 pub struct Session {
     alloc: Global,
@@ -35,7 +35,7 @@ pub struct Session {
     budget: u64,
     pairs: Vec<Pair>,
     found: SearchFinding,
-    // Two for each pair: its own, and that of the reversed pair.
+    // Two bounds for each pair: its own, and the bound of the reversed pair.
     bounds: Vec<KeptBound>,
     checker: Checker,
 }
@@ -51,8 +51,8 @@ impl Model for Session {
 }
 
 impl Session {
-    /// A session of pairs of events of a network, at most [`MAX_PAIRS`], each search of which closes at most `budget` cases. It takes
-    /// all the memory that it ever needs but the working memory of an edit's searches.
+    /// A session of at most [`MAX_PAIRS`] pairs of events of a network. Each search closes at most `budget` cases. The
+    /// session takes all the memory that it ever needs, except the working memory for the searches of an edit.
     pub fn new(
         alloc: Global,
         net: &Network,
@@ -88,8 +88,9 @@ impl Session {
         })
     }
 
-    /// Sets the range of a cause of a constraint, keeps each bound that this leaves right, and searches the others anew. The answer is
-    /// `NoSuch` exactly where the constraint or the cause is not there. After a refusal the session is unchanged.
+    /// Sets the range of a cause of a constraint, keeps each bound that is still right, and searches the others anew.
+    /// Returns `NoSuch` if and only if the constraint or the cause is not there. After a refusal the session is
+    /// unchanged.
     pub fn edit(&mut self, constraint: u32, cause: u32, range: Range) -> Result<Change, EditFault>
         ensures edited { IfOk result (IsEdited self.old constraint cause range self.new) }
         ensures there { OnOk result (IsSome (cause_at self.old.net constraint cause)) }
@@ -115,7 +116,7 @@ impl Session {
         &self.net
     }
 
-    /// Whether times satisfy the network, as far as the budget tells.
+    /// Whether times satisfy the network, as far as the budget allows to know.
     pub fn finding(&self) -> SearchFinding
         ensures found { result ≡ self.now.found }
         ensures right { IsRight self.now }
@@ -123,7 +124,7 @@ impl Session {
         self.found
     }
 
-    /// The greatest separation of a pair by its number from 0, or `None` exactly where the finding isn't consistent.
+    /// The greatest separation of a pair by its number from 0, or `None` if and only if the finding is not consistent.
     pub fn greatest_of(&self, pair: u32) -> Option<GreatestAnswer>
         requires there { pair < length self.now.pairs }
         ensures { result ≡ option_map (λ (b : KeptBound). b.answer) (bound_at self.now.found self.now.bounds (pair + pair)) }
@@ -132,8 +133,8 @@ impl Session {
         Some(bound.answer())
     }
 
-    /// The greatest separation of the reversed pair, which is minus the least one of the pair, or `None` exactly where the finding
-    /// isn't consistent.
+    /// The greatest separation of the reversed pair, which is minus the least separation of the pair, or `None` if and
+    /// only if the finding is not consistent.
     pub fn least_of(&self, pair: u32) -> Option<GreatestAnswer>
         requires there { pair < length self.now.pairs }
         ensures { result ≡ option_map (λ (b : KeptBound). b.answer) (bound_at self.now.found self.now.bounds (pair + pair + 1)) }
@@ -142,7 +143,7 @@ impl Session {
         Some(bound.answer())
     }
 
-    /// What the greatest separation of a pair keeps, with the same `None`.
+    /// What the bound for the greatest separation of a pair keeps, with the same `None`.
     pub fn greatest_kept(&self, pair: u32) -> Option<Kept<'_>>
         requires there { pair < length self.now.pairs }
         ensures { IsKeptOf result (bound_at self.now.found self.now.bounds (pair + pair)) }
@@ -151,7 +152,7 @@ impl Session {
         Some(bound.kept())
     }
 
-    /// What that of the reversed pair keeps, with the same `None`.
+    /// What the bound of the reversed pair keeps, with the same `None`.
     pub fn least_kept(&self, pair: u32) -> Option<Kept<'_>>
         requires there { pair < length self.now.pairs }
         ensures { IsKeptOf result (bound_at self.now.found self.now.bounds (pair + pair + 1)) }
@@ -160,7 +161,7 @@ impl Session {
         Some(bound.kept())
     }
 
-    /// The answers of all bounds, two for each pair, or none where the finding isn't consistent.
+    /// The answers of all bounds, two for each pair, or none if the finding is not consistent.
     pub fn answers(&self, alloc: Global) -> Result<Vec<GreatestAnswer>, NoMemory>
         ensures { IfOk result (λ answers. answers.items ≡ answers_of self.now.found self.now.bounds) }
     {
@@ -170,7 +171,7 @@ impl Session {
         }
     }
 
-    // The bound of a number, where the finding is consistent.
+    // The bound with a number, if the finding is consistent.
     fn bound(&self, number: usize) -> Option<&KeptBound>
         requires there { number < length self.now.pairs + length self.now.pairs }
         ensures { option_copied result ≡ bound_at self.now.found self.now.bounds number }
@@ -193,7 +194,7 @@ fn answers_in(alloc: Global, bounds: &[KeptBound]) -> Result<Vec<GreatestAnswer>
     Ok(answers)
 }
 
-// Room for the bounds of pairs and of the reversed ones, of which nothing is searched yet.
+// Room for the bounds of the pairs and of the reversed pairs. Nothing is searched yet.
 fn bounds_for(alloc: Global, pairs: &[Pair], events: u32) -> Result<Vec<KeptBound>, NoMemory>
     ensures pairs { IfOk result (λ bounds. map (λ (b : KeptBound). b.pair) bounds.items ≡ both_ways pairs.now) }
     ensures places { IfOk result (λ bounds. All (HasPlaces events) bounds.items) }
@@ -232,7 +233,8 @@ fn begin(
     Ok(found)
 }
 
-// Sets a range, and takes the memory for searches of the network with it. Where there is none, the range is set back.
+// Sets a range, and takes the memory for searches of the network with this range. If memory runs out, the range is set
+// back.
 fn work_for(
     alloc: Global,
     net: &mut Network,

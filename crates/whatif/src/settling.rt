@@ -14,11 +14,11 @@ use branch::{Quiet, SearchFinding, Work, find};
 use cert_checker::Checker;
 use event_graph::{Network, ScribeFailed};
 
-/// The most bounds that there are.
+/// The most bounds that a session may have.
 pub const MAX_BOUNDS: usize = 128;
 
-/// Settles a finding and bounds for a network, where the finding was another one before: each bound is kept or searched anew, if the
-/// network has satisfying times now.
+/// Settles the finding and the bounds for a network; `found` holds the finding before. If the network has satisfying
+/// times now, each bound is kept or searched anew.
 pub fn settle(
     net: &Network,
     work: &mut Work,
@@ -51,7 +51,7 @@ pub fn settle(
     }
 }
 
-/// The same with working memory of its own, which is given back at the end.
+/// The same as `settle`, with working memory of its own, which is given back at the end.
 pub fn settle_by(
     net: &Network,
     mut work: Work,
@@ -75,7 +75,7 @@ pub fn settle_by(
     settle(net, &mut work, checker, budget, found, bounds)
 }
 
-// Whether some times satisfy the network, which are known afterwards.
+// Whether some times satisfy the network. If so, the times are known afterwards.
 fn find_times(net: &Network, work: &mut Work, budget: u64) -> SearchFinding
     requires made { IsMadeFor net.now work.old }
     requires budget { 0 < budget }
@@ -128,7 +128,7 @@ fn settle_bounds(
     change
 }
 
-// Whether a bound is kept, where the finding was this one before.
+// Whether a bound is kept; `was` is the finding before.
 fn keeps(net: &Network, checker: &mut Checker, was: SearchFinding, bound: &KeptBound) -> bool
     requires pair { IsPairIn net.now.events bound.now }
     requires places { HasPlaces net.now.events bound.now }

@@ -17,7 +17,7 @@ out_of_range limit text outside = go (is_unsigned_in 1 limit text) refl
     go true is = absurd (outside (accepts-Accepts false (Unsigned 1 limit) text is))
     go false is = refl
 
--- it is within the limit
+-- the number is from 1 to the limit
 pub number_limits : (limit : ℕ) (text : List ℕ) → IfSome (number_in limit text) (λ n. (1 ≤ n) × (n ≤ limit))
 number_limits limit text = go (is_unsigned_in 1 limit text) refl
   where
@@ -25,7 +25,7 @@ number_limits limit text = go (is_unsigned_in 1 limit text) refl
     go true is = let inside = accepts-Accepts false (Unsigned 1 limit) text is in (inside.2, inside.3)
     go false is = tt
 
--- a number that was read, within the limit
+-- a number that was read and is from 1 to the limit
 pub read_within : (limit : ℕ) (text : List ℕ) (number : ℕ) → IsNumeral 10 (without_leading_plus text) → digits_value 10 (without_leading_plus text) < 2 ^ 64
     → number ≡ digits_value 10 (without_leading_plus text) → 1 ≤ number → number ≤ limit → Some number ≡ number_in limit text
 read_within limit text number numeral fits is low high =

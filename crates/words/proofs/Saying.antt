@@ -1,4 +1,4 @@
--- What the words are taken for, by what `clap` answers.
+-- What the words are taken for, by what `clap` returns.
 use Rattle.std.proofs.Common.{◌≡◌, ◌⊎◌, inl, inr, Result, Ok, Err, IfOk, true, List, [], ◌∷◌, map, ◌∙◌, sym, ap, subst, refl}
 use Rattle.clap.specs.Faults.{fault_of, is_simple_and_free}
 use Rattle.clap.specs.Kinds.{IsAmong, Kinds}
@@ -66,7 +66,7 @@ pub as_read : (words : List Text) → map (λ word. word) words ≡ words
 as_read [] = refl
 as_read (word ∷ words) = ap (λ ws. word ∷ ws) (as_read words)
 
--- where memory was found for the answer
+-- the words that are refused, if memory was found for the result
 pub of_refusal : (result : Result Invocation NoMemory) (kind : ErrorKind) (wanted : said.Invocation) → IfOk result (λ a. (kind ≡ OutOfMemory → ⊥) × (answer_view a ≡ refusal_for kind))
     → ((kind ≡ OutOfMemory → ⊥) → refusal_for kind ≡ wanted) → IfOk result (λ a. answer_view a ≡ wanted)
 of_refusal (Ok a) kind wanted refusal is = refusal.1 ∙ is refusal.0

@@ -1,4 +1,4 @@
--- A command without subcommands fails for one cause at most, so its first cause is its only one.
+-- A command without subcommands fails for at most one cause, so its first cause is its only one.
 use Rattle.std.proofs.Common.{◌≡◌, ◌+◌, ◌==◌, ◌&&◌, ◌||◌, ℕ, zero, suc, Bool, true, false, not, List, [], ◌∷◌, length, drop, min, Option, Some, None, is_some, refl}
 use Rattle.std.specs.Prelude.{encode_utf8, if◌then◌else◌, nat_lt, slice_get}
 use Rattle.std.specs.Option.{option_map_or}
@@ -203,6 +203,6 @@ nothing_entered : (top : Shape) (stop : Option (Text × List Text)) (h : Held) (
 nothing_entered top None h words leaf = level_single top h words leaf
 nothing_entered top (Some p) h words leaf = level_single top h words leaf
 
--- a built command that has no subcommand fails for one cause at most
+-- a built command without subcommands fails for at most one cause
 pub built_single : (top : Shape) (h : Held) (words : List Text) → top.is_leaf ≡ true → AtMostOne (built_fault (record { top = top; subs = [] }) h words)
 built_single top h words leaf = nothing_entered top (walk top.rules [] h words).stopped h words leaf

@@ -1,4 +1,4 @@
--- The command line of the program: `itv [--job JOB] [--budget N] [--cert] [--report FILE] [--edits FILE] [--size N] [DESIGN]`, told to `clap`.
+-- The command line of the program, as `clap` gets it: `itv [--job JOB] [--budget N] [--cert] [--report FILE] [--edits FILE] [--size N] [DESIGN]`.
 use Rattle.std.specs.Prelude.{ℕ, List, [], ◌∷◌, Some, true, codes}
 use Rattle.itv_base.specs.declared.limits.TheConstants.{MAX_BUDGET, MAX_SELF_SIZE}
 use Rattle.clap.specs.Simple.{App, new_app, new_rule, on_top, with_rule}

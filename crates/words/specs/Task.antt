@@ -13,9 +13,8 @@ use Rattle.clap.specs.declared.error.kind.ErrorKind.{ErrorKind}
 use Rattle.clap.specs.declared.error.kind.ErrorKind.TheVariants.{DisplayHelp}
 use Rattle.words.specs.Command.{command}
 
--- a job with what it needs: the design's name, the budget of each search and whether proofs are wanted, for three jobs; the design's name
--- and the budget, for four; the design's name; the names of the design and of the report, for two jobs; the size of the generated design and the budget; the names
--- of the design and of the edits, and the budget of each search
+-- a job with what it needs, in this order: the name of the design and of the report or the edits, or the size of the generated design; the budget of
+-- each search; and whether proofs are wanted
 pub data Task : Type 0 where
   bounds : Text → ℕ → Bool → Task
   fall : Text → ℕ → Bool → Task
@@ -51,18 +50,18 @@ size_of rows = option_and_then (number_in MAX_SELF_SIZE) (first_of (codes "size"
 abbrev pub wants_proofs : List Row → Bool
 wants_proofs rows = option_map_or (λ text. bytes_eq text (codes "true")) (first_of (codes "cert") rows) false
 
--- a job with the design's name, the budget and whether proofs are wanted
+-- a job with the name of the design, the budget and whether proofs are wanted
 abbrev pub searching : (Text → ℕ → Bool → Task) → List Row → Option Task
 searching job rows = option_and_then (λ design. option_map (λ budget. job design budget (wants_proofs rows)) (budget_of rows)) (first_of (codes "design") rows)
 
--- a job with the design's name and the budget; whether proofs are wanted is passed over
+-- a job with the name of the design and the budget; whether proofs are wanted is passed over
 abbrev pub searching_only : (Text → ℕ → Task) → List Row → Option Task
 searching_only job rows = searching (λ design budget proofs. job design budget) rows
 
 abbrev pub matrix_of : List Row → Option Task
 matrix_of rows = option_map matrix (first_of (codes "design") rows)
 
--- a job with the design's name and the report's
+-- a job with the name of the design and the name of the report
 abbrev pub reading : (Text → Text → Task) → List Row → Option Task
 reading job rows = option_and_then (λ design. option_map (job design) (first_of (codes "report") rows)) (first_of (codes "design") rows)
 
@@ -73,7 +72,7 @@ abbrev pub whatif_of : List Row → Option Task
 whatif_of rows =
     option_and_then (λ design. option_and_then (λ edits. option_map (whatif design edits) (budget_of rows)) (first_of (codes "edits") rows)) (first_of (codes "design") rows)
 
--- the task of a job of this name, where all that it needs is there; what it does not need is passed over
+-- the task of a job with this name, if all that it needs is there; what it does not need is passed over
 abbrev pub task_named : List Row → Text → Option Task
 task_named rows name =
     if bytes_eq name (codes "bounds") then searching bounds rows
@@ -103,7 +102,7 @@ abbrev pub refusal_for : ErrorKind → Invocation
 refusal_for DisplayHelp = help
 refusal_for _ = bad_words
 
--- the first thing in the words that `clap` refuses, or that asks for help, decides; where there is none, what the matches say
+-- the first thing in the words that `clap` refuses, or that asks for help, decides; if there is none, the matches decide
 abbrev pub answer_by : Kinds → List Row → Invocation
 answer_by [] rows = answer_for (task_of rows)
 answer_by (kind ∷ kinds) rows = refusal_for kind

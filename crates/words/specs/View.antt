@@ -1,4 +1,4 @@
--- What the code answers, without where its texts lie in memory.
+-- What the code returns, without where its texts lie in memory.
 use Rattle.words.specs.Task as said
 use Rattle.words.specs.declared.task.Invocation.{Invocation}
 use Rattle.words.specs.declared.task.Invocation.TheVariants as answer

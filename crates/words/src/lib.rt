@@ -1,5 +1,5 @@
 //! The words of the command line, read by `clap`.
-//! The contract of the crate is one equation: `read_words` answers what the words are taken for, which is said over
+//! The contract of the crate is one equation: `read_words` returns what the words are taken for. This is said over
 //! `clap`'s own definitions of what a command refuses and of what matches it finds. No other crate sees `clap`.
 #![tactic(auto)]
 

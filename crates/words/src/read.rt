@@ -15,8 +15,8 @@ use clap::{ArgMatches, Error};
 use itv_base::{DEFAULT_BUDGET, MAX_BUDGET, MAX_SELF_SIZE, NoMemory, Texts};
 use std::alloc::Global;
 
-/// Reads the words behind the program's name. The text of help is made whole here, and no memory is wanted for it
-/// later. Any words may meet want of memory, since `clap` takes some for all of them.
+/// Reads the words behind the program's name. The text of help is made whole here, so that it takes no memory later.
+/// Reading any words may run out of memory, since `clap` takes some for all of them.
 pub fn read_words<'a>(alloc: Global, words: &'a Texts) -> Result<Invocation<'a>, NoMemory>
     ensures taken { IfOk result (λ answer. answer_view answer ≡ taken words.entry.now) }
     ensures limits { IfOk result (λ answer. KeepsLimits (answer_view answer)) }
@@ -27,7 +27,7 @@ pub fn read_words<'a>(alloc: Global, words: &'a Texts) -> Result<Invocation<'a>,
     }
 }
 
-// What words say that `clap` takes.
+// What the words are taken for if `clap` takes them.
 fn answer<'a>(task: Option<Task<'a>>) -> Invocation<'a>
     ensures { answer_view result ≡ answer_for (option_map task_view task.entry) }
 {
@@ -37,7 +37,7 @@ fn answer<'a>(task: Option<Task<'a>>) -> Invocation<'a>
     }
 }
 
-// What words say that `clap` does not take.
+// What the words are taken for if `clap` does not take them.
 fn refusal<'a>(alloc: Global, error: &Error) -> Result<Invocation<'a>, NoMemory>
     ensures { IfOk result (λ answer. (kind_of error.now ≢ ErrorKind.OutOfMemory)
         × (answer_view answer ≡ refusal_for (kind_of error.now))) }
@@ -55,7 +55,7 @@ fn task_of<'a>(matches: &ArgMatches<'a>) -> Option<Task<'a>>
     task_named(matches, text_of(matches, "job")?)
 }
 
-// The task of a job of this name, where all that it needs is there.
+// The task of a job with this name, if all that it needs is there.
 fn task_named<'a>(matches: &ArgMatches<'a>, name: &str) -> Option<Task<'a>>
     ensures { option_map task_view result ≡ task_named (rows_of (found_of matches.now)) name.now }
 {
@@ -242,7 +242,7 @@ fn number_in(text: &str, limit: u64) -> Option<u64>
     }
 }
 
-// The text of an option or an argument, where it is there.
+// The text of an option or an argument, if it is there.
 fn text_of<'a>(matches: &ArgMatches<'a>, id: &str) -> Option<&'a str>
     ensures { option_map (λ text. text.now) result ≡ first_of id.now (rows_of (found_of matches.now)) }
 {

@@ -10,8 +10,8 @@ pub enum Task<'a> {
         budget: u64,
         cert: bool,
     },
-    /// To bound the rows of a design by falling values: the name of its file, the lines that each derivation
-    /// may have, and whether they are written.
+    /// To bound the rows of a design by falling values: the name of its file, the lines that each derivation may have,
+    /// and whether the lines are written.
     Fall {
         design: &'a str,
         budget: u64,
@@ -29,19 +29,19 @@ pub enum Task<'a> {
         design: &'a str,
         budget: u64,
     },
-    /// To tell why the bounds of the rows of a design are what they are: the name of its file, and the cases that each search may
-    /// close.
+    /// To say why the bounds of the rows of a design are what they are: the name of its file, and the cases that each
+    /// search may close.
     Why {
         design: &'a str,
         budget: u64,
     },
-    /// To tell each row of a design on one line: the name of its file, and the cases that each search may close.
+    /// To print each row of a design on one line: the name of its file, and the cases that each search may close.
     Brief {
         design: &'a str,
         budget: u64,
     },
-    /// To tell what of a design may say something else than was meant: the name of its file, and the cases that each search may
-    /// close.
+    /// To report what in a design may say something else than was meant: the name of its file, and the cases that each
+    /// search may close.
     Lint {
         design: &'a str,
         budget: u64,
@@ -66,8 +66,8 @@ pub enum Task<'a> {
         size: u32,
         budget: u64,
     },
-    /// To bound the rows of a design and again behind each edit of a range: the name of its file, that of the file of edits, and
-    /// the cases that each search may close.
+    /// To bound the rows of a design, and again behind each edit of a range: the name of its file, the name of the file
+    /// of edits, and the cases that each search may close.
     Whatif {
         design: &'a str,
         edits: &'a str,

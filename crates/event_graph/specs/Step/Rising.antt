@@ -25,6 +25,6 @@ StaysAs Lin times set target causes = All (StaysAfter times set target) causes �
 StaysAs Late times set target causes = All (StaysAfter times set target) causes × Any (StaysBefore times set target) causes
 StaysAs Early times set target causes = All (StaysBefore times set target) causes × Any (StaysAfter times set target) causes
 
--- the times meet the constraint, and so they do however far the events of the set are raised
+-- the times meet the constraint however far the events of the set are raised
 abbrev pub Stays : List ℤ → List Bool → Constraint → Type 0
 Stays times set c = StaysAs c.kind times set c.target c.causes

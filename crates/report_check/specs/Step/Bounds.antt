@@ -1,4 +1,4 @@
--- Root bounds, and what a closed bound wants shown.
+-- Root bounds, and what the lines before a closed bound are to show.
 use Rattle.std.specs.Prelude.{◌<◌, ℤ, neg_ℤ, List, Option, Some, None, option_map}
 use Rattle.event_graph.specs.Network.{Net}
 use Rattle.event_graph.specs.Proof.{ProofGoal}
@@ -25,7 +25,7 @@ pub record IsBetween (net : Net) (row : Row) : Type 0 where
   pub from : row.from.0 < net.events
   pub to : row.to.0 < net.events
 
--- what lines before a bound are to show: only a closed one is to be shown
+-- what the lines before a bound are to show: for a closed bound they are to prove it, and else nothing
 abbrev pub goal_for : Row → NextBound → Bound → Option ProofGoal
 goal_for r side (bounds.Closed value) = Some (goal_of r side value)
 goal_for r side bounds.Unbounded = None

@@ -1,4 +1,4 @@
--- The lines of a proof before a finding or a bound, and what a check of them tells.
+-- The proof lines before a finding or a bound, and what a check of them says.
 use Rattle.std.specs.Prelude.{◌≡◌, ◌+◌, ◌↔◌, ℕ, Bool, IsTrue, List, [], ◌∷◌, ◌++◌, length, Option, Some, None, Result, Ok, Err}
 use Rattle.event_graph.specs.Network.{Net}
 use Rattle.event_graph.specs.Proof.{Case, IsProof, ProofGoal, ProofLine}
@@ -13,18 +13,18 @@ use Rattle.report_check.specs.Step.Stages.{IsSide, IsTelling, side_told, telling
 use Rattle.report_check.specs.declared.group.ProofGroup.{ProofGroup}
 use Rattle.report_check.specs.declared.group.ProofGroup.TheVariants as groups
 
--- the lines of a proof that some lines begin with
+-- the proof lines that some lines begin with
 abbrev pub proof_front : List Entry → List ProofLine
 proof_front [] = []
 proof_front (proof line ∷ rest) = line ∷ proof_front rest
 proof_front (line ∷ rest) = []
 
--- behind lines of a proof that stand behind the events
+-- the state of a report behind the events and then some proof lines
 abbrev pub found_behind : ℕ → List ProofLine → ReportState
 found_behind number [] = at_event number []
 found_behind number (line ∷ lines) = at_finding (line ∷ lines)
 
--- where a report stands behind lines of a proof
+-- the state of a report behind some proof lines
 abbrev pub behind_lines : Drawn → ProofGroup → List ProofLine → ReportState
 behind_lines drawn (groups.Finding number) lines = found_behind number lines
 behind_lines drawn (groups.Bound told side) lines = at_bound (telling_of drawn told) (side_told side) lines
@@ -37,20 +37,20 @@ IsGroup drawn (groups.Bound told side) = IsTelling drawn told × IsSide side
 abbrev pub ReadsAlike : Net → ProofGoal → ProofGoal → Type 0
 ReadsAlike net goal other = (cases left : List Case) (lines : List ProofLine) → proofs.ProofLeaves net goal cases lines left ↔ proofs.ProofLeaves net other cases lines left
 
--- what a checker is begun with in place of a goal
+-- the goal with which a checker begins stands for the goal of the proof lines, if there is one
 abbrev pub StandsForGoal : Net → Option ProofGoal → Option Goal → Type 0
 StandsForGoal net None None = Unit {0}
 StandsForGoal net None (Some begun) = ⊥
 StandsForGoal net (Some goal) None = ⊥
 StandsForGoal net (Some goal) (Some begun) = ReadsAlike net goal (goal_view begun)
 
--- all lines are taken, and it is told whether they are a whole proof
+-- all lines are taken, and `whole` says whether they are a whole proof
 pub record AreTaken (net : Net) (goal : ProofGoal) (lines : List ProofLine) (whole : Bool) : Type 0 where
   pub cases : List Case
   pub reads : proofs.ProofLeaves net goal ([] ∷ []) lines cases
   pub is_whole : IsTrue whole ↔ (cases ≡ [])
 
--- a line, of a number among all lines, is not taken behind those before it
+-- a line, with its number among all lines, is not taken behind the lines before it, which are taken
 pub record IsOneRefused (net : Net) (goal : ProofGoal) (lines : List ProofLine) (first number : ℕ) : Type 0 where
   pub before : List ProofLine
   pub refused : ProofLine
@@ -64,12 +64,12 @@ abbrev pub ChecksLines : Net → ProofGoal → List ProofLine → ℕ → Result
 ChecksLines net goal lines first (Ok whole) = AreTaken net goal lines whole
 ChecksLines net goal lines first (Err number) = IsOneRefused net goal lines first number
 
--- lines for what they are to show, where something is; else they are passed over
+-- the lines are checked for a goal; if there is none they are passed over
 abbrev pub ChecksFor : Net → Option ProofGoal → List ProofLine → ℕ → Result Bool ℕ → Type 0
 ChecksFor net None lines first result = (whole : Bool) × (result ≡ Ok whole)
 ChecksFor net (Some goal) lines first result = ChecksLines net goal lines first result
 
--- it is told whether lines prove what the line behind them wants shown
+-- if there is a goal, `whole` says whether the lines prove it
 abbrev pub IsToldOf : Net → Option ProofGoal → List ProofLine → Bool → Type 0
 IsToldOf net None lines whole = Unit {0}
 IsToldOf net (Some goal) lines whole = IsTrue whole ↔ IsProof net goal lines

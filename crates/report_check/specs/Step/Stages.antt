@@ -1,4 +1,4 @@
--- The stages of a check as the places where a report stands, and what a line decides there.
+-- The stages of a check as states of a report, and what a line decides at a stage.
 use Rattle.std.specs.Prelude.{◌≡◌, ◌<◌, ◌≤◌, ◌+◌, ◌^◌, Bool, true, false, [], All, length, drop, Option, Some, None}
 use Rattle.event_graph.specs.Times.{IsTime}
 use Rattle.requirements.specs.Bounds.{HasTimes}
@@ -16,7 +16,7 @@ use Rattle.report_check.specs.declared.stage.Stage.{Stage}
 use Rattle.report_check.specs.declared.stage.Stage.TheVariants as stages
 use Rattle.report_check.specs.declared.stage.CurrentRow.{CurrentRow}
 
--- ---- the place of a stage
+-- ---- the state of a stage
 
 abbrev pub course_told : ReportTally → places.ReportTally
 course_told course = record { found = course.found; fails = course.fails; within = course.within }
@@ -47,7 +47,7 @@ at_of drawn stages.Done = at_last
 
 -- ---- what a stage keeps
 
--- the row is one of the network's
+-- the events and the number of the row are there, and the number is below 2^32
 pub record IsTelling (drawn : Drawn) (told : CurrentRow) : Type 0 where
   pub from : told.row.from.0 < drawn.net.events
   pub to : told.row.to.0 < drawn.net.events
@@ -61,7 +61,7 @@ IsSide (LeastBy most) = HasTimes most
 abbrev pub AreBounded : BothBounds → Type 0
 AreBounded both = HasTimes both.least × HasTimes both.greatest
 
--- numbers of events and rows are there, and the numbers of bounds are below 2^61 in absolute value
+-- the numbers of events and rows are there or next, and the times and the numbers of bounds are below 2^61 in absolute value
 abbrev pub Fits : Drawn → Stage → Type 0
 Fits drawn stages.Heading = Unit {0}
 Fits drawn stages.Budget = Unit {0}
@@ -85,12 +85,12 @@ abbrev pub is_proof : Entry → Bool
 is_proof (proof line) = true
 is_proof other = false
 
--- a line that is none of a proof leads from a place to that of a stage, or may not follow
+-- a line that is no proof line leads from a state to the state of a stage, or may not follow
 abbrev pub Decides : Drawn → ReportState → Entry → Option Stage → Type 0
 Decides drawn here line None = (next : ReportState) → MayFollow (checked drawn.net) drawn here line next → ⊥
 Decides drawn here line (Some stage) = MayFollow (checked drawn.net) drawn here line (at_of drawn stage) × (is_proof line ≡ false) × Fits drawn stage
 
--- no line of a proof may stand at the stage
+-- no proof line may come at the stage
 abbrev pub IsLineStage : Drawn → Stage → Type 0
 IsLineStage drawn (stages.Event number) = number < drawn.net.events
 IsLineStage drawn (stages.Bound told side) = ⊥

@@ -1,10 +1,10 @@
--- The text that is written of a check.
+-- The text that is written for a check.
 use Rattle.std.specs.Prelude.{ℕ, List}
 use Rattle.report_check.specs.Check.{accepted_text, refused_text}
 use Rattle.report_check.specs.declared.check.Checked.{Checked}
 use Rattle.report_check.specs.declared.check.Checked.TheVariants.{Accepted, Refused}
 
--- the line that tells what becomes of a report
+-- the line that says what becomes of a report
 abbrev pub checked_text : Checked → List ℕ
 checked_text Accepted = accepted_text
 checked_text (Refused line) = refused_text line

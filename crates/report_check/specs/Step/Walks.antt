@@ -11,16 +11,16 @@ use Rattle.report_check.specs.declared.check.Checked.TheVariants.{Accepted, Refu
 use Rattle.report_check.specs.declared.stage.Stage.{Stage}
 use Rattle.report_check.specs.Step.Stages.{Fits, at_of}
 
--- from a place at a line on, the first wrong line is that of a number among all lines
+-- the number, among all lines, of the first wrong line from `start` on, where the report is in the state `here`
 abbrev pub IsWrongFrom : Drawn → List Entry → ReportState → ℕ → ℕ → Type 0
 IsWrongFrom drawn lines here start number = (later : ℕ) × IsFirstWrong drawn here (drop start lines) later × (number ≡ start + later)
 
--- the lines from one number to another are fine, and lead from a place to another
+-- the lines from one number to another are fine, and lead from a state to another
 pub record CheckLeads (drawn : Drawn) (lines : List Entry) (here : ReportState) (start : ℕ) (next : ReportState) (behind : ℕ) : Type 0 where
   pub reads : LinesLead (checked drawn.net) drawn next (drop behind lines) at_last → LinesLead (checked drawn.net) drawn here (drop start lines) at_last
   pub wrong : (number : ℕ) → IsWrongFrom drawn lines next behind number → IsWrongFrom drawn lines here start number
 
--- a step over some lines: where it leads, or the first wrong line
+-- a step over some lines: the stage behind them, or the first wrong line
 pub record StepsOn (drawn : Drawn) (lines : List Entry) (here : ReportState) (start : ℕ) (stage : Stage) (behind : ℕ) : Type 0 where
   pub leads : CheckLeads drawn lines here start (at_of drawn stage) behind
   pub fits : Fits drawn stage
@@ -31,7 +31,7 @@ abbrev pub CheckSteps : Drawn → List Entry → ReportState → ℕ → Result 
 CheckSteps drawn lines here start (Ok next) = StepsOn drawn lines here start next.0 next.1
 CheckSteps drawn lines here start (Err number) = IsWrongFrom drawn lines here start number
 
--- what a whole walk tells: each line is fine, or the first wrong one
+-- what a whole walk finds: each line is fine, or which is the first wrong one
 abbrev pub CheckWalks : Drawn → List Entry → ReportState → Result ⊤ ℕ → Type 0
 CheckWalks drawn lines here (Ok done) = LinesLead (checked drawn.net) drawn here lines at_last
 CheckWalks drawn lines here (Err number) = IsFirstWrong drawn here lines number

@@ -13,13 +13,13 @@ use Rattle.branch.specs.declared.answer.GreatestAnswer.TheVariants.{Closed, Unbo
 use Rattle.whatif.specs.declared.pair.Pair.{Pair}
 use Rattle.whatif.specs.Session.{IsPairOf, KeptBound, pair_search}
 
--- what is kept of the lines of a search, by its answer: those of a closed bound
+-- what is kept of the lines of a search, by its answer: the lines of a closed bound, and none of others
 abbrev pub kept_of : GreatestAnswer → Option (List ProofLine) → Option (List ProofLine)
 kept_of (Closed value) lines = lines
 kept_of Unbounded lines = None
 kept_of (Enclosed upper attained) lines = None
 
--- the pair of a bound is of events below a number
+-- both events of the pair of a bound have numbers below `events`
 abbrev pub IsPairIn : ℕ → KeptBound → Type 0
 IsPairIn events b = IsPairOf events b.pair
 
@@ -34,7 +34,7 @@ pub record IsBetterStart (net : Net) (pair : Pair) (known times : List ℤ) : Ty
   pub start : IsStart (separation times pair.from pair.to)
   pub least : separation known pair.from pair.to ≤ℤ separation times pair.from pair.to
 
--- a search for the bound of a pair left this, where it started from satisfying times whose separation is no less than that of the known ones
+-- what a search for the bound of a pair left. It started from satisfying times, and its times have no lesser separation than the known times.
 pub record IsPairSearched (net : Net) (pair : Pair) (budget : ℕ) (known : List ℤ) (left : Evidence) (answer : GreatestAnswer) : Type 0 where
   pub start : List ℤ
   pub started : Satisfies start net

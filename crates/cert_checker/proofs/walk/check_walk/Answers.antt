@@ -6,7 +6,7 @@ use Rattle.itv_base.specs.declared.names.Side.TheVariants.{Lower}
 use Rattle.cert_checker.proofs.Walking.{Walks, default_same, walks_more}
 use Rattle.cert_checker.proofs.walk.check_walk.Goals as goal
 
--- a weight as it is passed
+-- a weight as it is handed over
 passed : (weight : ℤ) → IsEnd (Some weight) → to_z w64 (of_z w64 weight) ≡ weight
 passed weight is_end = grind (arith, ints, to_z-of_z)
 
