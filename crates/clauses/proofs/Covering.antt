@@ -107,7 +107,7 @@ changed_keeps net times state (Some block) after is keeps follows =
 
 -- ---- loops
 
--- what a walk shows: one of its literals holds, or the event comes within the sum of the walk's place, or within one of its ways
+-- what a walk shows: one of its literals holds, or the event comes at most `sum` after `at`, or it comes within one of its ways
 abbrev WalkHolds : Net → List ℤ → EventId → Walk → Type 0
 WalkHolds net times event walk =
     Any (HoldsLiteral net times) walk.literals ⊎ (time_of times event ≤ℤ (time_of times walk.at +ℤ walk.sum)) ⊎ Any (IsInWay times event) walk.ways

@@ -30,7 +30,7 @@ none_is X some = cc
 in_edge_way : (times : List ℤ) (e : Edge) → Meets times e → IsInWay times e.to (edge_way e)
 in_edge_way times e met = let here : (time_of times e.to -ℤ time_of times e.from) ≤ℤ e.weight = met in omega (arith, ints)
 
--- exactly one kind requires that some cause allows the target
+-- a latest constraint requires that the target is before some cause's high end, an earliest one that it is after some cause's low end
 some_before : (kind : RuleKind) (times : List ℤ) (target : EventId) (causes : List Cause) → kind ≡ Late → HoldsAs kind times target causes → Any (IsBefore times target) causes
 some_before Lin times target causes e h = absurd (cc)
 some_before Late times target causes e h = h.1

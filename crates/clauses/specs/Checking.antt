@@ -154,7 +154,7 @@ IsCloseFault net goal state CloseWantsMemory = Unit {0}
 abbrev pub IsNearClause : Clause → Type 0
 IsNearClause c = All (λ (way : Way). IsAddable way.weight) c.ways
 
--- a value of a frame lies between one below minus the greatest cap and the greatest cap. So the weight of a way can be added to it
+-- a value of a frame is at least one below minus the greatest cap, and at most the greatest cap. So the weight of a way can be added to it
 abbrev pub IsFrameValue : ℤ → Type 0
 IsFrameValue value = (neg_ℤ (pos (cap_limit + 1)) ≤ℤ value) × (value ≤ℤ pos cap_limit)
 

@@ -131,7 +131,7 @@ fn open_at(
     }
 }
 
-// The value that the first way of a clause with a value above the fall's gives.
+// The value that a way of a clause gives: the first way that gives more than the value of the fall.
 fn first_more(
     net: &Network,
     kept: &[Clause],

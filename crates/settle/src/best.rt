@@ -12,9 +12,9 @@ use falling::View;
 use itv_base::{END_LIMIT, EventId, MAX_EVENTS, NoMemory};
 use std::alloc::Global;
 
-/// The best times found so far, and the claim. The times satisfy a network; they are in picoseconds, one per event, and
-/// none before any are found. The claim is their separation of a pair, or a number below minus the far line if there
-/// are no times.
+/// The best times found so far, and the claim. The times satisfy a network, in picoseconds and one per event. There are
+/// none until some are found. The claim is the separation of a pair in the times. Without times it is a number below
+/// minus the far line.
 #[derive(Debug, Drop)]
 pub struct Best {
     pub times: Option<Vec<i64>>,

@@ -63,7 +63,8 @@ impl Engine {
         most
     }
 
-    // The side of an earliest constraint that is broken least and may hold. None if the values meet some side.
+    // The side of an earliest constraint that is broken least and may hold. None if the values meet some side or no
+    // side may hold.
     fn broken_side(&self, rule: StoredClause) -> Option<NumberedLiteral> {
         let mut least: Option<Candidate> = None;
         for number in 0..rule.literals.count {

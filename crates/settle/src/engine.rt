@@ -46,7 +46,8 @@ pub struct Engine {
     pub from: EventId,
     pub to: EventId,
     pub least: i64,
-    /// How often each event has fallen since the latest choice, or since a walk back from it was to be tried.
+    /// How often each event has fallen since its count was last reset: by a choice, by going back to a level, or
+    /// because a walk back from the event was to be tried.
     pub changes: Vec<u32>,
     /// For each event the number of the latest walk that came by it, and the number of walks.
     pub stamps: Vec<usize>,

@@ -56,7 +56,7 @@ fn refuse<K: Sink>(line: u64, sink: &mut K) -> Result<Answer, Unanswered>
     }
 }
 
-// The number of the line, counted from 1, from which, or from a byte of which on, `left` bytes of a text are left.
+// The number, counted from 1, of the line in which the last `left` bytes of a text begin.
 fn line_at(text: &[u8], left: usize) -> u64
     ensures line { 1 ≤ result }
 {

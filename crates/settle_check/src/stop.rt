@@ -9,7 +9,7 @@ use std::alloc::AllocFailed;
 /// Why a check goes no further.
 #[derive(Clone, Copy, Debug, PartialEq, Eq)]
 pub enum CheckStop {
-    /// A line is refused. `left` bytes of the text are left from the line on, or from a byte of it on.
+    /// A line is refused: the line in which the last `left` bytes of the text begin.
     Refused { left: usize },
     /// Memory was wanted and not found.
     NoMemory,

@@ -33,7 +33,7 @@ pub record IsBest (net : Net) (from to : EventId) (best : Best) : Type 0 where
 abbrev pub line_count : Race → ℕ
 line_count race = length race.plain.lines + length race.turned.lines
 
--- for both searches, lines lead from the start to the checker's state, and the claim is the best one
+-- for both searches, lines lead from the start to the checker's state, and the checker claims what the best times attain
 pub record IsRacing (net : Net) (race : Race) : Type 0 where
   pub from : race.from.0 < net.events
   pub to : race.to.0 < net.events
