@@ -48,7 +48,7 @@ NegatedProofOfNothing = (net : Net) (goal : Goal) (lines : List ClauseLine) → 
 abbrev pub claiming : Goal → ℤ → Goal
 claiming goal claim = record { from = goal.from; to = goal.to; claim = claim }
 
--- lines lead from a state to the same state where the goal claims more
+-- lines that lead from a state to another still do so if the goal claims more
 abbrev pub ClaimCanRise : Type 0
 ClaimCanRise = (net : Net) (goal : Goal) (claim : ℤ) (state : State) (lines : List ClauseLine) (after : State) → goal.claim ≤ℤ claim → ProofLeads net goal state lines after
     → ProofLeads net (claiming goal claim) state lines after

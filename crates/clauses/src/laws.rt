@@ -22,7 +22,7 @@ pub fn negated_proof_of_nothing()
     ensures law { NegatedProofOfNothing }
 {}
 
-/// Lines lead from a state to the same state where the goal claims more.
+/// Lines that lead from a state to another still do so if the goal claims more.
 pub fn claim_can_rise()
     ensures law { ClaimCanRise }
 {}

@@ -118,7 +118,7 @@ impl Engine {
         }
     }
 
-    /// Gives up: the search makes no more lines.
+    /// Gives up: the search proposes the lines that wait, and then nothing more.
     pub fn stop(&mut self) {
         self.is_over = true;
     }
