@@ -23,7 +23,7 @@ record IsEarned (job : Job) (word : EndWord) : Type 0 where
   few : word ≡ Undecided → Few job
   none : word ≡ Inconsistent → IsInconsistent job.drawn.net
 
--- what is known at a state: if the turns of a bound were spent, they were too few; and the word at the end says what it says
+-- what is known at a state: if the turns of a bound were spent, they were too few. At the end, what the word says of the network is true
 abbrev IsKnown : Job → TextState → Type 0
 IsKnown job at_finding = Unit {0}
 IsKnown job at_rows = Unit {0}

@@ -115,7 +115,7 @@ flags_in (suc left) number [] = option_map (λ set. false ∷ set) (flags_in lef
 flags_in (suc left) number (word ∷ words) =
     if is_word word (number_text number) then option_map (λ set. true ∷ set) (flags_in left (number + 1) words) else option_map (λ set. false ∷ set) (flags_in left (number + 1) (word ∷ words))
 
--- the two names and the range of a demand
+-- the two names and the range of a requirement
 abbrev pub demand_in : List Word → Option (RowKind × Name × Name)
 demand_in [] = None
 demand_in (from ∷ words) = name_in from >>= λ x. two name_in range_in words >>= λ y. Some (kinds.Req y.1, x, y.0)
