@@ -31,7 +31,7 @@ pub all_more : {X : Type 0} (P : X → Type 0) (x : X) (xs : List X) → P x →
 all_more P x xs here all zero d within = here
 all_more P x xs here all (suc i) d within = all i d (omega arith)
 
--- of each element one of two facts holds: the first of all, or the second of some
+-- for each element one of two facts holds: the first fact holds of all elements, or the second of some element
 pub all_or_any : {X : Type 0} (P Q : X → Type 0) (xs : List X) → All (λ x. P x ⊎ Q x) xs → All P xs ⊎ Any Q xs
 all_or_any P Q [] h = inl (all_none P)
 all_or_any P Q (x ∷ xs) h = elim (h 0 x (omega arith)) [
@@ -42,10 +42,10 @@ all_or_any P Q (x ∷ xs) h = elim (h 0 x (omega arith)) [
   | inr here ↦ inr (any_head Q x xs here)
 ]
 
--- what holds of some element holds of it beside what holds of all
+-- if a fact holds of some element and another of all, both hold of some element
 pub any_beside : {X : Type 0} (P Q : X → Type 0) (xs : List X) → All Q xs → Any P xs → Any (λ x. P x × Q x) xs
 any_beside P Q xs all (i, y, within, here, h) = (i, y, within, here, (h, subst Q here (all i y within)))
 
--- some element, and what all give for it
+-- a fact of some element that follows from a fact of all
 pub any_element : {X : Type 0} (P Q : X → Type 0) (xs : List X) → All Q xs → Any P xs → (x : X) × P x × Q x
 any_element P Q xs all (i, y, within, here, h) = (y, h, subst Q here (all i y within))

@@ -29,7 +29,7 @@ pulled net times = negated_times (narrowed_by (widest_end net) (negated_times ti
 length-pulled : (net : Net) (times : List ℤ) → length (pulled net times) ≡ length times
 length-pulled net times = length-mapped neg_ℤ _ ∙ (length-map (negated_times times) _ ∙ length-mapped neg_ℤ times)
 
--- where a time goes: it stays, or was below minus the far line and is at most that and not far below
+-- a narrowed time: it stays, or it was below minus the far line and is now at most that line and not far below it
 abbrev IsPulled : ℕ → ℕ → ℤ → ℤ → Type 0
 IsPulled far room time other = ((other ≡ time) × (neg_ℤ (pos far) ≤ℤ time)) ⊎ ((time <ℤ neg_ℤ (pos far)) × (other ≤ℤ neg_ℤ (pos far)) × (neg_ℤ (pos (far + room)) ≤ℤ other))
 

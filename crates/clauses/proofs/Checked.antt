@@ -1,4 +1,4 @@
--- The numbers of a state stay such that they can be added, and lines stand behind lines.
+-- The numbers of a state can still be added after a line, and lines can follow lines.
 use Rattle.std.proofs.Common.{◌≡◌, ◌+◌, ◌<◌, ◌≤◌, ◌⊎◌, inl, inr, ℕ, ℤ, pos, neg_ℤ, ◌≤ℤ◌, ◌<ℤ◌, List, [], ◌∷◌, ◌++◌, All, length, get_or, set, replicate, Option, Some, None, IfSome, sym, ◌∙◌, refl, subst, arith}
 use Rattle.std.proofs.Math.ListN.{length-set}
 use Rattle.std.proofs.lemmas.Int.{ints}
@@ -59,7 +59,7 @@ all_set P xs i x all here k d within =
       | inr (other, is) ↦ rw is (all k d there)
     ]
 
--- a value below that of an event is at most the cap
+-- a value below the value of an event is at most the cap
 below_cap : (net : Net) (values : List ℤ) (event : EventId) (value : ℤ) → All (λ (v : ℤ). v ≤ℤ pos (cap net)) values → value <ℤ time_of values event → value ≤ℤ pos (cap net)
 below_cap net values event value most lower = elim (within_or_past event.0 (length values)) [
   | inl within ↦ less (cap net) value (time_of values event) (most event.0 (pos 0) within) lower

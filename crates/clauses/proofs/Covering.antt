@@ -27,7 +27,7 @@ pub record Covers (net : Net) (times : List ℤ) (frame : Frame) : Type 0 where
   pub above : AreAbove frame.values times
   pub known : All (HoldsLiteral net times) frame.known
 
--- what a block assumes has edges, and times that meet it are covered by its frame
+-- the literals that a block assumes have edges, and times that meet them are covered by its frame
 pub record CoversBlock (net : Net) (times : List ℤ) (block : Block) : Type 0 where
   pub edges : All (λ (l : Literal). IsSome (literal_edge net l)) block.assumed
   pub frame : All (HoldsLiteral net times) block.assumed → Covers net times block.frame
@@ -93,7 +93,7 @@ forces_holds net times frame l c covers (inl some) forces =
 forces_holds net times frame l c covers (inr some) forces =
     absurd (any_none (IsInWay times c.target) (subst (Any (IsInWay times c.target)) forces.none some))
 
--- another frame in the place that lines speak of
+-- the state with another frame in place of the frame that lines change
 changed_keeps : (net : Net) (times : List ℤ) (state : State) (block : Option Block) (after : Frame) → state.block ≡ block → Keeps net times state
     → (Covers net times (frame_in state.frame block) → Covers net times after) → Keeps net times (with_frame_in state block after)
 changed_keeps net times state None after is keeps follows = record { frame = follows keeps.frame; kept = keeps.kept; block = tt }
@@ -107,7 +107,7 @@ changed_keeps net times state (Some block) after is keeps follows =
 
 -- ---- loops
 
--- some literal of a walk holds, or the event comes within the sum of where the walk is, or within one of its ways
+-- what a walk shows: one of its literals holds, or the event comes at most `sum` after `at`, or it comes within one of its ways
 abbrev WalkHolds : Net → List ℤ → EventId → Walk → Type 0
 WalkHolds net times event walk =
     Any (HoldsLiteral net times) walk.literals ⊎ (time_of times event ≤ℤ (time_of times walk.at +ℤ walk.sum)) ⊎ Any (IsInWay times event) walk.ways

@@ -1,4 +1,4 @@
--- A line with a fault leads nowhere.
+-- A line that has a fault leads to no state.
 use Rattle.std.proofs.Common.{◌≡◌, ℤ, pos, ◌≤ℤ◌, ◌<ℤ◌, List, [], All, Contains, Option, None, IsSome, IsSomeAnd, slice_get, sym, ap, ◌∙◌, refl, subst, arith}
 use Rattle.std.proofs.lemmas.Int.{ints}
 use Rattle.itv_base.specs.declared.names.EventId.{EventId}
@@ -27,11 +27,11 @@ use Rattle.clauses.specs.Lines.{Block, Frame, IsEnded, IsClauseLoop, IsNearWalk,
 use Rattle.clauses.proofs.Shapes.{one_clause}
 use Rattle.clauses.proofs.Walking.{one_walk, step_at}
 
--- an element without what all have
+-- no element lacks what all elements have
 first_refutes : {X : Type 0} (P : X → Type 0) (xs : List X) (x : X) → IsFirstWithout P xs x → All P xs → ⊥
 first_refutes P xs x first all = first.not (All-found P xs first.place x first.here all)
 
--- what holds of the one clause
+-- a fact of the clause of a basis, from a fact of some clause of it
 moved : (net : Net) (kept : List Clause) (basis : Basis) (c d : Clause) (P : Clause → Type 0) → IsClause net kept basis c → IsClause net kept basis d → P c → P d
 moved net kept basis c d P is_c is_d h = subst P (one_clause net kept basis c d is_c is_d) h
 

@@ -26,11 +26,11 @@ use Rattle.clauses.proofs.Literals.{either_literal}
 none_is : (X : Type 0) → IsSome {T = X} None → ⊥
 none_is X some = cc
 
--- times that meet an edge are in its way
+-- times that meet an edge are within the way of the edge
 in_edge_way : (times : List ℤ) (e : Edge) → Meets times e → IsInWay times e.to (edge_way e)
 in_edge_way times e met = let here : (time_of times e.to -ℤ time_of times e.from) ≤ℤ e.weight = met in omega (arith, ints)
 
--- one of the two kinds alone asks that some cause allows
+-- a latest constraint requires that the target is before some cause's high end, an earliest one that it is after some cause's low end
 some_before : (kind : RuleKind) (times : List ℤ) (target : EventId) (causes : List Cause) → kind ≡ Late → HoldsAs kind times target causes → Any (IsBefore times target) causes
 some_before Lin times target causes e h = absurd (cc)
 some_before Late times target causes e h = h.1
@@ -62,7 +62,7 @@ side_at number first (c ∷ cs) (suc i) d within =
     let e : suc first + i ≡ first + suc i = omega arith in
     side_at number (suc first) cs i d (omega arith) ∙ ap (λ (n : ℕ). record { constraint = number; cause = n; is_met = true }) e
 
--- the side of a cause that allows is met
+-- the side of a cause is met if the cause allows the target
 side_holds : (net : Net) (number i : ℕ) (k : Constraint) (c : Cause) (times : List ℤ) → slice_get net.constraints number ≡ Some k → slice_get k.causes i ≡ Some c
     → IsSome c.range.low → IsAfter times k.target c → HoldsLiteral net times (record { constraint = number; cause = 0 + i; is_met = true })
 side_holds net number i k c times at_k at_c some after =
@@ -80,7 +80,7 @@ some_side net number k times at_k finite (i, c, within, here, after) =
       side_holds net number i k c times at_k at_c (subst (λ (x : Cause). IsSome x.range.low) here (finite i c within)) after,
     )
 
--- satisfying times meet the clause of a basis, if they meet those that were kept
+-- satisfying times meet the clause of a basis, if they meet the kept clauses
 pub clause_holds : (net : Net) (times : List ℤ) (kept : List Clause) (basis : Basis) (c : Clause) → Satisfies times net → All (HoldsClause net times) kept
     → IsClause net kept basis c → HoldsClause net times c
 clause_holds net times kept (ByEdge name) c h all (always, of_edge) =

@@ -1,4 +1,4 @@
--- What is read of a clause place by place.
+-- How a clause is read place by place.
 use Rattle.std.proofs.Common.{◌≡◌, ◌+◌, ◌<◌, ◌≤◌, ◌⊎◌, inl, inr, ℕ, ℤ, ◌≤ℤ◌, ◌<ℤ◌, List, All, Contains, length, get_or, Some, slice_get, ap, ◌∙◌, subst, arith}
 use Rattle.std.proofs.lemmas.Option.{slice_get-get_or}
 use Rattle.event_graph.specs.Network.{Net}
@@ -35,14 +35,14 @@ all_ways net kept basis shape n P has enough each c is =
     let count : length c.ways ≡ shape.ways = shape_ways net kept basis shape has c is in
     all_from_gets P c.ways n (omega arith) (each c is)
 
--- a literal that is at no place
+-- a clause does not have a literal that is at none of its places
 pub lacks : (net : Net) (kept : List Clause) (basis : Basis) (shape : Shape) (n : ℕ) (l : Literal) → HasShape net kept basis shape → shape.literals ≤ n
     → OfClause net kept basis (λ c. (k : ℕ) → k < n → slice_get c.literals k ≡ Some l → ⊥) → OfClause net kept basis (λ c. Contains c.literals l → ⊥)
 lacks net kept basis shape n l has enough none c is (k, within, here) =
     let count : length c.literals ≡ shape.literals = shape_literals net kept basis shape has c is in
     none c is k (omega arith) (slice_get-get_or c.literals k l within ∙ ap Some here)
 
--- one literal more
+-- a fact of the literals up to a place, with one literal more
 pub literals_more : (net : Net) (kept : List Clause) (basis : Basis) (n : ℕ) (P : Literal → Type 0)
     → OfClause net kept basis (λ c. (k : ℕ) (x : Literal) → k < n → slice_get c.literals k ≡ Some x → P x)
     → OfClause net kept basis (λ c. (x : Literal) → slice_get c.literals n ≡ Some x → P x)

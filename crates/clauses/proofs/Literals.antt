@@ -15,7 +15,7 @@ use Rattle.clauses.specs.Step.Clauses.{HoldsClause, HoldsLiteral}
 use Rattle.clauses.specs.Lines.{refuting}
 use Rattle.clauses.proofs.Anys.{all_or_any}
 
--- the times meet an edge, if there is one, or the one that is met where it is not
+-- there is an edge, and the times meet it or its opposite edge, as `met` says
 abbrev As : List ℤ → Option Edge → Bool → Type 0
 As times o met = IsSomeAnd (option_map (edge_as met) o) (Meets times)
 
@@ -49,11 +49,11 @@ not_both_as times (Some e) false here other = apart (time_of times e.from) (time
 pub either_literal : (net : Net) (times : List ℤ) (l : Literal) → IsSome (literal_edge net l) → HoldsLiteral net times l ⊎ HoldsLiteral net times (opposite l)
 either_literal net times l some = either_as times (edge net (record { constraint = l.constraint; cause = l.cause; side = Lower })) l.is_met some
 
--- and not both
+-- a literal and its opposite do not both hold
 pub not_both : (net : Net) (times : List ℤ) (l : Literal) → HoldsLiteral net times l → HoldsLiteral net times (opposite l) → ⊥
 not_both net times l here other = not_both_as times (edge net (record { constraint = l.constraint; cause = l.cause; side = Lower })) l.is_met here other
 
--- where literals cannot all hold, some opposite does
+-- where literals do not all hold, the opposite of one holds
 pub refuting_holds : (net : Net) (times : List ℤ) (event : EventId) (literals : List Literal) → All (λ (l : Literal). IsSome (literal_edge net l)) literals
     → (All (HoldsLiteral net times) literals → ⊥) → HoldsClause net times (refuting event literals)
 refuting_holds net times event literals edges none =

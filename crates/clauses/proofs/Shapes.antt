@@ -1,4 +1,4 @@
--- The clauses of bases by what is read of a network.
+-- The clause of a basis, as the code reads it from a network.
 use Rattle.std.proofs.Common.{◌≡◌, ◌+◌, ◌<◌, ◌≤◌, ℕ, zero, suc, true, List, [], ◌∷◌, map, All, length, get_or, Option, Some, None, IsSome, IsSomeAnd, option_map, slice_get, sym, ap, ◌∙◌, refl, subst, arith}
 use Rattle.std.proofs.lemmas.Option.{same_Some, slice_get-get_or, slice_get_past, slice_get_within}
 use Rattle.itv_base.specs.declared.names.EdgeName.{EdgeName}
@@ -18,7 +18,7 @@ use Rattle.clauses.specs.Checking.{HasNoClause, HasShape, OfClause}
 use Rattle.clauses.specs.Clauses.{Clause, IsClause, IsEarliestClause, IsLatestClause, edge_way, high_way, literal_edge, opposite, side_literals}
 use Rattle.clauses.proofs.Holding.{length-sides}
 
--- what holds where a value is there
+-- a fact of an optional value, where the value is there
 pub is_and : {X : Type 0} (P : X → Type 0) (o : Option X) (x : X) → o ≡ Some x → P x → IsSomeAnd o P
 is_and {X = X} P o x is h = let Q : Option X → Type 0 = λ v. IsSomeAnd v P in subst Q (sym is) h
 

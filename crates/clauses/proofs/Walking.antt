@@ -31,7 +31,7 @@ if_true b x y e = rw e refl
 if_false : {X : Type 0} (b : Bool) (x y : X) → b ≡ false → (if b then x else y) ≡ y
 if_false b x y e = rw e refl
 
--- a way joined where one from its event stands
+-- a way is joined where a way from its event stands already
 with_way_set : (way : Way) (ways : List Way) (place : ℕ) (other : Way) → slice_get ways place ≡ Some other → other.from ≡ way.from
     → ((k : ℕ) (before : Way) → k < place → slice_get ways k ≡ Some before → before.from ≡ way.from → ⊥) → set ways place (wider way other) ≡ with_way way ways
 with_way_set way [] place other at same earlier = absurd (cc)
@@ -44,7 +44,7 @@ with_way_set way (first ∷ ways) (suc place) other at same earlier =
     ap (λ (ws : List Way). first ∷ ws) (with_way_set way ways place other at same (λ k before less at_k. earlier (suc k) before (omega arith) at_k))
     ∙ sym (if_false (way.from.0 == first.from.0) (wider way first ∷ ways) (first ∷ with_way way ways) (other_event way.from first.from not))
 
--- a way joined where none from its event stands
+-- a way is joined where no way from its event stands
 with_way_push : (way : Way) (ways : List Way) → ((k : ℕ) (before : Way) → k < length ways → slice_get ways k ≡ Some before → before.from ≡ way.from → ⊥)
     → ways ++ way ∷ [] ≡ with_way way ways
 with_way_push way [] none = refl
@@ -76,7 +76,7 @@ past_by [] k none = omega arith
 past_by (x ∷ xs) zero none = absurd (cc)
 past_by (x ∷ xs) (suc k) none = let rest : length xs ≤ k = past_by xs k none in omega arith
 
--- the other ways from one place on, where the way there is joined
+-- the other ways from one place on, if the way at that place is joined
 pub others_joined : (sum : ℤ) (place through : ℕ) (all old new : List Way) (way led : Way) → Some way ≡ slice_get all place → (place ≡ through → ⊥) → led ≡ way_after sum way
     → new ≡ with_way led old
     → with_others sum place through (drop place all) old ≡ with_others sum (place + 1) through (drop (place + 1) all) new
@@ -87,7 +87,7 @@ others_joined sum place through all old new way led at not is_led is_new =
       test : (m n : ℕ) → (m ≡ n → ⊥) → (m == n) ≡ false
       test m n not = grind arith
 
--- where it is gone through
+-- the other ways, if the step goes through the way at that place
 pub others_through : (sum : ℤ) (place through : ℕ) (all ways : List Way) (way : Way) → Some way ≡ slice_get all place → place ≡ through
     → with_others sum place through (drop place all) ways ≡ with_others sum (place + 1) through (drop (place + 1) all) ways
 others_through sum place through all ways way at same =
@@ -97,7 +97,7 @@ others_through sum place through all ways way at same =
       test : (m n : ℕ) → m ≡ n → (m == n) ≡ true
       test m n same = grind arith
 
--- and where none is left
+-- the other ways, if no way is left
 pub others_past : (sum : ℤ) (place through : ℕ) (all ways : List Way) → None ≡ slice_get all place
     → with_others sum place through (drop place all) ways ≡ with_others sum (place + 1) through (drop (place + 1) all) ways
 others_past sum place through all ways none =
@@ -133,7 +133,7 @@ pub walks_at : (net : Net) (kept : List Clause) (walk : Walk) (all : List WalkSt
 walks_at net kept walk all place after step next at walks leads =
     subst (λ (steps : List WalkStep). Walks net kept walk steps next) (take_at all place step at) (walks_more net kept walk (take place all) after step next walks leads)
 
--- ---- what leads nowhere
+-- ---- steps that do not lead on
 
 -- a step leads to one walk
 one_step : (net : Net) (kept : List Clause) (walk : Walk) (step : WalkStep) (a b : Walk) → StepsTo net kept walk step a → StepsTo net kept walk step b → a ≡ b
@@ -149,7 +149,7 @@ one_walk net kept walk (step ∷ steps) a b (next, leads_a, rest_a) (other, lead
     let same : next ≡ other = one_step net kept walk step next other leads_a leads_b in
     one_walk net kept next steps a b rest_a (subst (λ (w : Walk). Walks net kept w steps b) (sym same) rest_b)
 
--- the step at a place of steps that lead on leads on from where those before it lead
+-- if all steps lead on, the step at a place leads on from the walk to which the steps before it lead
 pub step_at : (net : Net) (kept : List Clause) (walk : Walk) (all : List WalkStep) (place : ℕ) (between after : Walk) (step : WalkStep) → slice_get all place ≡ Some step
     → Walks net kept walk (take place all) between → Walks net kept walk all after → (next : Walk) × StepsTo net kept between step next
 step_at net kept walk [] place between after step at walks leads = absurd (cc)

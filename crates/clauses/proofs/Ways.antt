@@ -11,7 +11,7 @@ use Rattle.clauses.proofs.Anys.{any_cases, any_head, any_none, any_tail}
 at_event : (times : List ℤ) (m n : ℕ) → (m == n) ≡ true → get_or times m (pos 0) ≡ get_or times n (pos 0)
 at_event times m n e = let same : m ≡ n = grind arith in rw same refl
 
--- a way from the same event that is at least as wide
+-- an event that comes within a way comes within a way from the same event that is at least as wide
 wider_holds : (times : List ℤ) (target : EventId) (way other : Way) → (way.from.0 == other.from.0) ≡ true → way.weight ≤ℤ other.weight → IsInWay times target way → IsInWay times target other
 wider_holds times target way other same wide h =
     let at : time_of times way.from ≡ time_of times other.from = at_event times way.from.0 other.from.0 same in
@@ -26,7 +26,7 @@ broader a b e = omega (arith, ints)
 same_back : (m n : ℕ) → (m == n) ≡ true → (n == m) ≡ true
 same_back m n e = grind arith
 
--- one way beside others, by whether the first of those is from the same event, and whether it is wider
+-- one way joined to others, by whether the first of the others is from the same event, and by which of both is wider
 joined : (times : List ℤ) (target : EventId) (way other : Way) (same wide : Bool) (ways : List Way) → (way.from.0 == other.from.0) ≡ same → int_le way.weight other.weight ≡ wide
     → IsInWay times target way ⊎ Any (IsInWay times target) (other ∷ ways)
     → (IsInWay times target way ⊎ Any (IsInWay times target) ways → Any (IsInWay times target) (with_way way ways))
@@ -45,7 +45,7 @@ joined times target way other false wide_is ways same wide (inr some) rest = eli
   | inr later ↦ any_tail (IsInWay times target) other (with_way way ways) (rest (inr later))
 ]
 
--- one way beside others takes in the old ones and the new one
+-- if an event is within the new way or one of the old ways, it is within one of the joined ways
 pub with_way_holds : (times : List ℤ) (target : EventId) (way : Way) (ways : List Way) → IsInWay times target way ⊎ Any (IsInWay times target) ways
     → Any (IsInWay times target) (with_way way ways)
 with_way_holds times target way [] (inl here) = any_head (IsInWay times target) way [] here
@@ -53,11 +53,11 @@ with_way_holds times target way [] (inr some) = absurd (any_none (IsInWay times 
 with_way_holds times target way (other ∷ ways) h =
     joined times target way other (way.from.0 == other.from.0) (int_le way.weight other.weight) ways refl refl h (with_way_holds times target way ways)
 
--- the target comes within the way, led on by a sum
+-- the target comes within the way with a sum added
 abbrev pub After : List ℤ → EventId → ℤ → Way → Type 0
 After times target sum way = IsInWay times target (way_after sum way)
 
--- one way of a clause: it is gone through, or joined to the others
+-- one way of a clause: the step goes through it, or it is joined to the others
 passed : (times : List ℤ) (target : EventId) (sum : ℤ) (number through : ℕ) (way : Way) (more ways : List Way) (gone : Way) (same : Bool) → (number == through) ≡ same
     → (number ≡ through → way ≡ gone) → Any (After times target sum) (way ∷ more) ⊎ Any (IsInWay times target) ways
     → ((others : List Way) → Any (After times target sum) more ⊎ Any (IsInWay times target) others
@@ -77,7 +77,7 @@ passed times target sum number through way more ways gone false same is_gone (in
 passed times target sum number through way more ways gone false same is_gone (inr some) rest =
     rest (with_way (way_after sum way) ways) (inr (with_way_holds times target (way_after sum way) ways (inr some)))
 
--- all ways but the one that is gone through
+-- all ways except the way that the step goes through
 pub with_others_holds : (times : List ℤ) (target : EventId) (sum : ℤ) (number through : ℕ) (more ways : List Way) (gone : Way)
     → ((i : ℕ) (way : Way) → slice_get more i ≡ Some way → number + i ≡ through → way ≡ gone) → Any (After times target sum) more ⊎ Any (IsInWay times target) ways
     → After times target sum gone ⊎ Any (IsInWay times target) (with_others sum number through more ways)

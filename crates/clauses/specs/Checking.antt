@@ -1,4 +1,4 @@
--- What a checker of proofs by clauses is at, and what it says of a line.
+-- The state of a checker of proofs by clauses, the faults of lines, and the verdict of a proof and times.
 use Rattle.std.specs.Prelude.{◌≡◌, ◌<◌, ◌⊎◌, ◌+◌, ℕ, ℤ, pos, neg_ℤ, ◌+ℤ◌, ◌≤ℤ◌, ◌<ℤ◌, List, [], length, take, All, Contains, Some, None, IsSome, IfSome, IsSomeAnd, slice_get}
 use Rattle.itv_base.specs.declared.names.EventId.{EventId}
 use Rattle.event_graph.specs.Bounds.{IsGreatest, IsInconsistent}
@@ -30,12 +30,12 @@ use Rattle.clauses.specs.declared.way.Way.{Way}
 use Rattle.clauses.specs.Clauses.{Clause, IsClause, literal_edge}
 use Rattle.clauses.specs.Lines.{Block, ClauseLine, LowersTarget, Forces, Frame, Goal, IsEnded, IsLine, IsAddable, IsNearWalk, IsOver, IsKnownFalse, ProofLeads, State, Walk, Walks, lowest, starting, starting_walk, stepped}
 
--- there is a clause of the basis, with this target and these numbers of literals and ways
+-- the basis has a clause, with this target and these numbers of literals and ways
 abbrev pub HasShape : Net → List Clause → Basis → Shape → Type 0
 HasShape net kept basis shape =
     (c : Clause) × IsClause net kept basis c × (c.target ≡ shape.target) × (length c.literals ≡ shape.literals) × (length c.ways ≡ shape.ways)
 
--- there is no clause of the basis
+-- the basis has no clause
 abbrev pub HasNoClause : Net → List Clause → Basis → Type 0
 HasNoClause net kept basis = (c : Clause) → IsClause net kept basis c → ⊥
 
@@ -43,7 +43,7 @@ HasNoClause net kept basis = (c : Clause) → IsClause net kept basis c → ⊥
 abbrev pub OfClause : Net → List Clause → Basis → (Clause → Type 0) → Type 0
 OfClause net kept basis P = (c : Clause) → IsClause net kept basis c → P c
 
--- there is a clause of the basis, and something holds of it
+-- the basis has a clause, and something holds of it
 abbrev pub SomeClause : Net → List Clause → Basis → (Clause → Type 0) → Type 0
 SomeClause net kept basis P = (c : Clause) × IsClause net kept basis c × P c
 
@@ -125,7 +125,8 @@ IsStepFault net kept walk step TooWide =
     (λ c. (c.target ≡ walk.at) × IsSomeAnd (slice_get c.ways step.through) (λ (way : Way). IsNearWalk (stepped walk c step.through way) → ⊥))
 IsStepFault net kept walk step StepWantsMemory = Unit {0}
 
--- the first fault of a loop: that of the step of a number from 0, which those before lead to, or that all steps lead elsewhere, or by too much
+-- the first fault of a loop: the steps before this one lead on, and this one, counted from 0, has a fault; or all steps lead to another event; or they
+-- lead back with a sum that is not below 0
 abbrev pub IsLoopFault : Net → List Clause → EventId → List WalkStep → LoopFault → Type 0
 IsLoopFault net kept event steps (AtStep number fault) =
     (walk : Walk) × (step : WalkStep) × Walks net kept (starting_walk event) (take number steps) walk × (slice_get steps number ≡ Some step)
@@ -136,12 +137,12 @@ IsLoopFault net kept event steps (NotBelow sum) =
     (walk : Walk) × Walks net kept (starting_walk event) steps walk × (walk.at ≡ event) × (walk.sum ≡ sum) × (pos 0 ≤ℤ sum)
 IsLoopFault net kept event steps LoopWantsMemory = Unit {0}
 
--- the first literal without an edge
+-- the first literal that has no edge
 abbrev pub IsAssumeFault : Net → List Literal → AssumeFault → Type 0
 IsAssumeFault net literals (OpenEnd l) = IsFirstWithout (λ (l : Literal). IsSome (literal_edge net l)) literals l
 IsAssumeFault net literals AssumeWantsMemory = Unit {0}
 
--- no block is open, or it has not ended
+-- no block is open, or the open block has not ended
 abbrev pub IsCloseFault : Net → Goal → State → CloseFault → Type 0
 IsCloseFault net goal state NoBlock = state.block ≡ None
 IsCloseFault net goal state NotEnded = IsSomeAnd state.block (λ (block : Block). IsEnded net goal block.frame.values → ⊥)
@@ -153,11 +154,11 @@ IsCloseFault net goal state CloseWantsMemory = Unit {0}
 abbrev pub IsNearClause : Clause → Type 0
 IsNearClause c = All (λ (way : Way). IsAddable way.weight) c.ways
 
--- a value of a frame is from one below minus the greatest cap up to that cap, so that the weight of a way can be added to it
+-- a value of a frame is at least one below minus the greatest cap, and at most the greatest cap. So the weight of a way can be added to it
 abbrev pub IsFrameValue : ℤ → Type 0
 IsFrameValue value = (neg_ℤ (pos (cap_limit + 1)) ≤ℤ value) × (value ≤ℤ pos cap_limit)
 
--- as many values as events, between the lowest and the cap
+-- a value for each event, between the lowest and the cap
 pub record IsNearFrame (net : Net) (frame : Frame) : Type 0 where
   pub count : length frame.values ≡ net.events
   pub least : All (λ (value : ℤ). lowest net ≤ℤ value) frame.values
@@ -169,13 +170,13 @@ pub record IsNearState (net : Net) (state : State) : Type 0 where
   pub kept : All IsNearClause state.kept
   pub block : IfSome state.block (λ (block : Block). IsNearFrame net block.frame)
 
--- what a checker is at: its limits, what is to be shown, and what the lines have come to
+-- a checker: its limits, its goal, and the state that the lines have reached
 pub record Checking : Type 0 where
   pub limits : Limits
   pub goal : Goal
   pub state : State
 
--- a checker of a goal over a network, to whose state lines lead
+-- a checker of a goal over a network. Lines lead from the start to its state
 pub record IsChecking (net : Net) (check : Checking) : Type 0 where
   pub limits : AreLimits net check.limits
   pub from : check.goal.from.0 < net.events
@@ -183,21 +184,22 @@ pub record IsChecking (net : Net) (check : Checking) : Type 0 where
   pub lines : (lines : List ClauseLine) × ProofLeads net check.goal (starting net check.goal.from) lines check.state
   pub near : IsNearState net check.state
 
--- the line leads from one to the other
+-- the line leads from the state of the old checker to the state of the new one, and nothing else changes
 pub record TakesLine (net : Net) (old : Checking) (taken : ClauseLine) (new : Checking) : Type 0 where
   pub limits : new.limits ≡ old.limits
   pub goal : new.goal ≡ old.goal
   pub line : IsLine net old.goal old.state taken new.state
 
--- what a proof and times say of the pair of a goal: the claim is the greatest separation and they attain it, or no times satisfy, or it is open
+-- what a proof and times say of the pair of a goal: the times satisfy and the claim is the greatest separation, which they attain; or no times satisfy;
+-- or nothing
 abbrev pub IsVerdict : Net → Goal → List ℤ → ProofVerdict → Type 0
 IsVerdict net goal times (Closed value) =
     (value ≡ goal.claim) × IsGreatest net goal.from goal.to value × Satisfies times net × (separation times goal.from goal.to ≡ value)
 IsVerdict net goal times Inconsistent = IsInconsistent net
 IsVerdict net goal times Open = Unit {0}
 
--- nothing is said: where the lines are a proof, the claim is not below minus the far line, and where it is below that line the times don't both
--- satisfy and attain it
+-- why nothing is said: if the lines are a proof, the claim is not below minus the far line; and if the claim is below the far line, the times do not
+-- both satisfy the network and attain the claim
 abbrev pub SaysNothing : Net → Checking → List ℤ → Type 0
 SaysNothing net check times =
     IsOver net check.goal check.state

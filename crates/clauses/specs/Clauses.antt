@@ -1,4 +1,4 @@
--- Clauses: what satisfying times meet, one way or another.
+-- Clauses: each says that one of its literals holds or that its target comes within one of its ways. Satisfying times meet the clause of each basis.
 use Rattle.std.specs.Prelude.{◌≡◌, ℕ, suc, ℤ, pos, neg_ℤ, ◌-ℤ◌, Bool, true, false, not, List, [], ◌∷◌, map, All, Option, Some, None, IsSome, IsSomeAnd, option_map, slice_get}
 use Rattle.itv_base.specs.declared.names.EventId.{EventId}
 use Rattle.itv_base.specs.declared.names.RuleKind.TheVariants.{Late, Early}
@@ -12,7 +12,7 @@ use Rattle.clauses.specs.declared.basis.Basis.TheVariants.{ByEdge, BySide, ByLat
 use Rattle.clauses.specs.declared.literal.Literal.{Literal}
 use Rattle.clauses.specs.declared.way.Way.{Way}
 
--- the edge that times meet exactly where they do not meet this one
+-- the edge that times meet if and only if they do not meet this one
 abbrev pub unmet : Edge → Edge
 unmet e = record { from = e.to; to = e.from; weight = neg_ℤ e.weight -ℤ pos 1 }
 
@@ -20,7 +20,7 @@ abbrev pub edge_as : Bool → Edge → Edge
 edge_as true e = e
 edge_as false e = unmet e
 
--- the edge that a literal says is met, where the low end is not open
+-- the edge that a literal says is met, or none if there is no such cause or its low end is open
 abbrev pub literal_edge : Net → Literal → Option Edge
 literal_edge net l = option_map (edge_as l.is_met) (edge net (record { constraint = l.constraint; cause = l.cause; side = Lower }))
 
@@ -34,7 +34,7 @@ pub record Clause : Type 0 where
   pub target : EventId
   pub ways : List Way
 
--- an edge bounds its to-event
+-- the way by which an edge bounds its to-event
 abbrev pub edge_way : Edge → Way
 edge_way e = record { from = e.from; weight = e.weight }
 
@@ -42,11 +42,11 @@ abbrev pub end_or_zero : Option ℤ → ℤ
 end_or_zero None = pos 0
 end_or_zero (Some end) = end
 
--- a cause bounds the target by its high end
+-- the way by which a cause bounds the target: by its high end
 abbrev pub high_way : Cause → Way
 high_way c = record { from = c.event; weight = end_or_zero c.range.high }
 
--- the literals that the sides of some causes of a constraint, from one on, are met
+-- one literal for each of these causes of a constraint, which says that its side is met. The first of the causes has the number `cause`
 abbrev pub side_literals : ℕ → ℕ → List Cause → List Literal
 side_literals number cause [] = []
 side_literals number cause (c ∷ cs) = (record { constraint = number; cause = cause; is_met = true }) ∷ side_literals number (suc cause) cs
@@ -63,7 +63,7 @@ pub record IsEarliestClause (number : ℕ) (k : Constraint) (c : Clause) : Type 
   pub finite : All (λ (cause : Cause). IsSome cause.range.low) k.causes
   pub clause : c ≡ record { literals = side_literals number 0 k.causes; target = k.target; ways = [] }
 
--- the clause of a basis, beside clauses that were kept
+-- the clause of a basis, where `kept` are the clauses that were kept
 abbrev pub IsClause : Net → List Clause → Basis → Clause → Type 0
 IsClause net kept (ByEdge name) c =
     IsAlways net name × IsSomeAnd (edge net name) (λ (e : Edge). c ≡ record { literals = []; target = e.to; ways = edge_way e ∷ [] })

@@ -23,7 +23,7 @@ use Rattle.clauses.specs.declared.literal.Literal.{Literal}
 use Rattle.clauses.specs.Checking.{Checking, IsAssumeFault, IsChecking, IsCloseFault, IsFallLineFault, IsKnowFault, IsLoopFault, TakesLine}
 use Rattle.clauses.specs.Lines.{Assume, ClauseLine, Close, Fall, Goal, IsClauseProof, IsLine, Know, ProofLeads, Loop, State, frame_of, starting}
 
--- no satisfying separation of the pair exceeds the claim of a proof that is below the far line
+-- if the claim of a proof is below the far line, no satisfying times have a greater separation of the pair
 abbrev pub ClauseProofBounds : Type 0
 ClauseProofBounds = (net : Net) (goal : Goal) (lines : List ClauseLine) (times : List ℤ) → IsNet net → goal.from.0 < net.events → goal.to.0 < net.events
     → goal.claim <ℤ pos (far_line net) → IsClauseProof net goal lines → Satisfies times net → separation times goal.from goal.to ≤ℤ goal.claim
@@ -33,13 +33,13 @@ abbrev pub ClauseProofOfNothing : Type 0
 ClauseProofOfNothing = (net : Net) (goal : Goal) (lines : List ClauseLine) → IsNet net → goal.from.0 < net.events → goal.to.0 < net.events
     → goal.claim <ℤ neg_ℤ (pos (far_line net)) → IsClauseProof net goal lines → IsInconsistent net
 
--- a proof in the negation of the reversed pair bounds the pair
+-- a proof for the reversed pair in the negated network bounds the pair
 abbrev pub NegatedProofBounds : Type 0
 NegatedProofBounds = (net : Net) (from to : EventId) (claim : ℤ) (lines : List ClauseLine) (times : List ℤ) → IsNet net → from.0 < net.events → to.0 < net.events
     → claim <ℤ pos (far_line net) → IsClauseProof (negated net) (record { from = to; to = from; claim = claim }) lines → Satisfies times net
     → separation times from to ≤ℤ claim
 
--- a proof in the negation with a claim below minus the far line shows that no times satisfy
+-- a proof in the negated network with a claim below minus the far line shows that no times satisfy
 abbrev pub NegatedProofOfNothing : Type 0
 NegatedProofOfNothing = (net : Net) (goal : Goal) (lines : List ClauseLine) → IsNet net → goal.from.0 < net.events → goal.to.0 < net.events
     → goal.claim <ℤ neg_ℤ (pos (far_line net)) → IsClauseProof (negated net) goal lines → IsInconsistent net
@@ -48,52 +48,52 @@ NegatedProofOfNothing = (net : Net) (goal : Goal) (lines : List ClauseLine) → 
 abbrev pub claiming : Goal → ℤ → Goal
 claiming goal claim = record { from = goal.from; to = goal.to; claim = claim }
 
--- lines lead as far where more is claimed
+-- lines that lead from a state to another still do so if the goal claims more
 abbrev pub ClaimCanRise : Type 0
 ClaimCanRise = (net : Net) (goal : Goal) (claim : ℤ) (state : State) (lines : List ClauseLine) (after : State) → goal.claim ≤ℤ claim → ProofLeads net goal state lines after
     → ProofLeads net (claiming goal claim) state lines after
 
--- a proof and times that attain its claim give the greatest separation
+-- a proof and satisfying times that attain its claim give the greatest separation
 abbrev pub ProofAndTimesClose : Type 0
 ProofAndTimesClose = (net : Net) (goal : Goal) (lines : List ClauseLine) (times : List ℤ) → IsNet net → goal.from.0 < net.events → goal.to.0 < net.events
     → goal.claim <ℤ pos (far_line net) → IsClauseProof net goal lines → Satisfies times net → separation times goal.from goal.to ≡ goal.claim
     → IsGreatest net goal.from goal.to goal.claim
 
--- a line with a fault leads nowhere: a fall
+-- a fall that has a fault leads to no state
 abbrev pub FallFaultForbids : Type 0
 FallFaultForbids = (net : Net) (goal : Goal) (state : State) (event : EventId) (value : ℤ) (basis : Basis) (fault : FallLineFault) (next : State)
     → IsFallLineFault net state.kept (frame_of state) event value basis fault → IsLine net goal state (Fall event value basis) next → ⊥
 
--- a literal that is to be known, where memory is not what is wanted
+-- a line that makes a literal known leads to no state if it has a fault other than want of memory
 abbrev pub KnowFaultForbids : Type 0
 KnowFaultForbids = (net : Net) (goal : Goal) (state : State) (l : Literal) (basis : Basis) (fault : KnowFault) (next : State) → (fault ≡ KnowWantsMemory → ⊥)
     → IsKnowFault net state.kept (frame_of state) l basis fault → IsLine net goal state (Know l basis) next → ⊥
 
--- a loop
+-- a loop that has a fault other than want of memory leads to no state
 abbrev pub LoopFaultForbids : Type 0
 LoopFaultForbids = (net : Net) (goal : Goal) (state : State) (event : EventId) (steps : List WalkStep) (fault : LoopFault) (next : State) → (fault ≡ LoopWantsMemory → ⊥)
     → IsLoopFault net state.kept event steps fault → IsLine net goal state (Loop event steps) next → ⊥
 
--- a block that opens
+-- a line that assumes literals leads to no state if one of them has no edge
 abbrev pub AssumeFaultForbids : Type 0
 AssumeFaultForbids = (net : Net) (goal : Goal) (state : State) (literals : List Literal) (fault : AssumeFault) (next : State) → (fault ≡ AssumeWantsMemory → ⊥)
     → IsAssumeFault net literals fault → IsLine net goal state (Assume literals) next → ⊥
 
--- and one that closes
+-- a line that closes a block leads to no state if no block is open or the open block has not ended
 abbrev pub CloseFaultForbids : Type 0
 CloseFaultForbids = (net : Net) (goal : Goal) (state : State) (fault : CloseFault) (next : State) → (fault ≡ CloseWantsMemory → ⊥)
     → IsCloseFault net goal state fault → IsLine net goal state Close next → ⊥
 
--- a checker at the start of a goal is one to whose state lines lead
+-- `IsChecking` holds of a checker at the start of a goal
 abbrev pub StartIsChecking : Type 0
 StartIsChecking = (net : Net) (check : Checking) → AreLimits net check.limits → check.goal.from.0 < net.events → check.goal.to.0 < net.events
     → check.state ≡ starting net check.goal.from → IsChecking net check
 
--- a checker that takes a line goes on as one to whose state lines lead
+-- `IsChecking` still holds after a checker takes a line
 abbrev pub TakenLineKeepsChecking : Type 0
 TakenLineKeepsChecking = (net : Net) (old new : Checking) (line : ClauseLine) → IsChecking net old → TakesLine net old line new → IsChecking net new
 
--- and so does one that claims more
+-- `IsChecking` still holds after a checker raises its claim
 abbrev pub RaisedKeepsChecking : Type 0
 RaisedKeepsChecking = (net : Net) (old new : Checking) (claim : ℤ) → IsChecking net old → old.goal.claim ≤ℤ claim → new.limits ≡ old.limits → new.goal ≡ claiming old.goal claim
     → new.state ≡ old.state → IsChecking net new

@@ -11,14 +11,14 @@ use Rattle.clauses.specs.declared.literal.Literal.{Literal}
 use Rattle.clauses.specs.declared.way.Way.{Way}
 use Rattle.clauses.specs.Clauses.{Clause, IsClause, literal_edge, opposite}
 
--- what is to be shown: that no satisfying separation of the pair exceeds the claim
+-- what a proof is to show: no satisfying times have a separation of the pair above the claim
 pub record Goal : Type 0 where
   pub from : EventId
   pub to : EventId
   pub claim : ℤ
 
--- a line: an event falls to a value, a literal is known, a loop is kept as a clause, a block opens with literals assumed, in place of one that is
--- open, and it closes
+-- a line: an event falls to a value, a literal becomes known, a loop is kept as a clause, a block opens that assumes literals and replaces an open
+-- block, or the open block closes
 pub data ClauseLine : Type 0 where
   Fall : EventId → ℤ → Basis → ClauseLine
   Know : Literal → Basis → ClauseLine
@@ -26,17 +26,17 @@ pub data ClauseLine : Type 0 where
   Assume : List Literal → ClauseLine
   Close : ClauseLine
 
--- the values, none of which is below its event's time, and the literals that are known to hold
+-- a value for each event, which its time does not exceed, and the literals that are known to hold
 pub record Frame : Type 0 where
   pub values : List ℤ
   pub known : List Literal
 
--- the literals that a block assumes, and what follows
+-- the literals that a block assumes, and the frame under these assumptions
 pub record Block : Type 0 where
   pub assumed : List Literal
   pub frame : Frame
 
--- what holds outside of blocks, the clauses that were kept, and the block that is open
+-- the frame outside of blocks, the clauses that were kept, and the open block, if there is one
 pub record State : Type 0 where
   pub frame : Frame
   pub kept : List Clause
@@ -46,7 +46,7 @@ pub record State : Type 0 where
 abbrev pub starting : Net → EventId → State
 starting net from = record { frame = record { values = starting_values net from; known = [] }; kept = []; block = None }
 
--- the frame that lines speak of: that of the block, if one is open
+-- the frame that lines read and change: the frame of the open block, or the frame outside of blocks if no block is open
 abbrev pub frame_in : Frame → Option Block → Frame
 frame_in frame None = frame
 frame_in frame (Some block) = block.frame
@@ -54,7 +54,7 @@ frame_in frame (Some block) = block.frame
 abbrev pub frame_of : State → Frame
 frame_of state = frame_in state.frame state.block
 
--- the state with another frame there
+-- the state with this frame in place of the frame that lines change
 abbrev pub with_frame_in : State → Option Block → Frame → State
 with_frame_in state None frame = record { frame = frame; kept = state.kept; block = None }
 with_frame_in state (Some block) frame = record { frame = state.frame; kept = state.kept; block = Some (record { assumed = block.assumed; frame = frame }) }
@@ -70,7 +70,8 @@ IsKnownFalse frame l = Contains frame.known (opposite l)
 abbrev pub lowest : Net → ℤ
 lowest net = neg_ℤ (pos (cap net + 1))
 
--- a clause none of whose literals can hold gives its target a value, which lies below the one it has
+-- a clause allows its target to fall to a value: all its literals are known not to hold, no way gives more, and the value is below the present value
+-- but not below the lowest
 pub record LowersTarget (net : Net) (frame : Frame) (event : EventId) (value : ℤ) (c : Clause) : Type 0 where
   pub target : c.target ≡ event
   pub refused : All (IsKnownFalse frame) c.literals
@@ -78,7 +79,7 @@ pub record LowersTarget (net : Net) (frame : Frame) (event : EventId) (value : �
   pub least : lowest net ≤ℤ value
   pub lower : value <ℤ time_of frame.values event
 
--- a clause without ways, of whose literals only this one can hold
+-- a clause makes a literal known: it has no ways, all its other literals are known not to hold, and the literal is not known yet
 pub record Forces (frame : Frame) (l : Literal) (c : Clause) : Type 0 where
   pub among : Contains c.literals l
   pub others : All (λ (other : Literal). (other ≡ l) ⊎ IsKnownFalse frame other) c.literals
@@ -87,7 +88,8 @@ pub record Forces (frame : Frame) (l : Literal) (c : Clause) : Type 0 where
 
 -- ---- loops
 
--- where a walk back from an event is: some literal holds, or the event comes within the sum of where the walk is, or within one of the ways
+-- a walk back from an event, and what it shows: one of the literals holds, or the event comes at most `sum` after `at`, or it comes within one of the
+-- ways
 pub record Walk : Type 0 where
   pub literals : List Literal
   pub at : EventId
@@ -98,17 +100,17 @@ pub record Walk : Type 0 where
 abbrev pub wider : Way → Way → Way
 wider way other = if int_le way.weight other.weight then other else way
 
--- a way beside others, of which there is one for each event: the wider
+-- the ways with one more. Of two ways from the same event, the wider one stays
 abbrev pub with_way : Way → List Way → List Way
 with_way way [] = way ∷ []
 with_way way (other ∷ ways) =
     if way.from.0 == other.from.0 then wider way other ∷ ways else other ∷ with_way way ways
 
--- the way that leads on by a sum
+-- the way with a sum added to its weight
 abbrev pub way_after : ℤ → Way → Way
 way_after sum way = record { from = way.from; weight = sum +ℤ way.weight }
 
--- ways beside others, led on by a sum, but for the one that is gone through
+-- the ways of a clause joined to others, except the way that the step goes through. Each gets the sum added
 abbrev pub with_others : ℤ → ℕ → ℕ → List Way → List Way → List Way
 with_others sum number through [] ways = ways
 with_others sum number through (way ∷ more) ways =
@@ -119,7 +121,7 @@ abbrev pub stepped : Walk → Clause → ℕ → Way → Walk
 stepped walk c through way =
     record { literals = walk.literals ++ c.literals; at = way.from; sum = walk.sum +ℤ way.weight; ways = with_others walk.sum 0 through c.ways walk.ways }
 
--- a number to which another can be added
+-- a number of at most 2^60 in absolute value, so that two of them can be added
 abbrev pub IsAddable : ℤ → Type 0
 IsAddable z = (neg_ℤ (pos (2 ^ 60)) ≤ℤ z) × (z ≤ℤ pos (2 ^ 60))
 
@@ -143,25 +145,25 @@ Walks net kept walk (step ∷ steps) after = (next : Walk) × StepsTo net kept w
 abbrev pub starting_walk : EventId → Walk
 starting_walk event = record { literals = []; at = event; sum = pos 0; ways = [] }
 
--- the walk is back where it started with a sum below 0, and so its event comes within one of the ways
+-- the walk is back at its event with a sum below 0. So one of its literals holds, or its event comes within one of its ways
 pub record IsClauseLoop (net : Net) (kept : List Clause) (event : EventId) (steps : List WalkStep) (after : Walk) : Type 0 where
   pub walks : Walks net kept (starting_walk event) steps after
   pub back : after.at ≡ event
   pub below : after.sum <ℤ pos 0
 
--- what a loop shows
+-- the clause that a loop shows
 abbrev pub loop_clause : EventId → Walk → Clause
 loop_clause event walk = record { literals = walk.literals; target = event; ways = walk.ways }
 
 -- ---- lines
 
--- some value shows that no times meet all that the frame says: that of the source is below 0, that of the to-event is not above the claim, or some
--- value is below minus the cap
+-- no times with a separation above the claim meet all that the frame says, as some value shows: the value of the from-event is below 0, the value of
+-- the to-event is at most the claim, or some value is below minus the cap
 abbrev pub IsEnded : Net → Goal → List ℤ → Type 0
 IsEnded net goal values =
     (time_of values goal.from <ℤ pos 0) ⊎ (time_of values goal.to ≤ℤ goal.claim) ⊎ Any (λ (value : ℤ). value <ℤ neg_ℤ (pos (cap net))) values
 
--- not all of the literals hold
+-- the clause that says that the literals do not all hold
 abbrev pub refuting : EventId → List Literal → Clause
 refuting event assumed = record { literals = map opposite assumed; target = event; ways = [] }
 
@@ -192,7 +194,7 @@ abbrev pub ProofLeads : Net → Goal → State → List ClauseLine → State →
 ProofLeads net goal state [] after = state ≡ after
 ProofLeads net goal state (line ∷ lines) after = (next : State) × IsLine net goal state line next × ProofLeads net goal next lines after
 
--- a state with no open block that has ended
+-- no block is open, and the values have ended
 pub record IsOver (net : Net) (goal : Goal) (state : State) : Type 0 where
   pub closed : state.block ≡ None
   pub ended : IsEnded net goal state.frame.values

@@ -3,7 +3,7 @@
 use crate::literal::Literal;
 use itv_base::EdgeName;
 
-/// Where a clause comes from. Constraints have their numbers from 0, and so have the clauses that were kept.
+/// Where a clause comes from. Constraints are counted from 0, and so are the clauses that were kept.
 #[derive(Clone, Copy, Debug, PartialEq, Eq)]
 pub enum Basis {
     /// An always-edge.
@@ -18,7 +18,8 @@ pub enum Basis {
     ByKept(u32),
 }
 
-/// A step of a walk back from an event: by the clause of a basis, through one of its ways, which have numbers from 0.
+/// A step of a walk back from an event. It takes the clause of a basis and goes through one of its ways, counted from
+/// 0.
 #[derive(Clone, Copy, Debug, PartialEq, Eq)]
 pub struct WalkStep {
     pub basis: Basis,

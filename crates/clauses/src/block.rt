@@ -4,7 +4,7 @@ use crate::frame::Frame;
 use crate::literal::Literal;
 use std::marker::Model;
 
-/// A block that is open: the literals that it assumes, and the frame that follows.
+/// An open block: the literals that it assumes, and the frame under these assumptions.
 #[derive(Debug, Drop)]
 pub struct Block {
     pub assumed: Vec<Literal>,

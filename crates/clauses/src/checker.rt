@@ -26,9 +26,10 @@ use std::marker::Model;
 
 /// Checks the lines of a proof by clauses, one after another.
 ///
-/// It is made for a network and a goal, and every later call is given the same network. Lines that are taken lower values,
-/// add literals that are known, and keep clauses; they are a proof once [`ClauseChecker::is_over`]. A line that is refused
-/// changes nothing. Clauses are kept in memory that is taken line by line.
+/// A checker is made for a network and a goal. Every later call needs the same network. A line that is taken lowers a
+/// value, adds a known literal, keeps a clause, or opens or closes a block. The lines are a proof once
+/// [`ClauseChecker::is_over`] returns true. A refused line changes nothing. The checker allocates memory for the
+/// clauses line by line.
 #[derive(Debug, Drop)]
 pub struct ClauseChecker {
     limits: Limits,
@@ -80,7 +81,7 @@ impl ClauseChecker {
         })
     }
 
-    /// Takes a fall of an event, or tells its first fault and changes nothing.
+    /// Takes a fall of an event. Otherwise returns the first fault and changes nothing.
     pub fn take_fall(&mut self, net: &Network, fall: EventFall) -> Result<(), FallLineFault>
         requires checking { IsChecking net.now self.old }
         requires event { fall.event.0 < net.now.events }
@@ -95,7 +96,7 @@ impl ClauseChecker {
         }
     }
 
-    /// Takes a literal that is known, or tells the first fault and changes nothing.
+    /// Takes a literal that becomes known. Otherwise returns the first fault and changes nothing.
     pub fn take_know(
         &mut self,
         net: &Network,
@@ -114,7 +115,7 @@ impl ClauseChecker {
         }
     }
 
-    /// Keeps the clause of a loop of steps back from an event, or tells the first fault and changes nothing.
+    /// Keeps the clause of a loop of steps back from an event. Otherwise returns the first fault and changes nothing.
     pub fn keep_loop(
         &mut self,
         alloc: Global,
@@ -136,7 +137,8 @@ impl ClauseChecker {
         Ok(())
     }
 
-    /// Opens a block that assumes literals, in place of one that is open, or tells the first fault and changes nothing.
+    /// Opens a block that assumes literals, in place of an open block. Otherwise returns the first fault and changes
+    /// nothing.
     pub fn assume(
         &mut self,
         alloc: Global,
@@ -155,8 +157,8 @@ impl ClauseChecker {
         Ok(())
     }
 
-    /// Closes the block that is open, where its values have ended, and keeps that not all it assumes holds. After a fault
-    /// nothing has changed.
+    /// Closes the open block if its values have ended. Keeps the clause that says that its assumptions do not all hold.
+    /// Otherwise returns the first fault and changes nothing.
     pub fn close(&mut self, alloc: Global, net: &Network) -> Result<(), CloseFault>
         requires checking { IsChecking net.now self.old }
         ensures taken { OnOk result (TakesLine net.now self.old Close self.new) }
@@ -180,7 +182,7 @@ impl ClauseChecker {
         Ok(())
     }
 
-    /// Claims more.
+    /// Raises the claim of the goal.
     pub fn raise(&mut self, claim: Claim)
         requires more { self.old.goal.claim ≤ℤ claim.value }
         ensures goal { self.new.goal ≡ claiming self.old.goal claim.value }
@@ -204,7 +206,7 @@ impl ClauseChecker {
         self.to
     }
 
-    /// What the goal claims.
+    /// The claim of the goal.
     pub fn claim(&self) -> Claim
         ensures claim { result.value ≡ self.now.goal.claim }
     {

@@ -1,6 +1,6 @@
 //! Claims.
 
-/// What a proof claims, in picoseconds: that no satisfying separation of a pair exceeds it.
+/// A bound that a proof claims, in picoseconds: no satisfying times have a greater separation of the pair.
 #[derive(Clone, Copy, Debug, PartialEq, Eq)]
 pub struct Claim {
     pub value: i64,

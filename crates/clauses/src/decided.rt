@@ -12,8 +12,8 @@ use event_graph::Network;
 use falling::Limits;
 use itv_base::EventId;
 
-/// What a proof and times say of the pair of a goal: its greatest separation, in picoseconds, that no times satisfy the
-/// network, or nothing.
+/// What a proof and times say of the pair of a goal: its greatest separation in picoseconds, or that no times satisfy
+/// the network, or nothing.
 #[derive(Clone, Copy, Debug, PartialEq, Eq)]
 pub enum ProofVerdict {
     Closed(i64),
@@ -21,9 +21,10 @@ pub enum ProofVerdict {
     Open,
 }
 
-/// What a checker and times, in picoseconds and one per event, say of the pair of its goal. The greatest separation is
-/// closed where the lines are a proof with a claim below the far line, and the times satisfy and attain it. No times
-/// satisfy where the lines are a proof with a claim below minus the far line. In every other case nothing is said.
+/// What a checker and times say of the pair of the checker's goal. The times are in picoseconds, one per event. If the
+/// lines are a proof with a claim below minus the far line, no times satisfy the network. If they are a proof with a
+/// claim below the far line, and the times satisfy the network and attain the claim, the claim is the greatest
+/// separation. In every other case the answer is `Open`, which says nothing.
 pub fn decide(net: &Network, checker: &ClauseChecker, times: &[i64]) -> ProofVerdict
     requires checking { IsChecking net.now checker.now }
     requires count { length times.now ≡ net.now.events }
@@ -61,14 +62,14 @@ fn is_near(claim: Claim, limits: Limits) -> bool
     claim.value < limits.far
 }
 
-// The verdict that the greatest separation is what is claimed.
+// The verdict that the claim is the greatest separation.
 fn closed_at(claim: Claim) -> ProofVerdict
     ensures { result ≡ Closed claim.value }
 {
     ProofVerdict::Closed(claim.value)
 }
 
-// Whether times satisfy and attain what a checker's goal claims.
+// Whether times satisfy the network and attain the claim of a checker's goal.
 fn attains(net: &Network, checker: &ClauseChecker, times: &[i64]) -> bool
     requires checking { IsChecking net.now checker.now }
     requires count { length times.now ≡ net.now.events }
@@ -80,7 +81,7 @@ fn attains(net: &Network, checker: &ClauseChecker, times: &[i64]) -> bool
         && net.broken(times).is_none()
 }
 
-// Whether times have a separation.
+// Whether times have this separation from the one event to the other.
 fn is_separation(times: &[i64], from: EventId, to: EventId, claim: Claim) -> bool
     requires times { All IsTime times.now }
     requires from { from.0 < length times.now }

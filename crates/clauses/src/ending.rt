@@ -11,8 +11,8 @@ use event_graph::Network;
 use falling::Limits;
 use itv_base::EventId;
 
-/// Whether the values of a frame have ended: that of the from-event is below 0, that of the to-event is at most the claim,
-/// or some value is below minus the cap.
+/// Whether the values of a frame have ended: the value of the from-event is below 0, the value of the to-event is at
+/// most the claim, or some value is below minus the cap.
 pub fn has_ended(
     net: &Network,
     frame: &Frame,

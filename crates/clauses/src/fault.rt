@@ -8,18 +8,18 @@ use std::alloc::{AllocError, AllocFailed};
 use std::error::Error;
 use std::fmt;
 
-/// The first fault of a fall, in the order in which they are looked for. Values are in picoseconds.
+/// The first fault of a fall, in the order of the checks. Values are in picoseconds.
 #[derive(Clone, Copy, Debug, PartialEq, Eq)]
 pub enum FallLineFault {
     /// There is no clause of the basis.
     NoClause,
-    /// The clause bounds this event, which is another one.
+    /// The clause bounds this other event.
     OtherTarget(EventId),
-    /// This literal of the clause, the first such one, is not known not to hold.
+    /// The first literal of the clause that is not known to be false.
     MayHold(Literal),
-    /// A way of the clause, the first such one, gives this value, which is more.
+    /// A way of the clause gives this value, which is above the line's value. It is the first such way.
     TooLow(i64),
-    /// The event has this value, which the line does not lower.
+    /// The event has this value already, and the line does not lower it.
     NotLower(i64),
     /// The value is below the least that a line may give.
     BelowLeast,
@@ -40,7 +40,7 @@ impl fmt::Display for FallLineFault {
 
 impl Error for FallLineFault {}
 
-/// The first fault of a literal that is to be known, in the order in which they are looked for.
+/// The first fault of a literal that is to be known, in the order of the checks.
 #[derive(Clone, Copy, Debug, PartialEq, Eq)]
 pub enum KnowFault {
     /// There is no clause of the basis.
@@ -49,7 +49,7 @@ pub enum KnowFault {
     HasWays,
     /// The clause does not have the literal.
     NoLiteral,
-    /// This other literal of the clause, the first such one, is not known not to hold.
+    /// The first other literal of the clause that is not known to be false.
     MayHold(Literal),
     /// The literal is known already.
     Known,
@@ -82,16 +82,16 @@ impl<T: Drop> From<AllocFailed<T>> for KnowFault {
     }
 }
 
-/// The first fault of a step of a walk, in the order in which they are looked for.
+/// The first fault of a step of a walk, in the order of the checks.
 #[derive(Clone, Copy, Debug, PartialEq, Eq)]
 pub enum StepFault {
     /// There is no clause of the basis.
     NoClause,
-    /// The clause bounds this event, where the walk is not.
+    /// The clause bounds this event, but the walk is at another one.
     OtherTarget(EventId),
     /// The clause has no such way.
     NoWay,
-    /// The sum or a way that the walk would have is beyond 2^60 in absolute value.
+    /// The sum or a way of the walk would exceed 2^60 in absolute value.
     TooWide,
     /// Memory was wanted and not found.
     NoMemory,
@@ -121,14 +121,14 @@ impl<T: Drop> From<AllocFailed<T>> for StepFault {
     }
 }
 
-/// The first fault of a loop, in the order in which they are looked for. Sums are in picoseconds.
+/// The first fault of a loop, in the order of the checks. Sums are in picoseconds.
 #[derive(Clone, Copy, Debug, PartialEq, Eq)]
 pub enum LoopFault {
-    /// The step of this number from 0 does not lead on.
+    /// The step with this number, counted from 0, has this fault.
     AtStep(usize, StepFault),
-    /// The steps lead to this event, which is another one.
+    /// The steps lead to this other event.
     NotBack(EventId),
-    /// The steps lead back by this sum, which is not below 0.
+    /// The steps lead back with this sum, which is not below 0.
     NotBelow(i64),
     /// Memory was wanted and not found.
     NoMemory,
@@ -160,7 +160,7 @@ impl<T: Drop> From<AllocFailed<T>> for LoopFault {
 /// Why literals are not assumed.
 #[derive(Clone, Copy, Debug, PartialEq, Eq)]
 pub enum AssumeFault {
-    /// This literal, the first such one, has no edge: there is no such cause, or its low end is open.
+    /// The first literal that has no edge: there is no such cause, or its low end is open.
     OpenEnd(Literal),
     /// Memory was wanted and not found.
     NoMemory,
@@ -202,7 +202,7 @@ impl<T: Drop> From<AllocFailed<T>> for AssumeFault {
 pub enum CloseFault {
     /// No block is open.
     NoBlock,
-    /// The block that is open has not ended.
+    /// The open block has not ended.
     NotEnded,
     /// Memory was wanted and not found.
     NoMemory,

@@ -25,7 +25,7 @@ impl Model for Frame {
 impl Frame {
     ghost use Rattle.clauses.specs.Lines.{IsKnownFalse};
 
-    /// The value of an event, and 0 for one that is not there.
+    /// The value of an event, or 0 if there is no such event.
     pub fn value(&self, event: EventId) -> i64
         ensures value { result ≡ time_of self.now.values event }
     {

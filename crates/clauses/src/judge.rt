@@ -32,7 +32,7 @@ struct Given {
     value: i64,
 }
 
-/// Whether an event may fall, or the first fault.
+/// Checks that an event may fall, or returns the first fault.
 pub fn judge_fall(
     net: &Network,
     kept: &[Clause],
@@ -111,7 +111,7 @@ fn first_open(
     None
 }
 
-// The literal of a number of a clause, if it is there and not refused.
+// The literal at a place of a clause, if there is one and it is not refused.
 fn open_at(
     net: &Network,
     kept: &[Clause],
@@ -131,7 +131,7 @@ fn open_at(
     }
 }
 
-// What the first way of a clause that gives more than the value of a fall gives.
+// The value that a way of a clause gives: the first way that gives more than the value of the fall.
 fn first_more(
     net: &Network,
     kept: &[Clause],
@@ -155,7 +155,7 @@ fn first_more(
     None
 }
 
-// The way of a number of a clause, if it is there and gives more than the value of a fall.
+// The way at a place of a clause, if there is one and it gives more than the value of a fall.
 fn more_at(
     net: &Network,
     kept: &[Clause],
@@ -188,7 +188,7 @@ fn gives_more(frame: &Frame, way: Way, fall: EventFall) -> bool
     fall.value < given_by(frame, way).value
 }
 
-// What a way gives its target.
+// The value that a way gives its target.
 fn given_by(frame: &Frame, way: Way) -> Given
     requires near { All IsFrameValue frame.now.values }
     requires weight { IsAddable way.weight }
@@ -208,7 +208,7 @@ fn near_value(frame: &Frame, event: EventId) -> i64
     frame.value(event)
 }
 
-/// Whether a literal may be known by a basis, or the first fault.
+/// Checks that a literal may be known by a basis, or returns the first fault.
 pub fn judge_know(
     net: &Network,
     kept: &[Clause],
@@ -252,7 +252,7 @@ fn has_literal(net: &Network, kept: &[Clause], literal: Literal, basis: Basis, s
     false
 }
 
-// Whether this is the literal of a number of a clause.
+// Whether a clause has this literal at a place.
 fn is_literal_at(
     net: &Network,
     kept: &[Clause],
@@ -269,7 +269,7 @@ fn is_literal_at(
     }
 }
 
-// The first literal of a clause that is another one and not refused.
+// The first literal of a clause that differs from this one and is not refused.
 fn first_other(
     net: &Network,
     kept: &[Clause],
@@ -292,7 +292,7 @@ fn first_other(
     None
 }
 
-// The literal of a number of a clause, if it is there, another one, and not refused.
+// The literal at a place of a clause, if there is one that differs from this one and is not refused.
 fn other_at(
     net: &Network,
     kept: &[Clause],
@@ -313,7 +313,7 @@ fn other_at(
     }
 }
 
-// Whether a literal is another one and not refused.
+// Whether the other literal differs from this one and is not refused.
 fn is_other(frame: &Frame, literal: Literal, other: Literal) -> bool
     ensures yes { IsTrue result → IsThisOrRefused frame.now literal other → ⊥ }
     ensures no { IsFalse result → IsThisOrRefused frame.now literal other }

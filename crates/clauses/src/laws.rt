@@ -2,7 +2,7 @@
 
 ghost use Rattle.clauses.specs.Laws.{AssumeFaultForbids, ClaimCanRise, ClauseProofBounds, ClauseProofOfNothing, CloseFaultForbids, FallFaultForbids, KnowFaultForbids, LoopFaultForbids, NegatedProofBounds, NegatedProofOfNothing, ProofAndTimesClose, RaisedKeepsChecking, StartIsChecking, TakenLineKeepsChecking};
 
-/// No satisfying separation of the pair exceeds the claim of a proof that is below the far line.
+/// If the claim of a proof is below the far line, no satisfying times have a greater separation of the pair.
 pub fn clause_proof_bounds()
     ensures law { ClauseProofBounds }
 {}
@@ -12,62 +12,62 @@ pub fn clause_proof_of_nothing()
     ensures law { ClauseProofOfNothing }
 {}
 
-/// A proof in the negation of the reversed pair bounds the pair.
+/// A proof for the reversed pair in the negated network bounds the pair.
 pub fn negated_proof_bounds()
     ensures law { NegatedProofBounds }
 {}
 
-/// A proof in the negation with a claim below minus the far line shows that no times satisfy.
+/// A proof in the negated network with a claim below minus the far line shows that no times satisfy.
 pub fn negated_proof_of_nothing()
     ensures law { NegatedProofOfNothing }
 {}
 
-/// Lines lead as far where more is claimed.
+/// Lines that lead from a state to another still do so if the goal claims more.
 pub fn claim_can_rise()
     ensures law { ClaimCanRise }
 {}
 
-/// A proof and times that attain its claim give the greatest separation.
+/// A proof and satisfying times that attain its claim give the greatest separation.
 pub fn proof_and_times_close()
     ensures law { ProofAndTimesClose }
 {}
 
-/// A fall with a fault leads nowhere.
+/// A fall that has a fault leads to no state.
 pub fn fall_fault_forbids()
     ensures law { FallFaultForbids }
 {}
 
-/// A literal that is to be known and has a fault leads nowhere.
+/// A line that makes a literal known leads to no state if it has a fault other than want of memory.
 pub fn know_fault_forbids()
     ensures law { KnowFaultForbids }
 {}
 
-/// A loop with a fault leads nowhere.
+/// A loop that has a fault other than want of memory leads to no state.
 pub fn loop_fault_forbids()
     ensures law { LoopFaultForbids }
 {}
 
-/// Literals of which one has no edge are not assumed.
+/// A line that assumes literals leads to no state if one of them has no edge.
 pub fn assume_fault_forbids()
     ensures law { AssumeFaultForbids }
 {}
 
-/// A block that is not open or has not ended does not close.
+/// A line that closes a block leads to no state if no block is open or the open block has not ended.
 pub fn close_fault_forbids()
     ensures law { CloseFaultForbids }
 {}
 
-/// A checker at the start is one to whose state lines lead.
+/// `IsChecking` holds of a checker at the start.
 pub fn start_is_checking()
     ensures law { StartIsChecking }
 {}
 
-/// A checker that takes a line goes on as one to whose state lines lead.
+/// `IsChecking` still holds after a checker takes a line.
 pub fn taken_line_keeps_checking()
     ensures law { TakenLineKeepsChecking }
 {}
 
-/// A checker that claims more goes on as one to whose state lines lead.
+/// `IsChecking` still holds after a checker raises its claim.
 pub fn raised_keeps_checking()
     ensures law { RaisedKeepsChecking }
 {}

@@ -1,7 +1,7 @@
-//! Proofs of bounds by clauses, for networks with choices of both kinds. A clause says that some of its literals hold or
-//! an event comes within some of its ways; values fall by clauses, loops and refuted assumptions are kept as clauses.
-//! The contract of the crate: [`ClauseChecker`] takes a line exactly where a proof allows it, tells the first fault of any
-//! other, and [`decide`] says of its goal what an ended proof and times show.
+//! Proofs of bounds by clauses, for networks with choices of both kinds. A clause says that one of its literals holds,
+//! or that its target comes within one of its ways. Values fall by clauses. Loops and refuted assumptions are kept as
+//! clauses. The contract of the crate: [`ClauseChecker`] takes a line if and only if a proof allows it, and else
+//! returns the first fault. [`decide`] says what an ended proof and times show of the checker's goal.
 #![tactic(auto)]
 
 mod basis;

@@ -4,8 +4,9 @@ ghost use Rattle.std.specs.Prelude.{◌≡◌};
 
 use std::fmt;
 
-/// The lower side of a cause of a latest or earliest constraint, by their numbers from 0, and whether it is met: that
-/// the target comes no earlier than the cause and its low end, or that it comes earlier.
+/// Whether the lower side of a cause of a latest or earliest constraint is met. If it is met, the target comes no
+/// earlier than the cause plus its low end. If not, the target comes earlier. Constraints and their causes are counted
+/// from 0.
 #[derive(Clone, Copy, Debug, PartialEq, Eq)]
 pub struct Literal {
     pub constraint: u32,

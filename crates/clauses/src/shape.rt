@@ -1,4 +1,4 @@
-//! The clauses of bases, one literal and one way after another.
+//! Reads the clause of a basis: its shape, and one literal or one way at a time.
 
 ghost use Rattle.std.specs.Prelude.{◌≡◌, ◌∷◌, List, [], All, Some, IfSome, IfNone, slice_get};
 ghost use Rattle.itv_base.specs.Range.{IsEnd};
@@ -72,7 +72,7 @@ fn side_shape(net: &Network, literal: Literal) -> Option<Shape>
     }
 }
 
-/// The edge that a literal says is met, if the low end of its cause is not open.
+/// The edge that a literal says is met, or none if there is no such cause or its low end is open.
 pub fn edge_of(net: &Network, literal: Literal) -> Option<Edge>
     ensures weight { IfSome result (λ e. IsAddable e.weight) }
     ensures edge { result ≡ literal_edge net.now literal }
@@ -88,7 +88,7 @@ pub fn edge_of(net: &Network, literal: Literal) -> Option<Edge>
     }
 }
 
-// The edge, or the one that is met exactly where it is not.
+// The edge, or the edge that is met if and only if this one is not.
 fn edge_as(is_met: bool, edge: Edge) -> Edge
     requires { IsEnd (Some edge.weight) }
     ensures weight { IsAddable result.weight }
@@ -163,7 +163,8 @@ fn kept_shape(kept: &[Clause], number: u32) -> Option<Shape>
     }
 }
 
-/// The literal of a number of the clause of a basis, if there are both.
+/// The literal at a place of the clause of a basis, or none if the clause has no such place. If the basis has no
+/// clause, the contract says nothing of the result.
 pub fn literal_at(net: &Network, kept: &[Clause], basis: Basis, place: usize) -> Option<Literal>
     ensures literal { OfClause net.now kept.now basis (λ c. result ≡ slice_get c.literals place) }
 {
@@ -175,7 +176,7 @@ pub fn literal_at(net: &Network, kept: &[Clause], basis: Basis, place: usize) ->
     }
 }
 
-// The one literal beside the edge of another.
+// The one literal of the clause of a literal's edge: the opposite literal.
 fn opposite_at(literal: Literal, place: usize) -> Option<Literal>
     ensures { (net : Net) (kept : List Clause)
         → OfClause net kept (BySide literal) (λ c. result ≡ slice_get c.literals place) }
@@ -186,7 +187,7 @@ fn opposite_at(literal: Literal, place: usize) -> Option<Literal>
     None
 }
 
-// The literal that the side of a cause of an earliest constraint is met.
+// The literal that says that the side of a cause of an earliest constraint is met.
 fn side_literal(net: &Network, number: u32, place: usize) -> Option<Literal>
     ensures { (kept : List Clause)
         → OfClause net.now kept (ByEarliest number) (λ c. result ≡ slice_get c.literals place) }
@@ -204,7 +205,7 @@ fn side_literal(net: &Network, number: u32, place: usize) -> Option<Literal>
     })
 }
 
-// The literal of a number of a clause that was kept.
+// The literal at a place of a clause that was kept.
 fn kept_literal(kept: &[Clause], number: u32, place: usize) -> Option<Literal>
     ensures { (net : Net)
         → OfClause net kept.now (ByKept number) (λ c. result ≡ slice_get c.literals place) }
@@ -218,7 +219,8 @@ fn kept_literal(kept: &[Clause], number: u32, place: usize) -> Option<Literal>
     }
 }
 
-/// The way of a number of the clause of a basis, if there are both.
+/// The way at a place of the clause of a basis, or none if the clause has no such place. If the basis has no clause,
+/// the contract says nothing of which way it is.
 pub fn way_at(net: &Network, kept: &[Clause], basis: Basis, place: usize) -> Option<Way>
     requires kept { All IsNearClause kept.now }
     ensures way { OfClause net.now kept.now basis (λ c. result ≡ slice_get c.ways place) }
@@ -233,7 +235,7 @@ pub fn way_at(net: &Network, kept: &[Clause], basis: Basis, place: usize) -> Opt
     }
 }
 
-// The one way by an edge.
+// The one way of the clause of an edge.
 fn way_of(edge: Option<Edge>, place: usize) -> Option<Way>
     requires weight { IfSome edge (λ e. IsAddable e.weight) }
     ensures near { IfSome result (λ way. IsAddable way.weight) }
@@ -248,7 +250,7 @@ fn way_of(edge: Option<Edge>, place: usize) -> Option<Way>
     }
 }
 
-// The way by a cause of a latest constraint.
+// The way of a cause of a latest constraint.
 fn high_way(net: &Network, number: u32, place: usize) -> Option<Way>
     ensures near { IfSome result (λ way. IsAddable way.weight) }
     ensures way { (kept : List Clause)
@@ -267,7 +269,7 @@ fn high_way(net: &Network, number: u32, place: usize) -> Option<Way>
     }
 }
 
-// The way of a number of a clause that was kept.
+// The way at a place of a clause that was kept.
 fn kept_way(kept: &[Clause], number: u32, place: usize) -> Option<Way>
     requires kept { All IsNearClause kept.now }
     ensures near { IfSome result (λ way. IsAddable way.weight) }

@@ -24,7 +24,7 @@ use falling::Limits;
 use itv_base::EventId;
 use std::alloc::Global;
 
-/// Lets an event of a frame fall, if it may, or tells the first fault and changes nothing.
+/// Lets an event of a frame fall, if it may. Otherwise returns the first fault and changes nothing.
 pub fn fall_in(
     net: &Network,
     kept: &Vec<Clause>,
@@ -49,7 +49,7 @@ pub fn fall_in(
     Ok(())
 }
 
-// The frame after a fall.
+// Sets the value of the event that falls.
 fn lower(frame: &mut Frame, fall: EventFall)
     requires { fall.event.0 < length frame.old.values }
     ensures values { frame.new.values ≡ set frame.old.values fall.event.0 fall.value }
@@ -58,7 +58,8 @@ fn lower(frame: &mut Frame, fall: EventFall)
     frame.values[fall.event.0 as usize] = fall.value;
 }
 
-/// Adds a literal to those that a frame knows, if it may be known, or tells the first fault and changes nothing.
+/// Adds a literal to the literals that a frame knows, if it may be known. Otherwise returns the first fault and changes
+/// nothing.
 pub fn know_in(
     net: &Network,
     kept: &Vec<Clause>,
@@ -79,7 +80,7 @@ pub fn know_in(
     Ok(())
 }
 
-/// What a walk back to its event shows.
+/// The clause that a walk back to its event shows.
 pub fn clause_of(event: EventId, walk: Walk) -> Clause
     ensures { result ≡ loop_clause event walk }
 {
@@ -90,7 +91,7 @@ pub fn clause_of(event: EventId, walk: Walk) -> Clause
     }
 }
 
-/// The first of some literals that has no edge.
+/// The first of the literals that has no edge, or none if each has one.
 pub fn first_open_end(net: &Network, literals: &[Literal]) -> Option<Literal>
     ensures first { IfSome result (IsFirstWithout (λ (l : Literal). IsSome (literal_edge net.now l)) literals.now) }
     ensures none { IfNone result (All (λ (l : Literal). IsSome (literal_edge net.now l)) literals.now) }
@@ -103,7 +104,7 @@ pub fn first_open_end(net: &Network, literals: &[Literal]) -> Option<Literal>
     None
 }
 
-/// A block that assumes literals beside what a frame says.
+/// A block that assumes literals. Its frame has the values of the given frame, and knows these literals in addition.
 pub fn opened(alloc: Global, frame: &Frame, literals: &[Literal]) -> Result<Block, AssumeFault>
     ensures fault { IfErr result (λ fault. fault ≡ AssumeWantsMemory) }
     ensures block { IfOk result (λ block. block ≡ record { assumed = literals.now; frame = record { values = frame.now.values; known = frame.now.known ++ literals.now } }) }
@@ -119,7 +120,7 @@ pub fn opened(alloc: Global, frame: &Frame, literals: &[Literal]) -> Result<Bloc
     })
 }
 
-/// The clause that not all literals hold.
+/// The clause that says that the literals do not all hold.
 pub fn refuting(alloc: Global, event: EventId, literals: &[Literal]) -> Result<Clause, CloseFault>
     ensures fault { IfErr result (λ fault. fault ≡ CloseWantsMemory) }
     ensures clause { IfOk result (λ clause. clause ≡ refuting event literals.now) }

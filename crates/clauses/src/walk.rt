@@ -19,8 +19,8 @@ use itv_base::EventId;
 use std::alloc::Global;
 use std::marker::Model;
 
-/// Where a walk back from an event is: some of the literals holds, or the event comes within the sum of where the walk
-/// is, or within one of the ways.
+/// A walk back from an event, and what it shows: one of the literals holds, or the event comes at most `here.weight`
+/// picoseconds after `here.from`, or the event comes within one of the ways. The walk is at `here.from`.
 #[derive(Debug, Drop)]
 pub struct Walk {
     pub literals: Vec<Literal>,
@@ -81,7 +81,7 @@ fn step_in(steps: &[WalkStep], place: usize) -> WalkStep
     steps[place]
 }
 
-// The fault of the step of a number.
+// The fault of a loop, where the step with this number has a fault.
 fn at_step(number: usize, fault: StepFault) -> LoopFault
     ensures memory { fault ≡ NoMemory → result ≡ LoopWantsMemory }
     ensures other { (fault ≡ NoMemory → ⊥) → result ≡ AtStep number fault }
@@ -146,7 +146,7 @@ fn push_literals(
     Ok(())
 }
 
-// Puts the literal of a number of a clause, if there is one, behind others.
+// Puts the literal at a place of a clause behind others, if there is one.
 fn push_literal(
     net: &Network,
     kept: &[Clause],
@@ -165,7 +165,7 @@ fn push_literal(
     Ok(())
 }
 
-// Joins the ways of a clause, led on, to others, but for the one that is gone through.
+// Joins the ways of a clause to others, except the way that the step goes through. Each gets the walk's sum added.
 fn join_others(
     net: &Network,
     kept: &[Clause],
@@ -188,7 +188,8 @@ fn join_others(
     Ok(())
 }
 
-// Joins the way of a number of a clause, led on, to others, if it is there and not gone through.
+// Joins the way at a place of a clause to others, with the walk's sum added. Does nothing if there is no such way or
+// the step goes through it.
 fn join_other(
     net: &Network,
     kept: &[Clause],
@@ -214,7 +215,7 @@ fn join_other(
     join_way(led_on(here, way), ways)
 }
 
-// Joins a way to others: of two from one event the wider stays.
+// Joins a way to others. Of two ways from the same event, the wider one stays.
 fn join_way(way: Way, ways: &mut Vec<Way>) -> Result<(), StepFault>
     ensures fault { IfErr result (λ fault. fault ≡ NoMemory) }
     ensures joined { OnOk result (ways.new.items ≡ with_way way ways.old.items) }
@@ -228,7 +229,7 @@ fn join_way(way: Way, ways: &mut Vec<Way>) -> Result<(), StepFault>
     Ok(())
 }
 
-// The first place of a way from the same event, or the number of the ways.
+// The first place of a way from the same event, or the number of ways if there is none.
 fn place_of(way: Way, ways: &Vec<Way>) -> usize
     ensures most { result ≤ length ways.now.items }
     ensures here { IfSome (slice_get ways.now.items result) (λ (other : Way). other.from ≡ way.from) }
@@ -261,7 +262,7 @@ fn wider(way: Way, other: Way) -> Way
     way
 }
 
-// The way led on by the sum of where a walk is.
+// The way with the walk's sum added to its weight.
 fn led_on(here: Way, way: Way) -> Way
     requires here { IsAddable here.weight }
     requires way { IsAddable way.weight }

@@ -2,7 +2,7 @@
 
 use itv_base::EventId;
 
-/// A way by which an event is bounded: it comes at most `weight` picoseconds after `from`.
+/// A way that bounds an event: the event comes at most `weight` picoseconds after `from`.
 #[derive(Clone, Copy, Debug, PartialEq, Eq)]
 pub struct Way {
     pub from: EventId,

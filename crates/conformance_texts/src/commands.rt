@@ -1,11 +1,11 @@
-//! Lists of words, and what each is taken for, as it was worked out by hand.
+//! Lists of words, and what each list asks for. The answers were worked out by hand.
 
 use itv_base::Texts;
 use std::alloc::{AllocError, Global};
 use std::test::Fail;
 use words::{Invocation, Task, read_words};
 
-// An answer on one line: the job with what it needs, or `help` or `bad words`.
+// An answer on one line: the job with its design and options, or `help` or `bad words`.
 fn line(alloc: Global, answer: &Invocation<'_>) -> Result<String, AllocError> {
     match answer {
         Invocation::Task(task) => task_line(alloc, *task),
@@ -47,10 +47,10 @@ fn task_line(alloc: Global, task: Task<'_>) -> Result<String, AllocError> {
     }
 }
 
-// Words, and what they are taken for.
+// A list of words, and what it asks for.
 type Row<'a> = (&'a [&'a str], &'a str);
 
-// The job, and what each needs.
+// Each job with what it needs.
 const JOBS: &[Row<'static>] = &[
     (&[], "bad words"),
     (&["x.json"], "bounds x.json 100000 false"),
@@ -113,7 +113,7 @@ const JOBS: &[Row<'static>] = &[
 ];
 
 const FORMS: &[Row<'static>] = &[
-    // What a job does not need is passed over.
+    // An option that a job does not need is passed over.
     (&["--report", "r", "x"], "bounds x 100000 false"),
     (&["--size", "3", "x"], "bounds x 100000 false"),
     (&["--edits", "e", "x"], "bounds x 100000 false"),
@@ -148,7 +148,7 @@ const FORMS: &[Row<'static>] = &[
     (&["--budget=", "x"], "bad words"),
     (&["--budget", "-5", "x"], "bad words"),
     (&["--budget", "1.0", "x"], "bad words"),
-    // Repeated options, flags with values, names that are none.
+    // Repeated options, flags with values, and words that name no option.
     (&["--cert", "x"], "bounds x 100000 true"),
     (&["--cert", "--cert", "x"], "bad words"),
     (&["--cert=true", "x"], "bad words"),
@@ -173,7 +173,7 @@ const FORMS: &[Row<'static>] = &[
     (&["--budget", "--help"], "bad words"),
 ];
 
-// Each list of words is taken for what it says by hand.
+// Each list of words asks for what was worked out by hand.
 fn are_taken(alloc: Global, rows: &[Row<'_>]) -> Result<(), Fail> {
     for (words, wanted) in rows {
         let mut texts = Texts::new(alloc)?;

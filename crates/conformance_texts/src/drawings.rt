@@ -6,7 +6,7 @@ use std::alloc::Global;
 use std::test::Fail;
 use wavejson::{DiagramFault, read_diagram};
 
-// A lane as `name,wave,node;` and after all of them each edge text behind a bar; `-` stands for what is absent.
+// Each lane as `name,wave,node;`, and behind the lanes each edge text behind a bar. `-` stands for an absent text.
 fn spelled(alloc: Global, tree: &str) -> Result<String, Fail> {
     let tree = Value::from_str(alloc, tree)?;
     let diagram = read_diagram(alloc, &tree)?;
@@ -49,7 +49,7 @@ fn drawings_are_as_written(rt: HostRuntime) -> Result<(), Fail> {
             r#"{"signal":[{"name":7,"wave":["0"],"node":null},{"name":"","wave":"","node":""}]}"#,
             "-,-,-;-,,;",
         ),
-        // of a key that is repeated the last value stands
+        // the last value of a repeated key counts
         (
             r#"{"signal":7,"signal":[{"name":"A","name":"B"}],"edge":["a"],"edge":["b"]}"#,
             "B,-,-;|b",

@@ -1,4 +1,4 @@
-//! Files of edits: the edits of each, or its first fault, as they were worked out by hand.
+//! Files of edits: the edits of each file, or its first fault. They were worked out by hand.
 
 use edits::{Edits, EditsFault, RangeEdit, read_edits};
 use event_graph::{Cause, Network};
@@ -6,7 +6,7 @@ use itv_base::{EventId, Range, RangeFault};
 use std::alloc::Global;
 use std::test::Fail;
 
-// Two events, a linear constraint, and a latest one of two causes.
+// Two events, a linear constraint, and a latest constraint of two causes.
 fn network(alloc: Global) -> Result<Network, Fail> {
     let mut net = Network::new(alloc, 2)?;
     let range = Range::new(Some(0), Some(250))?;
@@ -41,7 +41,7 @@ fn edit(
     })
 }
 
-// The edits of a file, line by line.
+// A file is read as these edits, line by line.
 fn is_read(alloc: Global, bytes: &[u8], wanted: &[RangeEdit]) -> Result<(), Fail> {
     let net = network(alloc)?;
     let edits: Edits = read_edits(alloc, &net, bytes)?;
@@ -51,7 +51,7 @@ fn is_read(alloc: Global, bytes: &[u8], wanted: &[RangeEdit]) -> Result<(), Fail
     Ok(())
 }
 
-// The first fault of a file.
+// A file is refused with this fault.
 fn is_refused(alloc: Global, bytes: &[u8], wanted: EditsFault) -> Result<(), Fail> {
     let net = network(alloc)?;
     match read_edits(alloc, &net, bytes) {
@@ -67,7 +67,7 @@ fn edits_are_read(rt: HostRuntime) -> Result<(), Fail> {
     is_read(alloc, b"", &[])?;
     let one = edit(0, 0, Some(0), Some(300))?;
     is_read(alloc, b"set 0.0 [0,300]\n", &[one])?;
-    // open ends, ends below 0, the widest ends, and equal ones
+    // open ends, ends below 0, the widest ends, and equal ends
     let open = edit(1, 1, None, None)?;
     let low = edit(1, 0, Some(-10_000_000_000_000), None)?;
     let high = edit(1, 0, None, Some(10_000_000_000_000))?;
@@ -79,7 +79,7 @@ fn edits_are_read(rt: HostRuntime) -> Result<(), Fail> {
     )
 }
 
-// Each line that is not of the form, by itself.
+// Lines that do not have the form, each by itself.
 #[test]
 fn lines_have_one_form(rt: HostRuntime) -> Result<(), Fail> {
     for line in [
@@ -121,7 +121,7 @@ fn lines_have_one_form(rt: HostRuntime) -> Result<(), Fail> {
     Ok(())
 }
 
-// The first line with a fault is told, and of a line the form, then the range, then the cause.
+// The fault is of the first line that has one. Of a line the form is checked first, then the range, then the cause.
 #[test]
 fn faults_come_in_order(rt: HostRuntime) -> Result<(), Fail> {
     let alloc = rt.alloc();
@@ -147,12 +147,12 @@ fn faults_come_in_order(rt: HostRuntime) -> Result<(), Fail> {
     is_refused(alloc, b"set 0.0 [0,1]\nset 0.0 [0,1]", EditsFault::Line(2))
 }
 
-// As many lines, each of which is empty.
+// `count` empty lines.
 fn feeds(alloc: Global, count: usize) -> Result<Vec<u8>, Fail> {
     Ok(Vec::from_elem(alloc, b'\n', count)?)
 }
 
-// The length comes before the number of lines, and that before the lines.
+// The length is checked before the number of lines, and the number of lines before the lines.
 #[test]
 fn limits_come_first(rt: HostRuntime) -> Result<(), Fail> {
     let alloc = rt.alloc();

@@ -1,4 +1,4 @@
-//! The files of small designs, as they are written down by hand, and the sizes that there are.
+//! The files of small designs, written down by hand, and the sizes that there are.
 
 use design_gen::{GenFault, make};
 use itv_base::{FILE_LIMIT, FetchFault, Shelf};
@@ -24,7 +24,7 @@ const SIZE_1: &[(&str, &str)] = &[
     ),
 ];
 
-// The files of size 1 are these, and no others.
+// The design of size 1 has these files and no others.
 #[test]
 fn files_of_size_1(rt: HostRuntime) -> Result<(), Fail> {
     let mut shelf = make(rt.alloc(), 1)?;
@@ -37,7 +37,7 @@ fn files_of_size_1(rt: HostRuntime) -> Result<(), Fail> {
     Ok(())
 }
 
-// Sizes 0 and 65 are refused, and those between are not: each netlist is there.
+// Sizes 0 and 65 are refused, and sizes between them are not: their netlist is there.
 #[test]
 fn sizes(rt: HostRuntime) -> Result<(), Fail> {
     for size in [1, 2, 64] {

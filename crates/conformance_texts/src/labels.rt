@@ -56,7 +56,7 @@ fn wires_are_cut(rt: HostRuntime) {
     }
 }
 
-// Writes the label into room for each number of bytes.
+// Writes the label into sinks with room for 0, 1, 2 bytes and so on, up to its whole length.
 fn writes_as_far_as_there_is_room<R: Abort + AllocGlobal>(
     rt: &R,
     text: &str,

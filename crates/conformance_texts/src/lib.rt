@@ -1,5 +1,6 @@
-//! What the crates answer that read and write texts, each by itself: waves, labels, drawings, sheets, the words of the command line, the generated
-//! design, and the lines of proofs and of reports. They stand apart from those crates, which so are proved once.
+//! Tests of the crates that read and write texts, each by itself: waves, labels, drawings, sheets, the words of the
+//! command line, the generated design, and the lines of proofs and of reports. They stand apart from those crates, so
+//! that each crate is proved only once.
 #![tactic(auto)]
 
 #[cfg(test)]

@@ -1,4 +1,4 @@
-// Labels of version 2, and what version 1 makes of the same texts.
+// Labels of version 2, and how version 1 reads the same texts.
 
 use itv_base::Range;
 use label_grammar::{Kind, Label2, LabelFault, Span, plain_labels_stay, read_label, read_label2};
@@ -20,7 +20,7 @@ fn named<'a>(
     })
 }
 
-// A label that names none, by its kind and its note.
+// A label of kind `ask`, which names no parameter, by its shift and its note.
 fn asked<'a>(shift: u32, note: Option<&'a str>) -> Result<Label2<'a>, LabelFault> {
     Ok(Label2 {
         kind: Kind::Ask,
@@ -108,7 +108,8 @@ fn other_spellings_of_parameters_are_none(rt: HostRuntime) {
     }
 }
 
-// A text that is a label of version 1 is the same one in version 2, and has the same faults.
+// A label of version 1 is the same label in version 2. A text without a parameter has the same fault in both versions.
+// A text with a parameter is a bad label in version 1.
 #[test]
 fn labels_without_parameters_stay(rt: HostRuntime) {
     let range = Range::new(Some(-500), None).unwrap();

@@ -20,7 +20,7 @@ const fn edge(constraint: u32, cause: u32, side: Side) -> EdgeName {
     }
 }
 
-// What a line is written as.
+// A line is written as this text.
 fn expect_written<R: Abort + AllocGlobal>(rt: &R, line: &Line<'_>, want: &str) -> Result<(), Fail> {
     let mut sink = SinkMem::new(rt.alloc(), 200)?;
     write_line(line, &mut sink)?;
@@ -91,7 +91,7 @@ fn write_proof<S: Scribe>(scribe: &mut S) -> Result<(), ScribeFailed> {
 
 #[test]
 fn a_proof_is_written_to_a_sink(rt: HostRuntime) -> Result<(), Fail> {
-    // the second buffer takes no line whole
+    // no line fits the second buffer
     for room in [100, 5] {
         let mut buffer = LineBuffer::new(rt.alloc(), room)?;
         let mut sink = SinkMem::new(rt.alloc(), 200)?;
@@ -104,7 +104,7 @@ fn a_proof_is_written_to_a_sink(rt: HostRuntime) -> Result<(), Fail> {
     Ok(())
 }
 
-// Each kept line as a text.
+// The kept lines are these texts.
 fn expect_kept<R: Abort + AllocGlobal>(rt: &R, tree: &TreeScribe, want: &str) -> Result<(), Fail> {
     let mut sink = SinkMem::new(rt.alloc(), 200)?;
     for k in 0..tree.len() {
@@ -119,7 +119,7 @@ fn a_proof_is_kept(rt: HostRuntime) -> Result<(), Fail> {
     let mut tree = TreeScribe::new(rt.alloc(), 4, 5)?;
     write_proof(&mut tree)?;
     expect_kept(&rt, &tree, PROOF)?;
-    // there is room for one more edge, and then for no line
+    // one more edge fits, and then no more lines
     let two = [edge(0, 0, Side::Upper), edge(1, 0, Side::Lower)];
     assert!(rt; tree.cut_path(&two).is_err());
     expect_kept(&rt, &tree, PROOF)?;
@@ -139,7 +139,7 @@ fn split_once<S: Scribe>(scribe: &mut S, constraint: u32) -> Result<(), ScribeFa
     scribe.split(constraint)
 }
 
-// A caller that hands a scribe to a search knows from the scribe's contract alone what its sink then has.
+// The scribe's contract alone says what the sink has after a search with the scribe.
 fn split_into<K: Sink>(
     constraint: u32,
     buffer: &mut LineBuffer,

@@ -1,4 +1,4 @@
-//! Reports as texts, both ways.
+//! Reports that are read from texts, and texts that are written from reports.
 
 use itv_base::{END_LIMIT, MAX_EVENTS, NoMemory, SinkMem};
 use line_words::LineBuffer;
@@ -7,7 +7,7 @@ use std::alloc::Global;
 use std::process::Abort;
 use std::test::Fail;
 
-// Two events, one at most 250 after the other, with the proof of each bound.
+// Two events, with the proof of each bound. The second comes at most 250 after the first.
 const PROVED: &str = "itv report 1
 budget 100000
 events 2
@@ -110,7 +110,7 @@ finding inconsistent
 end inconsistent
 ";
 
-// Reads a text, and writes each of its items with a buffer of some room.
+// Reads a text, and writes its items again with a buffer of this room.
 fn expect_again<R: Abort + AllocGlobal>(rt: &R, text: &str, room: u32) -> Result<(), Fail> {
     let report = match read_report(rt.alloc(), text.as_bytes()) {
         Ok(report) => report,
@@ -132,13 +132,13 @@ fn expect_again<R: Abort + AllocGlobal>(rt: &R, text: &str, room: u32) -> Result
 fn reports_are_read_and_written_again(rt: HostRuntime) -> Result<(), Fail> {
     for text in [PROVED, EMPTY, WIDE, UNSETTLED, INCONSISTENT] {
         expect_again(&rt, text, LINE_ROOM)?;
-        // most lines go piece by piece
+        // most lines are put piece by piece
         expect_again(&rt, text, 12)?;
     }
     Ok(())
 }
 
-// A text with one line in place of another, by its number from 1.
+// A text with another line in place of the line with this number, counted from 1.
 fn with_line(alloc: Global, text: &str, number: usize, line: &str) -> Result<String, NoMemory> {
     let mut whole = String::new(alloc);
     for (k, old) in text.lines().enumerate() {
@@ -211,7 +211,7 @@ fn a_report_with_a_forged_line_is_refused_there(rt: HostRuntime) -> Result<(), F
     Ok(())
 }
 
-// Counts of events and ends of ranges at the limits and one beyond.
+// Counts of events and ends of ranges at the limits, and one beyond.
 #[test]
 fn a_report_keeps_within_the_limits(rt: HostRuntime) -> Result<(), Fail> {
     let alloc = rt.alloc();
@@ -226,7 +226,7 @@ fn a_report_keeps_within_the_limits(rt: HostRuntime) -> Result<(), Fail> {
     Ok(())
 }
 
-// Refuses at line `told` the text that has another line in place of the one with that number.
+// Puts another line in place of the line with this number. The text must be refused at line `told`.
 fn expect_forged(
     rt: &(impl Abort + AllocGlobal),
     text: &str,
@@ -239,7 +239,7 @@ fn expect_forged(
     Ok(())
 }
 
-// Where another word, number or line is as good a text. Whether such a report is right for a design is another matter.
+// Another word, number or line that is as good a text. Whether such a report is right for a design is another matter.
 #[test]
 fn a_report_that_claims_something_else_is_read(rt: HostRuntime) -> Result<(), Fail> {
     let claims = [
@@ -266,7 +266,7 @@ fn a_text_that_is_cut_or_goes_on_is_refused(rt: HostRuntime) {
     expect_refused(&rt, b"itv report 1", 1);
     expect_refused(&rt, b"itv report 1\n", 2);
     expect_refused(&rt, b"itv report 1\nbudget \xff\n", 2);
-    // each front of the text ends in the line behind its whole ones
+    // each front of the text is refused at the line behind its whole lines
     let mut lines = 1u64;
     for len in 0..bytes.len() {
         expect_refused(&rt, &bytes[..len], lines);
@@ -286,7 +286,7 @@ fn what_stands_behind_a_report_is_refused(rt: HostRuntime) -> Result<(), Fail> {
     Ok(())
 }
 
-// Whether each line of a text is written where the second put fails.
+// Whether each line of a text can be written to a sink whose second put fails.
 fn expect_one_put<R: Abort + AllocGlobal>(
     rt: &R,
     text: &str,
@@ -309,7 +309,7 @@ fn expect_one_put<R: Abort + AllocGlobal>(
     Ok(())
 }
 
-// A line that fits the buffer goes by one put, and by several where it does not.
+// A line that fits the buffer is written by one put, and another line by several puts.
 #[test]
 fn a_line_goes_by_one_put(rt: HostRuntime) -> Result<(), Fail> {
     expect_one_put(&rt, PROVED, LINE_ROOM, true)?;

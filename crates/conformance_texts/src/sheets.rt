@@ -87,13 +87,13 @@ fn sheets_are_as_drawn(rt: HostRuntime) -> Result<(), Fail> {
                 "edge":["a~>q see note","a->b @ask"]}"#,
             "a@0.0 Bare; b@0.2 Rise; c@2.3 Bare; \nA@0 0+2; \nLin 1 <- 0+0[0,*]\nLin 0 <- 1+1[0,*]\n0+0 -> 1",
         ),
-        // a pin wants a name and a mark, and the order of a lane a name and a wave
+        // a pin needs a name and a mark, and the order of a lane needs a name and a wave
         (
             r#"{"signal":[{"name":"N","node":"a"},{"wave":"01","node":"bc"},{"name":"W","wave":"p","node":"d"},
                 {"name":"E","wave":"01","node":". "}]}"#,
             "a@0.0 Bare; b@1.0 Bare; c@1.1 Rise; d@2.0 Rise; \nN@0 0+1; \nW@2 3+1; \nLin 3 <- 3+1[0,*]",
         ),
-        // three marks of one lane, numbered behind those of another
+        // three marks of one lane, numbered behind the marks of another lane
         (
             r#"{"signal":[{"node":"z"},{"name":"D","wave":"x=.=","node":"abc"}]}"#,
             "z@0.0 Bare; a@1.0 Bare; b@1.1 Change; c@1.2 Steady; \nD@1 1+3; \
@@ -179,7 +179,7 @@ fn the_first_fault_is_told(rt: HostRuntime) -> Result<(), Fail> {
     Ok(())
 }
 
-// A drawing with one earliest cause of a target, and then with that many latest ones.
+// A drawing with one earliest cause of a target, and then with this many latest causes.
 fn crowded(alloc: Global, causes: u32) -> Result<String, AllocError> {
     let mut drawing = String::new(alloc);
     drawing.push_str(r#"{"signal":[{"node":"aj"}],"edge":["a->j @early [0,1]""#)?;

@@ -1,4 +1,4 @@
-//! What a wave draws at a place.
+//! The kind of a wave at a place.
 
 use MarkKind::{Bare, Change, Fall, Rise, Steady};
 use wave_string::{MarkKind, kind_at, may_join};
@@ -48,7 +48,7 @@ fn each_character_is_one_brick(rt: HostRuntime) {
         ("uuUddD", &[Bare, Steady, Change, Change, Steady, Change]),
         ("xX<>?", &[Bare, Steady, Steady, Steady, Steady]),
         ("..|0|1", &[Bare, Steady, Steady, Change, Steady, Rise]),
-        // of two, three and four bytes, each of unknown value
+        // characters of two, three and four bytes, each of unknown value
         (
             "é01→10😀zz",
             &[

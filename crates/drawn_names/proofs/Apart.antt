@@ -1,4 +1,4 @@
--- Lists in which nothing stands twice.
+-- Lists in which no element stands twice.
 use Rattle.std.proofs.Common.{◌≡◌, ◌<◌, ◌||◌, ℕ, zero, suc, Bool, true, false, List, [], ◌∷◌, ◌++◌, length, map, get_or, Option, Some, None, cond, refl, sym, ap, ◌∙◌, arith}
 use Rattle.std.specs.List.{list_any}
 use Rattle.itv_base.specs.Names.{Name}
@@ -8,17 +8,17 @@ use Rattle.sheet.specs.declared.mark.Mark.{Mark}
 use Rattle.unroll.specs.Cycles.{in_cycles}
 use Rattle.unroll.specs.Drawn.{names_in}
 
--- a thing is none of some
+-- an element is not in a list
 abbrev pub IsOther : {X : Type 0} → X → List X → Type 0
 IsOther x [] = Unit {0}
 IsOther x (y ∷ ys) = (x ≡ y → ⊥) × IsOther x ys
 
--- each of some is none of others
+-- no element of a list is in the other
 abbrev pub AllOther : {X : Type 0} → List X → List X → Type 0
 AllOther [] ys = Unit {0}
 AllOther (x ∷ xs) ys = IsOther x ys × AllOther xs ys
 
--- nothing stands twice
+-- no element stands twice in a list
 abbrev pub AreApart : {X : Type 0} → List X → Type 0
 AreApart [] = Unit {0}
 AreApart (x ∷ xs) = IsOther x xs × AreApart xs
@@ -43,7 +43,7 @@ pub every_weaker : {X : Type 0} (P Q : X → Type 0) (xs : List X) → ((x : X) 
 every_weaker P Q [] f h = tt
 every_weaker P Q (x ∷ xs) f h = (f x h.0, every_weaker P Q xs f h.1)
 
--- by their places
+-- the same facts by places
 at_other : {X : Type 0} (x : X) (xs : List X) (j : ℕ) (d : X) → IsOther x xs → j < length xs → x ≡ get_or xs j d → ⊥
 at_other x [] j d h within e = absurd (omega arith)
 at_other x (y ∷ ys) zero d h within e = h.0 e
@@ -64,7 +64,7 @@ parts_false : (a b : Bool) → (a || b) ≡ false → (a ≡ false) × (b ≡ fa
 parts_false true b e = absurd (cc e)
 parts_false false b e = (refl, e)
 
--- no element before meets the test
+-- no element meets the test
 pub none_met : {X : Type 0} (test : X → Bool) (x : X) (xs : List X) → list_any test (x ∷ xs) ≡ false → (test x ≡ false) × (list_any test xs ≡ false)
 none_met test x xs e = parts_false (test x) (list_any test xs) e
 
@@ -96,7 +96,7 @@ module _ {X K : Type 0} (same : K → K → Bool) (key : X → K) (self : (a b :
       let q = split_other (map key xs) before (key x) rest.0 in
       ((other_than same self (key x) before p.0, q.0), (q.1, rest.1))
 
-  -- where no key is repeated
+  -- where no key is repeated, the keys are apart
   pub keys_apart : (xs : List X) → first_repeated same key [] xs ≡ None → AreApart (map key xs)
   keys_apart xs e = (fresh [] xs e).1
 
@@ -169,7 +169,7 @@ all_other_cycle : (n : ℕ) (names others : List Name) → Every (λ (name : Nam
 all_other_cycle n [] others h g = tt
 all_other_cycle n (name ∷ names) others h g = (other_cycle n name others h.0 g, all_other_cycle n names others h.1 g)
 
--- the names of all cycles
+-- no name stands twice in all cycles
 pub cycles_apart : (parts : List (List ℕ)) (sheets : List SheetContents) (n : ℕ) → AreApart parts → Every MarksApart sheets → AreApart (in_cycles (names_in parts sheets) n)
 cycles_apart parts sheets zero h g = tt
 cycles_apart parts sheets (suc n) h g =

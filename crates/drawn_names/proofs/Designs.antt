@@ -53,7 +53,7 @@ use Rattle.drawn_names.proofs.Netlists.{IsNamedNetlist, lone_holds, netlist_hold
 
 -- ---- names in cycles
 
--- the text is a part's name
+-- the text has the form of a part's name
 abbrev pub IsPartName : List ℕ → Type 0
 IsPartName part = IsTrue (is_name part)
 
@@ -68,7 +68,7 @@ names_hold (part ∷ parts) (drawn ∷ sheets) cycle named marked few =
     All-append IsName (map name_of drawn.marks) (names_in parts sheets cycle) here
     (names_hold parts sheets cycle (All-tail IsPartName part parts named) (All-tail HasMarks drawn sheets marked) few)
 
--- what the names and the rows of a design come from
+-- what is known of the design from which names and rows come
 record IsNamedDesign (d : Composed) : Type 0 where
   cycles : d.cycles ≤ MAX_CYCLES
   parts : All IsPartName d.parts
@@ -112,7 +112,7 @@ composed_holds netlist sheets d named marked whole is =
       rows = subst (All Demands) rows (link_rows_hold links (wires_hold netlist.parts sheets links netlist.wires named.wires are_links));
     }
 
--- a design was drawn that is named
+-- the drawn network was drawn from a named design
 record IsDrawnFrom (drawn : Drawn) : Type 0 where
   design : Composed
   named : IsNamedDesign design
@@ -138,7 +138,7 @@ plain_sheet_holds shelf place tree found comes =
     let (drawing, first, rest) = opening_then shelf (at place (λ why. Diagram why) (diagram_of tree)) _ found comes in
     sheet_by_formed None None drawing found tt (at_gave shelf place (λ why. Sheet why) _ found rest)
 
--- the grades that are read of a file give ranges
+-- the grades that are read from a file give ranges
 grades_in_hold : (shelf : ShelfView) (version : ℕ) (place : RefusalPlace) (tree : Data) (grades : Option (List Grade)) → RunsTo shelf (grades_in version place tree) (ready grades) → IfSome grades AreRanges
 grades_in_hold shelf version place tree grades comes = by (version == 2) comes
   where
@@ -148,7 +148,7 @@ grades_in_hold shelf version place tree grades comes = by (version == 2) comes
         let (read, first, rest) = opening_then shelf (at place (λ why. Grades why) (grades_of tree)) (λ grades. gives (Some grades)) grades came in
         subst (λ o. IfSome o AreRanges) (gave shelf (Some read) grades rest) (grades_whole tree read (at_gave shelf place (λ why. Grades why) _ read first))
 
--- the sheets with that of one part more
+-- the sheets with the sheet of one part more
 with_part_holds : (shelf : ShelfView) (place : RefusalPlace) (name : List ℕ) (grades : Option (List Grade)) (drawing : Drawing) → IfSome grades AreRanges → (n : ℕ) (sheets more : NamedSheets) (part : Part)
     → AreMarked sheets → RunsTo shelf (with_part place name grades drawing n sheets part) (ready more) → AreMarked more
 with_part_holds shelf place name grades drawing ranges n sheets more part marked comes = by (is_unread sheets name part) comes
@@ -160,7 +160,7 @@ with_part_holds shelf place name grades drawing ranges n sheets more part marked
         subst AreMarked (gave shelf (with_sheet sheets (key_of part) found) more rest)
         (with_sheet_holds sheets (key_of part) found marked (sheet_by_formed grades part.grade drawing found ranges (at_gave shelf place (λ why. Sheet why) _ found first)))
 
--- the sheets with those of one file more
+-- the sheets with the sheets of one file more
 sheets_in_hold : (shelf : ShelfView) (netlist : NetlistContents) (number : ℕ) (sheets more : NamedSheets) (name : List ℕ) → AreMarked sheets → RunsTo shelf (sheets_in netlist number sheets name) (ready more) → AreMarked more
 sheets_in_hold shelf netlist number sheets more name marked comes =
     let (tree, fetched, read) = opening_then shelf (tree_in (File number) name) (λ tree. sheets_at netlist number sheets name tree) more comes in
@@ -214,7 +214,7 @@ drawn_names_have_form shelf name drawn comes =
     let from = drawn_from shelf name drawn comes in
     subst (λ (x : Drawn). All IsName x.names) from.draws (drawn_holds from.design from.named)
 
--- and none stands twice
+-- no two of the names are the same
 pub drawn_names_differ : DrawnNamesDiffer
 drawn_names_differ shelf name drawn comes i j less within same =
     let from = drawn_from shelf name drawn comes in
@@ -222,7 +222,7 @@ drawn_names_differ shelf name drawn comes i j less within same =
     (subst (λ (x : Drawn). AreApart x.names) from.draws (cycles_apart from.design.parts from.design.sheets from.design.cycles from.named.apart (each_apart from.design.sheets from.named.sheets)))
     less within same
 
--- what each row demands is a range
+-- the ends of each requirement are a range
 pub drawn_ranges_have_form : DrawnRangesHaveForm
 drawn_ranges_have_form shelf name drawn comes =
     let from = drawn_from shelf name drawn comes in

@@ -22,19 +22,19 @@ use Rattle.drawn_names.proofs.Apart.{AllOther, AreApart, apart_append, none_met}
 use Rattle.drawn_names.proofs.Rows.{IsWholeIf}
 use Rattle.drawn_names.proofs.Steps.{ok_gave, result_then, walk_keeps}
 
--- the name of a part has its form
+-- the name of a part has the form of a name
 abbrev pub IsNamed : Part → Type 0
 IsNamed part = IsTrue (is_name part.name)
 
 abbrev pub part_names : List Part → List (List ℕ)
 part_names parts = map (λ (part : Part). part.name) parts
 
--- parts with such names, none of which stands twice
+-- the parts have names of the form, and no name stands twice
 pub record AreNamed (parts : List Part) : Type 0 where
   pub named : All IsNamed parts
   pub apart : AreApart (part_names parts)
 
--- few cycles, parts with such names, and whole wires
+-- few cycles, parts with names of the form, and whole wires
 pub record IsNamedNetlist (netlist : NetlistContents) : Type 0 where
   pub cycles : netlist.cycles ≤ MAX_CYCLES
   pub parts : AreNamed netlist.parts
@@ -58,7 +58,7 @@ IsPushed b fault done part last = (if b then Err fault else Ok (done ++ part ∷
 other_bytes : (a b : List ℕ) → bytes_eq a b ≡ false → b ≡ a → ⊥
 other_bytes a b differ same = cc ((bytes_eq-Decides a b).1 (sym same), differ)
 
--- a name that no part has
+-- no part has this name
 none_named : (name : List ℕ) (parts : List Part) → is_part parts name ≡ false → AllOther (part_names parts) (name ∷ [])
 none_named name [] e = tt
 none_named name (part ∷ parts) e =
@@ -98,7 +98,7 @@ parts_hold version tree parts is =
 
 -- ---- netlists
 
--- a netlist that was read
+-- a netlist that was read is named
 pub netlist_holds : (tree : Data) (netlist : NetlistContents) → netlist_of tree ≡ Ok netlist → IsNamedNetlist netlist
 unfolding netlist_of
 netlist_holds tree netlist is =
@@ -112,6 +112,6 @@ netlist_holds tree netlist is =
     let whole = netlist_whole tree netlist is in
     record { cycles = whole.few; parts = subst (λ (n : NetlistContents). AreNamed n.parts) same (parts_hold version tree parts are_parts); wires = whole.whole_wires }
 
--- and that of a lone sheet
+-- the netlist of a lone sheet is named
 pub lone_holds : (name : List ℕ) → IsNamedNetlist (lone_netlist name)
 lone_holds name = record { cycles = omega arith; parts = record { named = All-cons IsNamed _ [] refl (All-nil IsNamed); apart = (tt, tt) }; wires = All-nil IsWholeIf }

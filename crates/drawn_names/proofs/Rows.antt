@@ -1,4 +1,4 @@
--- What rows demand.
+-- The ends of requirements.
 use Rattle.std.proofs.Common.{◌≡◌, ◌<◌, ◌+◌, ℕ, zero, suc, Bool, true, false, if◌then◌else◌, List, [], ◌∷◌, ◌++◌, length, map, All, Option, Some, None, IfSome, unwrap_or, Ok, Err, subst, arith}
 use Rattle.std.specs.List.{cons_option, filter_map}
 use Rattle.std.proofs.lemmas.List.Elements.{All-append, All-cons, All-head, All-map, All-nil, All-push, All-tail, All-weaker}
@@ -31,23 +31,23 @@ cons_keeps : {Y : Type 0} (P : Y → Type 0) (o : Option Y) (ys : List Y) → If
 cons_keeps P None ys p all = all
 cons_keeps P (Some y) ys p all = All-cons P y ys p all
 
--- what each element gives, where the elements are fit for it
+-- a fact of what each element gives, if the elements have the fact that it needs
 pub all_given : {X Y : Type 0} (Q : X → Type 0) (P : Y → Type 0) (h : X → Option Y) → ((x : X) → Q x → IfSome (h x) P) → (xs : List X) → All Q xs → All P (filter_map h xs)
 all_given Q P h each [] all = All-nil P
 all_given Q P h each (x ∷ xs) all = cons_keeps P (h x) (filter_map h xs) (each x (All-head Q x xs all)) (all_given Q P h each xs (All-tail Q x xs all))
 
--- the lists of cycles
+-- a fact of the elements of all cycles
 pub cycles_hold : {X : Type 0} (P : X → Type 0) (each : ℕ → List X) (n : ℕ) → ((cycle : ℕ) → cycle < n → All P (each cycle)) → All P (in_cycles each n)
 cycles_hold P each zero holds = All-nil P
 cycles_hold P each (suc n) holds = All-append P (in_cycles each n) (each n) (cycles_hold P each n (λ cycle less. holds cycle (omega arith))) (holds n (omega arith))
 
 -- ---- rows of links
 
--- the ends of a link, where it has them, are a range
+-- the ends of a link, if it has ends, are a range
 abbrev pub HasRange : Link → Type 0
 HasRange link = IsRange (unwrap_or link.label.ends open_ends)
 
--- what a row of a sheet demands is a range
+-- a row of a sheet is a question, or its ends are a range
 abbrev pub Demands : SheetRow → Type 0
 Demands row = IsKind row.kind
 
@@ -74,7 +74,7 @@ pushed : (b : Bool) (fault : JoinFault) (done last : List Link) (link : Link) �
 pushed true fault done last link all range is = absurd (cc is)
 pushed false fault done last link all range is = let same : done ++ link ∷ [] ≡ last = cc is in subst (All HasRange) same (All-push HasRange done link all range)
 
--- a wire is whole, if it is one
+-- a wire, if there is one, is whole
 abbrev pub IsWholeIf : Option Wire → Type 0
 IsWholeIf wire = IfSome wire IsWholeWire
 
@@ -117,7 +117,7 @@ rows_of_hold d whole demands = All-append Demands (part_rows 0 d.sheets) d.rows 
 
 -- ---- rows in cycles
 
--- what a row of a drawn network demands is a range
+-- a row of a drawn network is a question, or its ends are a range
 abbrev pub DemandsDrawn : Row → Type 0
 DemandsDrawn row = IsKind row.kind
 

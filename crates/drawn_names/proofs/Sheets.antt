@@ -25,11 +25,11 @@ use Rattle.std.proofs.lemmas.Bool.{eq-eqb}
 use Rattle.drawn_names.proofs.Apart.{AreApart, keys_apart}
 use Rattle.drawn_names.proofs.Steps.{result_then, unless_gave, unless_none}
 
--- the name of a mark is one of a mark
+-- the name of a mark is a character that a mark may have
 abbrev pub IsMarked : Mark → Type 0
 IsMarked mark = IsTrue (is_mark mark.name)
 
--- no mark stands twice
+-- the marks have such names, and no mark stands twice
 abbrev pub AreMarks : List Mark → Type 0
 AreMarks marks = All IsMarked marks × AreApart (map (λ (mark : Mark). mark.name) marks)
 
@@ -80,7 +80,7 @@ IsGiven found result = Ok found ≡ result
 given : (found sheet : SheetContents) → IsGiven found (Ok sheet) → found.marks ≡ sheet.marks
 given found sheet is = let same : found ≡ sheet = cc is in ap (λ (c : SheetContents). c.marks) same
 
--- the marks of a sheet that was read are named so
+-- the marks of a sheet that was read have such names, and none stands twice
 pub sheet_holds : (labels : Labels) (drawing : Drawing) (sheet : SheetContents) → sheet_of labels drawing ≡ Ok sheet → HasMarks sheet
 unfolding sheet_of
 sheet_holds labels drawing sheet is =
@@ -90,7 +90,7 @@ sheet_holds labels drawing sheet is =
     let same : marks ≡ sheet.marks = given _ sheet last in
     subst AreMarks same (read_marks_hold drawing.lanes marks is_marks)
 
--- so are those of one that was read at a grade, or at none
+-- the same of a sheet that was read at a grade, or at no grade
 pub sheet_by_holds : (grades : Option (List Grade)) (name : Option (List ℕ)) (drawing : Drawing) (sheet : SheetContents) → sheet_by grades name drawing ≡ Ok sheet → HasMarks sheet
 unfolding sheet_at
 sheet_by_holds None name drawing sheet is = sheet_holds plain drawing sheet is
@@ -102,7 +102,7 @@ sheet_by_holds (Some grades) name drawing sheet is =
 abbrev pub Entry : Type 0
 Entry = SheetKey × SheetContents
 
--- a sheet has such marks, and is whole
+-- a sheet has such marks, and it is whole
 abbrev pub IsFormed : SheetContents → Type 0
 IsFormed sheet = HasMarks sheet × IsWhole sheet
 
@@ -117,7 +117,7 @@ entered : (b : Bool) (e : Entry) (es more : NamedSheets) (sheet : SheetContents)
 entered true e es more sheet holds all others = All-cons HoldsMarks (e.0, sheet) es holds (All-tail HoldsMarks e es all)
 entered false e es more sheet holds all others = All-cons HoldsMarks e more (All-head HoldsMarks e es all) others
 
--- one more sheet
+-- the sheets with one more sheet
 pub with_sheet_holds : (sheets : NamedSheets) (key : SheetKey) (sheet : SheetContents) → AreMarked sheets → IsFormed sheet → AreMarked (with_sheet sheets key sheet)
 with_sheet_holds [] key sheet all holds = All-cons HoldsMarks (key, sheet) [] holds (All-nil HoldsMarks)
 with_sheet_holds (e ∷ es) key sheet all holds =

@@ -7,16 +7,16 @@ use Rattle.slack_report.specs.Entry.{IsKind, IsName}
 use Rattle.reading.specs.Opening.{RunsTo, ready}
 use Rattle.reading.specs.Design.{design_at}
 
--- where the reading of a design comes to a drawn network, each of its names is a part's name, a mark and a cycle within the limit
+-- if reading a design gives a drawn network, each of its names is a part's name, a mark and a cycle within the limit
 abbrev pub DrawnNamesHaveForm : Type 0
 DrawnNamesHaveForm = (shelf : ShelfView) (name : List ℕ) (drawn : Drawn) → RunsTo shelf (design_at name) (ready drawn) → All IsName drawn.names
 
--- and none of them stands twice
+-- no two of the names are the same
 abbrev pub DrawnNamesDiffer : Type 0
 DrawnNamesDiffer = (shelf : ShelfView) (name : List ℕ) (drawn : Drawn) → RunsTo shelf (design_at name) (ready drawn)
     → (i j : ℕ) → i < j → j < length drawn.names → slice_index_or drawn.names i nameless ≡ slice_index_or drawn.names j nameless → ⊥
 
--- what each of its rows demands is a range
+-- the ends of each requirement are a range
 abbrev pub DrawnRangesHaveForm : Type 0
 DrawnRangesHaveForm =
     (shelf : ShelfView) (name : List ℕ) (drawn : Drawn) → RunsTo shelf (design_at name) (ready drawn) → All (λ (row : Row). IsKind row.kind) drawn.rows

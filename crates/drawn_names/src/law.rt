@@ -2,17 +2,17 @@
 
 ghost use Rattle.drawn_names.specs.Law.{DrawnNamesDiffer, DrawnNamesHaveForm, DrawnRangesHaveForm};
 
-/// Each event of a drawn network has a name of its form. The function does nothing; what it ensures holds of all designs.
+/// Each event of a drawn network has a name of its form. The function does nothing. Its clause holds of all designs.
 pub fn drawn_names_have_form()
     ensures law { DrawnNamesHaveForm }
 {}
 
-/// No name of a drawn network stands twice.
+/// No two events of a drawn network have the same name.
 pub fn drawn_names_differ()
     ensures law { DrawnNamesDiffer }
 {}
 
-/// What a row of a drawn network demands is a range.
+/// The ends of each requirement of a drawn network are a range.
 pub fn drawn_ranges_have_form()
     ensures law { DrawnRangesHaveForm }
 {}

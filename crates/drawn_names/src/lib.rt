@@ -1,5 +1,5 @@
-//! What holds of every network that a design draws: its names and its ranges.
-//! The contract is three laws, over the definitions alone: so the lines of a report have texts, and read back.
+//! What holds of every network that a design draws: its names and its ranges. The laws are theorems without code. They
+//! ensure that every line of a report can be printed and read back.
 #![tactic(auto)]
 
 mod law;

@@ -18,12 +18,12 @@ use Rattle.fall_report.specs.Laws.{InconsistentHasNoTimes, UndecidedHasFewTurns}
 abbrev Few : Job → Type 0
 Few job = job.turns < enough_turns job.drawn.net
 
--- what a word at the end says
+-- what the word at the end says
 record IsEarned (job : Job) (word : EndWord) : Type 0 where
   few : word ≡ Undecided → Few job
   none : word ≡ Inconsistent → IsInconsistent job.drawn.net
 
--- what is known at a place: a bound that was spent had few turns, and a word at the end says so
+-- what is known at a state: if the turns of a bound were spent, they were too few. At the end, what the word says of the network is true
 abbrev IsKnown : Job → TextState → Type 0
 IsKnown job at_finding = Unit {0}
 IsKnown job at_rows = Unit {0}

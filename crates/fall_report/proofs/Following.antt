@@ -95,7 +95,7 @@ spent_in false greatest least either e = sym e
 pub job_of : (drawn : Drawn) (wanted : Wanted) (view : View) (net : Net) → net ≡ drawn.net → IsViewOf drawn.net view → IsJobOf net wanted (asked drawn view wanted)
 job_of drawn wanted view net same v = record { net_is = sym same; view = subst (λ (n : Net). IsViewOf n view) (sym same) v; turns = refl; cert = refl }
 
--- rows up to a number were told
+-- rows up to a number were written
 pub record RowsTold (drawn : Drawn) (wanted : Wanted) (number : ℕ) (spent : Bool) (desk : Desk) (old now : SinkView) : Type 0 where
   pub set : IsSet drawn.net desk
   pub pieces : (view : View) → IsViewOf drawn.net view → WrotePieces (asked drawn view wanted) at_rows (before_rows spent number (drop number drawn.rows)) old now
@@ -112,7 +112,7 @@ rows_more rows number row e = rw add-one (more rows number row e)
         one x row rows e = ap (λ (r : Row). r ∷ rows) (cc e)
     more (x ∷ rows) (suc number) row e = more rows number row e
 
--- none is left
+-- no row is left
 pub rows_none : (rows : List Row) (number : ℕ) → length rows ≤ number → drop number rows ≡ []
 rows_none [] zero h = refl
 rows_none [] (suc number) h = refl

@@ -20,7 +20,7 @@ reads-append job (x ∷ xs) ys here mid last (next, may, rest) reads = (next, ma
 zero-≤ : (n : ℕ) → 0 ≤ n
 zero-≤ n = omega arith
 
--- no line begins any derivation
+-- no lines begin every derivation
 printed_none : (cert : Bool) → [] ≡ printed cert []
 printed_none true = refl
 printed_none false = refl
@@ -39,7 +39,7 @@ module _ {job : Job} where
   pub told_none : (here : TextState) (told : SinkView) → WrotePieces job here here told told
   told_none here told = record { pieces = []; reads = refl; grew = grown-nil told }
 
-  -- one piece is put that may follow
+  -- one piece that may follow is put
   pub told_piece : {here : TextState} {old new : SinkView} (next : TextState) (piece : List ℕ) → PieceMayFollow job here piece next → new ≡ grown old piece → WrotePieces job here next old new
   told_piece {old = old} next piece may put = record { pieces = piece ∷ []; reads = (next, may, refl); grew = put ∙ ap (grown old) (sym (append-nil piece)) }
 
@@ -51,13 +51,13 @@ module _ {job : Job} where
         ∙ ap (grown old) (sym (concat-append a.pieces b.pieces));
   }
 
-  -- pieces lead to what is the same place
+  -- pieces lead to an equal state
   pub told_at : {here mid last : TextState} {old new : SinkView} → mid ≡ last → WrotePieces job here mid old new → WrotePieces job here last old new
   told_at {here = here} {old = old} {new = new} e t = subst (λ (at : TextState). WrotePieces job here at old new) e t
 
   -- ---- a put that failed
 
-  -- of one piece that may follow a front is put
+  -- a front of one piece that may follow is put
   pub stopped_piece : {here : TextState} {old new : SinkView} (next : TextState) (piece : List ℕ) → PieceMayFollow job here piece next → CutShort old new piece → WrotePieceFront job here old new
   stopped_piece {old = old} {new = new} next piece may cut = record {
     pieces = piece ∷ [];
@@ -72,7 +72,7 @@ module _ {job : Job} where
   pub stopped_search : {here : TextState} {old new : SinkView} (begun : List FallLine) → AreBegun job here begun → SinkWasCut old begun new → WrotePieceFront job here old new
   stopped_search {here = here} begun are cut = record { pieces = []; last = here; reads = refl; begun = begun; are_begun = are; cut = cut }
 
-  -- pieces are put, and then a front of others
+  -- pieces are put, and then a front of other pieces
   pub stops_then : {here mid : TextState} {old now new : SinkView} → WrotePieces job here mid old now → WrotePieceFront job mid now new → WrotePieceFront job here old new
   stops_then {here = here} {mid = mid} {old = old} {now = now} {new = new} a b = record {
     pieces = a.pieces ++ b.pieces;
@@ -89,7 +89,7 @@ module _ {job : Job} where
 
   -- ---- steps
 
-  -- a step failed, and so does what called it
+  -- if a step fails, its caller fails in the same way
   pub goes_up : {B E : Type 0} {here : TextState} {old new : SinkView} (to : B → TextState) (result : Result B E) → IsErr result → WrotePieceFront job here old new → WritesPieces job here to old new result
   goes_up to (Ok x) is stopped = absurd (cc is)
   goes_up to (Err e) is stopped = stopped
@@ -100,7 +100,7 @@ module _ {job : Job} where
   goes_then to new (Ok x) a b = told_then a b
   goes_then to new (Err e) a b = stops_then a b
 
-  -- the lines of a search are put, and then what they show
+  -- the lines of a search are put, and then the text of what they show
   pub told_shown : {here : TextState} {old now new : SinkView} (next : TextState) (lines : List FallLine) (text : List ℕ) → PieceMayFollow job here (fall_text lines ++ text) next → SinkGrew old lines now
       → new ≡ grown now text → WrotePieces job here next old new
   told_shown {old = old} next lines text may grew put =
@@ -111,7 +111,7 @@ module _ {job : Job} where
   stopped_shown {old = old} {now = now} {new = new} next lines text may grew cut =
       stopped_piece next (fall_text lines ++ text) may (cut_then old now new (fall_text lines) text grew cut)
 
--- without the lines nothing is put
+-- if the lines are not wanted, nothing is put
 pub quiet : (cert : Bool) (told : SinkView) (lines : List FallLine) → cert ≡ false → SinkGrew told (printed cert lines) told
 quiet true told lines e = absurd (cc e)
 quiet false told lines e = grown-nil told

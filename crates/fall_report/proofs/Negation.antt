@@ -1,4 +1,4 @@
--- The negation of a network within the limits is one.
+-- The negation of a network within the limits is within the limits.
 use Rattle.std.proofs.Common.{◌≡◌, ◌<◌, ◌≤◌, ℕ, ℤ, neg_ℤ, List, length, map, Option, Some, None, option_map, slice_get, sym, ap, ◌∙◌, refl, subst, arith}
 use Rattle.std.specs.Prelude.{option_and_then}
 use Rattle.std.proofs.lemmas.Int.{ints}
@@ -28,7 +28,7 @@ constraint_negated events c is = record {
   count = subst (IsCauseCount (negated_kind c.kind)) (sym (length-mapped negated_cause c.causes)) (count_negated c.kind (length c.causes) is.count);
 }
 
--- a cause of the negation is one of the network, negated
+-- a cause of the negation is a negated cause of the network
 cause_back : (constraints : List Constraint) (number cause : ℕ) (k : Cause)
     → option_and_then (λ (c : Constraint). slice_get c.causes cause) (slice_get (map negated_constraint constraints) number) ≡ Some k
     → (other : Cause) × (option_and_then (λ (c : Constraint). slice_get c.causes cause) (slice_get constraints number) ≡ Some other) × (k ≡ negated_cause other)

@@ -1,4 +1,4 @@
--- What an answer of a solver says in the view of the network.
+-- What an answer of the solver says in the view of the network.
 use Rattle.std.proofs.Common.{◌≡◌, ◌<◌, ◌≤◌, ℕ, ℤ, pos, neg_ℤ, ◌+ℤ◌, ◌-ℤ◌, Bool, List, [], ◌∷◌, length, All, Option, Some, None, refl, sym, subst, ap, ◌∙◌, arith}
 use Rattle.std.proofs.lemmas.Int.{ints}
 use Rattle.std.proofs.lemmas.List.Elements.{All-weaker}
@@ -40,7 +40,7 @@ use Rattle.fall_report.proofs.Negation.{is_net_negated}
 
 -- ---- views
 
--- lines that begin a derivation, in the view
+-- lines begin a derivation in the view
 pub begins_finding : (net : Net) (negation : Option Net) (turns : ℕ) (lines : List FallLine) (after : List ℤ) → IsNegationOf net negation → length lines ≤ turns
     → IsDerivationAs negation net first_event first_event lines after → BeginsFrom net turns (λ _. first_event) lines
 begins_finding net negation turns lines after is few d = (few, λ view v. begins net negation view is d v)
@@ -63,7 +63,7 @@ begins_row net negation which r turns lines after is few d = (few, λ view v. be
     begins net (Some n) Plain is d v = absurd (one_view net v is.1)
     begins net (Some n) Negated is d v = (after, d)
 
--- ---- how great the times of an answer are
+-- ---- how large the times of an answer are
 
 near_negated : (values : List ℤ) → All IsNearValue values → All IsNearValue (negated_times values)
 near_negated values near = all_map neg_ℤ IsNearValue IsNearValue values (λ value h. (omega (arith, ints, h.0, h.1), omega (arith, ints, h.0, h.1))) near
@@ -74,7 +74,7 @@ near_by_negation net limits to lines values times is_net limited in_to d turn sa
     satisfying_near (negated net) to lines values (is_net_negated net is_net) in_to (limits_negated net limits limited).small d
     (subst (λ ts. Satisfies ts (negated net)) (ap negated_times turn ∙ negated_twice values) (satisfies_turns net times satisfied))
 
--- the times of an answer that has some, and its number
+-- the times of an answer that has times, and its number
 pub near_times : (net : Net) (limits : Limits) (negation : Option Net) (from to : EventId) (turns : ℕ) (lines : List FallLine) (times : List ℤ) (ray : List Bool) (fallen : Fallen)
     → IsNet net → AreLimits net limits → IsNegationOf net negation → from.0 < net.events → to.0 < net.events → AnswersAs negation net (asked_of from to turns) lines times ray fallen
     → HasTimes fallen → All IsNearValue times
@@ -102,7 +102,7 @@ near_value net limits (Some n) from to turns lines times ray value is_net limite
     let count : length values ≡ net.events = sym (length-mapped neg_ℤ values) ∙ sym (ap length turn) ∙ a.satisfies.count in
     near_at values from value (subst (λ n. from.0 < n) (sym count) in_from) at (near_by_negation net limits to lines values times is_net limited in_to d turn a.satisfies)
 
--- near times may be printed, as they are and moved
+-- near times may be printed, moved or not
 printed_near : (times : List ℤ) → All IsNearValue times → All IsPrintedTime times
 printed_near times near = All-weaker IsNearValue IsPrintedTime (λ value h. (omega (arith, ints, h.0, h.1), omega (arith, ints, h.0, h.1))) times near
 
@@ -126,7 +126,7 @@ minus_zero time value e z = omega (arith, ints)
 no_events : {m n : ℕ} → m < n → n ≡ 0 → ⊥
 no_events some none = omega arith
 
--- what is found of a network with events in a view, by the answer on event 0 and itself
+-- the finding of a network with events in a view, by the answer for event 0 and event 0
 finding_in : (net : Net) (negation : Option Net) (turns : ℕ) (lines : List FallLine) (times : List ℤ) (ray : List Bool) (fallen : Fallen) (view : View) → 0 < net.events
     → IsNegationOf net negation → AnswersAs negation net (asked_of first_event first_event turns) lines times ray fallen → (HasTimes fallen → All IsNearValue times) → IsViewOf net view
     → IsFinding view net turns lines (told_finding (found_by fallen) times)
@@ -155,13 +155,13 @@ finding_in net (Some n) turns lines times ray Unbounded Negated some is a near v
 finding_in net (Some n) turns lines times ray Inconsistent Negated some is a near v = record { none = a.none; derived = a.derivation }
 finding_in net (Some n) turns lines times ray Spent Negated some is a near v = record { spent = a.spent; few = a.few }
 
--- the same in each view, by at most as many lines as turns
+-- the finding in each view, with at most as many lines as turns
 pub shows_finding : (net : Net) (negation : Option Net) (turns : ℕ) (lines : List FallLine) (times : List ℤ) (ray : List Bool) (fallen : Fallen) → 0 < net.events
     → IsNegationOf net negation → length lines ≤ turns → AnswersAs negation net (asked_of first_event first_event turns) lines times ray fallen → (HasTimes fallen → All IsNearValue times)
     → ShowsFinding net turns lines (told_finding (found_by fallen) times)
 shows_finding net negation turns lines times ray fallen some is few a near = (few, λ view v. finding_in net negation turns lines times ray fallen view some is a near v)
 
--- no events: the times of none satisfy, and no line is needed
+-- without events an empty list of times satisfies, and no line is needed
 nothing : (xs ys : List ℤ) → length xs ≡ 0 → length ys ≡ 0 → xs ≡ ys
 nothing [] [] e f = refl
 nothing [] (y ∷ ys) e f = absurd (omega arith)
@@ -211,7 +211,7 @@ shows_empty net turns times is_net none count = (
       },
 )
 
--- what is found of a network that is consistent
+-- some times satisfy a network that is found consistent
 pub has_found : (net : Net) (negation : Option Net) (turns : ℕ) (lines : List FallLine) (times : List ℤ) (ray : List Bool) (fallen : Fallen)
     → AnswersAs negation net (asked_of first_event first_event turns) lines times ray fallen → HasFound net (found_by fallen)
 has_found net None turns lines times ray (Closed value) a = (times, a.satisfies)
@@ -273,7 +273,7 @@ module _ (net : Net) (which : Which) (r : Row) (is_net : IsNet net) (in_from : r
       separation-moved r.from r.from r.to times (subst (λ n. r.from.0 < n) (sym satisfied.count) in_from) (subst (λ n. r.to.0 < n) (sym satisfied.count) in_to)
       ∙ attained which r times value e
 
-  -- what an answer on the searched pair of a row says of its bound, where some times satisfy
+  -- what an answer for the searched pair of a row says of its bound, if some times satisfy
   pub shows_row : (negation : Option Net) (turns : ℕ) (lines : List FallLine) (times : List ℤ) (ray : List Bool) (fallen : Fallen) (view : View) → IsViewOf net view
       → IsNegationOf net negation → (some : List ℤ) → Satisfies some net → AnswersAs negation net (asked_of (source Plain which r) (target Plain which r) turns) lines times ray fallen
       → (HasTimes fallen → All IsNearValue times) → IsFallBound view net turns which r lines (told_bound which r.from times ray fallen)
@@ -320,7 +320,7 @@ not_inconsistent net negation from to turns lines times ray fallen some satisfie
     go None a = a.none some satisfied
     go (Some n) a = a.none some satisfied
 
--- the searched pair of a row is there where its events are
+-- the events of the searched pair of a row are there if the row's events are
 pub in_pair : (which : Which) (r : Row) (events : ℕ) → r.from.0 < events → r.to.0 < events → ((source Plain which r).0 < events) × ((target Plain which r).0 < events)
 in_pair Max r events in_from in_to = (in_from, in_to)
 in_pair Min r events in_from in_to = (in_to, in_from)

@@ -1,4 +1,4 @@
--- The whole text of the job, and its front where a put failed.
+-- The whole text of the job, and a front of it if a put failed.
 use Rattle.std.proofs.Common.{◌≡◌, ℕ, Bool, List, [], ◌++◌, refl, sym, ap, ◌∙◌, append-nil}
 use Rattle.std.specs.List.{concat}
 use Rattle.std.specs.Prelude.{OnErr, Result, Ok, Err}
@@ -37,7 +37,7 @@ module _ (drawn : Drawn) (view : View) (turns : ℕ) (cert : Bool) (v : IsViewOf
     cut,
   )
 
-  -- a later put was
+  -- a later put was cut short
   pub begins_rest : (old now new : SinkView) → now ≡ grown old (front_text drawn view) → WrotePieceFront (job_of drawn view turns cert) at_finding now new
       → (text : List ℕ) × BeginsFall drawn turns cert text × CutShort old new text
   begins_rest old now new put s = (

@@ -22,14 +22,14 @@ use Rattle.fall_report.specs.Text.{FallBound, Finding, bound_spent, bound_text, 
 use Rattle.falling.specs.View.{IsViewOf}
 use Rattle.fall_report.specs.View.{seen, source}
 
--- what is asked: of which drawn network, in which view, with how many turns, and whether derivations are printed
+-- what is asked: the drawn network, the view, the number of turns, and whether derivations are printed
 pub record Job : Type 0 where
   pub drawn : Drawn
   pub view : View
   pub turns : ℕ
   pub cert : Bool
 
--- a row that comes next or is being told, its number, whether a bound before it was spent, and the rows behind it
+-- a row that comes next or is being written: its number, whether the turns of a bound before it were spent, and the rows behind it
 pub record FallRow : Type 0 where
   pub spent : Bool
   pub number : ℕ
@@ -45,7 +45,7 @@ pub data TextState : Type 0 where
   at_end : EndWord → TextState
   at_last : EndWord → TextState
 
--- before the rows from a number on: at the end where there are none, which is undecided where a bound was spent
+-- the state before the rows from a number on. Without rows it is the end, which is undecided if the turns of a bound were spent
 abbrev pub before_rows : Bool → ℕ → List Row → TextState
 before_rows spent number [] = at_end (if spent then Undecided else Pass)
 before_rows spent number (r ∷ later) = at_row (record { spent = spent; number = number; row = r; later = later })
@@ -60,12 +60,12 @@ is_spent (closed value list) = false
 is_spent (unbounded list set) = false
 is_spent bound_spent = true
 
--- the least bound of a row comes behind the greatest, and behind that the rows that are left
+-- the state behind a bound of a row: the least bound comes behind the greatest, and the rows that are left come behind the least
 abbrev pub behind_bound : FallRow → Which → Bool → TextState
 behind_bound told Max spent = at_bound (record told { spent = told.spent || spent }) Min
 behind_bound told Min spent = before_rows (told.spent || spent) (told.number + 1) told.later
 
--- a piece of text leads from a place to another; a derivation has at most as many lines as there are turns
+-- a piece of text leads from one state to another. A derivation has at most as many lines as there are turns
 abbrev pub PieceMayFollow : Job → TextState → List ℕ → TextState → Type 0
 PieceMayFollow job at_finding piece next =
     (lines : List FallLine) × (length lines ≤ job.turns) × (found : Finding) × IsFinding job.view job.drawn.net job.turns lines found
@@ -79,23 +79,23 @@ PieceMayFollow job (at_bound told which) piece next =
 PieceMayFollow job (at_end word) piece next = (piece ≡ entry_text (line.ending word)) × (next ≡ at_last word)
 PieceMayFollow job (at_last word) piece next = ⊥
 
--- pieces lead one after another from a place to another
+-- pieces lead one after another from one state to another
 abbrev pub PiecesLead : Job → TextState → List (List ℕ) → TextState → Type 0
 PiecesLead job at [] last = at ≡ last
 PiecesLead job at (piece ∷ pieces) last = (next : TextState) × PieceMayFollow job at piece next × PiecesLead job next pieces last
 
--- these lines are printed of some that begin a derivation
+-- these are the printed lines of a front of a derivation
 abbrev pub BeginAt : Job → EventId → List FallLine → Type 0
 BeginAt job from begun =
     (lines : List FallLine) × (length lines ≤ job.turns) × (begun ≡ printed job.cert lines) × (values : List ℤ) × IsDerivation (seen job.view job.drawn.net) from lines values
 
--- these lines are printed of the derivation that comes at a place, if one does
+-- these are the printed lines of a front of the derivation that comes at a state, if one does
 abbrev pub AreBegun : Job → TextState → List FallLine → Type 0
 AreBegun job at_finding begun = BeginAt job first_event begun
 AreBegun job (at_bound told which) begun = BeginAt job (source job.view which told.row) begun
 AreBegun job _ begun = begun ≡ []
 
--- what the job answers and writes: the front, and pieces up to the last one, whose word is the answer
+-- what the job answers and writes: the front, and then pieces up to the last one, whose word is the answer
 pub record AnswersFall (drawn : Drawn) (turns : ℕ) (cert : Bool) (answer : Answer) (text : List ℕ) : Type 0 where
   pub view : View
   pub is_view : IsViewOf drawn.net view
@@ -105,7 +105,7 @@ pub record AnswersFall (drawn : Drawn) (turns : ℕ) (cert : Bool) (answer : Ans
   pub is_text : text ≡ front_text drawn view ++ concat pieces
   pub is_answer : answer ≡ answer_of word
 
--- what it may have begun to write: the front, pieces up to some place, and lines of the derivation that comes there
+-- what the job may have begun to write: the front, pieces up to some state, and lines of the derivation that comes there
 pub record BeginsFall (drawn : Drawn) (turns : ℕ) (cert : Bool) (text : List ℕ) : Type 0 where
   pub view : View
   pub is_view : IsViewOf drawn.net view

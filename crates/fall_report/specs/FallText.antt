@@ -9,7 +9,7 @@ use Rattle.falling.specs.declared.line.FallLine.{FallLine}
 use Rattle.falling.specs.declared.line.Reason.{Reason}
 use Rattle.falling.specs.declared.line.Reason.TheVariants.{ByEdge, ByLatest}
 
--- how a reason begins a line
+-- the first word of a line, by its reason
 abbrev pub reason_name : Reason → Word
 reason_name (ByEdge edge) = codes "fall"
 reason_name (ByLatest number) = codes "late"
@@ -19,7 +19,7 @@ abbrev pub reason_word : Reason → Word
 reason_word (ByEdge edge) = edge_word edge
 reason_word (ByLatest number) = number_text number
 
--- the words of a line: what it is, the event, the value in picoseconds, and what the reason names
+-- the words of a line: the kind of its reason, the event, the value in picoseconds, and what the reason names
 abbrev pub fall_words : FallLine → List Word
 fall_words line = reason_name line.reason ∷ number_text line.event.0 ∷ signed_text line.value ∷ reason_word line.reason ∷ []
 

@@ -6,10 +6,10 @@ use Rattle.jobs.specs.declared.answer.Answer.TheVariants.{Inconsistent, Undecide
 use Rattle.drawn.specs.Drawn.{Drawn}
 use Rattle.fall_report.specs.Fall.{AnswersFall}
 
--- an answer is undecided only where the turns are fewer than are enough
+-- an answer is undecided only if there are fewer turns than are enough
 abbrev pub UndecidedHasFewTurns : Type 0
 UndecidedHasFewTurns = (drawn : Drawn) (turns : ℕ) (cert : Bool) (text : List ℕ) → AnswersFall drawn turns cert Undecided text → turns < enough_turns drawn.net
 
--- an answer is inconsistent only where no times satisfy the network
+-- an answer is inconsistent only if no times satisfy the network
 abbrev pub InconsistentHasNoTimes : Type 0
 InconsistentHasNoTimes = (drawn : Drawn) (turns : ℕ) (cert : Bool) (text : List ℕ) → AnswersFall drawn turns cert Inconsistent text → IsInconsistent drawn.net

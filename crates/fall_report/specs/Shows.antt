@@ -22,16 +22,16 @@ use Rattle.fall_report.specs.Text.{FallBound, Finding, bound_spent, consistent, 
 abbrev pub first_event : EventId
 first_event = record { 0 = 0 }
 
--- the lines are a derivation from an event in the network that is solved, and something is said of the values that they give
+-- the lines are a derivation from an event in the network that is solved, and `Says` holds of the values that they give
 abbrev pub Derives : View → Net → EventId → List FallLine → (List ℤ → Type 0) → Type 0
 Derives view net from lines Says = (values : List ℤ) × IsDerivation (seen view net) from lines values × Says values
 
--- the lines are a derivation of as many lines as turns, which are not enough; it has not ended, and one more line is allowed
+-- the lines are a derivation with as many lines as turns. It has not ended, one more line is allowed, and the turns are fewer than are enough
 pub record AreSpent (view : View) (net : Net) (from : EventId) (turns : ℕ) (lines : List FallLine) : Type 0 where
   pub spent : (values : List ℤ) × IsSpent (seen view net) from turns lines values
   pub few : turns < enough_turns net
 
--- the printed times satisfy with event 0 at 0; they are those of the derivation's values, and where there are no events it has no lines
+-- the printed times satisfy, and event 0 is at 0. They are the times of the derivation's values. If there are no events, the derivation has no lines
 pub record IsConsistentBy (view : View) (net : Net) (lines : List FallLine) (list : List ℤ) : Type 0 where
   pub satisfied : Satisfies list net
   pub at_zero : time_of list first_event ≡ pos 0
@@ -54,17 +54,17 @@ abbrev pub IsExtreme : Which → Net → Row → ℤ → Type 0
 IsExtreme Max net r value = IsGreatest net r.from r.to value
 IsExtreme Min net r value = IsLeast net r.from r.to value
 
--- the value that a derivation gives for it: for a least separation minus the number
+-- the value that a derivation gives for a bound: the number, or minus the number for a least separation
 abbrev pub shown_by : Which → ℤ → ℤ
 shown_by Max value = value
 shown_by Min value = neg_ℤ value
 
--- the set can be raised without end: for a greatest separation with the to-event, and for a least one with the from-event
+-- the set can be raised without end. It raises the to-event for a greatest separation, and the from-event for a least separation
 abbrev pub CanRise : Which → Net → Row → List ℤ → List Bool → Type 0
 CanRise Max net r list set = IsRay net r.from r.to list set
 CanRise Min net r list set = IsRay net r.to r.from list set
 
--- the number is the bound, and the printed times satisfy and attain it with the from-event at 0; they are those of the derivation's values, which
+-- the number is the bound. The printed times satisfy and attain it, and the from-event is at 0. They are the times of the derivation's values, which
 -- give the number
 pub record IsNumberBy (view : View) (net : Net) (which : Which) (r : Row) (lines : List FallLine) (value : ℤ) (list : List ℤ) : Type 0 where
   pub extreme : IsExtreme which net r value
@@ -74,7 +74,7 @@ pub record IsNumberBy (view : View) (net : Net) (which : Which) (r : Row) (lines
   pub derived : Derives view net (source view which r) lines
       (λ values. (time_of values (target view which r) ≡ shown_by which value) × (list ≡ moved r.from (times_seen view values)))
 
--- the printed times satisfy with the from-event at 0, and the set can be raised from them; they are those of the derivation's values
+-- the printed times satisfy, the from-event is at 0, and the set can be raised from them. They are the times of the derivation's values
 pub record IsUnboundedBy (view : View) (net : Net) (which : Which) (r : Row) (lines : List FallLine) (list : List ℤ) (set : List Bool) : Type 0 where
   pub times : AreTimes net r list
   pub printed : All IsPrintedTime list

@@ -30,11 +30,11 @@ use Rattle.fall_report.specs.Text.{FallBound, Finding, bound_spent, consistent, 
 use Rattle.falling.specs.View.{IsViewOf}
 use Rattle.fall_report.specs.View.{seen, source, target}
 
--- what a sink tells grew by just the texts of the lines
+-- the sink's text grew by exactly the texts of the lines
 abbrev pub SinkGrew : SinkView → List FallLine → SinkView → Type 0
 SinkGrew old lines new = new ≡ grown old (fall_text lines)
 
--- it grew by a front of their texts, and its count of faults rose
+-- the sink's text grew by a front of the lines' texts, and the count of faults rose
 abbrev pub SinkWasCut : SinkView → List FallLine → SinkView → Type 0
 SinkWasCut old lines new = CutShort old new (fall_text lines)
 
@@ -46,30 +46,30 @@ pub record IsSet (net : Net) (desk : Desk) : Type 0 where
 
 -- ---- searches
 
--- a search told the lines of a derivation to a sink, where they are printed, and what they show
+-- a search wrote the lines of a derivation to a sink, if they are printed, and `Shows` holds of the lines
 abbrev pub WroteDerivation : Bool → SinkView → SinkView → (List FallLine → Type 0) → Type 0
 WroteDerivation cert old new Shows = (lines : List FallLine) × SinkGrew old (printed cert lines) new × Shows lines
 
--- a search was cut short in lines that begin a derivation
+-- a search was cut short in lines that begin a derivation, as `Begin` says
 abbrev pub WasCut : Bool → SinkView → SinkView → (List FallLine → Type 0) → Type 0
 WasCut cert old new Begin = (lines : List FallLine) × SinkWasCut old (printed cert lines) new × Begin lines
 
--- the lines, at most as many as turns, begin a derivation from the event that a view names
+-- the lines begin a derivation from the event that `from` gives for the view. There are at most as many lines as turns
 abbrev pub BeginsFrom : Net → ℕ → (View → EventId) → List FallLine → Type 0
 BeginsFrom net turns from lines = (length lines ≤ turns) × ((view : View) → IsViewOf net view → (values : List ℤ) × IsDerivation (seen view net) (from view) lines values)
 
--- the lines, at most as many as turns, show a finding
+-- the lines show a finding. There are at most as many lines as turns
 abbrev pub ShowsFinding : Net → ℕ → List FallLine → Finding → Type 0
 ShowsFinding net turns lines found = (length lines ≤ turns) × ((view : View) → IsViewOf net view → IsFinding view net turns lines found)
 
--- what a solver says of the searched pair of a row, by at most as many lines as turns
+-- what a solver answers for the searched pair of a row, with at most as many lines as turns
 abbrev pub AnswersRow : Net → Which → Row → ℕ → List FallLine → Solving → Fallen → Type 0
 AnswersRow net which r turns lines solver answer =
     (length lines ≤ turns) × AnswersAs solver.negation net (asked_of (source Plain which r) (target Plain which r) turns) lines solver.times solver.ray answer
 
--- ---- what is told
+-- ---- what is written
 
--- what an answer on event 0 and itself says; that pair is not unbounded
+-- the finding by an answer for the pair of event 0 and event 0. That pair is never unbounded
 abbrev pub found_by : Fallen → FallFinding
 found_by (fallen.Closed value) = founds.Consistent
 found_by fallen.Unbounded = founds.Consistent
@@ -81,13 +81,13 @@ told_finding founds.Consistent list = consistent list
 told_finding founds.Inconsistent list = inconsistent
 told_finding founds.Spent list = finding_spent
 
--- some times satisfy where this is found
+-- if the finding is consistent, some times satisfy
 abbrev pub HasFound : Net → FallFinding → Type 0
 HasFound net founds.Consistent = (times : List ℤ) × Satisfies times net
 HasFound net founds.Inconsistent = Unit {0}
 HasFound net founds.Spent = Unit {0}
 
--- what an answer says of a bound of a row with this from-event; of a consistent network none says that it is inconsistent
+-- the bound of a row with this from-event, by an answer. For a consistent network no answer is inconsistent
 abbrev pub told_bound : Which → EventId → List ℤ → List Bool → Fallen → FallBound
 told_bound which from times ray (fallen.Closed value) = closed (shown_by which value) (moved from times)
 told_bound which from times ray fallen.Unbounded = unbounded (moved from times) ray
@@ -106,24 +106,24 @@ was_spent fallen.Spent = true
 abbrev pub asked : Drawn → View → Wanted → Job
 asked drawn view wanted = record { drawn = drawn; view = view; turns = wanted.turns; cert = wanted.cert }
 
--- a job is on a network, in its view, and asks for this
+-- the job is on this network, in one of its views, and asks for this
 pub record IsJobOf (net : Net) (wanted : Wanted) (job : Job) : Type 0 where
   pub net_is : job.drawn.net ≡ net
   pub view : IsViewOf net job.view
   pub turns : job.turns ≡ wanted.turns
   pub cert : job.cert ≡ wanted.cert
 
--- a row that is told
+-- a row that is being written
 abbrev pub telling : Bool → ℕ → Row → List Row → FallRow
 telling spent number r later = record { spent = spent; number = number; row = r; later = later }
 
--- pieces were put whole that lead from a place to another
+-- pieces that lead from one state to another were put as a whole
 pub record WrotePieces (job : Job) (here last : TextState) (old new : SinkView) : Type 0 where
   pub pieces : List (List ℕ)
   pub reads : PiecesLead job here pieces last
   pub grew : new ≡ grown old (concat pieces)
 
--- a put failed: of pieces that lead from a place to some other, and of the lines of a derivation that begin there, a front was put
+-- a put failed. Pieces lead from a state to some other state, and lines of a derivation begin there. A front of all this was put
 pub record WrotePieceFront (job : Job) (here : TextState) (old new : SinkView) : Type 0 where
   pub pieces : List (List ℕ)
   pub last : TextState
@@ -132,22 +132,22 @@ pub record WrotePieceFront (job : Job) (here : TextState) (old new : SinkView) :
   pub are_begun : AreBegun job last begun
   pub cut : CutShort old new (concat pieces ++ fall_text begun)
 
--- a step puts pieces that lead to a place that its answer names, or a front of such
+-- a step puts pieces that lead to a state that its answer names, or a front of such pieces
 abbrev pub WritesPieces : {B E : Type 0} → Job → TextState → (B → TextState) → SinkView → SinkView → Result B E → Type 0
 WritesPieces job here to old new (Ok x) = WrotePieces job here (to x) old new
 WritesPieces job here to old new (Err e) = WrotePieceFront job here old new
 
--- behind a finding
+-- the state behind a finding
 abbrev pub behind_found : FallFinding → TextState
 behind_found founds.Consistent = at_rows
 behind_found founds.Inconsistent = at_end endings.Inconsistent
 behind_found founds.Spent = at_end endings.Undecided
 
--- behind both bounds of a row, by whether one of them was spent
+-- the state behind both bounds of a row. It depends on whether the turns of one of them were spent
 abbrev pub behind_row : FallRow → Bool → TextState
 behind_row told spent = before_rows (told.spent || spent) (told.number + 1) told.later
 
--- behind all rows
+-- the word at the end behind all rows
 abbrev pub end_word : Bool → EndWord
 end_word spent = if spent then endings.Undecided else endings.Pass
 

@@ -12,14 +12,14 @@ use Rattle.jobs.specs.Events.{event_lines}
 use Rattle.falling.specs.declared.view.View.{View}
 use Rattle.falling.specs.declared.view.View.TheVariants.{Plain, Negated}
 
--- what is found of a network: it is consistent, with times; it is inconsistent; or the turns were spent before it was known
+-- the finding of a network: it is consistent, with times; it is inconsistent; or the turns were spent before this was known
 pub data Finding : Type 0 where
   consistent : List ℤ → Finding
   inconsistent : Finding
   finding_spent : Finding
 
--- what is found of a bound: a number, with times that attain it; that there is none, with times and the events that can be raised
--- from them; or the turns were spent
+-- the finding of a bound: a number, with times that attain it; no bound, with times and the events that can be raised from them; or the turns were
+-- spent
 pub data FallBound : Type 0 where
   closed : ℤ → List ℤ → FallBound
   unbounded : List ℤ → List Bool → FallBound
@@ -44,7 +44,7 @@ bound_text which (closed value list) = entry_text (line.bound which (Closed valu
 bound_text which (unbounded list set) = entry_text (line.bound which Unbounded) ++ (entry_text (line.times list) ++ entry_text (line.raise set))
 bound_text which bound_spent = ended (line_of (which_word which ∷ codes "spent" ∷ []))
 
--- the lines that are printed of those of a derivation
+-- the printed lines of a derivation
 abbrev pub printed : Bool → List FallLine → List FallLine
 printed true lines = lines
 printed false lines = []

@@ -1,4 +1,4 @@
--- What a view says: the network that is solved, where a derivation starts and ends, and what its values say of the network.
+-- What a view means: the network that is solved, where a derivation starts and ends, and what its values say of the network.
 use Rattle.std.specs.Prelude.{ℤ, List}
 use Rattle.itv_base.specs.declared.names.EventId.{EventId}
 use Rattle.event_graph.specs.Network.{Net}
@@ -21,7 +21,7 @@ source Plain Min r = r.to
 source Negated Max r = r.to
 source Negated Min r = r.from
 
--- the event whose value it gives
+-- the event whose value the derivation gives
 abbrev pub target : View → Which → Row → EventId
 target Plain which r = source Negated which r
 target Negated which r = source Plain which r

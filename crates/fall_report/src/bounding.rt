@@ -1,4 +1,4 @@
-//! Telling one bound of a row.
+//! Writing one bound of a row.
 
 ghost use Rattle.std.specs.Prelude.{◌≡◌, ◌<◌, ℕ, ℤ, Bool, List, IfOk, OnErr, length};
 ghost use Rattle.event_graph.specs.Satisfying.{Satisfies};
@@ -25,7 +25,8 @@ use line_words::LineBuffer;
 use requirements::Bound;
 use slack_report::{Item, Which, write_item};
 
-/// Tells a bound of a row of a network that some times satisfy, and answers whether its turns were spent.
+/// Searches for a bound of a row and writes it. Some times must satisfy the network. Returns whether the turns of the
+/// bound were spent.
 pub fn tell_bound<K: Sink>(
     which: Which,
     row: &Row,
@@ -55,7 +56,7 @@ fn was_spent(fallen: Fallen) -> bool
 
 // ---- the search
 
-// Searches for a bound of a row: the greatest separation of its pair, or for the least bound of the reversed pair.
+// Searches for a bound of a row: the greatest separation of its pair, or, for the least bound, of the reversed pair.
 fn search_bound<K: Sink>(
     which: Which,
     row: &Row,
@@ -80,7 +81,7 @@ fn search_bound<K: Sink>(
 
 // ---- the lines
 
-// Puts the lines of a bound, by the answer that the solver gave last.
+// Puts the lines of a bound, by the latest answer of the solver.
 fn put_bound<K: Sink>(
     which: Which,
     row: &Row,
@@ -114,7 +115,7 @@ fn put_bound<K: Sink>(
     }
 }
 
-// The number of a bound whose searched pair has a greatest separation.
+// The number of a bound, where `value` is the greatest separation of the searched pair.
 fn shown_by(which: Which, value: i64) -> i64
     requires near { IsNearValue value }
     ensures { result ≡ shown_by which value }
@@ -125,7 +126,7 @@ fn shown_by(which: Which, value: i64) -> i64
     }
 }
 
-// A number, and times that attain it.
+// Puts a number, and times that attain it.
 fn put_number<K: Sink>(
     which: Which,
     value: i64,
@@ -140,7 +141,7 @@ fn put_number<K: Sink>(
     write_item(&Item::Times(times), buffer, sink)
 }
 
-// That there is no bound, times, and the events that can be raised from them.
+// Puts that there is no bound, with times and the events that can be raised from them.
 fn put_unbounded<K: Sink>(
     which: Which,
     times: &[i64],
@@ -156,7 +157,7 @@ fn put_unbounded<K: Sink>(
     write_item(&Item::Raise(ray), buffer, sink)
 }
 
-// That the turns were spent.
+// Puts that the turns were spent.
 fn put_spent<K: Sink>(which: Which, sink: &mut K) -> Result<(), PutFailed>
     ensures { Puts (K.told sink.old) (K.told sink.new) (bound_text which bound_spent) result }
 {

@@ -11,7 +11,8 @@ use line_words::LineBuffer;
 use slack_report::LINE_ROOM;
 use std::alloc::Global;
 
-/// All memory that a text is written with: that of the solver, a time in picoseconds for each event, and room for a line.
+/// All memory that a text is written with: the solver and its memory, a time in picoseconds for each event, and room
+/// for a line.
 #[derive(Drop)]
 pub struct Desk {
     pub solver: Falling,
@@ -20,7 +21,7 @@ pub struct Desk {
 }
 
 impl Desk {
-    /// Takes all memory that is needed for a network of a view, or answers `NoMemory`.
+    /// Takes all memory for a network that is solved in a view, or returns `NoMemory`.
     pub fn new(alloc: Global, net: &Network, view: View) -> Result<Desk, NoMemory>
         requires view { IsViewOf net.now view }
         ensures set { IfOk result (IsSet net.now) }

@@ -9,9 +9,9 @@ use falling::{FallLine, Reason};
 use itoa::Buffer;
 use itv_base::{EdgeName, EventId, PutFailed, Sink, number_text, put_all, signed_text};
 
-/// Writes a line of a derivation and its end: `fall` with the event, the value in picoseconds and the edge, or
-/// `late` with the event, the value and the number of the constraint. Where a put failed a front of it was
-/// written, and the sink's count of faults rose.
+/// Writes a line of a derivation and its end. A fall by an edge is `fall` with the event, the value in picoseconds and
+/// the edge. A fall by a latest constraint is `late` with the event, the value and the number of the constraint. If a
+/// put failed, a front of the line was written, and the sink's count of faults rose.
 pub fn write_line<K: Sink>(line: FallLine, sink: &mut K) -> Result<(), PutFailed>
     ensures puts { Puts (K.told sink.old) (K.told sink.new) (fall_line_text line) result }
 {
@@ -21,7 +21,7 @@ pub fn write_line<K: Sink>(line: FallLine, sink: &mut K) -> Result<(), PutFailed
     }
 }
 
-// The line of a fall by an edge.
+// Puts the line of a fall by an edge.
 fn put_fall<K: Sink>(
     event: EventId,
     value: i64,
@@ -52,7 +52,7 @@ fn put_fall<K: Sink>(
     )
 }
 
-// The line of a fall by a latest constraint.
+// Puts the line of a fall by a latest constraint.
 fn put_late<K: Sink>(
     event: EventId,
     value: i64,

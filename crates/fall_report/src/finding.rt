@@ -1,4 +1,4 @@
-//! Telling the finding.
+//! Writing the finding.
 
 ghost use Rattle.std.specs.Prelude.{◌≡◌, ◌<◌, ℕ, List, IfOk, OnErr};
 ghost use Rattle.falling.specs.declared.line.FallLine.{FallLine};
@@ -19,18 +19,18 @@ use itv_base::{EventId, PutFailed, Sink};
 use line_words::LineBuffer;
 use slack_report::{FindingWord, Item, write_item};
 
-/// What is found of a network.
+/// The finding of a network.
 #[derive(Clone, Copy, Debug, PartialEq, Eq)]
 pub enum FallFinding {
     /// Some times satisfy it.
     Consistent,
     /// No times satisfy it.
     Inconsistent,
-    /// The turns were spent before that was known.
+    /// The turns were spent before this was known.
     Spent,
 }
 
-/// Looks for times that satisfy a network, and tells the finding and those times.
+/// Looks for times that satisfy a network. Writes the finding and the times, if there are any.
 pub fn tell_finding<K: Sink>(
     net: &Network,
     wanted: Wanted,
@@ -48,7 +48,8 @@ pub fn tell_finding<K: Sink>(
     Ok(found)
 }
 
-// Looks for times that satisfy a network, which the solver has afterwards. The times of no events satisfy a network without events.
+// Looks for times that satisfy a network. The solver has them afterwards. A network without events is satisfied by an
+// empty list of times.
 fn find<K: Sink>(
     net: &Network,
     wanted: Wanted,
@@ -69,7 +70,7 @@ fn find<K: Sink>(
     Ok(found_by(fallen, net, solver))
 }
 
-// What an answer on the pair of event 0 and itself says of the network.
+// What the solver's answer for the pair of event 0 and event 0 says of the network.
 fn found_by(fallen: Fallen, net: &Network, solver: &Falling) -> FallFinding
     requires events { 0 < net.now.events }
     requires made { IsMadeFor net.now solver.now }
@@ -86,7 +87,7 @@ fn found_by(fallen: Fallen, net: &Network, solver: &Falling) -> FallFinding
     }
 }
 
-// The finding, and behind a consistent one the times that the solver has.
+// Puts the finding, and behind a consistent finding the times of the solver.
 fn put_finding<K: Sink>(
     found: FallFinding,
     solver: &Falling,

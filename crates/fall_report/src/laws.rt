@@ -1,13 +1,13 @@
-//! Laws of the texts of the job. The functions do nothing; what they ensure holds of all drawn networks.
+//! Laws of the texts of the job. The functions do nothing. Their clauses hold of all drawn networks.
 
 ghost use Rattle.fall_report.specs.Laws.{InconsistentHasNoTimes, UndecidedHasFewTurns};
 
-/// An answer is undecided only where the turns are fewer than are enough.
+/// An answer is undecided only if there are fewer turns than are enough.
 pub fn undecided_has_few_turns()
     ensures law { UndecidedHasFewTurns }
 {}
 
-/// An answer is inconsistent only where no times satisfy the network.
+/// An answer is inconsistent only if no times satisfy the network.
 pub fn inconsistent_has_no_times()
     ensures law { InconsistentHasNoTimes }
 {}

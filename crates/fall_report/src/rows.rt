@@ -1,4 +1,4 @@
-//! Telling all rows.
+//! Writing all rows.
 
 ghost use Rattle.std.specs.Prelude.{◌≡◌, ◌||◌, ℤ, Bool, List};
 ghost use Rattle.event_graph.specs.Satisfying.{Satisfies};
@@ -17,7 +17,8 @@ use itv_base::{PutFailed, Sink};
 use jobs::{put_row, row_at};
 use slack_report::{Item, Which, write_item};
 
-/// Tells how many rows there are, and each of them, of a network that some times satisfy, and answers whether a bound was spent.
+/// Writes the number of rows and each row. Some times must satisfy the network. Returns whether the turns of a bound
+/// were spent.
 pub fn tell_rows<K: Sink>(
     drawn: &DrawnNetwork,
     wanted: Wanted,
@@ -40,7 +41,7 @@ pub fn tell_rows<K: Sink>(
     Ok(is_spent)
 }
 
-// Tells a row and both of its bounds, and answers whether one was spent.
+// Writes a row and both of its bounds. Returns whether the turns of one of them were spent.
 fn tell_row<K: Sink>(
     number: u32,
     row: &Row,
@@ -64,7 +65,7 @@ fn tell_row<K: Sink>(
     Ok(either(is_greatest_spent, is_least_spent))
 }
 
-// Whether one of two is so.
+// Whether one of the two is true.
 fn either(first: bool, second: bool) -> bool
     ensures { result ≡ (first || second) }
 {

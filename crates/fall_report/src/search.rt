@@ -1,4 +1,4 @@
-//! Searches by falling values, whose lines are printed where they are wanted.
+//! Searches by falling values. Their lines are printed if they are wanted.
 
 ghost use Rattle.std.specs.Prelude.{◌≡◌, ◌<◌, ◌≤◌, List, IfOk, OnErr, true, ℤ, length};
 ghost use Rattle.falling.specs.declared.line.FallLine.{FallLine};
@@ -12,7 +12,7 @@ use event_graph::Network;
 use falling::{FallScribeFailed, Fallen, Falling, QuietFall};
 use itv_base::{EventId, PutFailed, Sink};
 
-/// Finds the greatest separation of a pair of events, and prints the lines of its derivation where they are wanted.
+/// Finds the greatest separation of a pair of events. Prints the lines of its derivation if they are wanted.
 pub fn greatest_of<K: Sink>(
     solver: &mut Falling,
     net: &Network,
@@ -39,7 +39,7 @@ pub fn greatest_of<K: Sink>(
     }
 }
 
-// The same with the lines.
+// Finds the greatest separation and prints the lines.
 fn greatest_printing<K: Sink>(
     solver: &mut Falling,
     net: &Network,
@@ -66,7 +66,7 @@ fn greatest_printing<K: Sink>(
     }
 }
 
-// The same without them.
+// Finds the greatest separation and prints nothing.
 fn greatest_quietly(
     solver: &mut Falling,
     net: &Network,

@@ -11,7 +11,7 @@ use crate::fall_line::write_line;
 use falling::{FallLine, FallScribe, FallScribeFailed, Reason};
 use itv_base::{EdgeName, EventId, PutFailed, Sink};
 
-/// Writes each line to a lent sink.
+/// Writes each line to a sink that is lent.
 #[derive(Drop)]
 pub struct SinkFallScribe<'a, K: Sink> {
     pub sink: &'a mut K,

@@ -1,6 +1,7 @@
-//! How a text is asked for.
+//! How the job is asked for.
 
-/// How a text is asked for: how many lines the derivation of the finding and of each bound may have, and whether they are printed.
+/// How the job is asked for: the most lines of the derivation of the finding and of each bound, and whether the lines
+/// are printed.
 #[derive(Clone, Copy, Debug)]
 pub struct Wanted {
     pub turns: u64,

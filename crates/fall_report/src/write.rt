@@ -20,9 +20,9 @@ use line_words::LineBuffer;
 use slack_report::{EndWord, Item, write_item};
 use std::alloc::Global;
 
-/// Writes the bounds of a drawn network of a view: the view, the events, whether some times
-/// satisfy the network, and the bounds of each of its rows. Each derivation has at most so many lines as there are turns, and with
-/// `cert` they are printed. All memory is taken before the first put.
+/// Writes the bounds of a drawn network that is solved in a view: the view, the events, whether some times satisfy the
+/// network, and the bounds of each row. Each derivation has at most as many lines as there are turns. With `cert` the
+/// lines are printed. All memory is taken before the first put.
 pub fn write_fall<K: Sink>(
     alloc: Global,
     drawn: &DrawnNetwork,
@@ -40,7 +40,7 @@ pub fn write_fall<K: Sink>(
     Ok(tell_text(drawn, view, wanted, &mut desk, sink)?)
 }
 
-// Tells the whole text.
+// Searches and writes the whole text.
 fn tell_text<K: Sink>(
     drawn: &DrawnNetwork,
     view: View,
@@ -60,7 +60,7 @@ fn tell_text<K: Sink>(
     Ok(answer_of(word))
 }
 
-// The heading, the view and the events.
+// Puts the heading, the view and the events.
 fn put_front<K: Sink>(
     view: View,
     drawn: &DrawnNetwork,
@@ -83,7 +83,7 @@ fn put_view<K: Sink>(view: View, sink: &mut K) -> Result<(), PutFailed>
     }
 }
 
-// The finding, the rows behind a consistent one, and the word at the end.
+// Writes the finding, the rows behind a consistent finding, and the word at the end.
 fn tell_bounds<K: Sink>(
     drawn: &DrawnNetwork,
     wanted: Wanted,
@@ -100,7 +100,7 @@ fn tell_bounds<K: Sink>(
     Ok(word)
 }
 
-// The rows behind a consistent finding. The answer is the word at the end.
+// Writes the rows behind a consistent finding. Returns the word at the end.
 fn tell_behind<K: Sink>(
     found: FallFinding,
     drawn: &DrawnNetwork,
@@ -123,7 +123,7 @@ fn tell_behind<K: Sink>(
     }
 }
 
-// The word at the end behind a consistent finding, by whether a bound was spent.
+// The word at the end behind a consistent finding. It depends on whether the turns of a bound were spent.
 fn end_word(is_spent: bool) -> EndWord
     ensures { result ≡ end_word is_spent }
 {

@@ -7,14 +7,14 @@ ghost use Rattle.json_tree.specs.Pairs.{ends_view};
 
 use serde_json::Value;
 
-/// Two ends in picoseconds, `None` being an open one, and not yet known to be a range.
+/// Two ends in picoseconds. `None` is an open end. It is not yet known whether they are a range.
 #[derive(Clone, Copy, Debug, PartialEq, Eq)]
 pub struct EndPair {
     pub low: Option<i64>,
     pub high: Option<i64>,
 }
 
-/// Two ends, of a list of two: each is a whole number, or null, which is open.
+/// The two ends of a list of two. Each is a whole number, or null for an open end.
 pub fn ends_by(list: &[Value]) -> Option<EndPair>
     ensures { option_map ends_view result ≡ ends_by (map view list.now) }
 {
@@ -27,7 +27,7 @@ pub fn ends_by(list: &[Value]) -> Option<EndPair>
     })
 }
 
-// An end: null is open, and else it is a whole number.
+// An end: null for an open end, or a whole number.
 fn end_of(value: &Value) -> Option<Option<i64>>
     ensures { result ≡ end_of (view value.now) }
 {

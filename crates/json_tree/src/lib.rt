@@ -1,6 +1,7 @@
-//! What stands in a tree of JSON: lists, texts, names and whole numbers, under a key or by themselves, and pairs of ends.
-//! The words of its contracts are shared by all that read trees: the elements of an array, and the members of an object with their keys.
-//! The one contract: a call gives what its definition says of the tree, and nothing exactly where the tree has something else there.
+//! What stands in a tree of JSON: lists, texts, names and whole numbers, under a key or by themselves, and pairs of
+//! ends. All readers of trees share the words of its contracts: the elements of an array, and the members of an object
+//! with their keys. The one contract: a call gives what its definition says of the tree. It gives `None` if and only if
+//! the tree has no such value there.
 #![tactic(auto)]
 
 mod ends;

@@ -7,14 +7,14 @@ use Rattle.std.proofs.lemmas.List.Elements.{All-from_recursion}
 use Rattle.std.proofs.Common.{append_assoc}
 use Rattle.line_words.specs.Lines.{ended, is_feed}
 
--- no line end is in it
+-- the text has no line end in it
 abbrev pub IsLine : List ℕ → Type 0
 IsLine line = AllByRecursion (λ b. is_feed b ≡ false) line
 
 head_same : (a b : ℕ) (xs ys : List ℕ) → a ∷ xs ≡ b ∷ ys → (a ≡ b) × (xs ≡ ys)
 head_same a b xs ys e = (cc, cc)
 
--- a line and its end begin a text in one way
+-- a text begins with a line and its end in only one way
 pub cut_same : (a b more rest : List ℕ) → IsLine a → IsLine b → ended a ++ more ≡ ended b ++ rest → (a ≡ b) × (more ≡ rest)
 cut_same [] [] more rest p q e = (refl, (head_same 10 10 more rest e).1)
 cut_same [] (d ∷ b) more rest p q e = absurd (both_ways (is_feed d) q.0 (ap is_feed (sym (head_same 10 d more (ended b ++ rest) e).0)))
@@ -39,7 +39,7 @@ pub parts_are_lines : (bytes : List ℕ) → AllByRecursion IsLine (slice_split 
 parts_are_lines [] = (tt, tt)
 parts_are_lines (b ∷ bytes) = cons_lines b (slice_split is_feed bytes) (is_feed b) refl (parts_are_lines bytes)
 
--- a line, its end and a text behind it are cut there
+-- a text with a line and its end in front is cut behind the line's end
 pub split_line : (line rest : List ℕ) → IsLine line → slice_split is_feed (ended line ++ rest) ≡ line ∷ slice_split is_feed rest
 split_line line rest h =
     ap (slice_split is_feed) (append_assoc line (10 ∷ []) rest) ∙ slice_split_at is_feed line 10 rest (All-from_recursion (λ b. is_feed b ≡ false) line h) refl

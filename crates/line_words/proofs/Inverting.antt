@@ -1,4 +1,4 @@
--- Readers and writers that invert each other, as the laws say it.
+-- Readers and writers that invert each other, as the laws say.
 use Rattle.std.proofs.Common.{◌≡◌, Option, Some, subst, sym}
 use Rattle.line_words.specs.Laws.{AreInverse}
 use Rattle.line_words.specs.Words.{Word}

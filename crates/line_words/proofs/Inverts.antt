@@ -1,4 +1,4 @@
--- Readers that invert spellings, and how they are put together.
+-- Readers that invert spellings, and how they are combined.
 use Rattle.std.proofs.Common.{◌≡◌, Bool, true, false, cond, nat_eq, List, [], ◌∷◌, map, Option, Some, None, option_map, refl, ap, subst, ◌∙◌}
 use Rattle.std.specs.Prelude.{All}
 use Rattle.std.specs.List.{AllByRecursion}
@@ -7,7 +7,7 @@ use Rattle.std.proofs.lemmas.Option.{same_Some}
 use Rattle.std.proofs.lemmas.List.Elements.{All-from_recursion, recursion_from_All}
 use Rattle.line_words.specs.Words.{◌>>=◌, Word, behind_word, is_word, keyed, many, one, only_word, or_else, two, two_words, when}
 
--- What is read is spelled so and has the form, and what has the form and is spelled so is read.
+-- What is read is spelled so and has the form. What has the form is read from its spelling.
 pub record Inverts {W A : Type 0} (read : W → Option A) (spell : A → W) (Form : A → Type 0) : Type 0 where
   pub takes : (w : W) (x : A) → read w ≡ Some x → (w ≡ spell x) × Form x
   pub again : (x : A) → Form x → read (spell x) ≡ Some x
@@ -46,7 +46,7 @@ pub word_same : (word : Word) → is_word word word ≡ true
 word_same [] = refl
 word_same (b ∷ word) = rw (eq-eqb b b refl, word_same word) refl
 
--- one of the words of a list of words
+-- the word is one of several
 pub pick_some : {A : Type 0} (word key : Word) (x y : A) (other : Option A) (P : A → Type 0) → cond (is_word word key) (Some x) other ≡ Some y
     → (word ≡ key → P x) → (other ≡ Some y → P y) → P y
 pick_some word key x y other P e here there = pick (is_word word key) refl e
@@ -58,7 +58,7 @@ pick_some word key x y other P e here there = pick (is_word word key) refl e
 pub last_some : {A : Type 0} (word key : Word) (x y : A) (P : A → Type 0) → when (is_word word key) (Some x) ≡ Some y → (word ≡ key → P x) → P y
 last_some word key x y P e here = pick_some word key x y None P e here (λ none. absurd (cc))
 
--- ---- put together
+-- ---- readers combined
 
 behind_is : (key : Word) (words rest : List Word) → behind_word key words ≡ Some rest → words ≡ key ∷ rest
 behind_is key [] rest e = absurd (cc)
@@ -143,7 +143,7 @@ many_inverts read spell Form i = record {
   again = λ xs form. many_again read spell Form i xs (recursion_from_All Form xs form);
 }
 
--- Two readers of one kind of thing, the second where the first reads nothing.
+-- Two readers of one kind of thing. The second reads where the first reads nothing.
 pub either_takes : {A B : Type 0} (f : B → A) (read : List Word → Option B) (other : Option A) (words : List Word) (x : A) (P : A → Type 0)
     → or_else (option_map f (read words)) other ≡ Some x → ((y : B) → read words ≡ Some y → P (f y)) → (other ≡ Some x → P x) → P x
 either_takes f read other words x P e here there =

@@ -1,4 +1,4 @@
--- Reading words one after another: what was read so far, in front of what is read of the words left.
+-- Reading words one after another: what was read so far stands in front of what is read of the words that are left.
 use Rattle.std.proofs.Common.{◌≡◌, ℕ, ◌+◌, ◌<◌, ◌≤◌, List, [], ◌∷◌, ◌++◌, length, get_or, drop, Bor, Option, Some, None, option_map, refl, sym, ap, ◌∙◌, append_assoc, add-one, drop-cons}
 use Rattle.std.proofs.lemmas.List.{append-nil, drop_all}
 use Rattle.line_words.specs.Words.{◌>>=◌, Word, many}
@@ -7,7 +7,7 @@ use Rattle.line_words.specs.Views.{texts}
 abbrev pub in_front : {A : Type 0} → List A → Option (List A) → Option (List A)
 in_front list rest = option_map (λ xs. list ++ xs) rest
 
--- the words from one on, the first of them and the others
+-- the words from a place on: the first of them and the others
 pub texts_more : (words : List (Bor (List ℕ))) (i : ℕ) (d : Bor (List ℕ)) → i < length words
     → texts (drop i words) ≡ (get_or words i d).now ∷ texts (drop (i + 1) words)
 texts_more words i d h = rw (add-one, drop-cons words i d h) refl

@@ -1,4 +1,4 @@
--- Words that are numbers: each is spelled in one way.
+-- Words that are numbers: each number is spelled in one way.
 use Rattle.std.proofs.Common.{◌≡◌, ℕ, zero, suc, ◌-◌, ◌^◌, ◌≤◌, ℤ, pos, negsuc, neg_ℤ, true, false, leb, ◌&&◌, [], ◌∷◌, Option, Some, None, option_map, refl, sym, ap, subst, ◌∙◌, arith, codes}
 use Rattle.std.specs.Char.{is_ascii_digit}
 use Rattle.std.specs.List.{list_all}
@@ -41,7 +41,7 @@ minus_long : (n : ℕ) → 1 ≤ n → n ≤ 2 ^ 63 → IsLong (neg_ℤ (pos n))
 minus_long zero h k = absurd (omega arith)
 minus_long (suc n) h k = record { sfits = omega arith }
 
--- a number below 0 behind its sign
+-- a number below 0, by its digits behind the sign
 negative_takes : (digits : Word) (value : ℤ) → negative_in digits ≡ Some value → (45 ∷ digits ≡ signed_text value) × IsLong value
 negative_takes digits value e =
     let n = value_of digits in

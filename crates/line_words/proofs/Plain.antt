@@ -1,4 +1,4 @@
--- Words of visible characters of ASCII: the line that has some of them is cut into just these, and has no line end in it.
+-- Words of visible characters of ASCII. A line of such words is cut into exactly these words, and has no line end in it.
 use Rattle.std.proofs.Common.{◌≡◌, ℕ, zero, suc, ◌<◌, ◌≤◌, ℤ, pos, negsuc, Option, Some, None, get_or, Bool, true, false, leb, List, [], ◌∷◌, ◌++◌, refl, ap, ◌∙◌, arith, map}
 use Rattle.std.specs.List.{AllByRecursion, list_all, slice_split}
 use Rattle.std.specs.Char.{is_ascii_digit, is_ascii_graphic}
@@ -40,7 +40,7 @@ cut_word word rest h = slice_split_at is_space word 32 rest (All-from_recursion 
 last_word : (word : Word) → is_plain word ≡ true → slice_split is_space word ≡ word ∷ []
 last_word word h = slice_split_none is_space word (All-from_recursion (λ b. is_space b ≡ false) word (no_spaces word h))
 
--- the line that has some plain words, one at least, is cut into them
+-- the line of some plain words, at least one, is cut into these words
 pub split-join : (word : Word) (words : List Word) → ArePlain (word ∷ words) → split_words (line_of (word ∷ words)) ≡ word ∷ words
 split-join word [] h = last_word word h.0
 split-join word (other ∷ words) h = cut_word word (line_of (other ∷ words)) h.0 ∙ ap (λ ws. word ∷ ws) (split-join other words h.1)
@@ -57,7 +57,7 @@ whole_line (b ∷ word) h =
     let p = and_parts (is_ascii_graphic b) (list_all is_ascii_graphic word) h in
     (no_feed b p.0, whole_line word p.1)
 
--- it is a line
+-- the line of plain words has no line end in it
 pub join_line : (words : List Word) → ArePlain words → IsLine (line_of words)
 join_line [] h = tt
 join_line (word ∷ []) h = whole_line word h.0

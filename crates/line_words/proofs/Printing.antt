@@ -1,4 +1,4 @@
--- A line as a writer puts it: the first word, each other behind a space, and the line end.
+-- A line as a writer puts it: the first word, each other word behind a space, and the line end.
 use Rattle.std.proofs.Common.{◌≡◌, ℕ, ◌+◌, ◌<◌, List, [], ◌∷◌, ◌++◌, length, get_or, drop, map, Bor, Result, refl, sym, subst, ap, ◌∙◌, append_assoc, add-one, drop-cons}
 use Rattle.std.specs.List.{flat_map}
 use Rattle.std.proofs.lemmas.List.{drop-map, append-nil}
@@ -33,7 +33,7 @@ line_cut old first_put new word words p cut =
 pub word_cut : (old new : SinkView) (word : Word) (words : List Word) → CutShort old new word → CutShort old new (ended (line_of (word ∷ words)))
 word_cut old new word words cut = subst (CutShort old new) (ended_is word words) (cut_more old new word (flat_map spaced words ++ 10 ∷ []) cut)
 
--- the words from one on, the first of them and the others
+-- the words from a place on: the first of them and the others
 pub spaced_more : (words : List (Bor (List ℕ))) (i : ℕ) (d : Bor (List ℕ)) → i < length words
     → flat_map spaced (drop i (map (λ (w : Bor (List ℕ)). w.now) words)) ≡ spaced ((get_or words i d).now) ++ flat_map spaced (drop (i + 1) (map (λ (w : Bor (List ℕ)). w.now) words))
 spaced_more words i d h = rw (drop-map, drop-map, add-one, drop-cons words i d h) refl

@@ -2,7 +2,7 @@
 use Rattle.std.specs.Prelude.{ℕ, ◌+◌, Bool, nat_le, if◌then◌else◌, List, ◌++◌, length, Some}
 use Rattle.itv_base.specs.Outside.{SinkView, one_more_fault}
 
--- the bytes, how many there may be, and how often a piece did not fit
+-- the gathered bytes, how many there may be, and how often a piece did not fit
 pub record Gathered : Type 0 where
   pub bytes : List ℕ
   pub room : ℕ
@@ -11,10 +11,10 @@ pub record Gathered : Type 0 where
 abbrev pub buffer_told : Gathered → SinkView
 buffer_told b = record { written = Some b.bytes; faults = b.faults }
 
--- a piece fits beside the bytes
+-- a piece fits behind the bytes
 abbrev pub fits : Gathered → List ℕ → Bool
 fits b piece = nat_le (length b.bytes + length piece) b.room
 
--- what a put leaves: the bytes with the piece where it fits, and else the same bytes and one fault more
+-- what a put leaves: the bytes with the piece if it fits, and else the same bytes and one fault more
 abbrev pub after_put : Gathered → List ℕ → Gathered
 after_put b piece = if fits b piece then record b { bytes = b.bytes ++ piece } else record b { faults = one_more_fault b.faults }

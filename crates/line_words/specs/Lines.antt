@@ -1,4 +1,4 @@
--- Lines and their ends: a line ends with one line feed, and its words stand with one space between each two.
+-- Lines and their ends: a line ends with one line feed, and one space stands between two of its words.
 use Rattle.std.specs.Prelude.{ℕ, ◌==◌, Bool, List, [], ◌∷◌, ◌++◌}
 use Rattle.std.specs.List.{join_with_byte}
 use Rattle.line_words.specs.Words.{Word}
@@ -10,7 +10,7 @@ is_feed b = b == 10
 abbrev pub ended : List ℕ → List ℕ
 ended line = line ++ 10 ∷ []
 
--- the line that has some words, without its end
+-- the line that has these words, without its end
 abbrev pub line_of : List Word → List ℕ
 line_of words = join_with_byte 32 words
 

@@ -9,7 +9,7 @@ use Rattle.line_words.specs.Words.{Word, is_word, or_else, when}
 abbrev pub IsLong : ℤ → Type 0
 IsLong value = FitsSigned w64 value
 
--- such a number, or none
+-- a number of 64 bits with a sign, or none
 abbrev pub IsLongOrOpen : Option ℤ → Type 0
 IsLongOrOpen end = IfSome end IsLong
 
@@ -17,7 +17,7 @@ IsLongOrOpen end = IfSome end IsLong
 abbrev pub number_in : ℕ → Word → Option ℕ
 number_in limit word = when (is_numeral word && nat_le (value_of word) limit) (Some (value_of word))
 
--- a number of 64 bits below 0, behind its sign
+-- a number of 64 bits below 0, by its digits behind the sign
 abbrev pub negative_in : Word → Option ℤ
 negative_in digits = when (is_numeral digits && (nat_le 1 (value_of digits) && nat_le (value_of digits) (2 ^ 63))) (Some (neg_ℤ (pos (value_of digits))))
 
@@ -28,6 +28,6 @@ positive_in digits = when (is_numeral digits && nat_le (value_of digits) (2 ^ 63
 unfoldable pub long_in : Word → Option ℤ
 long_in word = after (stripped (codes "-") word) negative_in (positive_in word)
 
--- such a number, or a star
+-- a number of 64 bits with a sign, or a star
 unfoldable pub open_in : Word → Option (Option ℤ)
 open_in word = or_else (option_map (λ value. Some value) (long_in word)) (when (is_word word (codes "*")) (Some None))

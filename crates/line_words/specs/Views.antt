@@ -1,4 +1,4 @@
--- Words without where they lie in memory.
+-- Words as values, without their places in memory.
 use Rattle.std.specs.Prelude.{ℕ, List, map}
 use denote.Ref.{Bor}
 use Rattle.line_words.specs.Words.{Word}

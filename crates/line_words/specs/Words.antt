@@ -12,32 +12,32 @@ Word = List ℕ
 abbrev pub is_word : Word → Word → Bool
 is_word word text = pointwise nat_eq word text
 
--- the words of a line: what stands between its spaces
+-- the words of a line: the parts between its spaces
 abbrev pub split_words : List ℕ → List Word
 split_words line = slice_split is_space line
 
--- ---- how readers are put together
+-- ---- how readers are combined
 
 infixl 10 ◌>>=◌
--- what is made of what was read, if there was something
+-- what a function makes of what was read, if something was read
 abbrev pub ◌>>=◌ : {A B : Type 0} → Option A → (A → Option B) → Option B
 o >>= f = option_and_then f o
 
--- what was read, or else something other
+-- what was read, or else the other
 abbrev pub or_else : {A : Type 0} → Option A → Option A → Option A
 or_else None other = other
 or_else (Some x) other = Some x
 
--- what was read, where a test is met
+-- what was read, if a test is met
 abbrev pub when : {A : Type 0} → Bool → Option A → Option A
 when test found = if test then found else None
 
--- the words behind a word that stands first
+-- the words behind the first word, if the first word is this one
 abbrev pub behind_word : Word → List Word → Option (List Word)
 behind_word key [] = None
 behind_word key (word ∷ words) = when (is_word word key) (Some words)
 
--- what is read behind such a word
+-- what is read of the words behind this first word
 abbrev pub keyed : {A : Type 0} → Word → (List Word → Option A) → List Word → Option A
 keyed key read words = behind_word key words >>= read
 
@@ -60,7 +60,7 @@ two_words (word ∷ other ∷ more ∷ words) = None
 abbrev pub two : {A B : Type 0} → (Word → Option A) → (Word → Option B) → List Word → Option (A × B)
 two read also words = two_words words >>= λ both. read both.0 >>= λ x. also both.1 >>= λ y. Some (x, y)
 
--- each word
+-- what is read of each word, if each can be read
 abbrev pub many : {A : Type 0} → (Word → Option A) → List Word → Option (List A)
 many read [] = Some []
 many read (word ∷ words) = read word >>= λ x. many read words >>= λ xs. Some (x ∷ xs)

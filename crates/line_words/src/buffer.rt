@@ -8,8 +8,8 @@ use itv_base::{NoMemory, PutFailed, Sink};
 use std::alloc::Global;
 use std::marker::Model;
 
-/// Room for the bytes of one line, which it takes as a sink does. A put fails exactly where the piece doesn't fit, and then takes
-/// nothing of it.
+/// Room for the bytes of one line. It is a sink: a put fails if and only if the piece does not fit, and then takes
+/// nothing of the piece.
 #[derive(Drop)]
 pub struct LineBuffer {
     bytes: Vec<u8>,
@@ -29,7 +29,7 @@ impl Model for LineBuffer {
 }
 
 impl LineBuffer {
-    /// Nothing gathered, and room for a number of bytes. Takes all the memory that the buffer ever needs.
+    /// An empty buffer with room for this many bytes. Takes all memory that the buffer ever needs.
     pub fn new(alloc: Global, room: u32) -> Result<LineBuffer, NoMemory>
         ensures empty { IfOk result (λ b. b ≡ record { bytes = []; room = room; faults = 0 }) }
     {
@@ -41,14 +41,14 @@ impl LineBuffer {
         })
     }
 
-    /// Gathers nothing any more.
+    /// Forgets the gathered bytes.
     pub fn clear(&mut self)
         ensures empty { self.new ≡ record self.old { bytes = [] } }
     {
         self.bytes.clear();
     }
 
-    /// Puts what was gathered, by one put.
+    /// Puts the gathered bytes, by one put.
     pub fn put_into<K: Sink>(&self, sink: &mut K) -> Result<(), PutFailed>
         ensures puts { Puts (K.told sink.old) (K.told sink.new) self.now.bytes result }
     {

@@ -1,9 +1,9 @@
-//! Laws of words that are numbers. The function does nothing; what it ensures holds of all words and all numbers.
+//! Laws of words that are numbers. The function does nothing. Its clauses hold of all words and all numbers.
 
 ghost use Rattle.line_words.specs.Laws.{LongsInvert, NumbersInvert, OpensInvert};
 
-/// Each number has one text, and a word reads as a number exactly where it is that text: numbers up to a limit, numbers of 64 bits
-/// with a sign, and such numbers and the star.
+/// Each number has one text, and a word reads as a number if and only if it is that text. This holds of numbers up to a
+/// limit, of numbers of 64 bits with a sign, and of these numbers with the star.
 pub fn numbers_invert()
     ensures numbers { NumbersInvert }
     ensures longs { LongsInvert }

@@ -1,6 +1,6 @@
-//! Lines of words: a line is read word by word, each word whole, and is written word by word.
-//! The contract: what is read of a word or of the words of a line is what its definition reads of the text, and a line is put
-//! with one space between each two words and a line feed behind the last.
+//! Lines of words: a line is read word by word, each word whole, and is written word by word. The contract: reading a
+//! word or the words of a line gives what the definitions read of the text. A line is put with one space between two
+//! words and a line feed behind the last word.
 #![tactic(auto)]
 
 mod buffer;

@@ -5,7 +5,7 @@ ghost use Rattle.line_words.specs.Numbers.{long_in, negative_in, number_in, open
 
 use itv_base::{is_numeral, strip, value_up_to};
 
-/// A number up to a limit, in decimal without a zero in front.
+/// The number that a word is, up to a limit. It is decimal and has no zero in front.
 pub fn number_in(limit: u64, word: &str) -> Option<u64>
     ensures number { result ≡ number_in limit word.now }
 {
@@ -15,7 +15,7 @@ pub fn number_in(limit: u64, word: &str) -> Option<u64>
     value_up_to(word, limit)
 }
 
-/// A number of 32 bits.
+/// The number of 32 bits that a word is.
 pub fn short_in(word: &str) -> Option<u32>
     ensures number { result ≡ number_in (2 ^ 32 - 1) word.now }
 {
@@ -32,7 +32,7 @@ fn negated(value: u64) -> i64
     -((value - 1) as i64) - 1
 }
 
-// A number of 64 bits below 0, behind its sign. There is no `-0`.
+// The number of 64 bits below 0 whose digits, without the sign, these are. There is no `-0`.
 fn negative_in(digits: &str) -> Option<i64>
     ensures { result ≡ negative_in digits.now }
 {
@@ -50,7 +50,7 @@ fn positive_in(word: &str) -> Option<i64>
     Some(value as i64)
 }
 
-/// A number of 64 bits, with a minus in front where it is below 0.
+/// The number of 64 bits that a word is. A minus stands in front if it is below 0.
 #[tactic(auto, unfolding(crate::specs::Numbers::long_in))]
 pub fn long_in(word: &str) -> Option<i64>
     ensures number { result ≡ long_in word.now }
@@ -61,7 +61,7 @@ pub fn long_in(word: &str) -> Option<i64>
     }
 }
 
-/// Such a number, or `None` for a star.
+/// The number of 64 bits that a word is, or `None` in it for a star.
 #[tactic(auto, unfolding(crate::specs::Numbers::open_in))]
 pub fn open_in(word: &str) -> Option<Option<i64>>
     ensures number { result ≡ open_in word.now }

@@ -14,7 +14,7 @@ pub fn put_spaced<K: Sink>(word: &[u8], sink: &mut K) -> Result<(), PutFailed>
     put_all(sink, &[b" ", word])
 }
 
-// A space and a word, for each.
+// Puts a space and a word, for each word.
 fn put_others<K: Sink>(others: &[&[u8]], sink: &mut K) -> Result<(), PutFailed>
     ensures { Puts (K.told sink.old) (K.told sink.new) (flat_map spaced (map (λ w. w.now) others.now)) result }
 {
@@ -24,7 +24,8 @@ fn put_others<K: Sink>(others: &[&[u8]], sink: &mut K) -> Result<(), PutFailed>
     Ok(())
 }
 
-/// Puts the line of the words and its end. Where a put failed a front of it was written, and the sink's count of faults rose.
+/// Puts the line of the words and its end. If a put failed, a front of the line was written, and the sink's count of
+/// faults rose.
 pub fn put_words<K: Sink>(first: &[u8], others: &[&[u8]], sink: &mut K) -> Result<(), PutFailed>
     ensures puts { Puts (K.told sink.old) (K.told sink.new)
         (ended (line_of (first.now ∷ map (λ w. w.now) others.now))) result }

@@ -1,4 +1,4 @@
-//! The words of a line, and the words among them.
+//! The words of a line, and how single words of it are read.
 
 ghost use Rattle.std.specs.Prelude.{◌≡◌, IfOk, option_map};
 ghost use Rattle.line_words.specs.Words.{behind_word, only_word, split_words, two_words};
@@ -13,14 +13,14 @@ fn collect_words(alloc: Global, line: &str) -> Result<Vec<&str>, AllocError>
     line.split(' ').collect(alloc)
 }
 
-/// The words of a line: what stands between its spaces. A line has one word more than spaces, and a word may be empty.
+/// The words of a line: the parts between its spaces. A line has one word more than spaces. A word may be empty.
 pub fn split_words<'a>(alloc: Global, line: &'a str) -> Result<Vec<&'a str>, NoMemory>
     ensures words { IfOk result (λ v. texts v.items ≡ split_words line.now) }
 {
     Ok(collect_words(alloc, line)?)
 }
 
-/// The words behind a word that stands first, if it does.
+/// The words behind the first word, if the first word is `key`.
 pub fn behind_word<'a, 'b>(words: &'b [&'a str], key: &str) -> Option<&'b [&'a str]>
     ensures words { option_map (λ w. texts w.now) result ≡ behind_word key.now (texts words.now) }
 {
@@ -30,7 +30,7 @@ pub fn behind_word<'a, 'b>(words: &'b [&'a str], key: &str) -> Option<&'b [&'a s
     }
 }
 
-/// The one word that there is, if it is one.
+/// The only word, if there is exactly one.
 pub fn only_word<'a>(words: &[&'a str]) -> Option<&'a str>
     ensures word { option_map (λ w. w.now) result ≡ only_word (texts words.now) }
 {
@@ -40,7 +40,7 @@ pub fn only_word<'a>(words: &[&'a str]) -> Option<&'a str>
     }
 }
 
-/// The two words that there are, if they are two.
+/// The two words, if there are exactly two.
 pub fn two_words<'a>(words: &[&'a str]) -> Option<(&'a str, &'a str)>
     ensures words { option_map (λ p. (p.0.now, p.1.now)) result ≡ two_words (texts words.now) }
 {

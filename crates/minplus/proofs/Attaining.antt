@@ -1,4 +1,5 @@
--- The entries of a closure are the root bounds: times that meet the always-edges attain each number, and exceed everything where there is none.
+-- The entries of a closure are the root bounds. Times that meet the always-edges attain each entry that is a number. Where there is no number, times
+-- exceed every number.
 use Rattle.std.proofs.Common.{◌≡◌, ◌+◌, ◌*◌, ◌<◌, ◌^◌, ◌⊎◌, inl, inr, ℕ, zero, suc, ℤ, pos, negsuc, neg_ℤ, ◌+ℤ◌, ◌-ℤ◌, Bool, true, false, cond, List, map, length, Some, None, ◌∙◌, refl, arith}
 use Rattle.std.specs.Prelude.{int_lt}
 use Rattle.std.specs.Int.{int_min}
@@ -19,11 +20,11 @@ use Rattle.minplus.proofs.Numbers.{absent_from, lesser, lesser_below, small_ther
 use Rattle.minplus.proofs.ClosedFurther.{AreEntries, sum_there}
 
 -- ---- the least entry of a column
--- an entry, or another number where it is absent
+-- an entry, or another number if the entry is absent
 abbrev pub or_else : ℤ → ℤ → ℤ
 or_else entry other = cond (int_lt entry ABSENT) entry other
 
--- which of the two it is
+-- whether it is the entry or the other number
 abbrev pub IsEither : ℤ → ℤ → Type 0
 IsEither entry other = (IsPresent entry × (or_else entry other ≡ entry)) ⊎ ((IsPresent entry → ⊥) × (or_else entry other ≡ other))
 
@@ -39,7 +40,7 @@ pub least_below : Entries → ℕ → ℕ → ℤ
 least_below entries zero to = pos 0
 least_below entries (suc rows) to = int_min (least_below entries rows to) (or_else (entries rows to) (pos 0))
 
--- what holds of it
+-- what holds of this least number
 pub record IsLeastBelow (entries : Entries) (rows to : ℕ) (value : ℤ) : Type 0 where
   pub low : value ≤ℤ pos 0
   pub each : (from : ℕ) → from < rows → IsPresent (entries from to) → value ≤ℤ entries from to
@@ -80,7 +81,7 @@ unfolding least_below
 least_is entries zero to = record { low = omega (arith, ints); each = λ from low there. absurd (omega arith); made = inl refl }
 least_is entries (suc rows) to = least_further entries rows to _ _ (least_is entries rows to) refl
 
--- it is not far below 0
+-- this least number is not far below 0
 least_near : (entries : Entries) (rows to : ℕ) → AreEntries entries → neg_ℤ (pos (2 ^ 61)) <ℤ least_below entries rows to
 least_near entries rows to held =
     elim ((least_is entries rows to).made) [
@@ -100,7 +101,7 @@ pub record IsStep (events : ℕ) (entries : Entries) (from to : ℕ) (weight : �
   pub weight_small : IsSmall weight
   pub longer : entries from to ≤ℤ weight
 
--- its entry is there
+-- the entry of the edge is present
 step_there : (events : ℕ) (entries : Entries) (from to : ℕ) (weight : ℤ) → IsStep events entries from to weight → IsPresent (entries from to)
 step_there events entries from to weight step =
     let high : weight <ℤ pos (2 ^ 61) = step.weight_small.high in
@@ -141,7 +142,7 @@ least_follows events entries from to weight held closed step =
     ]
 
 -- ---- times
--- the entry from a source, where there is one, and else the least entry of the column lifted by a number
+-- the entry from a source, or, if it is absent, the least entry of the column lifted by a number
 abbrev pub time_from : Entries → ℕ → ℕ → ℤ → ℕ → ℤ
 time_from entries events source lift to = or_else (entries source to) (least_below entries events to +ℤ lift)
 
@@ -197,7 +198,7 @@ times_meet net entries source lift high closure = record {
       rw (start, end) follows;
 }
 
--- how far the times of a source separate it from an event
+-- how far these times separate an event from the source
 source_time : (net : Net) (entries : Entries) (source : EventId) (lift : ℤ) → IsClosure net entries → source.0 < net.events → time_of (times_from entries net.events source.0 lift) source ≡ pos 0
 source_time net entries source lift closure below =
     let at_zero : entries source.0 source.0 ≡ pos 0 = closure.diagonal source.0 below in
@@ -280,7 +281,7 @@ no_root net entries event bounds negative times met =
     let most : separation times (record { 0 = event }) (record { 0 = event }) ≤ℤ entries event event = bounds times met event event there in
     omega (arith, ints)
 
--- a closure leaves some
+-- there are times for a closure
 pub has_root : (net : Net) (entries : Entries) → IsClosure net entries → (times : List ℤ) × MeetsAlways times net
 has_root net entries closure =
     let lift : ℤ = pos (3 * 2 ^ 61) in

@@ -28,8 +28,7 @@ column_stays event old new from through zero_there =
       | inr sum ↦ let is : new from event ≡ old from event +ℤ old event event = sum.2 in omega (arith, ints)
     ]
 
--- a sum of two small entries that is the new one: what is there is within the old entry or the sum
--- over an event below, with neither part new
+-- neither of two entries is new: the new entry is within their sum
 both_old : (event over from to : ℕ) (old new : Entries) → IsThrough event old new → IsClosedBelow event old → over < event
     → IsPresent (old from over) → IsPresent (old over to) → new from to ≤ℤ (old from over +ℤ old over to)
 both_old event over from to old new through closed low first second =
@@ -37,7 +36,7 @@ both_old event over from to old new through closed low first second =
     let falls : new from to ≤ℤ old from to = through.falls from to in
     omega (arith, ints)
 
--- there is a path where its two parts are there
+-- an entry is present if the two entries are, whose sum it does not exceed
 pub sum_there : (entry first second : ℤ) → IsEntry first → IsEntry second → IsPresent first → IsPresent second → entry ≤ℤ (first +ℤ second) → IsPresent entry
 sum_there entry first second one two first_there second_there within =
     let low = small_there first one first_there in
@@ -68,7 +67,7 @@ both_new event over from to old new through closed low zero_there first second t
     let least : new from to ≤ℤ (old from event +ℤ old event to) = through.least from to first fourth in
     omega (arith, ints)
 
--- what is there was there before, or goes over the event
+-- the new entries keep the fact: each part was there before or goes over the event
 over_lower : (event over from to : ℕ) (old new : Entries) → AreEntries old → IsThrough event old new → IsClosedBelow event old → over < event → old event event ≡ pos 0
     → IsAtMostSum (new from to) (new from over) (new over to)
 over_lower event over from to old new held through closed low zero_there first second =
@@ -122,7 +121,7 @@ closed_further event old new held through closed zero_there =
       | inr apart ↦ over_lower event over from to old new held through closed (omega arith) zero_there
     ]
 
--- what bounds the separations still does
+-- the new entries still bound the separations
 pub bounds_further : (net : Net) (event : ℕ) (old new : Entries) → IsThrough event old new → BoundsAlways net old → BoundsAlways net new
 bounds_further net event old new through bounds =
     λ times met from to there.

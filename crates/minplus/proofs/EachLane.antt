@@ -70,11 +70,11 @@ pick : (t : Bool) (x y : ℤ) → SFits w64 x → SFits w64 y → to_z w64 (cond
 pick true x y first second = to_z-of_z w64 x first
 pick false x y first second = to_z-of_z w64 y second
 
--- the lane of a sum, by whether the other entry is absent
+-- the lane of a sum, by the test whether the other entry is absent
 abbrev pub sum_lane : ℤ → ℤ → Bool → ℕ
 sum_lane weight other t = add_lane (cond t 0 (of_z w64 other)) (of_z w64 weight)
 
--- the improved lane, by the same
+-- the improved lane, by the same test
 abbrev pub least_lane : ℤ → ℤ → ℤ → Bool → ℕ
 least_lane weight entry other t =
     cond t (of_z w64 entry) (cond (top 63 (lt_lane (of_z w64 entry) (sum_lane weight other t))) (of_z w64 entry) (sum_lane weight other t))
@@ -139,7 +139,7 @@ lane_fits weight other small (inl absent) =
 lane_fits weight other weight_small (inr small) =
     rw (at_small other small, to_z-of_z w64 other (small_fits other small), to_z-of_z w64 weight (small_fits weight weight_small)) (sum_fits other weight small weight_small)
 
--- no sum is past the numbers of 64 bits
+-- all sums fit 64 bits
 pub all_fit : (n : ℕ) (weight : ℤ) (others : List ℤ) → length others ≡ n → IsSmall weight → Each1 IsEntry others
     → Each2 (Asks2 (add signed) (s_int w64) (s_int w64)) (present_lanes n others) (replicate n (of_z w64 weight))
 all_fit zero weight [] counts small held = tt

@@ -11,11 +11,11 @@ use Rattle.minplus.specs.Rows.{Improves, entry_at, improved}
 use Rattle.minplus.specs.Step.Rows.{ImprovesPart}
 use Rattle.minplus.specs.declared.rows.TheConstants.{ABSENT}
 
--- nothing yet
+-- the empty part
 pub start : (weight : ℤ) (first : ℕ) (row other : List ℤ) → ImprovesPart weight first first row other row
 start weight first row other = record { count = refl; each = λ place low high. absurd (omega arith); below = λ place low. refl; above = λ place high. refl }
 
--- one part and the next
+-- one part joined with the next
 pub further : (weight : ℤ) (first middle last : ℕ) (old other now new : List ℤ) → first ≤ middle → middle ≤ last
     → ImprovesPart weight first middle old other now → ImprovesPart weight middle last now other new → ImprovesPart weight first last old other new
 further weight first middle last old other now new low high one two = record {
@@ -28,7 +28,7 @@ further weight first middle last old other now new low high one two = record {
   above = λ place behind. two.above place behind ∙ one.above place (omega arith);
 }
 
--- all parts: past the end of both rows an entry stays absent
+-- all parts together improve the rows. Past the end of both rows an entry stays absent
 pub whole : (weight : ℤ) (last : ℕ) (old other new : List ℤ) → length old ≤ last → length other ≡ length old → ImprovesPart weight 0 last old other new → Improves weight old other new
 whole weight last old other new all lengths part = record {
   count = part.count;
@@ -40,7 +40,7 @@ whole weight last old other new all lengths part = record {
   ];
 }
 
--- the same, of a weight that went through its 64 bits
+-- all parts, where the weight went through its 64 bits
 pub whole_by_bits : (weight : ℤ) (last : ℕ) (old other new : List ℤ) → SFits w64 weight → length old ≤ last → length other ≡ length old
     → ImprovesPart (to_z w64 (of_z w64 weight)) 0 last old other new → Improves weight old other new
 whole_by_bits weight last old other new fits all lengths part =
@@ -58,7 +58,7 @@ one_set weight place old other entry within is = record {
   above = λ at high. let apart : at ≡ place → ⊥ = λ same. omega arith in get_or-set_other old place at entry ABSENT apart;
 }
 
--- the same, of numbers that went through their 64 bits
+-- one entry was set, where the numbers went through their 64 bits
 pub one_set_by_bits : (weight : ℤ) (place : ℕ) (old other : List ℤ) (entry : ℤ) → SFits w64 weight → SFits w64 (get_or old place (pos 0)) → SFits w64 (get_or other place (pos 0)) → SFits w64 entry
     → place < length old → length other ≡ length old
     → entry ≡ improved (to_z w64 (of_z w64 weight)) (to_z w64 (of_z w64 (get_or old place (pos 0)))) (to_z w64 (of_z w64 (get_or other place (pos 0))))

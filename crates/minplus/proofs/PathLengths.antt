@@ -1,4 +1,4 @@
--- Each entry is the length of a path over different events: paths that share an event make none that is shorter.
+-- Each entry is the length of a path over different events. Two paths that share an event do not make a shorter one.
 use Rattle.std.proofs.Common.{◌≡◌, ◌+◌, ◌*◌, ◌<◌, ◌≤◌, ◌^◌, ◌⊎◌, inl, inr, ℕ, ℤ, pos, neg_ℤ, ◌+ℤ◌, true, false, eqb, List, [], ◌∷◌, ◌++◌, length, sym, ap, subst, refl, arith}
 use Rattle.std.specs.List.{AllByRecursion, IsDistinct, list_any}
 use Rattle.std.proofs.Math.Nat.{mul-le-mul_right}
@@ -11,7 +11,7 @@ use Rattle.minplus.specs.Step.Entries.{Entries, IsClosedBelow, IsPresent, IsThro
 use Rattle.minplus.specs.Step.Paths.{AreBelow, ArePaths, AreSteps, HasPath, IsEntryPath}
 use Rattle.minplus.proofs.ClosedFurther.{AreEntries, sum_there}
 
--- two paths make one
+-- two paths joined are one path
 pub joined : (steps : Entries) (from middle to : ℕ) (first second : List ℕ) (a b : ℤ) → IsEntryPath steps from first middle a → IsEntryPath steps middle second to b
     → IsEntryPath steps from (first ++ middle ∷ second) to (a +ℤ b)
 joined steps from middle to [] second a b one two = (b, one.0, two, ap (λ x. x +ℤ b) one.1)
@@ -19,7 +19,7 @@ joined steps from middle to (event ∷ first) second a b one two =
     let is : a ≡ steps from event +ℤ one.0 = one.3 in
     (one.0 +ℤ b, one.1, joined steps event middle to first second one.0 b one.2 two, omega (arith, ints))
 
--- what a path is, as two paths
+-- the two paths that make one
 pub record IsCut (steps : Entries) (from middle to : ℕ) (first second : List ℕ) (sum : ℤ) : Type 0 where
   pub a : ℤ
   pub b : ℤ
@@ -27,7 +27,7 @@ pub record IsCut (steps : Entries) (from middle to : ℕ) (first second : List �
   pub two : IsEntryPath steps middle second to b
   pub is : sum ≡ (a +ℤ b)
 
--- a path is two paths
+-- a path cut at an event is two paths
 pub cut : (steps : Entries) (from middle to : ℕ) (first second : List ℕ) (sum : ℤ) → IsEntryPath steps from (first ++ middle ∷ second) to sum → IsCut steps from middle to first second sum
 cut steps from middle to [] second sum path = record { a = steps from middle; b = path.0; one = (path.1, refl); two = path.2; is = path.3 }
 cut steps from middle to (event ∷ first) second sum path =
@@ -54,7 +54,7 @@ no_shorter steps entries limit from to (event ∷ over) sum held falls closed be
     let is : sum ≡ steps from event +ℤ path.0 = path.3 in
     (sum_there _ _ _ (held from event) (held event to) first rest.0 within, omega (arith, ints))
 
--- paths that share an event make none that is shorter: the event is left and met again
+-- two paths that share an event make no shorter one: the joined path leaves the shared event and meets it again
 pub no_shorter_by_sharing : (steps entries : Entries) (event shared from to : ℕ) (a b c d : List ℕ) (one two : ℤ) → AreEntries entries → ((x y : ℕ) → entries x y ≤ℤ steps x y)
     → IsClosedBelow event entries → entries event event ≡ pos 0 → shared < event → AreBelow event a → AreBelow event b → AreBelow event c → AreBelow event d
     → IsEntryPath steps from (a ++ shared ∷ b) event one → IsEntryPath steps event (c ++ shared ∷ d) to two → entries from to ≤ℤ (one +ℤ two)
@@ -76,7 +76,7 @@ no_shorter_by_sharing steps entries event shared from to a b c d one two held fa
     omega (arith, ints)
 
 -- ---- shared events
--- the number is not among others
+-- the number is not in the list
 abbrev pub IsApart : ℕ → List ℕ → Type 0
 IsApart x ys = AllByRecursion (λ y. eqb x y ≡ false) ys
 
@@ -84,13 +84,13 @@ IsApart x ys = AllByRecursion (λ y. eqb x y ≡ false) ys
 abbrev pub AreApart : List ℕ → List ℕ → Type 0
 AreApart xs ys = AllByRecursion (λ x. IsApart x ys) xs
 
--- a number is in a list, with these before and behind it
+-- a number is in a list: `front` and `back` are what is before and behind it
 pub record IsFound (x : ℕ) (ys : List ℕ) : Type 0 where
   pub front : List ℕ
   pub back : List ℕ
   pub is : ys ≡ front ++ x ∷ back
 
--- an event is in both
+-- an event is in both lists
 pub record AreSharing (limit : ℕ) (xs ys : List ℕ) : Type 0 where
   pub event : ℕ
   pub low : event < limit
@@ -160,7 +160,7 @@ distinct_joined event (x ∷ xs) ys one two first second apart =
 kept : (steps : Entries) (limit from to : ℕ) (sum : ℤ) → HasPath steps limit from to sum → HasPath steps (limit + 1) from to sum
 kept steps limit from to sum path = record { over = path.over; path = path.path; below = below_more limit path.over path.below; distinct = path.distinct }
 
--- what the paths of one event more are made of
+-- what is known when the paths go over one more event
 pub record IsStep (steps old new : Entries) (event : ℕ) : Type 0 where
   pub held : AreEntries old
   pub falls : (x y : ℕ) → old x y ≤ℤ steps x y
@@ -169,7 +169,7 @@ pub record IsStep (steps old new : Entries) (event : ℕ) : Type 0 where
   pub diagonal : old event event ≡ pos 0
   pub paths : ArePaths steps event old
 
--- over the event, by two paths that are apart
+-- two paths that share no event make a path over the event
 by_apart : (steps old new : Entries) (event from to : ℕ) → (first : HasPath steps event from event (old from event)) → (second : HasPath steps event event to (old event to))
     → new from to ≡ (old from event +ℤ old event to) → AreApart first.over second.over → HasPath steps (event + 1) from to (new from to)
 by_apart steps old new event from to first second is apart =
@@ -181,7 +181,7 @@ by_apart steps old new event from to first second is apart =
       distinct = distinct_joined event first.over second.over first.below second.below first.distinct second.distinct apart;
     }
 
--- by two paths that share an event the entry does not fall
+-- two paths that share an event do not lower the entry
 by_sharing : (steps old new : Entries) (event from to : ℕ) → IsStep steps old new event → (first : HasPath steps event from event (old from event))
     → (second : HasPath steps event event to (old event to)) → AreSharing event first.over second.over → old from to ≤ℤ (old from event +ℤ old event to)
 by_sharing steps old new event from to step first second sharing =
@@ -222,7 +222,7 @@ paths_further steps old new event step from to there =
     ]
 
 -- ---- lengths
--- a path is no longer, up or down, than the limit for each of its steps
+-- the length of a path is, in absolute value, at most the limit of a step for each of its steps
 length_near : (limit : ℕ) (steps : Entries) (from to : ℕ) (over : List ℕ) (sum : ℤ) → AreSteps (pos limit) steps → IsEntryPath steps from over to sum
     → (neg_ℤ (pos ((length over + 1) * limit)) ≤ℤ sum) × (sum ≤ℤ pos ((length over + 1) * limit))
 length_near limit steps from to [] sum small path =

@@ -12,7 +12,7 @@ use Rattle.minplus.specs.Step.Entries.{IsPresent, IsThrough, IsAtMostSum}
 use Rattle.minplus.specs.declared.rows.TheConstants.{ABSENT}
 use Rattle.minplus.proofs.Numbers.{IsImproved, improved_is, there_from}
 
--- every place of a row has an entry, past its end too
+-- every place of a row has an entry, even past its end
 pub entry_held : (row : List ℤ) (place : ℕ) → All IsEntry row → IsEntry (entry_at row place)
 entry_held row place held =
     elim (cases_lt place (length row)) [
@@ -20,7 +20,7 @@ entry_held row place held =
       | inr past ↦ inl (get_or_past row place ABSENT past)
     ]
 
--- a row was improved with its entry of the event as the weight
+-- a row was improved, where the weight is its entry at the event
 row_improved : (event : ℕ) (old through new : List ℤ) (weight : ℤ) → weight ≡ entry_at old event → IsPresent weight → All IsEntry through → Improves weight old through new
     → RowThrough event old through new
 row_improved event old through new weight is there held improves = record {
@@ -36,11 +36,11 @@ row_improved event old through new weight is there held improves = record {
     at : (to : ℕ) → IsImproved weight (entry_at old to) (entry_at through to) (improved weight (entry_at old to) (entry_at through to))
     at to = improved_is weight (entry_at old to) (entry_at through to) (entry_held through to held)
 
--- the entry of the event, as it is read
+-- the entry at the event, as the code reads it
 read_at : (event : ℕ) (row : List ℤ) (weight : ℤ) → event < length row → SFits w64 (get_or row event (pos 0)) → weight ≡ to_z w64 (of_z w64 (get_or row event (pos 0))) → weight ≡ entry_at row event
 read_at event row weight below fits is = is ∙ to_z-of_z w64 _ fits ∙ get_or_default row event (pos 0) ABSENT below
 
--- so where the entry that is read is there
+-- a row was improved, where the entry that the code reads is present
 pub row_by_bits : (event : ℕ) (old through new : List ℤ) → event < length old → SFits w64 (get_or old event (pos 0)) → int_lt (to_z w64 (of_z w64 (get_or old event (pos 0)))) ABSENT ≡ true
     → All IsEntry through → Improves (to_z w64 (of_z w64 (get_or old event (pos 0)))) old through new → RowThrough event old through new
 row_by_bits event old through new below fits there held improves =
@@ -50,7 +50,7 @@ row_by_bits event old through new below fits there held improves =
 abbrev pub row_of : List (List ℤ) → ℕ → List ℤ
 row_of rows event = slice_index_or rows event []
 
--- the rows before a number were improved through an event, and those from it on are as they were
+-- the rows before a number were improved through an event. The other rows did not change
 pub record IsHalfway (event rows_done : ℕ) (old now : List (List ℤ)) (through : List ℤ) : Type 0 where
   pub own : through ≡ row_of old event
   pub count : length now ≡ length old

@@ -44,7 +44,7 @@ edges_further net old new falls edges name e always is =
     let fall : new e.from.0 e.to.0 ≤ℤ old e.from.0 e.to.0 = falls e.from.0 e.to.0 in
     record { from = held.from; to = held.to; small = held.small; longer = omega (arith, ints) }
 
--- one event more, where no entry of the diagonal has become negative
+-- the next stage, where no entry of the diagonal has become negative
 pub stage_further : (net : Net) (steps old new : Entries) (event : ℕ) → event < net.events → net.events ≤ MAX_MATRIX_EVENTS → PivotStage net steps event old → IsThrough event old new
     → ((at : ℕ) → at < net.events → pos 0 ≤ℤ new at at) → PivotStage net steps (event + 1) new
 stage_further net steps old new event below few stage through sound =
@@ -68,7 +68,7 @@ stage_further net steps old new event below few stage through sound =
       bounds = bounds_further net event old new through stage.bounds;
     }
 
--- all events
+-- the stage of all events
 pub closure_at_end : (net : Net) (steps entries : Entries) → PivotStage net steps net.events entries → IsClosure net entries
 closure_at_end net steps entries stage = record { held = stage.held; closed = stage.closed; diagonal = stage.diagonal; edges = stage.edges; bounds = stage.bounds }
 

@@ -33,14 +33,14 @@ falls_further old mid new first second from to =
 pub falls_not : (entries : Entries) → NoneRose entries entries
 falls_not entries from to = omega (arith, ints)
 
--- an edge that is held is held by lesser entries too
+-- if entries fall, an edge that was held is still held
 pub held_by_less : (events : ℕ) (old new : Entries) (e : Edge) → NoneRose old new → IsEdgeHeld events old e → IsEdgeHeld events new e
 held_by_less events old new e falls held =
     let fall : new e.from.0 e.to.0 ≤ℤ old e.from.0 e.to.0 = falls e.from.0 e.to.0 in
     let longer : old e.from.0 e.to.0 ≤ℤ e.weight = held.longer in
     record { from = held.from; to = held.to; small = held.small; longer = omega (arith, ints) }
 
--- what is lowered to the weight of an always-edge still bounds the separations
+-- entries that fell to the weight of an always-edge still bound the separations
 bounds_lowered : (net : Net) (name : EdgeName) (e : Edge) (old new : Entries) → IsAlwaysEdge net name e → Lowers e old new → BoundsAlways net old → BoundsAlways net new
 bounds_lowered net name e old new named lowers bounds times met from to there =
     elim (lowers.made from to) [
@@ -76,7 +76,7 @@ steps_lowered net name e old new named lowers small from to there =
           subst P (sym lowered.2) named.within
     ]
 
--- one always-edge more
+-- the matrix after one more always-edge
 pub bounds_after : (net : Net) (name : EdgeName) (e : Edge) (old new : List (List ℤ)) → IsAlwaysEdge net name e → IsSquare (length old) new → Lowers e (cells old) (cells new) → BoundSeparations net old → BoundSeparations net new
 bounds_after net name e old new named square lowers bounds = record {
   square = subst (λ events. IsSquare events new) bounds.square.count square;
@@ -92,7 +92,7 @@ bounds_after net name e old new named square lowers bounds = record {
   bounds = bounds_lowered net name e (cells old) (cells new) named lowers bounds.bounds;
 }
 
--- it is held
+-- the always-edge is held
 pub edge_held : (net : Net) (name : EdgeName) (e : Edge) (old new : Entries) → IsAlwaysEdge net name e → Lowers e old new → HoldsEdge net new name
 edge_held net name e old new named lowers other always is =
     let same : e ≡ other = same_Some _ _ (sym named.is ∙ is) in
@@ -110,7 +110,7 @@ HoldsConstraintsBelow net entries count = (constraint cause : ℕ) → constrain
 pub cause_by_less : (net : Net) (old new : Entries) (constraint cause : ℕ) → NoneRose old new → HoldsCause net old constraint cause → HoldsCause net new constraint cause
 cause_by_less net old new constraint cause falls holds side e always is = held_by_less net.events old new e falls (holds side e always is)
 
--- both sides of a cause
+-- the edges of both sides of a cause are held
 pub both_sides : (net : Net) (mid new : Entries) (constraint cause : ℕ) → NoneRose mid new
     → HoldsEdge net mid (record { constraint = constraint; cause = cause; side = Lower }) → HoldsEdge net new (record { constraint = constraint; cause = cause; side = Upper })
     → HoldsCause net new constraint cause
@@ -125,13 +125,13 @@ causes_more net old new constraint count before falls here cause below =
       | inr apart ↦ cause_by_less net old new constraint cause falls (before cause (omega arith))
     ]
 
--- a cause is below the number of causes, or is the one of a linear constraint
+-- the number of a cause is below the number of causes, or the constraint is linear and the cause is its one cause
 cause_within : (kind : RuleKind) (cause length count : ℕ) → cause < length → IsCauseCount kind length → named_causes kind length ≡ count → cause < max count 1
 cause_within Lin cause length count below is named = omega arith
 cause_within Late cause length count below is named = omega arith
 cause_within Early cause length count below is named = omega arith
 
--- all causes
+-- the edges of all causes of a constraint are held
 pub all_causes : (net : Net) (entries : Entries) (constraint count : ℕ) → IsNet net → option_map cause_count_of (slice_get net.constraints constraint) ≡ Some count
     → HoldsCausesBelow net entries constraint (max count 1) → (cause : ℕ) → HoldsCause net entries constraint cause
 all_causes net entries constraint count is_net counted below cause side e always is =
@@ -150,14 +150,14 @@ constraints_more net old new count before falls here constraint cause below =
       | inr apart ↦ cause_by_less net old new constraint cause falls (before constraint cause (omega arith))
     ]
 
--- all of them
+-- all always-edges are held
 pub all_held : (net : Net) (entries : Entries) → HoldsConstraintsBelow net entries (length net.constraints) → HoldsEdges net entries
 all_held net entries holds name e always is =
     option_and_then_some _ _ _ is
     (λ c at _. holds name.constraint name.cause (slice_get_within net.constraints name.constraint c at) name.side e always is)
 
 -- ---- the rows of no edges
--- one row more
+-- the rows of no edges with one row more
 pub rows_more : (events count : ℕ) (rows new : List (List ℤ)) (row : List ℤ) → AreEmptyRows events count rows → row ≡ set (replicate events ABSENT) count (pos 0) → new ≡ rows ++ row ∷ []
     → AreEmptyRows events (count + 1) new
 rows_more events count rows new row before is pushed = record {
@@ -200,7 +200,7 @@ empty_cell events rows empty from to =
 zero_small : IsSmall (pos 0)
 zero_small = record { low = omega (arith, ints); high = omega (arith, ints) }
 
--- they are bounds
+-- the rows of no edges bound the separations
 pub empty_bounds : (net : Net) (rows : List (List ℤ)) → AreEmptyRows net.events net.events rows → BoundSeparations net rows
 empty_bounds net rows empty = record {
   square = record {

@@ -9,7 +9,7 @@ use Rattle.minplus.specs.declared.fault.MatrixFault.{MatrixFault}
 use Rattle.minplus.specs.declared.fault.MatrixFault.TheVariants.{Loop, NoMemory, TooMany}
 use Rattle.minplus.specs.declared.rows.TheConstants.{ABSENT}
 
--- the entries of rows, by the numbers of two events
+-- the entry of a matrix from one event to another, by their numbers
 abbrev pub cells : List (List ℤ) → ℕ → ℕ → ℤ
 cells rows from to = entry_at (slice_index_or rows from []) to
 
@@ -21,7 +21,7 @@ number_of entry = if int_lt entry ABSENT then Some entry else None
 abbrev pub entry_of : List (List ℤ) → EventId → EventId → Option ℤ
 entry_of rows from to = number_of (cells rows from.0 to.0)
 
--- there are as many rows as events, each of as many entries
+-- there is a row for each event, and each row has an entry for each event
 pub record IsSquare (events : ℕ) (rows : List (List ℤ)) : Type 0 where
   pub count : length rows ≡ events
   pub each : (from : ℕ) → from < events → length (slice_index_or rows from []) ≡ events
@@ -31,7 +31,8 @@ pub record AreRootBounds (net : Net) (rows : List (List ℤ)) : Type 0 where
   pub square : IsSquare net.events rows
   pub bounds : (from to : EventId) → from.0 < net.events → to.0 < net.events → IsRootBound net from to (entry_of rows from to)
 
--- why a network has no matrix: it has too many events; or else no times meet its always-edges, or memory is wanted
+-- why a network has no matrix: it has too many events, and this is their number; or it has few enough, and no times meet its always-edges or memory ran
+-- out
 abbrev pub IsMatrixFault : Net → MatrixFault → Type 0
 IsMatrixFault net (TooMany events) = (events ≡ net.events) × (MAX_MATRIX_EVENTS < net.events)
 IsMatrixFault net Loop = (net.events ≤ MAX_MATRIX_EVENTS) × HasNoRoot net

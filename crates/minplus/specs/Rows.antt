@@ -3,11 +3,11 @@ use Rattle.std.specs.Prelude.{◌≡◌, ◌^◌, ◌⊎◌, ℕ, ℤ, pos, neg_
 use Rattle.std.specs.Int.{int_min}
 use Rattle.minplus.specs.declared.rows.TheConstants.{ABSENT}
 
--- the entry of a row at a place; past its end there is none
+-- the entry of a row at a place, or `ABSENT` past the row's end
 abbrev pub entry_at : List ℤ → ℕ → ℤ
 entry_at row place = slice_index_or row place ABSENT
 
--- the lesser of an entry and the sum of another and a weight; where the other is absent, the entry
+-- the lesser of an entry and another entry plus a weight. If the other entry is absent, the entry stays
 abbrev pub improved : ℤ → ℤ → ℤ → ℤ
 improved weight entry other = if int_le ABSENT other then entry else int_min entry (other +ℤ weight)
 
@@ -16,11 +16,11 @@ pub record IsSmall (number : ℤ) : Type 0 where
   pub low : neg_ℤ (pos (2 ^ 61)) <ℤ number
   pub high : number <ℤ pos (2 ^ 61)
 
--- absent, or small
+-- an entry is absent or a small number
 abbrev pub IsEntry : ℤ → Type 0
 IsEntry entry = (entry ≡ ABSENT) ⊎ IsSmall entry
 
--- each entry of a row was improved by the one at its place in another row
+-- each entry of a row was improved by the entry at its place in another row
 pub record Improves (weight : ℤ) (old other new : List ℤ) : Type 0 where
   pub count : length new ≡ length old
   pub each : (place : ℕ) → entry_at new place ≡ improved weight (entry_at old place) (entry_at other place)

@@ -1,4 +1,4 @@
--- What the steps on the way to a closure say of one another.
+-- What the contracts of the steps to a closure say of matrices and rows.
 pub mod Rows
 pub mod Entries
 pub mod Paths

@@ -1,4 +1,4 @@
-//! Improving a matrix through each event in turn, after Floyd (1962) and Warshall (1962).
+//! Improving a matrix through each event in turn: the Floyd-Warshall algorithm.
 
 ghost use Rattle.std.specs.Prelude.{◌≡◌, ◌≢◌, ◌<◌, ◌≤◌, ℕ, [], pos, ◌≤ℤ◌, ◌<ℤ◌, true, false, All, length, slice_index_or, OnOk, IfErr};
 ghost use Rattle.itv_base.specs.declared.limits.TheConstants.{MAX_MATRIX_EVENTS};
@@ -15,8 +15,8 @@ use crate::row::{MatrixRow, entry};
 use crate::rows::ABSENT;
 use event_graph::Network;
 
-/// Improves the rows of the always-edges through each event in turn. The answer is `Loop` as soon as an entry
-/// of the diagonal is negative, so that no entry leaves the sums of two paths over different events.
+/// Improves the rows of the always-edges through each event in turn. Returns `Loop` as soon as an entry of the diagonal
+/// is negative. So each entry stays a path over different events or the sum of two such paths.
 pub fn close(net: &Network, rows: &mut [MatrixRow], through: &mut [i64]) -> Result<(), MatrixFault>
     requires few { net.now.events ≤ MAX_MATRIX_EVENTS }
     requires bounds { BoundSeparations net.now rows.old }
@@ -52,7 +52,7 @@ fn is_sound(rows: &[MatrixRow]) -> bool
     true
 }
 
-// Improves each row through an event. The entries of its own row are put into `through` first.
+// Improves each row through an event. First copies the event's own row to `through`.
 fn improve_through(rows: &mut [MatrixRow], through: &mut [i64], event: usize)
     requires square { IsSquare (length rows.old) rows.old }
     requires event { event < length rows.old }
@@ -68,7 +68,7 @@ fn improve_through(rows: &mut [MatrixRow], through: &mut [i64], event: usize)
     }
 }
 
-// Improves one of the rows through an event.
+// Improves one of the rows through an event. `through` is the event's own row.
 fn improve_nth(rows: &mut [MatrixRow], k: usize, through: &[i64], event: usize)
     requires row { k < length rows.old }
     requires lengths { length through.now ≡ length (slice_index_or rows.old k []) }
@@ -85,7 +85,7 @@ fn improve_nth(rows: &mut [MatrixRow], k: usize, through: &[i64], event: usize)
     improve_row(&mut row.entries, through, event);
 }
 
-// Improves a row through an event, whose own row is given.
+// Improves a row through an event. `through` is the event's own row.
 fn improve_row(row: &mut [i64], through: &[i64], event: usize)
     requires lengths { length through.now ≡ length row.old }
     requires event { event < length row.old }

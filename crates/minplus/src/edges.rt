@@ -15,8 +15,8 @@ use event_graph::{Edge, Network};
 use itv_base::{EdgeName, NoMemory, Side};
 use std::alloc::Global;
 
-/// The rows of the always-edges: 0 or less from each event to itself, and from one event to another the
-/// least weight of an always-edge between them.
+/// The rows of the always-edges. From an event to itself the entry is 0 or less. From one event to another it is the
+/// least weight of an always-edge between them, or absent.
 pub fn first_rows(alloc: Global, net: &Network) -> Result<Vec<MatrixRow>, NoMemory>
     ensures bounds { IfOk result (λ rows. BoundSeparations net.now rows.items) }
     ensures edges { IfOk result (λ rows. HoldsEdges net.now (cells rows.items)) }
@@ -26,7 +26,7 @@ pub fn first_rows(alloc: Global, net: &Network) -> Result<Vec<MatrixRow>, NoMemo
     Ok(rows)
 }
 
-// The rows of no edges: 0 from each event to itself, and nothing else.
+// The rows of no edges: 0 from each event to itself, and all other entries absent.
 fn empty_rows(alloc: Global, events: usize) -> Result<Vec<MatrixRow>, NoMemory>
     ensures { IfOk result (λ rows. AreEmptyRows events events rows.items) }
 {
@@ -93,7 +93,7 @@ fn lower_cause(net: &Network, constraint: u32, cause: u32, rows: &mut [MatrixRow
     lower_named(net, upper, rows);
 }
 
-// Lowers an entry to the weight of the edge of a name, if it is an always-edge.
+// Lowers an entry to the weight of the edge with this name, if it is an always-edge.
 fn lower_named(net: &Network, name: EdgeName, rows: &mut [MatrixRow])
     requires { BoundSeparations net.now rows.old }
     ensures bounds { BoundSeparations net.now rows.new }
@@ -105,7 +105,7 @@ fn lower_named(net: &Network, name: EdgeName, rows: &mut [MatrixRow])
     }
 }
 
-// The edge of a name, if it is an always-edge.
+// The edge with this name, if it is an always-edge.
 fn always_edge(net: &Network, name: EdgeName) -> Option<Edge>
     ensures some { IfSome result (IsAlwaysEdge net.now name) }
     ensures none { IfNone result (IsAlways net.now name → ⊥) }
@@ -117,7 +117,7 @@ fn always_edge(net: &Network, name: EdgeName) -> Option<Edge>
     }
 }
 
-// Lowers the entry of an edge's ends to its weight.
+// Lowers the entry from the edge's from-event to its to-event to the edge's weight.
 fn lower(rows: &mut [MatrixRow], edge: Edge)
     requires square { IsSquare (length rows.old) rows.old }
     requires from { edge.from.0 < length rows.old }
@@ -142,7 +142,7 @@ fn lower_nth(rows: &mut [MatrixRow], k: usize, place: usize, weight: i64)
     lower_entry(&mut row.entries, place, weight);
 }
 
-// Lowers an entry to a weight.
+// Lowers an entry to a weight, if the weight is less.
 fn lower_entry(row: &mut [i64], place: usize, weight: i64)
     requires { place < length row.old }
     ensures { LowersEntry place weight row.old row.new }

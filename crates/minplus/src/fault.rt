@@ -11,7 +11,7 @@ use std::fmt;
 /// Why a network has no matrix.
 #[derive(Clone, Copy, Debug, PartialEq, Eq)]
 pub enum MatrixFault {
-    /// The network has more events than a matrix may have, which is their number.
+    /// The network has this number of events, and a matrix may not have so many.
     TooMany(u32),
     /// No times meet the always-edges.
     Loop,

@@ -11,7 +11,7 @@ use std::simd::i64x8;
 // How many entries a vector holds.
 const LANES: usize = 8;
 
-/// Does what [`row_plain`](crate::row_plain) does, eight entries at a time, and the rest one by one.
+/// Does the same as [`row_plain`](crate::row_plain): eight entries at a time, and the rest one by one.
 pub fn row_lanes(dst: &mut [i64], src: &[i64], w: i64)
     requires lengths { length src.now ≡ length dst.old }
     requires entries { All IsEntry dst.old }
@@ -43,7 +43,7 @@ fn improve_eight(dst: &mut [i64], src: &[i64], place: usize, w: i64)
     improved_lanes(entries, others, w).copy_to_slice(&mut dst[place..]);
 }
 
-// Eight entries, improved. To a lane that is absent nothing is ever added.
+// Improves eight entries. The weight is never added to an absent entry.
 #[inline(always)]
 fn improved_lanes(entries: i64x8, others: i64x8, weight: i64) -> i64x8
     requires count { length entries ≡ 8 }

@@ -1,6 +1,6 @@
-//! The matrix of the root bounds of all pairs of events, which the always-edges of a network give.
-//! The contract of the crate: `closure` gives for each pair the greatest separation among all times that meet
-//! the always-edges, none where it is unbounded, and answers `Loop` exactly where no times meet them.
+//! The matrix of the root bounds of all pairs of events, as the always-edges of a network give them. The contract of
+//! the crate: `closure` gives for each pair the greatest separation among all times that meet the always-edges, or none
+//! where it is unbounded. It returns `Loop` if and only if no times meet them.
 #![tactic(auto)]
 
 mod closing;

@@ -33,7 +33,7 @@ impl Matrix {
     ghost use Rattle.std.specs.Prelude.{[], slice_index_or};
     ghost use Rattle.minplus.specs.Matrix.{entry_of};
 
-    /// What the matrix holds for a pair of events that are there, in picoseconds.
+    /// The number of a pair of events, in picoseconds, or none. The matrix must have both events.
     pub fn at(&self, from: EventId, to: EventId) -> Option<i64>
         requires from { from.0 < length self.now }
         requires to { to.0 < length (slice_index_or self.now from.0 []) }
@@ -44,10 +44,10 @@ impl Matrix {
     }
 }
 
-/// The root bounds of all pairs of events of a network, in picoseconds: for each pair the greatest separation
-/// among all times that meet the always-edges, or none where it is unbounded. The answer is `TooMany` with the
-/// number of events exactly where there are more than [`MAX_MATRIX_EVENTS`], and takes no memory then. Else it
-/// is `Loop` exactly where no times meet the always-edges, if there is memory for a number for each pair.
+/// The root bounds of all pairs of events of a network, in picoseconds: for each pair the greatest separation among all
+/// times that meet the always-edges, or none where it is unbounded. The answer is `TooMany` with the number of events
+/// if and only if there are more than [`MAX_MATRIX_EVENTS`]; then no memory is taken. Otherwise it is `Loop` if and
+/// only if no times meet the always-edges, if there is memory for a number for each pair.
 pub fn closure(alloc: Global, net: &Network) -> Result<Matrix, MatrixFault>
     ensures matrix { IfOk result (AreRootBounds net.now) }
     ensures few { OnOk result (net.now.events ≤ MAX_MATRIX_EVENTS) }

@@ -5,7 +5,7 @@ ghost use Rattle.minplus.specs.Matrix.{cells};
 
 use std::marker::Model;
 
-/// The entries from one event to each event. Contracts see their list.
+/// The entries from one event to each event. Contracts see the list of entries.
 #[derive(Debug, Drop)]
 pub struct MatrixRow {
     pub entries: Vec<i64>,
@@ -19,7 +19,7 @@ impl Model for MatrixRow {
     ghost view = { λ row. row.entries.items };
 }
 
-/// The entry of the rows from one event to another, by their numbers.
+/// The entry from one event to another, by their numbers.
 pub fn entry(rows: &[MatrixRow], from: usize, to: usize) -> i64
     requires from { from < length rows.now }
     requires to { to < length (slice_index_or rows.now from []) }

@@ -4,12 +4,12 @@ ghost use Rattle.std.specs.Prelude.{◌≡◌, ◌+◌, ◌<◌, All, length};
 ghost use Rattle.minplus.specs.Rows.{IsEntry, IsSmall, Improves, improved};
 ghost use Rattle.minplus.specs.Step.Rows.{ImprovesPart};
 
-/// Stands in a row for no path.
+/// An entry of a row that stands for no path.
 pub const ABSENT: i64 = i64::MAX;
 
-/// Makes each entry of a row the lesser of itself and the sum of `w` and the entry at its place in another
-/// row. A place where the other row is [`ABSENT`] keeps its entry. The rows are equally long, and all other
-/// numbers are below 2^61 in absolute value, in picoseconds.
+/// Improves each entry of `dst`: it becomes the lesser of itself and `w` plus the entry at its place in `src`. If the
+/// entry of `src` is [`ABSENT`], the entry of `dst` stays. The rows are equally long. All numbers but [`ABSENT`] are in
+/// picoseconds and below 2^61 in absolute value.
 pub fn row_plain(dst: &mut [i64], src: &[i64], w: i64)
     requires lengths { length src.now ≡ length dst.old }
     requires entries { All IsEntry dst.old }
@@ -22,7 +22,7 @@ pub fn row_plain(dst: &mut [i64], src: &[i64], w: i64)
     }
 }
 
-/// Improves the entry at a place by the one at that place in another row.
+/// Improves the entry at a place of `dst` by the entry at that place of `src`.
 pub fn improve_one(dst: &mut [i64], src: &[i64], place: usize, w: i64)
     requires lengths { length src.now ≡ length dst.old }
     requires place { place < length dst.old }
@@ -33,7 +33,7 @@ pub fn improve_one(dst: &mut [i64], src: &[i64], place: usize, w: i64)
     dst[place] = improved(dst[place], src[place], w);
 }
 
-// The lesser of an entry and the sum of another and a weight, or the entry where the other is absent.
+// The lesser of an entry and another entry plus a weight. If the other entry is absent, the entry stays.
 fn improved(entry: i64, other: i64, weight: i64) -> i64
     requires other { IsEntry other }
     requires weight { IsSmall weight }

@@ -1,4 +1,4 @@
--- What the lines of a search that is over show.
+-- What the lines of an ended search show.
 use Rattle.std.proofs.Common.{◌≡◌, ◌<◌, ◌≤◌, ℕ, ℤ, pos, neg_ℤ, ◌-ℤ◌, ◌<ℤ◌, Bool, true, false, List, [], length, Option, Some, None, IsSome, IfSome, IfNone, sym, refl, subst, arith}
 use Rattle.std.proofs.lemmas.Int.{ints}
 use Rattle.std.specs.Global.{Vec}
@@ -21,12 +21,12 @@ use Rattle.settle.specs.Found.{IsFound, IsSettledAt, IsSettledInconsistent, IsSe
 use Rattle.settle.specs.Proofs.{IsProofAs, IsProving, Proving, lines_of}
 use Rattle.settle.specs.Step.Racing.{AreRaceTimes, IsEnding, IsOverAs, IsRacing, line_count, lines_as}
 
--- the lines of a search that is over are a proof of its goal
+-- the lines of an ended search are a proof of its goal
 pub proof_of : (net : Net) (goal : Goal) (proving : Proving) → IsProving net proving → proving.check.goal ≡ goal → IsOver net proving.check.goal proving.check.state
     → IsClauseProof net goal (lines_of proving.lines)
 proof_of net goal proving is same over = subst (λ (g : Goal). IsClauseProof net g (lines_of proving.lines)) same (proving.check.state, is.lines, over)
 
--- a proof and times that attain its claim settle a pair
+-- a proof and times that satisfy and attain its claim settle a pair
 pub settled_at : (net : Net) (from to : EventId) (claim : ℤ) (view : View) (lines : List StoredLine) (times : List ℤ) → IsNet net → from.0 < net.events → to.0 < net.events
     → claim <ℤ pos (far_line net) → IsProofAs view net from to claim lines → AreRaceTimes net from to claim times → IsSettledAt net from to claim view lines times
 settled_at net from to claim Plain lines times is_net in_from in_to below proof are = record {
@@ -64,7 +64,7 @@ settled_inconsistent net from to claim Negated lines is_net in_from in_to low pr
   proof = proof;
 }
 
--- what is claimed before times are found
+-- the claim before times are found lies below minus the far line
 pub start_low : (claim lowest : ℤ) (far : ℕ) → claim ≡ (lowest -ℤ pos 1) → lowest ≡ neg_ℤ (pos far) → claim <ℤ neg_ℤ (pos far)
 start_low claim lowest far is at = omega (arith, ints)
 
@@ -76,7 +76,7 @@ some_of None h = absurd (not_true h) where
   not_true e = cc
 some_of (Some x) h = (x, refl)
 
--- the lines of the search of a view that is over are a proof of the claim
+-- the lines of the ended search of a view are a proof of the claim
 proof_as : (net : Net) (race : Race) (view : View) (lines : List StoredLine) → IsRacing net race → IsOverAs view net race → lines ≡ lines_as view race
     → IsProofAs view net race.from race.to race.best.claim.value lines
 proof_as net race Plain lines racing over is =
@@ -90,13 +90,13 @@ few_lines : (race : Race) (view : View) (lines : List StoredLine) (turns : ℕ) 
 few_lines race Plain lines turns is few = rw is (omega arith)
 few_lines race Negated lines turns is few = rw is (omega arith)
 
--- the lines that are handed out
+-- the lines of the answer are the lines of the search of the view
 pub handed : (race : Race) (view : View) (lines : List StoredLine) → (view ≡ Plain → lines ≡ race.plain.lines) → (view ≡ Negated → lines ≡ race.turned.lines)
     → lines ≡ lines_as view race
 handed race Plain lines plain negated = plain refl
 handed race Negated lines plain negated = negated refl
 
--- what is found of a pair is found of the same pair
+-- an answer for the race's pair is an answer for an equal pair
 pub of_pair : (net : Net) (race : Race) (from to : EventId) (most : ℕ) (found : ShownAnswer) → race.from ≡ from → race.to ≡ to → IsFound net race.from race.to most found
     → IsFound net from to most found
 of_pair net race from to most found same_from same_to is =

@@ -1,4 +1,4 @@
--- Stored lines that lead to where a checker is.
+-- Stored lines lead to the state of a checker.
 use Rattle.std.proofs.Common.{◌≡◌, ◌<◌, ℤ, ◌≤ℤ◌, List, [], ◌∷◌, ◌++◌, sym, subst}
 use Rattle.std.proofs.lemmas.List.{map-append}
 use Rattle.itv_base.specs.declared.names.EventId.{EventId}
@@ -12,7 +12,7 @@ use Rattle.clauses.proofs.Proving.{claim_can_rise}
 use Rattle.settle.specs.declared.line.StoredLine.{StoredLine}
 use Rattle.settle.specs.Proofs.{IsProving, line_of, lines_of}
 
--- no lines lead to the start
+-- the empty list of lines leads to the start
 pub start_proving : (net : Net) (check : Checking) (lines : List StoredLine) (from to : EventId) (claim : ℤ) → AreLimits net check.limits
     → check.goal ≡ record { from = from; to = to; claim = claim } → check.state ≡ starting net from → from.0 < net.events → to.0 < net.events → lines ≡ []
     → IsProving net (record { check = check; lines = lines })
@@ -29,7 +29,7 @@ led_as : (net : Net) (goal other : Goal) (lines : List ClauseLine) (after : Stat
     → ProofLeads net other (starting net other.from) lines after
 led_as net goal other lines after same leads = subst (λ (g : Goal). ProofLeads net g (starting net g.from) lines after) (sym same) leads
 
--- a line that is taken stands behind the others
+-- a line that is taken comes behind the others
 pub taken_proving : (net : Net) (check next : Checking) (lines : List StoredLine) (line : StoredLine) → IsProving net (record { check = check; lines = lines })
     → TakesLine net check (line_of line) next → IsProving net (record { check = next; lines = lines ++ line ∷ [] })
 taken_proving net check next lines line proving takes = record {
@@ -39,7 +39,7 @@ taken_proving net check next lines line proving takes = record {
       (leads_more net check.goal (starting net check.goal.from) (lines_of lines) check.state (line_of line) next.state proving.lines takes.line));
 }
 
--- and more may be claimed
+-- the lines still lead to the checker's state where the claim is raised
 pub raised_proving : (net : Net) (old new : Checking) (lines : List StoredLine) (claim : ℤ) → IsProving net (record { check = old; lines = lines })
     → old.goal.claim ≤ℤ claim → new.limits ≡ old.limits → new.goal ≡ claiming old.goal claim → new.state ≡ old.state
     → IsProving net (record { check = new; lines = lines })

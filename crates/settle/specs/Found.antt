@@ -16,7 +16,7 @@ use Rattle.settle.specs.declared.line.StoredLine.{StoredLine}
 use Rattle.settle.specs.declared.settler.Settler.{Settler}
 use Rattle.settle.specs.Proofs.{IsProofAs}
 
--- the value is the greatest separation, times within the greatest cap satisfy and attain it, and the lines prove that none exceeds it
+-- the value is the greatest separation, times within the greatest cap satisfy and attain it, and the lines prove that no separation exceeds it
 pub record IsSettledAt (net : Net) (from to : EventId) (value : ℤ) (view : View) (lines : List StoredLine) (times : List ℤ) : Type 0 where
   pub greatest : IsGreatest net from to value
   pub satisfies : Satisfies times net
@@ -36,7 +36,7 @@ pub record IsSettledInconsistent (net : Net) (from to : EventId) (claim : ℤ) (
   pub low : claim <ℤ neg_ℤ (pos (far_line net))
   pub proof : IsProofAs view net from to claim lines
 
--- what an answer says of a pair, within so many turns
+-- an answer is right for a pair, where `turns` are the allowed turns
 abbrev pub IsRightAnswer : Net → EventId → EventId → ℕ → ShownAnswer → Settled → Type 0
 IsRightAnswer net from to turns found (Closed value) = IsSettledAt net from to value found.view found.lines.items found.times.items × (found.claim.value ≡ value)
 IsRightAnswer net from to turns found Unbounded = IsSettledUnbounded net from to found.times.items found.ray.items
@@ -48,7 +48,7 @@ pub record IsMadeFor (net : Net) (settler : Settler) : Type 0 where
   pub negation : settler.negation ≡ negated net
   pub limits : AreLimits net settler.limits
 
--- what was found within so many turns: its answer is right, and no more lines than turns were made
+-- what was found in at most so many turns: the answer is right, and there are at most as many lines as turns taken
 pub record IsFound (net : Net) (from to : EventId) (turns : ℕ) (found : ShownAnswer) : Type 0 where
   pub answer : IsRightAnswer net from to turns found found.answer
   pub most : found.turns ≤ turns

@@ -10,7 +10,7 @@ use Rattle.clauses.specs.Lines.{Assume, ClauseLine, Close, Fall, IsClauseProof, 
 use Rattle.settle.specs.declared.line.StoredLine.{StoredLine}
 use Rattle.settle.specs.declared.line.StoredLine.TheVariants.{Fall as FallTo, Know as KnowBy, Loop as LoopBack, Assume as AssumeAll, Close as CloseBlock}
 
--- the line that a stored one is
+-- the line of a proof that is stored
 abbrev pub line_of : StoredLine → ClauseLine
 line_of (FallTo fall) = Fall fall.event fall.value fall.basis
 line_of (KnowBy l basis) = Know l basis
@@ -21,8 +21,8 @@ line_of CloseBlock = Close
 abbrev pub lines_of : List StoredLine → List ClauseLine
 lines_of lines = map line_of lines
 
--- the lines are a proof that no satisfying separation of the pair exceeds the claim: in the network itself, or in its negation, where the pair is
--- turned round
+-- the lines are a proof that no satisfying times have a separation of the pair above the claim. The proof is in the network itself, or in its negation
+-- for the reversed pair
 abbrev pub IsProofAs : View → Net → EventId → EventId → ℤ → List StoredLine → Type 0
 IsProofAs Plain net from to claim lines = IsClauseProof net (record { from = from; to = to; claim = claim }) (lines_of lines)
 IsProofAs Negated net from to claim lines = IsClauseProof (negated net) (record { from = to; to = from; claim = claim }) (lines_of lines)
@@ -32,7 +32,7 @@ pub record Proving : Type 0 where
   pub check : Checking
   pub lines : List StoredLine
 
--- the lines lead to where the checker is
+-- the lines lead from the start to the state of the checker
 pub record IsProving (net : Net) (proving : Proving) : Type 0 where
   pub checking : IsChecking net proving.check
   pub lines : ProofLeads net proving.check.goal (starting net proving.check.goal.from) (lines_of proving.lines) proving.check.state

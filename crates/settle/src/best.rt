@@ -12,8 +12,9 @@ use falling::View;
 use itv_base::{END_LIMIT, EventId, MAX_EVENTS, NoMemory};
 use std::alloc::Global;
 
-/// Times that satisfy a network, in picoseconds, one per event, with the greatest separation of a pair that was found, if any
-/// were found; and what is claimed: that separation, or a number below every separation.
+/// The best times found so far, and the claim. The times satisfy a network, in picoseconds and one per event. There are
+/// none until some are found. The claim is the separation of a pair in the times. Without times it is a number below
+/// minus the far line.
 #[derive(Debug, Drop)]
 pub struct Best {
     pub times: Option<Vec<i64>>,
@@ -23,7 +24,8 @@ pub struct Best {
 // The greatest cap of a network, in picoseconds.
 const FARTHEST: i64 = 2 * MAX_EVENTS as i64 * (END_LIMIT + 1);
 
-/// The times of a network that the values of a search in a view stand for.
+/// The times that a search's values stand for. The values of the search in the negation are times of the network
+/// negated.
 pub fn times_of(alloc: Global, view: View, values: &Vec<i64>) -> Result<Vec<i64>, NoMemory> {
     let mut times = Vec::new(alloc);
     for value in values {
@@ -35,7 +37,8 @@ pub fn times_of(alloc: Global, view: View, values: &Vec<i64>) -> Result<Vec<i64>
     Ok(times)
 }
 
-/// The separation of a pair in times, where they satisfy a network and it is more than a claim.
+/// The separation of a pair in times, if the times satisfy a network, are within the greatest cap, and have a
+/// separation above a claim.
 pub fn more_by(
     net: &Network,
     from: EventId,

@@ -6,7 +6,8 @@ use crate::places::at;
 use crate::rules::StoredClause;
 use itv_base::NoMemory;
 
-// A side that may be chosen, and a value, in picoseconds: the least goes first.
+// A side that may be chosen, with how much it was needed lately and with a value in picoseconds. The greatest need goes
+// first, then the least value.
 #[derive(Clone, Copy)]
 struct Candidate {
     literal: NumberedLiteral,
@@ -15,8 +16,10 @@ struct Candidate {
 }
 
 impl Engine {
-    /// Chooses a side of an earliest constraint that the values break: of the one whose target has the least value, the side that is
-    /// broken least. Where the values break none, they are times.
+    /// Chooses a side of an earliest constraint that the values break. It takes the constraint whose sides were needed
+    /// most lately; of two with equal need, the constraint whose target has the least value. Of that constraint it
+    /// takes the side that is broken least. If the values break no earliest constraint, they are times. If no block is
+    /// allowed, the search rests.
     pub fn choose(&mut self) -> Result<Proposal, NoMemory> {
         let Some(candidate) = self.first_candidate() else {
             return Ok(Proposal::Times);
@@ -29,7 +32,7 @@ impl Engine {
         Ok(Proposal::Nothing)
     }
 
-    // The side to choose, if the values break an earliest constraint.
+    // The side to choose, or none if the values break no earliest constraint.
     fn first_candidate(&self) -> Option<Candidate> {
         let mut first: Option<Candidate> = None;
         for number in 0..self.rules.earliest().len() {
@@ -50,7 +53,7 @@ impl Engine {
         first
     }
 
-    // How much the sides of a rule were needed lately.
+    // How much the sides of a rule were needed lately: the greatest of their counts.
     fn need_of(&self, rule: StoredClause) -> u64 {
         let mut most = 0;
         for number in 0..rule.literals.count {
@@ -60,7 +63,8 @@ impl Engine {
         most
     }
 
-    // The side of an earliest constraint that is broken least and may hold, if the values break all sides.
+    // The side of an earliest constraint that is broken least and may hold. None if the values meet some side or no
+    // side may hold.
     fn broken_side(&self, rule: StoredClause) -> Option<NumberedLiteral> {
         let mut least: Option<Candidate> = None;
         for number in 0..rule.literals.count {
@@ -86,7 +90,7 @@ impl Engine {
         }
     }
 
-    // By how much the values break the edge of a side: not at all where this is at most 0.
+    // By how much the values break the edge of a side, in picoseconds. The values meet the edge if this is at most 0.
     fn excess(&self, literal: NumberedLiteral) -> i64 {
         let Some(place) = self.rules.of_side(literal.side) else {
             return 0;
@@ -98,7 +102,7 @@ impl Engine {
     }
 }
 
-// The candidate of lesser value, the first of two that are equal.
+// The candidate of greater need. Of equal needs the lesser value goes first, and of equal values the first candidate.
 fn earlier(first: Option<Candidate>, other: Candidate) -> Option<Candidate> {
     match first {
         Some(candidate) if other.need < candidate.need => Some(candidate),

@@ -13,7 +13,7 @@ use event_graph::Network;
 use itv_base::{EventId, NoMemory};
 use std::alloc::Global;
 
-/// What a step has come to.
+/// The outcome of a step.
 #[derive(Debug, Drop)]
 pub enum Proposal {
     /// The search goes on.
@@ -24,18 +24,19 @@ pub enum Proposal {
     Times,
     /// The lines that were proposed are a proof.
     Over,
-    /// A side is to be chosen, and no more blocks are allowed.
+    /// A side is to be chosen and no more blocks are allowed, or the search has ended or given up.
     Rests,
 }
 
-/// An event that has come down to a value, in picoseconds, with which a block or all ends.
+/// An event that has fallen to a value, in picoseconds, and so ends a block or the search.
 #[derive(Clone, Copy, Debug, PartialEq, Eq)]
 pub struct Need {
     pub event: EventId,
     pub value: i64,
 }
 
-/// A search for a proof in one view of a network. Nothing of what it proposes is believed.
+/// A search for a proof in one view of a network. Nothing relies on what it proposes: a checker takes or refuses each
+/// line.
 #[derive(Debug, Drop)]
 pub struct Engine {
     pub alloc: Global,
@@ -45,12 +46,13 @@ pub struct Engine {
     pub from: EventId,
     pub to: EventId,
     pub least: i64,
-    /// How often each event has fallen since the latest choice.
+    /// How often each event has fallen since its count was last reset: by a choice, by going back to a level, or
+    /// because a walk back from the event was to be tried.
     pub changes: Vec<u32>,
-    /// The number of the latest walk that came by each event, and the number of walks.
+    /// For each event the number of the latest walk that came by it, and the number of walks.
     pub stamps: Vec<usize>,
     pub walks: usize,
-    /// The place of the next entry whose literal was not heard of.
+    /// The place of the next entry of the trail whose literal has not been looked at.
     pub heard: usize,
     /// The next link to examine.
     pub link: Option<usize>,
@@ -58,11 +60,11 @@ pub struct Engine {
     pub low: Option<EventId>,
     /// An event from which a walk back is to be tried.
     pub walk: Option<EventId>,
-    /// How many of the clauses that the checker keeps are rules.
+    /// How many of the checker's kept clauses are rules of the search.
     pub adopted: u32,
-    /// Lines that are to be proposed, the last one first.
+    /// Lines to be proposed, the last one first.
     pub outbox: Vec<StoredLine>,
-    /// How much each side was needed lately, and what the next need counts.
+    /// How much each side was needed lately, and by how much the next need counts.
     pub activity: Vec<u64>,
     pub gain: u64,
     /// How many more blocks are allowed.
@@ -71,7 +73,7 @@ pub struct Engine {
 }
 
 impl Engine {
-    /// The search at its start, where no blocks are allowed.
+    /// The search at its start. No blocks are allowed yet.
     pub fn new(
         alloc: Global,
         net: &Network,
@@ -107,7 +109,8 @@ impl Engine {
         })
     }
 
-    /// Allows so many blocks more.
+    /// Allows this many blocks from now on. If no lines wait to be proposed, the search also takes back all its
+    /// choices.
     pub fn allow(&mut self, blocks: u64) {
         self.blocks = blocks;
         if 0 < self.labels.level() && self.outbox.is_empty() {
@@ -115,12 +118,13 @@ impl Engine {
         }
     }
 
-    /// Gives up: nothing more is proposed.
+    /// Gives up: the search proposes the lines that wait, and then nothing more.
     pub fn stop(&mut self) {
         self.is_over = true;
     }
 
-    /// A step of the search, where the checker has kept clauses and claims a number of picoseconds.
+    /// A step of the search. `kept` are the clauses that the checker keeps; `claim` is the checker's claim in
+    /// picoseconds.
     pub fn step(
         &mut self,
         net: &Network,
@@ -151,7 +155,7 @@ impl Engine {
         self.look_on()
     }
 
-    // Makes a rule of the next clause that the checker has kept, and examines it.
+    // Makes a rule of the next clause that the checker keeps, and examines it.
     fn adopt(&mut self, net: &Network, kept: &Vec<Clause>) -> Result<(), NoMemory>
         requires net { IsNet net.now }
         requires kept { All IsNearClause kept.now.items }
@@ -163,7 +167,7 @@ impl Engine {
         self.examine(rule)
     }
 
-    // What has come down far enough, if anything.
+    // The event that has fallen far enough for an end, if there is one.
     fn end(&self, claim: i64) -> Option<Need> {
         if self.labels.value(self.from) < 0 {
             return Some(Need {
@@ -186,7 +190,7 @@ impl Engine {
         }
     }
 
-    // Ends the block that the choices make, or all where nothing was chosen.
+    // Ends the block of the choices, or the search if nothing was chosen.
     fn end_with(&mut self, need: Need) -> Result<Proposal, NoMemory> {
         if self.labels.level() == 0 {
             self.is_over = true;

@@ -12,16 +12,16 @@ use itv_base::{EventId, NoMemory};
 // Which literals of a rule may hold.
 #[derive(Clone, Copy)]
 enum Open {
-    /// None may.
+    /// None may hold.
     None,
-    /// This one alone may, and does not yet.
+    /// Only this literal may hold, and it does not hold yet.
     One(NumberedLiteral),
-    /// Some one holds, or two or more may.
+    /// A literal holds, or two or more may hold.
     More,
 }
 
 impl Engine {
-    /// Lets an event fall or a literal hold, where a rule says so.
+    /// Lets an event fall or a literal hold, if a rule says so.
     pub fn examine(&mut self, place: usize) -> Result<(), NoMemory> {
         let rule = self.rules.rule(place);
         match self.open_of(rule) {
@@ -71,7 +71,7 @@ impl Engine {
         most
     }
 
-    // Lowers an event by a rule. Every fourth time a walk back from it is to be tried.
+    // Lowers an event by a rule. After every third fall of an event, a walk back from it is to be tried.
     fn lower(&mut self, event: EventId, value: i64, rule: usize) -> Result<(), NoMemory> {
         self.labels.lower(event, value, rule)?;
         self.sweep.add(event);
@@ -108,7 +108,7 @@ impl Engine {
         Ok(())
     }
 
-    /// Goes on to the rules of the literal of the next entry that was not heard of, if it has one.
+    /// Goes on to the rules for the literal of the next entry that was not looked at, if that entry has a literal.
     pub fn hear(&mut self) {
         let entry = self.labels.entry(self.heard);
         self.heard = self.heard.saturating_add(1);

@@ -17,22 +17,23 @@ pub enum Settled {
     Spent,
 }
 
-/// An answer with what shows it.
+/// An answer and what shows it.
 #[derive(Debug, Drop)]
 pub struct ShownAnswer {
     pub answer: Settled,
-    /// In picoseconds, one per event. After [`Settled::Closed`] they satisfy and attain it, after [`Settled::Unbounded`] they
-    /// satisfy.
+    /// In picoseconds, one per event. After [`Settled::Closed`] the times satisfy and attain the separation. After
+    /// [`Settled::Unbounded`] the times satisfy.
     pub times: Vec<i64>,
-    /// After [`Settled::Unbounded`] a flag for each event, which says whether it can be raised from the times without end.
+    /// After [`Settled::Unbounded`] a flag for each event: whether the event can be raised from the times without end.
     pub ray: Vec<bool>,
-    /// What the lines prove that no satisfying separation exceeds, in picoseconds: after [`Settled::Closed`] the number itself, after
-    /// [`Settled::Inconsistent`] one below every separation of times that are near each other.
+    /// The bound that the lines prove, in picoseconds: no satisfying times have a greater separation. After
+    /// [`Settled::Closed`] it is the separation itself, after [`Settled::Inconsistent`] a number below minus the far
+    /// line.
     pub claim: Claim,
     /// Whether the lines are a proof in the network or in its negation.
     pub view: View,
-    /// After [`Settled::Closed`] a proof that no satisfying separation exceeds it, after [`Settled::Inconsistent`] one that no times
-    /// satisfy.
+    /// After [`Settled::Closed`] a proof that no satisfying times have a greater separation. After
+    /// [`Settled::Inconsistent`] a proof that no times satisfy.
     pub lines: Vec<StoredLine>,
     /// How many turns were taken.
     pub turns: u64,

@@ -1,19 +1,19 @@
-//! What a search holds at the moment: values of events and literals that hold, each with the entry that made it so.
+//! The current values of events and the literals that hold. Each has the entry of the trail that made it so.
 
 use crate::numbered::NumberedLiteral;
 use crate::places::{at, put};
 use itv_base::{EventId, NoMemory};
 use std::alloc::Global;
 
-/// A change: an event fell from a value to a value, in picoseconds, where an entry before had made it fall to the first; or a
-/// literal came to hold.
+/// A change: an event fell, or a literal came to hold.
 #[derive(Clone, Copy, Debug, PartialEq, Eq)]
 pub enum TrailChange {
     Fell(ValueFall),
     Held(NumberedLiteral),
 }
 
-/// The fall of an event.
+/// The fall of an event from its old value to a new one, in picoseconds. `before` is the entry of its fall to the old
+/// value, if there is one.
 #[derive(Clone, Copy, Debug, PartialEq, Eq)]
 pub struct ValueFall {
     pub event: EventId,
@@ -22,7 +22,7 @@ pub struct ValueFall {
     pub before: Option<usize>,
 }
 
-/// An entry of the trail: a change, the rule that made it or none where it was chosen, and its level.
+/// An entry of the trail: a change, the rule that made it, and its level. A choice has no rule.
 #[derive(Clone, Copy, Debug, PartialEq, Eq)]
 pub struct TrailEntry {
     pub change: TrailChange,
@@ -30,7 +30,7 @@ pub struct TrailEntry {
     pub level: usize,
 }
 
-// What is read where there is no entry.
+// What a read gives where there is no entry.
 const NO_ENTRY: TrailEntry = TrailEntry {
     change: TrailChange::Held(NumberedLiteral {
         side: 0,
@@ -51,7 +51,7 @@ pub struct Assignment {
 }
 
 impl Assignment {
-    /// The labels at the start, where the source is at 0 and the other events are at the cap.
+    /// The values and literals at the start: the source is at 0, all other events are at the cap, and no literal holds.
     pub fn new(
         alloc: Global,
         events: usize,
@@ -75,7 +75,7 @@ impl Assignment {
         &self.values
     }
 
-    /// The value of an event, and 0 for one that is not there.
+    /// The value of an event, or 0 if there is no such event.
     pub fn value(&self, event: EventId) -> i64 {
         at(&self.values, event.0 as usize, 0)
     }
@@ -138,7 +138,7 @@ impl Assignment {
         Ok(())
     }
 
-    /// Chooses a literal, with which a level begins.
+    /// Chooses a literal. A level begins with it.
     pub fn choose(&mut self, literal: NumberedLiteral) -> Result<(), NoMemory> {
         let place = self.trail.len();
         self.starts.push(place)?;
@@ -158,7 +158,7 @@ impl Assignment {
         Ok(())
     }
 
-    /// Takes back all that came with the levels behind one.
+    /// Takes back all entries of the levels above this one.
     pub fn go_back(&mut self, level: usize) {
         let end = at(&self.starts, level, self.trail.len());
         for _ in end..self.trail.len() {

@@ -8,12 +8,12 @@ use itv_base::EventId;
 pub enum StoredLine {
     /// An event falls to a value.
     Fall(EventFall),
-    /// A literal is known by the clause of a basis.
+    /// A literal becomes known by the clause of a basis.
     Know(Literal, Basis),
     /// The clause of a loop of steps back from an event is kept.
     Loop(EventId, Vec<WalkStep>),
     /// A block opens that assumes literals.
     Assume(Vec<Literal>),
-    /// The block closes, and it is kept that not all that it assumes holds.
+    /// The block closes. The clause that its assumptions do not all hold is kept.
     Close,
 }

@@ -16,7 +16,7 @@ impl NumberedLiteral {
         }
     }
 
-    /// The place in lists that have two for each side.
+    /// The place in lists with two items for each side.
     pub fn place(self) -> usize {
         let first = self.side.saturating_mul(2);
         if self.is_met {

@@ -1,4 +1,4 @@
-//! A search beside a checker of its lines.
+//! A search together with a checker of its lines.
 
 ghost use Rattle.std.specs.Prelude.{◌≡◌, ◌<◌, ◌≤◌, ◌+◌, ◌≤ℤ◌, [], IfOk, OnOk, length};
 ghost use Rattle.falling.specs.Course.{AreLimits};
@@ -17,7 +17,7 @@ use itv_base::{EventId, NoMemory};
 use std::alloc::Global;
 use std::marker::Model;
 
-/// What a step has come to.
+/// The outcome of a step.
 #[derive(Clone, Copy, Debug, PartialEq, Eq)]
 pub enum SearchState {
     /// The search goes on.
@@ -26,7 +26,7 @@ pub enum SearchState {
     Times,
     /// The lines are a proof.
     Over,
-    /// The search does not go on: it rests until more blocks are allowed, or has given up.
+    /// The search does not go on. It rests until more blocks are allowed, or it has given up.
     Rests,
 }
 
@@ -70,7 +70,7 @@ impl Prover {
         })
     }
 
-    /// A step of the search. The lines stay such that they lead to where the checker is.
+    /// A step of the search. The lines always lead to the checker's state.
     pub fn step(&mut self, alloc: Global, net: &Network) -> Result<SearchState, NoMemory>
         requires proving { IsProving net.now self.old }
         ensures proving { OnOk result (IsProving net.now self.new) }
@@ -89,7 +89,7 @@ impl Prover {
         }
     }
 
-    // Gives a line to the checker, and keeps it if it is taken. The search gives up where it is not.
+    // Gives a line to the checker, and keeps it if the checker takes it. Otherwise the search gives up.
     fn heed(
         &mut self,
         alloc: Global,
@@ -110,7 +110,7 @@ impl Prover {
         Ok(SearchState::GoesOn)
     }
 
-    // Whether the lines are a proof, as the search says. It gives up where they are not.
+    // `Over` if the lines are a proof, as the search says. Otherwise the search gives up.
     fn told_over(&mut self, net: &Network) -> SearchState
         requires proving { IsProving net.now self.old }
         ensures same { self.new ≡ self.old }
@@ -123,21 +123,21 @@ impl Prover {
         SearchState::Rests
     }
 
-    /// Allows the search so many blocks more.
+    /// Allows the search this many blocks from now on.
     pub fn allow(&mut self, blocks: u64)
         ensures same { self.new ≡ self.old }
     {
         self.engine.allow(blocks);
     }
 
-    /// Lets the search give up.
+    /// Makes the search give up.
     pub fn stop(&mut self)
         ensures same { self.new ≡ self.old }
     {
         self.engine.stop();
     }
 
-    /// Claims more, in picoseconds.
+    /// Raises the claim to this number of picoseconds.
     pub fn raise(&mut self, net: &Network, claim: Claim)
         requires proving { IsProving net.now self.old }
         requires more { self.old.check.goal.claim ≤ℤ claim.value }
@@ -158,12 +158,12 @@ impl Prover {
         self.checker.limits()
     }
 
-    /// The values of the search, which it has said are times.
+    /// The values of the search. The search has said that they are times.
     pub fn values(&self) -> &Vec<i64> {
         self.engine.labels.values()
     }
 
-    /// The lines that were taken.
+    /// The lines that the checker has taken.
     pub fn into_lines(self) -> Vec<StoredLine>
         ensures lines { result.items ≡ self.lines }
     {

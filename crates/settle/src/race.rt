@@ -16,7 +16,7 @@ use falling::{Limits, View, gap_level};
 use itv_base::{EventId, NoMemory};
 use std::alloc::Global;
 
-/// With what a race ends.
+/// How a race ends.
 #[derive(Debug, Drop)]
 pub enum RaceEnd {
     /// The lines of a view prove that nothing exceeds the best times.
@@ -27,8 +27,8 @@ pub enum RaceEnd {
     Inconsistent(View),
 }
 
-/// Two searches for the greatest separation of a pair. They share the best times that either finds. The one whose turn it is goes on
-/// until it rests; then the other is allowed as many blocks, and after both have rested more are allowed.
+/// Two searches for the greatest separation of a pair. They share the best times that either finds. One search goes on
+/// until it rests. Then the other is allowed as many blocks. After both have rested, each is allowed more blocks.
 #[derive(Debug, Drop)]
 pub struct Race {
     pub from: EventId,
@@ -36,7 +36,7 @@ pub struct Race {
     pub limits: Limits,
     /// The search in the network.
     pub plain: Prover,
-    /// The search in its negation, with the pair turned round.
+    /// The search in the negation, with the pair reversed.
     pub turned: Prover,
     pub best: Best,
     pub view: View,
@@ -75,7 +75,7 @@ impl Race {
         })
     }
 
-    /// One turn, which may end the race.
+    /// One turn. It may end the race.
     pub fn turn(
         &mut self,
         alloc: Global,
@@ -122,8 +122,8 @@ impl Race {
         }
     }
 
-    // The ending, where the lines of the search whose turn it is are a proof that nothing exceeds the best times, or that no times
-    // satisfy.
+    // The ending, if the current search's lines are a proof: nothing exceeds the best times, or no times satisfy. None
+    // if the claim is not below the far line.
     fn decide(&self) -> Option<RaceEnd>
         ensures ending { IfSome result (λ ending. (net : Net) → IsRacing net self.now
             → IsOverAs self.now.view net self.now → IsEnding net self.now ending) }
@@ -159,8 +159,8 @@ impl Race {
         }
     }
 
-    // Takes the values of the search whose turn it is as times, if they satisfy and are better than the best, and claims what they
-    // attain. The search gives up if they are not.
+    // Takes the values of the current search as times, if they satisfy and are better than the best, and raises the
+    // claim to their separation. Otherwise the search gives up.
     fn take_times(
         &mut self,
         alloc: Global,
@@ -190,7 +190,7 @@ impl Race {
         Ok(ending)
     }
 
-    // The times that the values of the search whose turn it is stand for.
+    // The times that the values of the current search stand for.
     fn times_found(&self, alloc: Global) -> Result<Vec<i64>, NoMemory> {
         match self.view {
             View::Plain => times_of(alloc, View::Plain, self.plain.values()),
@@ -198,7 +198,7 @@ impl Race {
         }
     }
 
-    // Lets the search whose turn it is give up.
+    // Makes the current search give up.
     fn give_up(&mut self)
         ensures same { self.new ≡ self.old }
     {
@@ -209,7 +209,7 @@ impl Race {
     }
 }
 
-// A number of picoseconds below every separation of times that are near each other.
+// A claim below minus the far line, in picoseconds: it is below every separation of times that are near each other.
 fn start_claim(limits: Limits) -> Claim
     requires least { neg_ℤ (pos (2 ^ 62)) ≤ℤ limits.lowest }
     ensures { result.value ≡ limits.lowest -ℤ pos 1 }
@@ -226,12 +226,12 @@ fn is_far(claim: Claim, limits: Limits) -> bool
     limits.far <= claim.value
 }
 
-// One and a half times as many blocks, and at least 4.
+// One and a half times as many blocks, but at least 4.
 fn more_blocks(blocks: u64) -> u64 {
     blocks.saturating_add(blocks / 2).max(4)
 }
 
-// The ending, where a separation is at least the far line and the events beyond a gap among the times are a ray.
+// The ending, if a separation is at least the far line and the events beyond a gap among the times are a ray.
 fn ending_by(
     alloc: Global,
     net: &Network,
@@ -258,7 +258,7 @@ fn ending_by(
     Ok(None)
 }
 
-// The events beyond a gap among times, seen from an event.
+// The events beyond a gap among the times. The gap is looked for in the times less the time of `from`.
 fn ray_of(
     alloc: Global,
     net: &Network,

@@ -1,4 +1,4 @@
-//! What of the choices an end needs.
+//! Which choices an end needs.
 
 use crate::engine::{Engine, Need};
 use crate::labels::{Assignment, TrailChange, TrailEntry};
@@ -7,23 +7,24 @@ use crate::places::{at, put};
 use clauses::{EventFall, Literal};
 use itv_base::{EventId, NoMemory};
 
-// What an end needs of the entries from the first one on that is not of level 0.
+// What an end needs of the entries. `first` is the place of the first entry that is not of level 0.
 #[derive(Drop)]
 struct Needs {
     first: usize,
-    /// The values that entries are needed at, in picoseconds.
+    /// The value at which each entry is needed, in picoseconds. The list begins with the entry at `first`.
     values: Vec<Option<i64>>,
-    /// The latest level, and how many entries of it are needed and were not gone through.
+    /// The latest level, and how many of its entries are needed and still to be gone through.
     level: usize,
     open: usize,
-    /// The literals that the block assumes, and the latest level but one among them.
+    /// The literals that the block assumes, and the latest level among them that is before the latest level of all.
     used: Vec<Literal>,
     back: usize,
 }
 
 impl Engine {
-    /// Writes the block that shows an end, from its last line to its first, and goes back to where the latest of its literals can
-    /// be refused. The block assumes one literal of the latest level: the latest one that all of it comes from.
+    /// Writes the block that shows an end, from its last line to its first. Then goes back to the level at which the
+    /// latest of its literals can be refuted. The block assumes one literal of the latest level: the latest literal
+    /// from which all that is needed of that level follows.
     pub fn refute(&mut self, need: Need) -> Result<(), NoMemory> {
         let first = self.labels.root_end();
         let count = self.labels.len().saturating_sub(first);
@@ -52,7 +53,7 @@ impl Engine {
         Ok(())
     }
 
-    // Assumes the literal of an entry that is needed, or wants what made it and writes its line.
+    // Assumes the literal of a needed entry, or wants what made the entry and writes its line.
     fn go_through(&mut self, needs: &mut Needs, place: usize, value: i64) -> Result<(), NoMemory> {
         let entry = self.labels.entry(place);
         needs.pass(entry);
@@ -74,7 +75,7 @@ impl Engine {
         }
     }
 
-    // Counts a need of a side.
+    // Counts that a side was needed.
     fn count_need(&mut self, side: usize) {
         let count = at(&self.activity, side, 0).saturating_add(self.gain);
         put(&mut self.activity, side, count);
@@ -89,7 +90,7 @@ impl Engine {
         self.gain = (self.gain / 1_099_511_627_776).max(1024);
     }
 
-    // Wants what made an entry, and writes its line.
+    // Wants what made an entry, and writes the entry's line.
     fn put_line(
         &mut self,
         needs: &mut Needs,
@@ -116,7 +117,7 @@ impl Engine {
         Ok(())
     }
 
-    // Wants what a rule needs for an entry.
+    // Wants what a rule needs to make an entry.
     fn want_reason(&self, needs: &mut Needs, entry: TrailEntry, rule: usize, value: i64) {
         let rule = self.rules.rule(rule);
         for number in 0..rule.literals.count {
@@ -133,7 +134,7 @@ impl Engine {
         }
     }
 
-    // Wants the earliest entry by which an event is at most at a value, if that is not of level 0.
+    // Wants the earliest entry that puts an event at most at a value, if that entry is not of level 0.
     fn want(&self, needs: &mut Needs, event: EventId, value: i64) {
         let mut found = None;
         let mut next = self.labels.last_of(event);
@@ -158,7 +159,7 @@ impl Engine {
         }
     }
 
-    /// Goes back to a level. What waited is let go: where the level ended, nothing did.
+    /// Goes back to a level. Nothing waits then: nothing waited when that level ended.
     pub fn go_back(&mut self, level: usize) {
         self.labels.go_back(level);
         self.sweep.clear();
@@ -171,25 +172,25 @@ impl Engine {
 }
 
 impl Needs {
-    // The value that an entry is needed at, if it is.
+    // The value at which an entry is needed, if it is needed.
     fn at(&self, place: usize) -> Option<i64> {
         at(&self.values, place.saturating_sub(self.first), None)
     }
 
-    // Goes through an entry that is needed.
+    // Goes through a needed entry.
     fn pass(&mut self, entry: TrailEntry) {
         if entry.level == self.level {
             self.open = self.open.saturating_sub(1);
         }
     }
 
-    // Whether the literal of an entry is to be assumed: it was chosen, is of a level before the latest, or is what all of the latest
-    // level comes from.
+    // Whether the literal of an entry is to be assumed: it was chosen, its level is before the latest, or all that is
+    // needed of the latest level follows from it.
     fn ends_at(&self, entry: TrailEntry) -> bool {
         entry.rule.is_none() || entry.level < self.level || self.open == 0
     }
 
-    // Needs an entry at a value, or at the lower one where it is needed already.
+    // Needs an entry at a value. An entry that is needed already is needed at the lower of both values.
     fn lower(&mut self, labels: &Assignment, place: usize, value: i64) {
         if place < self.first {
             return;

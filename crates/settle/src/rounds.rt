@@ -1,4 +1,4 @@
-//! Loops among the reasons of values.
+//! Loops among the ways that give events their values.
 
 use crate::engine::Engine;
 use crate::labels::TrailChange;
@@ -16,7 +16,7 @@ struct Lead {
     way: Way,
 }
 
-// How many literals or ways a loop that is proposed may have, counted with repeats.
+// The most literals, or ways out, of a loop that is proposed. Repeated literals count.
 const MOST: usize = 64;
 
 // A walk back round a loop.
@@ -30,8 +30,8 @@ struct Round {
 }
 
 impl Engine {
-    /// Walks back from an event along what gives each its value. Where the walk comes to an event again, round a loop with a sum
-    /// below 0 that lowers that event, the loop is proposed.
+    /// Walks back from an event along the ways that give the events their values. If the walk comes to an event twice,
+    /// it has gone round a loop. The loop is proposed if its sum is below 0 and it lowers that event.
     pub fn go_round(&mut self, event: EventId) -> Result<(), NoMemory> {
         match self.met_again(event) {
             Some(event) => self.propose_round(event),
@@ -39,7 +39,7 @@ impl Engine {
         }
     }
 
-    // The first event that the walk back from an event comes to twice, if it does.
+    // The first event to which the walk back from an event comes twice, if there is one.
     fn met_again(&mut self, event: EventId) -> Option<EventId> {
         self.walks = self.walks.saturating_add(1);
         let mut here = event;
@@ -57,7 +57,7 @@ impl Engine {
         None
     }
 
-    // The way that gives an event its value, if it has fallen by one.
+    // The way that gives an event its value, if it has fallen by a way.
     fn lead(&self, event: EventId) -> Option<Lead> {
         let place = self.labels.last_of(event)?;
         let number = self.labels.entry(place).rule?;
@@ -77,7 +77,7 @@ impl Engine {
         best
     }
 
-    // Proposes the loop back to an event, if it lowers it.
+    // Proposes the loop back to an event, if the loop lowers the event.
     fn propose_round(&mut self, event: EventId) -> Result<(), NoMemory> {
         let mut round = Round {
             event,
@@ -100,7 +100,7 @@ impl Engine {
         Ok(())
     }
 
-    // Goes through a way, and leaves the others of its rule as ways out.
+    // Goes through a way. The other ways of its rule become ways out of the loop.
     fn step_back(&self, round: &mut Round, lead: Lead) -> Result<(), NoMemory> {
         for number in 0..lead.rule.ways.count {
             if number != lead.through as usize {
@@ -124,7 +124,7 @@ impl Engine {
         Ok(())
     }
 
-    // Proposes a loop, if it is below 0, small, and lowers its event.
+    // Proposes a loop, if its sum is below 0, it is small, and it lowers its event.
     fn propose(&mut self, round: Round) -> Result<(), NoMemory> {
         let lowers = round.sum < 0 && self.most_out(&round) < self.labels.value(round.event);
         if !lowers || MOST < round.literals || MOST < round.out.len() {
@@ -135,7 +135,7 @@ impl Engine {
         Ok(())
     }
 
-    // The greatest value that a way out of a loop gives, or the least value that a line may give.
+    // The greatest value that a way out of a loop gives, but at least the least value that a line may give.
     fn most_out(&self, round: &Round) -> i64 {
         let mut most = self.least;
         for way in &round.out {
@@ -146,7 +146,7 @@ impl Engine {
     }
 }
 
-// Joins a way to others: of two from one event the wider stays.
+// Joins a way to others. Of two ways from the same event, the wider one stays.
 fn join(ways: &mut Vec<Way>, way: Way) -> Result<(), NoMemory> {
     for place in 0..ways.len() {
         let other = ways[place];

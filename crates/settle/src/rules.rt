@@ -11,14 +11,15 @@ use event_graph::Network;
 use itv_base::{EdgeName, EventId, NoMemory, RuleKind, Side};
 use std::alloc::Global;
 
-/// A stretch of a list.
+/// A part of a list: the place of its first item, and how many items it has.
 #[derive(Clone, Copy, Debug, PartialEq, Eq)]
 pub struct Stretch {
     pub first: usize,
     pub count: usize,
 }
 
-/// A clause: some of its literals holds, or its target comes within some of its ways. Both are stretches of the table's lists.
+/// A clause: one of its literals holds, or its target comes within one of its ways. Both are parts of the table's
+/// lists.
 #[derive(Clone, Copy, Debug, PartialEq, Eq)]
 pub struct StoredClause {
     pub basis: Basis,
@@ -34,7 +35,7 @@ pub struct ChainLink {
     pub next: Option<usize>,
 }
 
-// No rule, literal, way or link: what is read where there is none.
+// What a read gives where there is no rule, literal, way or link.
 const NO_SPAN: Stretch = Stretch { first: 0, count: 0 };
 
 const NO_RULE: StoredClause = StoredClause {
@@ -65,10 +66,10 @@ const NO_LINK: ChainLink = ChainLink {
     next: None,
 };
 
-/// The rules of a network, and those of clauses that were kept behind them.
+/// The rules of a network, and behind them the rules of kept clauses.
 ///
-/// A rule stands in the chain of each event that one of its ways is from, and in that of the opposite of each of its literals:
-/// there it may come to say more.
+/// A rule stands in the chain of each event from which one of its ways leads, and in the chain of the opposite of each
+/// of its literals. When such an event falls or such an opposite holds, the rule may say more.
 #[derive(Debug, Drop)]
 pub struct ClauseTable {
     rules: Vec<StoredClause>,
@@ -84,7 +85,7 @@ pub struct ClauseTable {
 }
 
 impl ClauseTable {
-    /// The rules of a network.
+    /// The rules of a network. No clauses are kept yet.
     pub fn new(alloc: Global, net: &Network) -> Result<ClauseTable, NoMemory> {
         let mut rules = ClauseTable {
             rules: Vec::new(alloc),
@@ -172,7 +173,7 @@ impl ClauseTable {
         Ok(())
     }
 
-    // Adds the rules of the edges of a side and of its refusal.
+    // Adds the rules of a side's edge and of the opposite edge.
     fn push_side(&mut self, net: &Network, constraint: u32, cause: u32) -> Result<(), NoMemory>
         requires net { IsNet net.now }
     {
@@ -190,7 +191,7 @@ impl ClauseTable {
         self.push_rule(net, &[], Basis::BySide(met.opposite()))
     }
 
-    // Adds the rule that some side of an earliest constraint is met, if no low end is open.
+    // Adds the rule that a side of an earliest constraint is met, if no low end is open.
     fn push_earliest(&mut self, net: &Network, number: u32) -> Result<(), NoMemory>
         requires net { IsNet net.now }
     {
@@ -243,7 +244,7 @@ impl ClauseTable {
         Ok(())
     }
 
-    // Adds a literal of a rule whose literals begin at a place, but for one that is there already.
+    // Adds a literal of a rule, unless the rule has it already. `first` is the place of the rule's first literal.
     fn push_literal(
         &mut self,
         rule: usize,
@@ -274,7 +275,7 @@ impl ClauseTable {
         Ok(())
     }
 
-    // A literal by the number of its side.
+    // The literal with the number of its side.
     fn number_of(&self, literal: Literal) -> NumberedLiteral {
         let first = at(&self.first_sides, literal.constraint as usize, 0);
         NumberedLiteral {
@@ -283,7 +284,7 @@ impl ClauseTable {
         }
     }
 
-    /// The literal of a number.
+    /// The literal that a numbered literal stands for.
     pub fn named(&self, numbered: NumberedLiteral) -> Literal {
         let met = at(&self.sides, numbered.side, NO_NAME);
         Literal {
@@ -313,7 +314,7 @@ impl ClauseTable {
         at(&self.rules, place, NO_RULE)
     }
 
-    /// The literal of a number of a rule.
+    /// The literal at a place of a rule.
     pub fn literal(&self, rule: StoredClause, number: usize) -> NumberedLiteral {
         at(
             &self.literals,
@@ -322,7 +323,7 @@ impl ClauseTable {
         )
     }
 
-    /// The way of a number of a rule.
+    /// The way at a place of a rule.
     pub fn way(&self, rule: StoredClause, number: usize) -> Way {
         at(&self.ways, rule.ways.first.saturating_add(number), NO_WAY)
     }
@@ -332,23 +333,23 @@ impl ClauseTable {
         at(&self.links, place, NO_LINK)
     }
 
-    /// The chain of rules with a way from an event.
+    /// The first link of the chain of rules with a way from an event.
     pub fn of_event(&self, event: EventId) -> Option<usize> {
         at(&self.by_event, event.0 as usize, None)
     }
 
-    /// The chain of rules with the opposite of a literal.
+    /// The first link of the chain of rules with the opposite of a literal.
     pub fn of_literal(&self, literal: NumberedLiteral) -> Option<usize> {
         at(&self.by_literal, literal.place(), None)
     }
 
-    /// The rules that some side of an earliest constraint is met.
+    /// The rules that say that a side of an earliest constraint is met.
     pub fn earliest(&self) -> &Vec<usize> {
         &self.earliest
     }
 }
 
-// Whether a constraint is of a kind and has two or more causes.
+// Whether a constraint is of this kind and has two or more causes.
 fn is_choice(net: &Network, number: u32, kind: RuleKind) -> bool
     requires number { number < length net.now.constraints }
 {

@@ -22,8 +22,8 @@ use std::alloc::Global;
 
 /// Finds greatest separations over one network, whatever its choices.
 ///
-/// It is made for a network, and every later call is given the same one. Each call takes memory, and gives it back with what it
-/// finds.
+/// A settler is made for a network, and every later call needs the same network. Each call allocates memory, and gives
+/// it back with its answer.
 #[derive(Debug, Drop)]
 pub struct Settler {
     negation: Network,
@@ -41,8 +41,8 @@ impl Settler {
         })
     }
 
-    /// The greatest separation of a pair of events, in picoseconds, found in at most so many turns, with what shows it; or
-    /// `NoMemory`. A turn makes at most one line.
+    /// The greatest separation of a pair of events in picoseconds and what shows it, found in at most this many turns;
+    /// or `NoMemory`. A turn makes at most one line.
     pub fn greatest(
         &self,
         alloc: Global,
@@ -66,7 +66,7 @@ impl Settler {
     }
 }
 
-// What a race between a pair that has ended has found.
+// The answer of a race that has ended.
 fn found_by(
     alloc: Global,
     net: &Network,
@@ -126,7 +126,7 @@ fn found_by(
     }
 }
 
-// The answer that the greatest separation is what is claimed.
+// The answer that the claim is the greatest separation.
 fn closed_at(claim: Claim) -> Settled
     ensures { result ≡ Closed claim.value }
 {
@@ -154,7 +154,7 @@ fn lines_of(view: View, plain: Prover, turned: Prover) -> Vec<StoredLine>
     }
 }
 
-// What is found where all turns were spent.
+// The answer after all turns were spent.
 fn spent(alloc: Global, turns: u64) -> ShownAnswer
     ensures found { (net : Net) (from to : EventId) → IsFound net from to turns result }
 {

@@ -4,7 +4,7 @@ use crate::places::{at, put};
 use itv_base::{EventId, NoMemory};
 use std::alloc::Global;
 
-/// Events that wait, which are given in sweeps: upward by number, then downward, and so on.
+/// Waiting events. They are given in sweeps: upward by number, then downward, and so on.
 #[derive(Debug, Drop)]
 pub struct Sweep {
     flags: Vec<bool>,
@@ -15,7 +15,7 @@ pub struct Sweep {
 }
 
 impl Sweep {
-    /// A sweep over so many events, all of which wait.
+    /// A sweep over this many events. All of them wait.
     pub fn new(alloc: Global, events: u32) -> Result<Sweep, NoMemory> {
         let mut names = Vec::new(alloc);
         for event in 0..events {
@@ -30,7 +30,7 @@ impl Sweep {
         })
     }
 
-    /// Lets an event wait.
+    /// Makes an event wait.
     pub fn add(&mut self, event: EventId) {
         let place = event.0 as usize;
         if !at(&self.flags, place, true) {
@@ -39,7 +39,7 @@ impl Sweep {
         }
     }
 
-    /// Lets no event wait.
+    /// Makes all events stop waiting, and begins a new sweep upward.
     pub fn clear(&mut self) {
         if 0 < self.waiting {
             self.flags.fill(false);
@@ -49,7 +49,7 @@ impl Sweep {
         self.is_up = true;
     }
 
-    /// The next event that waits, which then waits no longer.
+    /// The next waiting event, if there is one. It no longer waits.
     pub fn next(&mut self) -> Option<EventId> {
         if self.waiting == 0 {
             return None;
@@ -67,7 +67,7 @@ impl Sweep {
         None
     }
 
-    // Goes to the next place, and turns at both ends.
+    // Goes to the next place. Turns round at both ends.
     fn go_on(&mut self) {
         if self.is_up {
             if self.place.saturating_add(1) < self.flags.len() {

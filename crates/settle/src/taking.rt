@@ -14,7 +14,7 @@ use event_graph::Network;
 use itv_base::{EventId, NoMemory};
 use std::alloc::Global;
 
-/// Gives a line to a checker. The answer is whether the checker has taken it; where it has not, nothing has changed.
+/// Gives a line to a checker, and returns whether the checker has taken it. If not, nothing has changed.
 pub fn take_line(
     alloc: Global,
     net: &Network,
@@ -46,7 +46,7 @@ fn take_fall(net: &Network, checker: &mut ClauseChecker, fall: EventFall) -> boo
     checker.take_fall(net, fall).is_ok()
 }
 
-// Takes a literal that is known, if it may be.
+// Makes a literal known, if it may be known.
 fn take_know(
     net: &Network,
     checker: &mut ClauseChecker,
@@ -64,7 +64,7 @@ fn take_know(
     }
 }
 
-// Keeps the clause of a loop, if it is one.
+// Keeps the clause of a loop, if the steps are one.
 fn keep_loop(
     alloc: Global,
     net: &Network,
@@ -101,7 +101,7 @@ fn assume(
     }
 }
 
-// Closes the block that is open, if it has ended.
+// Closes the open block, if there is one and it has ended.
 fn close(alloc: Global, net: &Network, checker: &mut ClauseChecker) -> Result<bool, NoMemory>
     requires checking { IsChecking net.now checker.old }
     ensures taken { IfOk result (λ taken. IsTrue taken → TakesLine net.now checker.old Close checker.new) }

@@ -20,7 +20,7 @@ use Rattle.settle_report.specs.declared.proof.Proof.{Proof}
 use Rattle.settle_report.specs.Answers.{ArePrintedTimes, IsExtreme, IsNumber, IsRefuted, first_event}
 use Rattle.settle_check.specs.Step.{claim_of, pair_of}
 
--- no satisfying separation of the pair exceeds what the lines prove
+-- no satisfying times have a separation of the pair above the claim that the lines prove
 bounds : (view : View) (net : Net) (from to : EventId) (claim : ℤ) (lines : List StoredLine) → IsNet net → from.0 < net.events → to.0 < net.events → claim <ℤ pos (far_line net)
     → IsProofAs view net from to claim lines → (times : List ℤ) → Satisfies times net → separation times from to ≤ℤ claim
 bounds Plain net from to claim lines is_net in_from in_to near proof times h =
@@ -48,7 +48,7 @@ in_to : (which : Which) (net : Net) (row : Row) → IsRowOf net row → (pair_of
 in_to Max net row within = within.1
 in_to Min net row within = within.0
 
--- a proof and times that attain its claim show a bound
+-- a proof and satisfying times that attain its claim show a bound
 pub is_number : (net : Net) (which : Which) (row : Row) (value : ℤ) (times : List ℤ) (proof : Proof) → IsNet net → IsRowOf net row → ArePrintedTimes net row.from times
     → separation times row.from row.to ≡ value → proof.claim ≡ claim_of which value → proof.claim <ℤ pos (far_line net)
     → IsProofAs proof.view net (pair_of which row).from (pair_of which row).to proof.claim proof.lines.items → IsNumber true net which row value times proof

@@ -35,7 +35,7 @@ pub record AreRead (drawn : Drawn) (text : List ℕ) (start number : ℕ) (found
   pub are_found : AreRowsFound true drawn.net (take number drawn.rows) found
   pub behind : IsPieceAt text start (rows_text drawn true 0 (take number drawn.rows) found) place
 
--- and one more
+-- one row more was read
 pub read_next : (drawn : Drawn) (text : List ℕ) (start number : ℕ) (found : List RowFound) (place next : ℕ) (row : Row) (of_row : RowFound) → slice_get drawn.rows number ≡ Some row
     → AreRead drawn text start number found place → IsRowFound true drawn.net row of_row → IsPieceAt text place (row_text drawn true number row of_row) next
     → AreRead drawn text start (number + 1) (found ++ of_row ∷ []) next
@@ -58,7 +58,7 @@ row_there rows k within = elim (slice_get_cases rows k).1 [
   | inr (past, none) ↦ absurd (omega (arith, within, past))
 ]
 
--- the row of a number, whichever it is
+-- the row with this number was read
 pub read_row : (drawn : Drawn) (text : List ℕ) (start number : ℕ) (found after : List RowFound) (place next : ℕ) (of_row : RowFound) → number < length drawn.rows
     → AreRead drawn text start number found place
     → ((row : Row) → slice_get drawn.rows number ≡ Some row → IsRowFound true drawn.net row of_row)

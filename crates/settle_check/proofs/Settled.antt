@@ -17,7 +17,7 @@ use Rattle.settle_report.specs.Text.{behind_text, bound_text, ending_of, finding
 use Rattle.settle_check.specs.Step.{IsPieceAt}
 use Rattle.settle_check.proofs.Passing.{behind_then}
 
--- the row of a number is the one that was found there
+-- two rows with one number are the same row
 row_same : (rows : List Row) (number : ℕ) (at row : Row) → slice_get rows number ≡ Some at → slice_get rows number ≡ Some row → at ≡ row
 row_same rows number at row is other = same_Some at row (sym is ∙ other)
 
@@ -37,7 +37,7 @@ module _ (drawn : Drawn) (text : List ℕ) where
       subst (λ (r : Row). IsPieceAt text place (row_text drawn true number r found) behind) (row_same drawn.rows number at row is other)
       (behind_then text place line_end behind _ _ a (behind_then text line_end max_end behind _ _ b (behind_then text max_end min_end behind _ _ c d)))
 
-  -- and so do those of a whole text
+  -- the parts of a whole text stand one behind another
   pub settled_text : (finding : Finding) (found : List RowFound) (front_end finding_end rows_end behind : ℕ) → IsFinding true drawn.net finding
       → AreFound true drawn.net drawn.rows finding found → IsPieceAt text 0 (front_text drawn) front_end → IsPieceAt text front_end (finding_text true finding) finding_end
       → IsPieceAt text finding_end (behind_text drawn true finding found) rows_end

@@ -5,11 +5,11 @@ use Rattle.drawn.specs.Drawn.{Drawn}
 use Rattle.report_check.specs.Check.{AnswersBy}
 use Rattle.settle_report.specs.Settle.{IsSettleText}
 
--- What the job answers and writes: bytes are accepted that are a text of job settle with its proofs. So what they tell of the network and of each row
--- is right, and each of their proofs is one. Lines have numbers from 1.
+-- What the job answers and writes. It accepts bytes only if they are a text of job settle with its proofs. So what the text says of the network and of
+-- each row is right, and each of its proofs is a proof. Lines are counted from 1.
 abbrev pub AnswersConfirm : Drawn → List ℕ → Answer → List ℕ → Type 0
 AnswersConfirm drawn bytes answer text = AnswersBy (IsSettleText drawn true bytes) (λ line. 1 ≤ line) answer text
 
--- what it may have begun to write
+-- what the job may have begun to write
 abbrev pub BeginsConfirm : Drawn → List ℕ → List ℕ → Type 0
 BeginsConfirm drawn bytes text = (answer : Answer) × AnswersConfirm drawn bytes answer text

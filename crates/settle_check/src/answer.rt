@@ -1,4 +1,4 @@
-//! The line that tells what becomes of a text.
+//! The line that says whether a text is accepted.
 
 ghost use Rattle.std.specs.Prelude.{◌≡◌, ◌≤◌, ℕ, List, true};
 ghost use Rattle.jobs.specs.Works.{JobWrote};
@@ -15,8 +15,8 @@ use jobs::{Answer, Unanswered};
 use report_check::put_refused;
 use std::alloc::Global;
 
-/// Checks a text of job settle with its proofs against a drawn network, and writes whether it is accepted, or the first line, from 1,
-/// that is refused. All memory is taken before the put.
+/// Checks a text of job settle with its proofs against a drawn network. Writes that the text is accepted, or which
+/// line, counted from 1, is the first that is refused. All memory is taken before the put.
 pub fn answer_confirm<K: Sink>(
     alloc: Global,
     drawn: &DrawnNetwork,
@@ -56,7 +56,7 @@ fn refuse<K: Sink>(line: u64, sink: &mut K) -> Result<Answer, Unanswered>
     }
 }
 
-// The number of the line, from 1, in which so many bytes are left of a text.
+// The number, counted from 1, of the line in which the last `left` bytes of a text begin.
 fn line_at(text: &[u8], left: usize) -> u64
     ensures line { 1 ≤ result }
 {

@@ -22,8 +22,8 @@ use settle_report::{Proof, SettledBound};
 use slack_report::Which;
 use std::alloc::Global;
 
-/// The bound of a row that stands next: a number with its proof and times, or that there is none with times and a ray, or that it was
-/// spent. The first line at which it does not hold is refused.
+/// Reads and checks the bound of a row that stands next: a number with its proof and times, or that there is none with
+/// times and a ray, or that the turns were spent. Refuses the first line at which it does not hold.
 pub fn bound_next(
     alloc: Global,
     which: Which,
@@ -60,7 +60,7 @@ fn unbounded_line(which: Which) -> &'static [u8] {
     }
 }
 
-// Times, and a set that can be raised from them without end.
+// Reads and checks times, and a set that can be raised from them without end.
 fn endless_next(
     alloc: Global,
     which: Which,
@@ -82,7 +82,7 @@ fn endless_next(
     Ok(SettledBound::Unbounded(times, set))
 }
 
-// A number that a proof bounds, and times that attain it.
+// Reads and checks a number that a proof bounds, and times that attain it.
 fn number_next(
     alloc: Global,
     which: Which,
@@ -110,7 +110,7 @@ fn number_next(
     Ok(number_of(net, which, row, value, times, proof))
 }
 
-// Whether a claim is what is said of the greatest separation of the pair of a bound.
+// Whether a claim is the greatest separation of the bound's pair, for this number of the bound.
 fn is_claimed(which: Which, value: i64, claim: i64) -> bool
     ensures claimed { IsTrue result → claim ≡ claim_of which value }
 {
@@ -120,14 +120,14 @@ fn is_claimed(which: Which, value: i64, claim: i64) -> bool
     }
 }
 
-// Whether a claim is one that a proof bounds the separation by.
+// Whether a claim is below the far line. A proof of such a claim bounds the separation.
 fn is_near(views: &Views, claim: i64) -> bool
     ensures near { (net : Net) → AreViewsOf net views.now → IsTrue result → claim <ℤ pos (far_line net) }
 {
     claim < views.limits.far
 }
 
-// A number that is proved and attained.
+// The bound with a number that is proved and attained.
 fn number_of(
     net: &Network,
     which: Which,

@@ -1,4 +1,5 @@
-//! Writing the parts of a text again, each from what was read of it, and comparing them.
+//! Writing each part of a text again from what was read of it, and comparing both. The functions return the place
+//! behind the part, and refuse the line of the first byte that differs.
 
 ghost use Rattle.std.specs.Prelude.{◌≡◌, ◌<◌, ◌≤◌, true, Some, IfOk, length, slice_get};
 ghost use Rattle.itv_base.specs.Outside.{Puts};
@@ -116,7 +117,7 @@ pub fn behind_bound(
     draft.place_behind(text, place)
 }
 
-/// The place behind the verdict on a requirement, with its times and its slack. A row that only asks has none.
+/// The place behind the verdict on a requirement, with its times and its slack. A row that only asks has no verdict.
 pub fn behind_judged(
     alloc: Global,
     kind: RowKind,

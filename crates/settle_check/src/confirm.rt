@@ -14,7 +14,7 @@ use line_words::LineBuffer;
 use slack_report::LINE_ROOM;
 use std::alloc::Global;
 
-/// Checks a text against a drawn network, part by part: what is told is read, checked, written again and compared.
+/// Checks a text against a drawn network, part by part. Each part is read, checked, written again and compared.
 pub fn confirm_text(alloc: Global, drawn: &DrawnNetwork, text: &[u8]) -> Result<(), CheckStop>
     ensures confirmed { OnOk result (IsSettleText drawn.now true text.now) }
 {

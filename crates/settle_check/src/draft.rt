@@ -8,7 +8,7 @@ use crate::stop::CheckStop;
 use itv_base::{PutFailed, Sink};
 use std::alloc::Global;
 
-/// Bytes that are gathered in memory, as a sink takes them. A put fails only where memory is not found.
+/// A sink that gathers bytes in memory. A put fails only if memory runs out.
 #[derive(Drop)]
 pub struct Draft {
     bytes: Vec<u8>,
@@ -16,7 +16,7 @@ pub struct Draft {
 }
 
 impl Draft {
-    /// Nothing gathered.
+    /// A draft without bytes.
     pub fn new(alloc: Global) -> Draft
         ensures empty { draft_told result ≡ record { written = Some []; faults = 0 } }
     {
@@ -26,8 +26,8 @@ impl Draft {
         }
     }
 
-    /// The place behind what was gathered, where a text has it at a place. Where the text differs, the line of the first byte that
-    /// does is refused.
+    /// The place behind the gathered bytes, if a text has them at a place. If the text differs, the line of the first
+    /// byte that differs is refused.
     pub fn place_behind(&self, text: &[u8], place: usize) -> Result<usize, CheckStop>
         requires place { place ≤ length text.now }
         ensures behind { IfOk result (IsPieceAt text.now place self.now.bytes.items) }
@@ -56,7 +56,7 @@ impl Sink for Draft {
     }
 }
 
-// With how many bytes two texts begin alike.
+// The number of bytes with which two texts begin alike.
 fn same_len(text: &[u8], other: &[u8]) -> usize
     ensures text { result ≤ length text.now }
     ensures other { result ≤ length other.now }

@@ -18,11 +18,11 @@ use itv_base::EventId;
 use settle_report::{Finding, Proof};
 use std::alloc::Global;
 
-// The proof that no times satisfy is of this event and itself.
+// The proof that no times satisfy is of the pair of this event and itself.
 const FIRST: EventId = EventId(0);
 
-/// The finding that stands next: with times that satisfy, or with the proof that none do, or that it was spent. The first line at which
-/// it does not hold is refused.
+/// Reads and checks the finding that stands next: with times that satisfy, or with the proof that no times do, or that
+/// the turns were spent. Refuses the first line at which it does not hold.
 pub fn finding_next(
     alloc: Global,
     net: &Network,
@@ -41,7 +41,7 @@ pub fn finding_next(
     refuted_next(alloc, net, views, reader)
 }
 
-// Times that satisfy, with event 0 at 0.
+// Reads and checks times that satisfy, with event 0 at 0.
 fn consistent_next(
     alloc: Global,
     net: &Network,
@@ -64,7 +64,7 @@ fn are_first(net: &Network, times: &[i64]) -> bool
     are_printed(net, times) && time_of(times, FIRST) == 0
 }
 
-// A proof that no times satisfy. Without events there is none.
+// Reads and checks a proof that no times satisfy. Without events there is no such proof.
 fn refuted_next(
     alloc: Global,
     net: &Network,
@@ -88,14 +88,14 @@ fn refuted_next(
     Ok(refuted_by(net, proof))
 }
 
-// Whether a claim is one that no times can meet.
+// Whether a claim is below minus the far line. A proof of such a claim shows that no times satisfy.
 fn is_low(views: &Views, claim: i64) -> bool
     ensures low { (net : Net) → AreViewsOf net views.now → IsTrue result → claim <ℤ neg_ℤ (pos (far_line net)) }
 {
     claim < views.limits.lowest
 }
 
-// That no times satisfy, as a proof shows.
+// The finding that no times satisfy, with its proof.
 fn refuted_by(net: &Network, proof: Proof) -> Finding
     requires some { 0 < net.now.events }
     requires low { proof.claim <ℤ neg_ℤ (pos (far_line net.now)) }

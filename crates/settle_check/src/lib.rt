@@ -1,6 +1,5 @@
-//! Job confirm: whether a text of job settle is right, without any search.
-//! The contract of the crate: a text that is accepted is one of job settle with its proofs, each of which a checker has taken, whoever
-//! wrote it.
+//! Job confirm: whether a text of job settle is right, without any search. The contract of the crate: an accepted text
+//! is a text of job settle with its proofs, whoever wrote it. A checker has taken each proof.
 #![tactic(auto)]
 
 mod answer;

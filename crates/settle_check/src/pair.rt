@@ -9,7 +9,7 @@ use drawn::Row;
 use itv_base::EventId;
 use slack_report::Which;
 
-/// A pair of events, of which a proof bounds the separation.
+/// A pair of events. A proof bounds its separation.
 #[derive(Clone, Copy, Debug, PartialEq, Eq)]
 pub struct Pair {
     pub from: EventId,
@@ -17,7 +17,7 @@ pub struct Pair {
 }
 
 impl Pair {
-    /// The pair of a bound of a row: for a least bound the reversed one.
+    /// The pair of a bound of a row: for a least bound the reversed pair.
     pub fn of(which: Which, row: &Row) -> Pair
         ensures pair { result ≡ pair_of which row.now }
         ensures within { (net : Net) → IsRowOf net row.now → IsPairOf net result }
@@ -29,7 +29,7 @@ impl Pair {
         }
     }
 
-    /// The pair turned round.
+    /// The reversed pair.
     pub fn turned(self) -> Pair
         ensures pair { result ≡ turned self }
     {

@@ -15,8 +15,8 @@ use right_report::is_fail;
 use settle_report::{SettledBound, both_of};
 use std::alloc::Global;
 
-/// The times that stand next with a row of these bounds: such as break its requirement, where the verdict is a fail, or else none. The
-/// first line at which they do not hold is refused.
+/// Reads and checks the times that stand next behind the bounds of a row. If the verdict is a fail, the times must
+/// break the requirement. Otherwise there are none. Refuses the first line at which they do not hold.
 pub fn past_next(
     alloc: Global,
     net: &Network,
@@ -36,7 +36,7 @@ pub fn past_next(
     }
 }
 
-// Times behind a verdict that is a fail, or else none.
+// Reads and checks the times behind a verdict that is a fail. Behind another verdict there are none.
 fn broken_next(
     alloc: Global,
     net: &Network,

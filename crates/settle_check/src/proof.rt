@@ -16,8 +16,8 @@ use settle::{StoredLine, take_line};
 use settle_report::Proof;
 use std::alloc::Global;
 
-/// The proof that stands next, of a claim on a pair of a network. The line that is not taken is refused, and the line behind the last
-/// one where they are no proof.
+/// Reads and checks the proof that stands next, of a claim on a pair of a network. Refuses the first line that the
+/// checker does not take. If the lines are no proof, refuses the line behind the last one.
 pub fn proof_next(
     alloc: Global,
     net: &Network,
@@ -41,7 +41,7 @@ pub fn proof_next(
     })
 }
 
-// The lines of a proof in a view of a network.
+// Reads and checks the lines of a proof in a view of a network.
 fn lines_as(
     alloc: Global,
     view: View,
@@ -61,7 +61,7 @@ fn lines_as(
     }
 }
 
-// The lines of a proof in a network, each of which a checker has taken.
+// Reads the lines of a proof in a network. A checker has taken each of them.
 fn lines_next(
     alloc: Global,
     net: &Network,

@@ -11,27 +11,27 @@ use settle_lines::{read_claim, read_clause_line, read_view};
 use slack_report::Which;
 use std::alloc::Global;
 
-/// What is left of a text from a line on. What it reads is a line as it could have been written; whether it was is seen when it is
-/// written again.
+/// The rest of a text, from a line on. What the reader gives is a line as it could have been written. Writing it again
+/// shows whether it was written so.
 #[derive(Debug, Drop)]
 pub struct Reader<'a> {
     rest: &'a [u8],
 }
 
 impl<'a> Reader<'a> {
-    /// From a place of a text on.
+    /// A reader from a place of a text on.
     pub fn new(text: &'a [u8], place: usize) -> Reader<'a> {
         Reader {
             rest: text.get(place..).unwrap_or(b""),
         }
     }
 
-    /// How many bytes are left, which are at least as many as lines.
+    /// How many bytes are left. There are at most as many lines.
     pub fn left(&self) -> usize {
         self.rest.len()
     }
 
-    /// The refusal of the line that stands next, or of the end where there is none.
+    /// The refusal of the line that stands next, or of the end if no line does.
     pub fn refused(&self) -> CheckStop {
         CheckStop::Refused { left: self.left() }
     }
@@ -44,7 +44,7 @@ impl<'a> Reader<'a> {
         };
     }
 
-    /// Whether this line stands next. Goes behind it where it does.
+    /// Whether this line stands next. If it does, goes behind it.
     pub fn passes(&mut self, line: &[u8]) -> bool {
         let is_next = cut_line(self.rest).is_some_and(|(next, _)| next == line);
         if is_next {
@@ -53,7 +53,7 @@ impl<'a> Reader<'a> {
         is_next
     }
 
-    /// The line that stands next as one of a proof, if it is one.
+    /// The line that stands next, if it is a line of a proof.
     pub fn clause(&self, alloc: Global) -> Result<Option<StoredLine>, NoMemory> {
         match cut_line(self.rest) {
             Some((line, _)) => clause_in(alloc, line),
@@ -61,7 +61,7 @@ impl<'a> Reader<'a> {
         }
     }
 
-    /// The view of a proof.
+    /// The view that stands next, at the front of a proof.
     pub fn view(&self) -> Result<View, CheckStop> {
         match view_in(self.rest) {
             Some(view) => Ok(view),
@@ -69,7 +69,7 @@ impl<'a> Reader<'a> {
         }
     }
 
-    /// The claim of a proof, in picoseconds.
+    /// The claim that stands next, in picoseconds.
     pub fn claim(&self) -> Result<Claim, CheckStop> {
         match claim_in(self.rest) {
             Some(claim) => Ok(claim),
@@ -77,7 +77,7 @@ impl<'a> Reader<'a> {
         }
     }
 
-    /// The number of a bound, in picoseconds.
+    /// The number of the bound that stands next, in picoseconds.
     pub fn number(&self, alloc: Global, which: Which) -> Result<i64, CheckStop> {
         let words = self.words(alloc)?;
         match number_behind(&words, which_word(which)) {
@@ -86,7 +86,7 @@ impl<'a> Reader<'a> {
         }
     }
 
-    /// Times, in picoseconds.
+    /// The times that stand next, in picoseconds.
     pub fn times(&self, alloc: Global) -> Result<Vec<i64>, CheckStop> {
         let words = self.words(alloc)?;
         match times_in(alloc, &words)? {
@@ -95,7 +95,7 @@ impl<'a> Reader<'a> {
         }
     }
 
-    /// For each of so many events whether it is of the set that can be raised.
+    /// For each event whether it is in the set to raise that stands next.
     pub fn raised(&self, alloc: Global, events: u32) -> Result<Vec<bool>, CheckStop> {
         let words = self.words(alloc)?;
         match raised_in(alloc, events, &words)? {
@@ -113,7 +113,7 @@ impl<'a> Reader<'a> {
     }
 }
 
-// The first line of a text without its end, and the text behind it.
+// The first line of a text without its end, and the text behind it. None if no line ends.
 fn cut_line(text: &[u8]) -> Option<(&[u8], &[u8])> {
     let len = text.iter().take_while(|b| **b != b'\n').count();
     if len == text.len() {
@@ -122,13 +122,13 @@ fn cut_line(text: &[u8]) -> Option<(&[u8], &[u8])> {
     Some((&text[..len], &text[len + 1..]))
 }
 
-// The first line of bytes that need be no text.
+// The first line of bytes, if it is UTF-8.
 fn text_line(bytes: &[u8]) -> Option<&str> {
     let (line, _) = cut_line(bytes)?;
     str::from_utf8(line).ok()
 }
 
-// The line of a proof that a text is, if it is one.
+// The line of a proof, if the text is one.
 fn clause_in(alloc: Global, line: &[u8]) -> Result<Option<StoredLine>, NoMemory> {
     match read_clause_line(alloc, line) {
         Ok(line) => Ok(Some(line)),
@@ -137,13 +137,13 @@ fn clause_in(alloc: Global, line: &[u8]) -> Result<Option<StoredLine>, NoMemory>
     }
 }
 
-// The view that the first line of a text is.
+// The view, if the first line of a text is one.
 fn view_in(text: &[u8]) -> Option<View> {
     let (line, _) = cut_line(text)?;
     read_view(line)
 }
 
-// The claim that the first line of a text is.
+// The claim, if the first line of a text is one.
 fn claim_in(text: &[u8]) -> Option<Claim> {
     let (line, _) = cut_line(text)?;
     read_claim(line)
@@ -156,12 +156,12 @@ fn which_word(which: Which) -> &'static str {
     }
 }
 
-// The number behind a word, where both are all.
+// The number behind a word, if there are no other words.
 fn number_behind(words: &[&str], key: &str) -> Option<i64> {
     long_in(only_word(behind_word(words, key)?)?)
 }
 
-// The numbers behind the word for times.
+// The numbers behind the word `times`.
 fn times_in(alloc: Global, words: &[&str]) -> Result<Option<Vec<i64>>, NoMemory> {
     match behind_word(words, "times") {
         Some(words) => numbers_in(alloc, words),
@@ -180,7 +180,7 @@ fn numbers_in(alloc: Global, words: &[&str]) -> Result<Option<Vec<i64>>, NoMemor
     Ok(Some(numbers))
 }
 
-// The events behind the word for a set, which are among so many.
+// The set of the events behind the word `raise`. Each number is below the number of events.
 fn raised_in(alloc: Global, events: u32, words: &[&str]) -> Result<Option<Vec<bool>>, NoMemory> {
     match behind_word(words, "raise") {
         Some(words) => flags_in(alloc, events, words),

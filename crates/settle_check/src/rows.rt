@@ -19,14 +19,15 @@ use settle_report::{Finding, RowFound, SettledBound};
 use slack_report::Which;
 use std::alloc::Global;
 
-/// What was read of rows, and the place behind them.
+/// The rows that were read, and the place behind them.
 #[derive(Drop)]
 pub struct RowsRead {
     pub found: Vec<RowFound>,
     pub place: usize,
 }
 
-/// The rows that stand at a place behind a finding: all where it is a consistent one, and none behind another.
+/// Reads and checks the rows at a place behind a finding: all rows behind a consistent finding, and no rows behind
+/// another one.
 pub fn rows_behind(
     alloc: Global,
     drawn: &DrawnNetwork,
@@ -53,7 +54,7 @@ pub fn rows_behind(
     }
 }
 
-// All rows, which stand at a place.
+// Reads and checks all rows. They begin at a place.
 fn all_rows(
     alloc: Global,
     drawn: &DrawnNetwork,
@@ -77,14 +78,14 @@ fn all_rows(
     Ok(RowsRead { found, place })
 }
 
-// What was read of a row, and the place behind it.
+// The row that was read, and the place behind it.
 #[derive(Drop)]
 struct RowRead {
     found: RowFound,
     place: usize,
 }
 
-// The row of a number, which stands at a place.
+// Reads and checks the row with this number at a place.
 fn row_next(
     alloc: Global,
     drawn: &DrawnNetwork,

@@ -9,7 +9,7 @@ use std::alloc::AllocFailed;
 /// Why a check goes no further.
 #[derive(Clone, Copy, Debug, PartialEq, Eq)]
 pub enum CheckStop {
-    /// A line is refused. So many bytes are left of the text from it on, or from a byte of it on.
+    /// A line is refused: the line in which the last `left` bytes of the text begin.
     Refused { left: usize },
     /// Memory was wanted and not found.
     NoMemory,
@@ -31,7 +31,7 @@ impl<T: Drop> From<AllocFailed<T>> for CheckStop {
     }
 }
 
-// A draft takes each piece that there is memory for.
+// A put into a draft fails only if memory runs out.
 impl From<PutFailed> for CheckStop {
     ghost from_gives = { λ _ e. e ≡ WantsMemory };
 

@@ -1,4 +1,4 @@
-//! Times, and what is asked of them.
+//! Times, and checks of them.
 
 ghost use Rattle.std.specs.Prelude.{◌≡◌, ◌↔◌, pos, IsTrue, IfOk, All, length};
 ghost use Rattle.event_graph.specs.Limits.{IsPrintedTime};
@@ -21,7 +21,7 @@ use std::alloc::Global;
 // The greatest time that is printed, in picoseconds.
 const PRINTED_LIMIT: i64 = 12 * END_LIMIT * MAX_EVENTS as i64 + END_LIMIT + 1;
 
-/// The times that stand next, which satisfy a network with the from-event of a row at 0.
+/// The times that stand next. They satisfy a network, and the from-event of a row is at 0.
 pub fn row_times_next(
     alloc: Global,
     net: &Network,
@@ -37,7 +37,7 @@ pub fn row_times_next(
     Ok(times)
 }
 
-// Whether times can be printed with a row.
+// Whether times can be printed, satisfy the network, and have the from-event of a row at 0.
 fn are_row_times(net: &Network, row: &Row, times: &[i64]) -> bool
     ensures times { IsTrue result → ArePrintedTimes net.now row.now.from times.now }
 {
@@ -72,7 +72,7 @@ fn satisfy(net: &Network, times: &[i64]) -> bool
     net.broken(times).is_none()
 }
 
-/// Whether times of a row have a separation, in picoseconds.
+/// Whether times of a row have this separation, in picoseconds.
 pub fn attain(row: &Row, value: i64, times: &[i64]) -> bool
     requires zero { time_of times.now row.now.from ≡ pos 0 }
     ensures attained { IsTrue result → separation times.now row.now.from row.now.to ≡ value }
@@ -93,7 +93,7 @@ pub fn break_end(row: &Row, range: Range, word: Verdict, times: &[i64]) -> bool
     }
 }
 
-// The separation of times of a row, which have its from-event at 0.
+// The separation of a row in times that have its from-event at 0.
 fn separation(row: &Row, times: &[i64]) -> i64
     requires zero { time_of times.now row.now.from ≡ pos 0 }
     ensures separation { result ≡ separation times.now row.now.from row.now.to }
@@ -101,8 +101,8 @@ fn separation(row: &Row, times: &[i64]) -> i64
     time_of(times, row.to)
 }
 
-/// Whether a set of events can be raised from times of a row without end, and the separation of the row with it: the greatest with
-/// the to-event, and the least with the from-event.
+/// Whether a set of events can be raised from times of a row without end, and the separation of the row with it. The
+/// to-event is raised for the greatest separation, and the from-event for the least.
 pub fn can_rise(net: &Network, which: Which, row: &Row, times: &[i64], set: &[bool]) -> bool
     requires row { IsRowOf net.now row.now }
     requires times { ArePrintedTimes net.now row.now.from times.now }

@@ -1,4 +1,4 @@
-//! A network as the two views of it.
+//! A network and its negation.
 
 ghost use Rattle.std.specs.Prelude.{IfOk};
 ghost use Rattle.settle_check.specs.Step.{AreViewsOf};
@@ -8,7 +8,7 @@ use falling::{Limits, limits_of, negation_of};
 use itv_base::NoMemory;
 use std::alloc::Global;
 
-/// The negation of a network, and the limits of both.
+/// The negation of a network, and the limits of the network.
 #[derive(Debug, Drop)]
 pub struct Views {
     pub negation: Network,

@@ -24,7 +24,7 @@ pub record Ends (place : Place) : Type 0 where
   pub entries : List Entry
   pub leads : OrderLeads place entries at.Nothing
 
--- one line more in front
+-- with one more line in front, the lines still lead to the end
 ends_by : (place behind : Place) (entry : Entry) → OrderStep place entry behind → Ends behind → Ends place
 ends_by place behind entry steps ends = record { entries = entry ∷ ends.entries; leads = (behind, steps, ends.leads) }
 
@@ -80,7 +80,7 @@ unfolding open_bound
 bounds_end spot sorts.Max ends = ends_by (at.Bound spot sorts.Max) (after_bound spot sorts.Max) (bound sorts.Max open_bound) (record { is_entry = (tt, tt); leads = refl }) ends
 bounds_end spot sorts.Min ends = ends_by (at.Bound spot sorts.Min) (after_bound spot sorts.Min) (bound sorts.Min open_bound) (record { is_entry = (tt, tt); leads = refl }) ends
 
--- a row in front of those behind it
+-- a row in front of the rows behind it
 row_in_front : (count number more : ℕ) → Ends (before_row count (number + 1) more) → Ends (at.Row count number more)
 row_in_front count number more ends =
     let spot : Spot = record { events = count; next = number + 1; left = more; is_required = false } in

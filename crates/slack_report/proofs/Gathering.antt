@@ -1,4 +1,4 @@
--- Reading line by line: the lines that were read, in front of those that are still read.
+-- Reading line by line: the lines that were read stand in front of the lines that are still to be read.
 use Rattle.std.proofs.Common.{◌≡◌, ◌+◌, ◌<◌, ℕ, true, false, eqb, ◌&&◌, List, [], ◌∷◌, ◌++◌, length, Some, None, Ok, Err, refl, sym, ap, ◌∙◌, arith, append_assoc, append-nil, length-append, zero-add, suc}
 use Rattle.std.specs.List.{after_first, before_first, position_or_len, slice_split}
 use Rattle.std.proofs.lemmas.List.{length-map}
@@ -15,7 +15,7 @@ use Rattle.slack_report.specs.Step.Items.{step_view}
 use Rattle.slack_report.specs.Reading.{Read, behind_line, is_nothing, last_in, lines_in, step_at, with_line}
 use Rattle.slack_report.proofs.Walking.{lines_more, split_some}
 
--- the lines read before in front of those that are still read
+-- the lines that were read in front of the lines that are still to be read
 abbrev pub after_front : List Entry → Read → Read
 after_front front (Ok entries) = Ok (front ++ entries)
 after_front front (Err before) = Err (length front + before)
@@ -44,7 +44,7 @@ uncut_is text h = slice_split_none is_feed text (λ k d within. fails_before_fir
 abbrev pub SoFar : List OwnedItem → Place → List ℕ → Read → Type 0
 SoFar items place text total = after_front (views items) (lines_in place (slice_split is_feed text)) ≡ total
 
--- the number of the line behind those that were read
+-- the number of the line behind the lines that were read
 abbrev pub IsBehind : ℕ → Read → Type 0
 IsBehind line total = (before : ℕ) × (total ≡ Err before) × (line ≡ before + 1)
 
@@ -77,7 +77,7 @@ module _ (items : List OwnedItem) (place : Place) (text : List ℕ) (total : Rea
       rw (grows, views-append items (item ∷ [])) (sym (front_more (views items) (owned_view item) read)
       ∙ ap (λ o. after_front (views items) (behind_line o (λ place. lines_in place (slice_split is_feed behind)))) step ∙ one_line line behind h first rest)
 
-  -- the next line is none that may stand there
+  -- the next line may not stand there
   pub stops : (line behind : List ℕ) (count : ℕ) → position_or_len is_feed text < length text → line ≡ before_first is_feed text → behind ≡ after_first is_feed text
       → None ≡ step_at place (split_words line) → count ≡ length items → IsBehind (count + 1) total
   stops line behind count h first rest step many =

@@ -1,4 +1,4 @@
--- What reading a text tells: the report that it is, or the first line at which it begins none.
+-- What reading a text gives: a report, or the first line at which no report can go on.
 use Rattle.std.proofs.Common.{◌≡◌, ◌+◌, ◌≤◌, ℕ, zero, suc, List, [], ◌∷◌, ◌++◌, length, take, Result, Ok, Err, refl, sym, ap, subst, ◌∙◌, arith, inl, inr, append_assoc, add-one}
 use Rattle.std.specs.List.{flat_map, slice_split}
 use Rattle.std.proofs.lemmas.Bool.{cases_order}
@@ -41,7 +41,7 @@ begins_by bytes es behind leads text =
       };
     }
 
--- the first lines begin with fewer of them
+-- fewer first lines of a text are a front of more first lines
 flat_take : (parts : List (List ℕ)) (n m : ℕ) → n ≤ m → (more : List ℕ) × (flat_map ended (take m parts) ≡ flat_map ended (take n parts) ++ more)
 flat_take parts zero m h = (flat_map ended (take m parts), refl)
 flat_take parts (suc n) zero h = absurd (omega arith)
@@ -83,7 +83,7 @@ same_ok x y e = cc
 same_err : {A B : Type 0} (x y : B) → ◌≡◌ {A = Result A B} (Err x) (Err y) → x ≡ y
 same_err x y e = cc
 
--- two reports have two texts
+-- different reports have different texts
 pub texts_differ : (es more : List Entry) → IsReport es → IsReport more → report_text es ≡ report_text more → es ≡ more
 texts_differ es more p q e = same_ok es more (sym (report_again es p) ∙ text_again (report_text es) more q e)
 
@@ -101,7 +101,7 @@ report_err bytes before e =
       none = λ text. ok_err text.entries before (sym (text_again bytes text.entries text.report text.text) ∙ e);
     }
 
--- the first wrong line is one
+-- there is at most one first wrong line
 pub first_same : (bytes : List ℕ) (line other : ℕ) → IsFirstWrongLine bytes line → IsFirstWrongLine bytes other → line ≡ other
 first_same bytes line other a b =
     elim (cases_order a.before b.before) [

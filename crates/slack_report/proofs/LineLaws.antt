@@ -1,4 +1,4 @@
--- The words of a line are read, at the place where it stands, as that line, and no others are.
+-- The words of a line are read as that line at the place where it stands, and no other words are.
 use Rattle.std.proofs.Common.{◌≡◌, ◌+◌, ◌<◌, ◌≤◌, ℕ, zero, suc, ℤ, Bool, true, false, cond, eqb, ◌&&◌, List, [], ◌∷◌, map, length, codes, Option, Some, None, option_map, refl, sym, ap, subst, ◌∙◌, arith}
 use Rattle.std.specs.Prelude.{All}
 use Rattle.std.proofs.lemmas.Bool.{and_parts, eq-eqb, eqb-true, false_from_ne_true}
@@ -152,7 +152,7 @@ flags_takes (suc left) number (word ∷ words) set e =
     flag_at true h e here there = flag_in_front true number left (word ∷ words) words (flags_in left (number + 1) words) set e here (ap (λ w. w ∷ words) (word_is word (number_text number) h))
     flag_at false h e here there = flag_in_front false number left (word ∷ words) (word ∷ words) (flags_in left (number + 1) (word ∷ words)) set e there refl
 
--- a word that stands first among the numbers from one on is not that of a smaller number
+-- the first word, if there is one, is not the text of this number
 abbrev FirstIsAbove : ℕ → List Word → Type 0
 FirstIsAbove number [] = Unit {0}
 FirstIsAbove number (word ∷ words) = is_word word (number_text number) ≡ false

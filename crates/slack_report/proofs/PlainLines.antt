@@ -136,7 +136,7 @@ line_laws = record {
   is_line = λ place entry behind steps. is_one_line (events_at place) entry steps.is_entry;
 }
 
--- what is no text is no line
+-- bytes that are not UTF-8 are no line
 pub no_line : (place : Place) (line : List ℕ) → (IsUtf8 line → ⊥) → None ≡ step_at place (split_words line)
 no_line place line other = none_at (step_at place (split_words line)) refl
   where

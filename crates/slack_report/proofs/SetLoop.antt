@@ -1,4 +1,4 @@
--- Reading a set of events, event by event: the flags that were read, in front of those that are still read.
+-- Reading a set of events, event by event: the flags that were read stand in front of the flags that are still to be read.
 use Rattle.std.proofs.Common.{◌≡◌, ◌+◌, ◌-◌, ◌<◌, ◌≤◌, ℕ, suc, Bool, true, false, cond, List, [], ◌∷◌, ◌++◌, length, drop, Bor, Option, Some, None, option_map, refl, sym, ap, ◌∙◌, arith, inl, inr, append_assoc, append-nil}
 use Rattle.std.proofs.lemmas.Bool.{cases_lt}
 use Rattle.itv_base.specs.Numerals.{number_text}
@@ -8,7 +8,7 @@ use Rattle.line_words.proofs.Looping.{in_front, texts_more, texts_none}
 use Rattle.slack_report.specs.Reading.{flags_in}
 use Rattle.slack_report.specs.Step.Cuts.{stands_first}
 
--- the words behind the first one where it was the number's
+-- the words behind the first one if the first one was the number's text, and else all words
 abbrev passed : Bool → List Word → List Word
 passed flag words = cond flag (drop 1 words) words
 

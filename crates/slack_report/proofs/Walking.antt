@@ -1,4 +1,4 @@
--- Reading lines one after another, each at its place. Of lines only three laws are used.
+-- Reading lines one after another, each at its place. The proofs use only three laws of lines.
 use Rattle.std.proofs.Common.{◌≡◌, ◌<◌, ◌≤◌, ℕ, suc, Bool, true, false, cond, eqb, ◌&&◌, List, [], ◌∷◌, ◌++◌, length, take, Option, Some, None, Ok, Err, refl, sym, ap, subst, ◌∙◌, arith, append_assoc, append-nil}
 use Rattle.std.specs.List.{AllByRecursion, flat_map, join_with_byte, onto_first, slice_split}
 use Rattle.std.proofs.lemmas.Bool.{and_parts, eqb-true}
@@ -14,7 +14,8 @@ use Rattle.slack_report.specs.Order.{OrderLeads, OrderStep}
 use Rattle.slack_report.specs.Reading.{Read, behind_line, is_nothing, lines_in, step_at, with_line}
 use Rattle.slack_report.specs.Text.{entry_line, entry_text, report_text}
 
--- What a line that may stand at a place is, and that it is read there.
+-- The three laws: a line that is read is the text of its entry, which may stand there; an entry that may stand there is read from its text; and its
+-- text is one line.
 pub record LineLaws : Type 0 where
   pub takes : (place : Place) (line : List ℕ) (step : Entry × Place) → step_at place (split_words line) ≡ Some step → (line ≡ entry_line step.0) × OrderStep place step.0 step.1
   pub again : (place : Place) (entry : Entry) (behind : Place) → OrderStep place entry behind → step_at place (split_words (entry_line entry)) ≡ Some (entry, behind)
@@ -147,7 +148,7 @@ module _ (laws : LineLaws) where
       let read : step_at place (split_words line) ≡ Some (entry, leads.0) = ap (λ l. step_at place (split_words l)) same.0 ∙ laws.again place entry leads.0 leads.1 in
       none-some (entry, leads.0) (sym none ∙ read)
 
-  -- lines behind one that is read begin none if they begin none from the place behind it on
+  -- if the lines behind a line begin no report from the place behind it, then with it in front they begin none from its place
   later_wrong : (place : Place) (line : List ℕ) (text : List ℕ) (step : Entry × Place) → IsLine line → step_at place (split_words line) ≡ Some step
       → ((es : List Entry) → OrderLeads step.1 es at.Nothing → (more : List ℕ) → text ++ more ≡ report_text es → ⊥)
       → (es : List Entry) → OrderLeads place es at.Nothing → (more : List ℕ) → (ended line ++ text) ++ more ≡ report_text es → ⊥

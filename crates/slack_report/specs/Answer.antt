@@ -1,4 +1,4 @@
--- What is answered to a text.
+-- What the reader answers for a text.
 use Rattle.std.specs.Prelude.{◌≡◌, ℕ, List, Result, Ok, Err}
 use Rattle.slack_report.specs.declared.fault.ReportFault.{ReportFault}
 use Rattle.slack_report.specs.declared.fault.ReportFault.TheVariants as faults
@@ -10,7 +10,7 @@ IsRead (Ok found) entries = found ≡ entries
 IsRead (Err (faults.Line line)) entries = ⊥
 IsRead (Err faults.NoMemory) entries = Unit {0}
 
--- this line was told, unless memory ran out
+-- this line was reported as wrong, unless memory ran out
 abbrev pub IsLineFault : Result (List Entry) ReportFault → ℕ → Type 0
 IsLineFault (Ok found) line = ⊥
 IsLineFault (Err (faults.Line told)) line = told ≡ line

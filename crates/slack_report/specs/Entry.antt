@@ -1,4 +1,4 @@
--- The lines of a report, without where they lie in memory, and which numbers and names they may have.
+-- The lines of a report as values, without their places in memory, and which numbers and names they may have.
 use Rattle.std.specs.Prelude.{◌≡◌, ◌<◌, ◌≤◌, ℕ, ℤ, List, length, Bool, IsTrue, All}
 use Rattle.itv_base.specs.Characters.{is_mark, is_name}
 use Rattle.itv_base.specs.Names.{Name}
@@ -51,7 +51,7 @@ HasBoundForm (bounds.Closed value) = IsLong value
 HasBoundForm bounds.Unbounded = Unit {0}
 HasBoundForm (bounds.Within limit attained) = IsLongOrOpen limit × IsLongOrOpen attained
 
--- the line may stand in a report of this number of events, wherever its order allows it
+-- the line may stand in a report with this number of events, where the order of lines allows it
 abbrev pub IsReportEntry : ℕ → Entry → Type 0
 IsReportEntry count heading = Unit {0}
 IsReportEntry count (budget most) = (1 ≤ most) × (most ≤ MAX_BUDGET)

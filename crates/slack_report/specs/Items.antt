@@ -1,4 +1,4 @@
--- Lines of a report as they are stored and as they are lent, seen as lines.
+-- The entries of lines that are stored and of lines that are lent.
 use Rattle.std.specs.Prelude.{List, map}
 use Rattle.itv_base.specs.Names.{Name, name_view}
 use Rattle.event_graph.specs.Lines.{lent_line}
@@ -31,11 +31,11 @@ owned_view (items.Verdict word) = verdict word
 owned_view (items.Slack value) = slack value
 owned_view (items.End word) = ending word
 
--- the lines that are stored
+-- the entries of lines that are stored
 abbrev pub views : List OwnedItem → List Entry
 views items = map owned_view items
 
--- a line that is lent
+-- the entry of a line that is lent
 abbrev pub item_view : Item → Entry
 item_view given.Heading = heading
 item_view (given.Budget most) = budget most

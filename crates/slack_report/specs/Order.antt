@@ -1,4 +1,4 @@
--- The order of a report's lines: which line may follow at which place, and what place it leads to.
+-- The order of a report's lines: which line may stand at which place, and to what place it leads.
 use Rattle.std.specs.Prelude.{◌≡◌, ◌+◌, ◌==◌, ℕ, zero, suc, Bool, true, false, if◌then◌else◌, List, [], ◌∷◌, Option, Some, None}
 use Rattle.requirements.specs.declared.bound.Bound.{Bound}
 use Rattle.requirements.specs.declared.bound.Bound.TheVariants as bounds
@@ -15,7 +15,7 @@ use Rattle.slack_report.specs.declared.place.Place.TheVariants as at
 use Rattle.slack_report.specs.declared.place.Spot.{Spot}
 use Rattle.slack_report.specs.Entry.{Entry, IsReportEntry, heading, budget, events, event, proof, finding, times, rows, row, bound, raise, verdict, slack, ending}
 
--- the number of the report's events, once it is known
+-- the number of the report's events, or 0 where it is not known yet or no longer needed
 abbrev pub events_at : Place → ℕ
 events_at at.Heading = 0
 events_at at.Budget = 0
@@ -34,12 +34,13 @@ events_at (at.Slack spot) = spot.events
 events_at at.End = 0
 events_at at.Nothing = 0
 
--- before the event with a number, of which so many are left
+-- the place before the event with this number, or before the finding if no events are left. The last argument counts this event and the events behind
+-- it
 abbrev pub before_event : ℕ → ℕ → ℕ → Place
 before_event count number zero = at.Finding count
 before_event count number (suc more) = at.Event count number more
 
--- before the row with a number, of which so many are left
+-- the place before the row with this number, or before the end if no rows are left. The last argument counts this row and the rows behind it
 abbrev pub before_row : ℕ → ℕ → ℕ → Place
 before_row count number zero = at.End
 before_row count number (suc more) = at.Row count number more
@@ -48,7 +49,7 @@ abbrev pub is_required : RowKind → Bool
 is_required kinds.Ask = false
 is_required (kinds.Req ends) = true
 
--- behind the first line of a row
+-- the place behind the first line of a row
 abbrev pub in_row : ℕ → ℕ → ℕ → RowKind → Place
 in_row count number more kind = at.Bound (record { events = count; next = number + 1; left = more; is_required = is_required kind }) sorts.Max
 
@@ -60,19 +61,19 @@ after_finding count findings.Unsettled = at.Rows count
 abbrev pub after_row : Spot → Place
 after_row spot = before_row spot.events spot.next spot.left
 
--- behind a bound with all that belongs to it: the other bound, or the verdict, or the next row
+-- the place behind a bound and all its lines: before the other bound, the verdict or the next row
 abbrev pub after_bound : Spot → Which → Place
 after_bound spot sorts.Max = at.Bound spot sorts.Min
 after_bound spot sorts.Min = if spot.is_required then at.Verdict spot else after_row spot
 
--- behind the line of a bound
+-- the place behind the line of a bound
 abbrev pub in_bound : Spot → Which → Bound → Place
 in_bound spot which (bounds.Closed value) = at.Times spot which false
 in_bound spot which bounds.Unbounded = at.Times spot which true
 in_bound spot which (bounds.Within limit None) = after_bound spot which
 in_bound spot which (bounds.Within limit (Some found)) = at.Times spot which false
 
--- behind the times of a bound
+-- the place behind the times of a bound
 abbrev pub after_times : Spot → Which → Bool → Place
 after_times spot which raises = if raises then at.Raise spot which else after_bound spot which
 
@@ -88,7 +89,7 @@ is_which sorts.Max sorts.Min = false
 is_which sorts.Min sorts.Max = false
 is_which sorts.Min sorts.Min = true
 
--- where the next line stands behind a line, if the line may stand at a place
+-- the place behind a line, or none if the line may not stand at this place
 abbrev pub next : Place → Entry → Option Place
 next at.Heading heading = Some at.Budget
 next at.Budget (budget most) = Some at.Events
@@ -109,12 +110,12 @@ next (at.Slack spot) (slack value) = Some (after_row spot)
 next at.End (ending word) = Some at.Nothing
 next place entry = None
 
--- the line may stand at a place, and leads to another
+-- the line may stand at this place, and leads to the other
 pub record OrderStep (place : Place) (entry : Entry) (behind : Place) : Type 0 where
   pub is_entry : IsReportEntry (events_at place) entry
   pub leads : next place entry ≡ Some behind
 
--- the lines may stand one after another from a place on, and lead to another
+-- the lines may stand one after another from a place on, and lead to the last place
 abbrev pub OrderLeads : Place → List Entry → Place → Type 0
 OrderLeads place [] last = place ≡ last
 OrderLeads place (entry ∷ entries) last = (behind : Place) × OrderStep place entry behind × OrderLeads behind entries last

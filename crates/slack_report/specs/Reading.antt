@@ -44,7 +44,7 @@ mark_in part (mark ∷ rest) = when (is_mark mark) (stripped (codes "@") rest >>
 unfoldable pub name_in : Word → Option Name
 name_in word = when (is_name (take_while is_name_byte word)) (stripped (codes ".") (after_while is_name_byte word) >>= mark_in (take_while is_name_byte word))
 
--- what an end is made of
+-- the bytes of a range's end: digits, `-` and `*`
 abbrev pub is_end_byte : ℕ → Bool
 is_end_byte b = is_ascii_digit b || (b == 45 || b == 42)
 
@@ -69,11 +69,11 @@ ending_in word =
 
 -- ---- lines
 
--- a number, or that there is none
+-- a number, or the word `unbounded`
 abbrev pub lone_bound : Word → Option Bound
 lone_bound word = or_else (option_map bounds.Closed (long_in word)) (when (is_word word (codes "unbounded")) (Some bounds.Unbounded))
 
--- a limit with nothing attained
+-- a limit, with nothing attained
 abbrev pub limit_in : Word → Word → Option Bound
 limit_in word limit = when (is_word word (codes "within")) (option_map (λ most. bounds.Within most None) (open_in limit))
 
@@ -93,7 +93,7 @@ bound_in (word ∷ limit ∷ mid ∷ value ∷ other ∷ words) = None
 abbrev pub lone_verdict : Word → Option Verdict
 lone_verdict word = if is_word word (codes "pass") then Some verdicts.Pass else when (is_word word (codes "undecided")) (Some verdicts.Undecided)
 
--- a verdict that tells the side
+-- a failed verdict, with its side
 abbrev pub fail_in : Word → Word → Option Verdict
 fail_in word side = when (is_word word (codes "fail")) (if is_word side (codes "high") then Some verdicts.FailHigh else when (is_word side (codes "low")) (Some verdicts.FailLow))
 
@@ -107,7 +107,7 @@ verdict_in (word ∷ side ∷ other ∷ words) = None
 abbrev pub times_in : ℕ → List Word → Option (List ℤ)
 times_in count words = when (length words == count) (many long_in words)
 
--- The flags of the events from a number on, so many of them, by the numbers of those in the set.
+-- The flags of this many events from a number on. The words are the numbers of the events in the set.
 abbrev pub flags_in : ℕ → ℕ → List Word → Option (List Bool)
 flags_in zero number [] = Some []
 flags_in zero number (word ∷ words) = None
@@ -115,7 +115,7 @@ flags_in (suc left) number [] = option_map (λ set. false ∷ set) (flags_in lef
 flags_in (suc left) number (word ∷ words) =
     if is_word word (number_text number) then option_map (λ set. true ∷ set) (flags_in left (number + 1) words) else option_map (λ set. false ∷ set) (flags_in left (number + 1) (word ∷ words))
 
--- the two names and the range of a demand
+-- the two names and the range of a requirement
 abbrev pub demand_in : List Word → Option (RowKind × Name × Name)
 demand_in [] = None
 demand_in (from ∷ words) = name_in from >>= λ x. two name_in range_in words >>= λ y. Some (kinds.Req y.1, x, y.0)
@@ -123,14 +123,14 @@ demand_in (from ∷ words) = name_in from >>= λ x. two name_in range_in words >
 abbrev pub ask_in : List Word → Option (RowKind × Name × Name)
 ask_in words = option_map (λ x. (kinds.Ask, x.0, x.1)) (two name_in name_in words)
 
--- what is asked
+-- what a row asks
 unfoldable pub row_in : List Word → Option (RowKind × Name × Name)
 row_in words = or_else (keyed (codes "ask") ask_in words) (keyed (codes "req") demand_in words)
 
 abbrev pub heading_in : Word → Option Entry
 heading_in word = when (is_word word (codes "1")) (Some heading)
 
--- the line that stands at a place, if it is one that may
+-- the line that the words are at this place, or none if no such line may stand there
 unfoldable pub entry_at : Place → List Word → Option Entry
 entry_at at.Heading words = keyed (codes "itv") (keyed (codes "report") (one heading_in)) words
 entry_at at.Budget words = option_map budget (keyed (codes "budget") (one budget_in) words)
@@ -149,7 +149,7 @@ entry_at (at.Slack spot) words = option_map (λ x. slack (record { low = x.0; hi
 entry_at at.End words = option_map ending (keyed (codes "end") (one ending_in) words)
 entry_at at.Nothing words = None
 
--- with the place behind it
+-- a line with the place behind it, or none if the line may not stand at this place
 abbrev pub with_place : Place → Option Entry → Option (Entry × Place)
 with_place place found = do
   entry ← found
@@ -165,7 +165,7 @@ abbrev pub is_nothing : Place → Bool
 is_nothing at.Nothing = true
 is_nothing place = false
 
--- the lines read, or how many stand before the first wrong one
+-- the lines that were read, or how many lines stand before the first wrong one
 abbrev pub Read : Type 0
 Read = Result (List Entry) ℕ
 
@@ -173,7 +173,7 @@ abbrev pub with_line : Entry → Read → Read
 with_line entry (Ok entries) = Ok (entry ∷ entries)
 with_line entry (Err before) = Err (suc before)
 
--- behind the last line end nothing stands
+-- reads the last part of a text: the report has ended, and nothing stands behind its last line end
 abbrev pub last_in : Place → List ℕ → Read
 last_in place rest = if is_nothing place && length rest == 0 then Ok [] else Err 0
 
@@ -181,12 +181,12 @@ abbrev pub behind_line : Option (Entry × Place) → (Place → Read) → Read
 behind_line None lines = Err 0
 behind_line (Some step) lines = with_line step.0 (lines step.1)
 
--- the parts of a text between its line ends, from a place on
+-- reads the parts of a text between its line ends, from a place on
 unfoldable pub lines_in : Place → List (List ℕ) → Read
 lines_in place [] = Err 0
 lines_in place (last ∷ []) = last_in place last
 lines_in place (line ∷ more ∷ lines) = behind_line (step_at place (split_words line)) (λ behind. lines_in behind (more ∷ lines))
 
--- the report that a text is
+-- reads a text as a report
 abbrev pub report_in : List ℕ → Read
 report_in bytes = lines_in at.Heading (slice_split is_feed bytes)

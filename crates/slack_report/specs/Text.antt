@@ -1,4 +1,4 @@
--- The text of a report: of each line its words, with a space between each two, and a line feed.
+-- The text of a report: the words of each line, with a space between two words, and a line feed.
 use Rattle.std.specs.Prelude.{ℕ, ◌+◌, Bool, if◌then◌else◌, List, [], ◌∷◌, ◌++◌, map, codes, Some, None}
 use Rattle.std.specs.List.{flat_map}
 use Rattle.itv_base.specs.Names.{Name}
@@ -25,7 +25,7 @@ use Rattle.slack_report.specs.Entry.{Entry, heading, budget, events, event, proo
 abbrev pub name_word : Name → Word
 name_word name = name.part ++ (46 ∷ name.mark ∷ 64 ∷ number_text name.cycle)
 
--- the two ends in brackets, with a comma between them; an open end is a star
+-- the two ends in brackets, with a comma between them. An open end is a star
 abbrev pub range_word : Ends → Word
 range_word ends = 91 ∷ (end_text ends.low ++ (44 ∷ (end_text ends.high ++ (93 ∷ []))))
 
@@ -56,7 +56,7 @@ verdict_words verdicts.FailHigh = codes "fail" ∷ codes "high" ∷ []
 verdict_words verdicts.FailLow = codes "fail" ∷ codes "low" ∷ []
 verdict_words verdicts.Undecided = codes "undecided" ∷ []
 
--- the numbers of the events in a set, of which the first flag is for the event with a number
+-- the numbers of the events in a set. The first flag is for the event with this number
 abbrev pub members_from : ℕ → List Bool → List Word
 members_from number [] = []
 members_from number (is_in ∷ set) = if is_in then number_text number ∷ members_from (number + 1) set else members_from (number + 1) set

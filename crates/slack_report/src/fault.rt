@@ -9,7 +9,7 @@ use std::alloc::AllocFailed;
 /// Why a text was not read as a report.
 #[derive(Clone, Copy, Debug, PartialEq, Eq)]
 pub enum ReportFault {
-    /// The first line, counted from 1, at which the text begins no report.
+    /// The first line, counted from 1, at which no report can go on.
     Line(u64),
     /// Memory was wanted and not found.
     NoMemory,

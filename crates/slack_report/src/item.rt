@@ -5,7 +5,7 @@ use event_graph::Line;
 use itv_base::{EventName, RowKind};
 use requirements::{Bound, Slack, Verdict};
 
-/// A line of a report. Times, bounds and slacks are in picoseconds, and events and rows have their numbers from 0.
+/// A line of a report. Times, bounds and slacks are in picoseconds. Events and rows are counted from 0.
 #[derive(Clone, Copy, Debug)]
 pub enum Item<'a> {
     /// The line that begins a report.
@@ -18,7 +18,7 @@ pub enum Item<'a> {
     Events {
         count: u32,
     },
-    /// What an event is called.
+    /// The name of an event.
     Event {
         number: u32,
         name: EventName<'a>,
@@ -33,7 +33,7 @@ pub enum Item<'a> {
     Rows {
         count: u32,
     },
-    /// What is asked of the separation of two events.
+    /// What a row asks of the separation of two events.
     Row {
         number: u32,
         kind: RowKind,
@@ -45,11 +45,11 @@ pub enum Item<'a> {
         which: Which,
         bound: Bound,
     },
-    /// For each event whether it is of the set that can be raised by any number.
+    /// For each event whether it is in the set that can be raised by any number.
     Raise(&'a [bool]),
-    /// What becomes of a requirement.
+    /// Whether a requirement is met.
     Verdict(Verdict),
-    /// How far the bounds are inside its range.
+    /// How far the bounds lie inside the range of the requirement.
     Slack(Slack),
     /// How the report ends.
     End(EndWord),

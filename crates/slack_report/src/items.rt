@@ -35,7 +35,7 @@ fn lend_name(name: &OwnedName) -> EventName<'_>
     }
 }
 
-// The line, lent.
+// Lends the line.
 fn lend(item: &OwnedItem) -> Item<'_>
     ensures { item_view result ≡ owned_view item.now }
 {
@@ -83,7 +83,7 @@ impl Items {
         self.list.len() as u64
     }
 
-    /// Whether there is no line. A report has some.
+    /// Whether there are no lines. A report has some.
     pub fn is_empty(&self) -> bool
         ensures test { result ≡ (length self.now == 0) }
     {

@@ -9,7 +9,8 @@ use crate::words::{FindingWord, Which};
 use itv_base::RowKind;
 use requirements::{Bound, Verdict};
 
-/// Before the event of a number, of which and of those behind it so many are left.
+/// The place before the event with this number, or before the finding if no events are left. `left` counts this event
+/// and the events behind it.
 pub fn before_event(events: u32, number: u32, left: u32) -> Place
     requires { number + left < 2 ^ 32 }
     ensures is { result ≡ before_event events number left }
@@ -25,7 +26,8 @@ pub fn before_event(events: u32, number: u32, left: u32) -> Place
     }
 }
 
-/// Before the row of a number, of which and of those behind it so many are left.
+/// The place before the row with this number, or before the end if no rows are left. `left` counts this row and the
+/// rows behind it.
 pub fn before_row(events: u32, number: u32, left: u32) -> Place
     requires { number + left < 2 ^ 32 }
     ensures is { result ≡ before_row events number left }
@@ -41,7 +43,7 @@ pub fn before_row(events: u32, number: u32, left: u32) -> Place
     }
 }
 
-/// Behind the line that names a row, with some more rows behind it.
+/// The place behind the first line of a row. `more` rows come behind it.
 pub fn in_row(events: u32, number: u32, more: u32, kind: &RowKind) -> Place
     requires { number + more + 1 < 2 ^ 32 }
     ensures is { result ≡ in_row events number more kind.now }
@@ -63,7 +65,7 @@ pub fn in_row(events: u32, number: u32, more: u32, kind: &RowKind) -> Place
     }
 }
 
-/// Behind a finding.
+/// The place behind a finding.
 pub fn after_finding(events: u32, word: FindingWord) -> Place
     ensures is { result ≡ after_finding events word }
     ensures within { IsPlaceWithin result }
@@ -75,7 +77,7 @@ pub fn after_finding(events: u32, word: FindingWord) -> Place
     }
 }
 
-/// Behind a row.
+/// The place behind a row.
 pub fn after_row(spot: Spot) -> Place
     requires { IsSpot spot }
     ensures is { result ≡ after_row spot }
@@ -84,7 +86,7 @@ pub fn after_row(spot: Spot) -> Place
     before_row(spot.events, spot.next, spot.left)
 }
 
-/// Behind a bound of a row with all that belongs to it.
+/// The place behind a bound and all its lines: before the other bound, the verdict or the next row.
 pub fn after_bound(spot: Spot, which: Which) -> Place
     requires { IsSpot spot }
     ensures is { result ≡ after_bound spot which }
@@ -100,7 +102,7 @@ pub fn after_bound(spot: Spot, which: Which) -> Place
     }
 }
 
-/// Behind the line of a bound.
+/// The place behind the line of a bound.
 pub fn in_bound(spot: Spot, which: Which, value: Bound) -> Place
     requires { IsSpot spot }
     ensures is { result ≡ in_bound spot which value }
@@ -129,7 +131,7 @@ pub fn in_bound(spot: Spot, which: Which, value: Bound) -> Place
     }
 }
 
-/// Behind the times of a bound.
+/// The place behind the times of a bound.
 pub fn after_times(spot: Spot, which: Which, raises: bool) -> Place
     requires { IsSpot spot }
     ensures is { result ≡ after_times spot which raises }
@@ -141,7 +143,7 @@ pub fn after_times(spot: Spot, which: Which, raises: bool) -> Place
     after_bound(spot, which)
 }
 
-/// Behind a verdict.
+/// The place behind a verdict.
 pub fn after_verdict(spot: Spot, word: Verdict) -> Place
     requires { IsSpot spot }
     ensures is { result ≡ after_verdict spot word }

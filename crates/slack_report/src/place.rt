@@ -2,8 +2,8 @@
 
 use crate::words::Which;
 
-/// A row of a report: the number of events, the number of the next row, how many rows are left behind this one, and whether it
-/// demands a range.
+/// A row of a report: the number of events, the number of the next row, how many rows are left behind this one, and
+/// whether this row is a requirement.
 #[derive(Clone, Copy, Debug, PartialEq, Eq)]
 pub struct Spot {
     pub events: u32,
@@ -12,14 +12,14 @@ pub struct Spot {
     pub is_required: bool,
 }
 
-/// Where a report stands: before the line that the place is named for. A place keeps what is left, so that lines lead from
-/// each place to the end.
+/// Where a report stands: before the line that gives the place its name. A place keeps how many events or rows are
+/// left, so that lines lead from each place to the end.
 #[derive(Clone, Copy, Debug, PartialEq, Eq)]
 pub enum Place {
     Heading,
     Budget,
     Events,
-    /// Before the event of a number, with some more behind it.
+    /// Before the event with this number. `more` events come behind it.
     Event {
         events: u32,
         number: u32,
@@ -36,7 +36,7 @@ pub enum Place {
     Rows {
         events: u32,
     },
-    /// Before the row of a number, with some more behind it.
+    /// Before the row with this number. `more` rows come behind it.
     Row {
         events: u32,
         number: u32,
@@ -47,7 +47,7 @@ pub enum Place {
         spot: Spot,
         which: Which,
     },
-    /// Before the times of a bound, behind which a set may be raised.
+    /// Before the times of a bound. If `raises`, a set of events to raise comes behind them.
     Times {
         spot: Spot,
         which: Which,

@@ -32,7 +32,8 @@ fn read_text(
     step_at(alloc, place, &words)
 }
 
-// The line that stands at a place, of bytes that need be no text.
+// The line that stands at a place, and the place behind it. None if the bytes are not UTF-8 or no such line may stand
+// there.
 fn read_line(
     alloc: Global,
     place: Place,
@@ -55,7 +56,7 @@ fn line_len(text: &[u8]) -> usize
     text.iter().take_while(|b| **b != b'\n').count()
 }
 
-// The first line of a text, and the text behind its end.
+// The first line of a text, and the text behind its end. None if no line ends.
 fn cut_line(text: &[u8]) -> Option<(&[u8], &[u8])>
     ensures { Cuts text.now result }
 {
@@ -73,14 +74,14 @@ fn is_whole(place: Place) -> bool
     matches!(place, Place::Nothing)
 }
 
-// Whether a text ends where a report does.
+// Whether a text ends where its report ends.
 fn is_end(place: Place, rest: &[u8]) -> bool
     ensures { result ≡ (is_nothing place && length rest.now == 0) }
 {
     is_whole(place) && rest.is_empty()
 }
 
-/// The lines of the report that the bytes are.
+/// Reads the lines of a report, or returns the first line, counted from 1, at which no report can go on.
 pub fn read_items(alloc: Global, bytes: &[u8]) -> Result<Vec<OwnedItem>, ReportFault>
     ensures { IsItemsRead result (report_in bytes.now) }
 {

@@ -50,7 +50,7 @@ fn is_number(word: &str, number: u32) -> bool
     word == number_text(u64::from(number), &mut digits)
 }
 
-/// The words behind the text of a number that stands first, if it does.
+/// The words behind the first one, if the first one is the text of a number.
 pub fn behind_number<'a, 'b>(words: &'b [&'a str], number: u32) -> Option<&'b [&'a str]>
     ensures { option_map (λ w. texts w.now) result ≡ behind_word (number_text number) (texts words.now) }
 {
@@ -58,7 +58,7 @@ pub fn behind_number<'a, 'b>(words: &'b [&'a str], number: u32) -> Option<&'b [&
     behind_word(words, number_text(u64::from(number), &mut digits))
 }
 
-// Whether the text of a number stands at a place of the words.
+// Whether the word at a place is the text of a number.
 fn stands_at(words: &[&str], at: usize, number: u32) -> bool
     requires { at ≤ length words.now }
     ensures { result ≡ stands_first (number_text number) (texts (drop at words.now)) }
@@ -66,7 +66,8 @@ fn stands_at(words: &[&str], at: usize, number: u32) -> bool
     at < words.len() && is_number(words[at], number)
 }
 
-/// Whether each of so many events is in a set, by the numbers of those that are, in their order.
+/// For each of `count` events whether it is in a set. The words are the numbers of the events in the set, in their
+/// order. None if a word is left.
 pub fn flags_in(alloc: Global, count: u32, words: &[&str]) -> Result<Option<Vec<bool>>, NoMemory>
     ensures { IfOk result (λ o. option_map (λ v. v.items) o ≡ flags_in count 0 (texts words.now)) }
 {
@@ -85,7 +86,7 @@ pub fn flags_in(alloc: Global, count: u32, words: &[&str]) -> Result<Option<Vec<
     Ok(Some(set))
 }
 
-// A number, or a word for none.
+// A number, or the word `unbounded`.
 fn lone_bound(word: &str) -> Option<Bound>
     ensures { result ≡ lone_bound word.now }
 {
@@ -95,7 +96,7 @@ fn lone_bound(word: &str) -> Option<Bound>
     }
 }
 
-// A limit with nothing attained.
+// The word `within` and a limit, with nothing attained.
 fn limit_in(word: &str, limit: &str) -> Option<Bound>
     ensures { result ≡ limit_in word.now limit.now }
 {
@@ -108,7 +109,7 @@ fn limit_in(word: &str, limit: &str) -> Option<Bound>
     })
 }
 
-// A limit and what was attained, each behind a word.
+// The word `within` and a limit, then the word `found` and what was attained.
 fn found_in(word: &str, limit: &str, mid: &str, found: &str) -> Option<Bound>
     ensures { result ≡ found_in word.now limit.now mid.now found.now }
 {

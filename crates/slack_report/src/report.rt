@@ -31,7 +31,7 @@ impl Model for Report {
 }
 
 impl Report {
-    /// Its lines.
+    /// The lines of the report.
     pub fn items(&self) -> &Items
         ensures items { result.now ≡ self.now }
     {
@@ -48,16 +48,16 @@ fn read_whole(alloc: Global, bytes: &[u8]) -> Result<Report, ReportFault>
     })
 }
 
-/// The report that a text is, which is one, or else the first line, counted from 1, at which the text begins none: the line
-/// behind those that begin a report, also where the text ends before it is whole.
+/// Parses a report, or gives the first line, counted from 1, at which no report can go on. If the text ends too early,
+/// that is the line behind its whole lines.
 pub fn read_report(alloc: Global, bytes: &[u8]) -> Result<Report, ReportFault>
     // What is read is a report, and the bytes are its text.
     ensures ok { IfOk result (λ entries. IsReport entries × (bytes.now ≡ report_text entries)) }
-    // What is the text of a report is read as that report, unless memory runs out.
+    // The text of a report is read as that report, unless memory runs out.
     ensures only { (entries : List Entry) → IsReport entries → bytes.now ≡ report_text entries → IsRead result entries }
-    // The line that is told is the first that makes the bytes no report's text.
+    // The line of a fault is the first wrong line of the bytes.
     ensures told { (line : ℕ) → IsErrOf result (ReportFault.Line line) → IsFirstWrongLine bytes.now line }
-    // Where there is such a line it is told, unless memory runs out.
+    // If there is a first wrong line, the fault gives it, unless memory runs out.
     ensures wrong { (line : ℕ) → IsFirstWrongLine bytes.now line → IsLineFault result line }
 {
     read_whole(alloc, bytes)

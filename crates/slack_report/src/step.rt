@@ -185,7 +185,7 @@ fn step_row(
     Ok(Some((OwnedItem::Row(number, kind, from, to), behind)))
 }
 
-// The line of times at a place that they lead on from.
+// The line of times at a place. `behind` is the place behind it.
 fn step_times(
     alloc: Global,
     place: Place,
@@ -260,7 +260,7 @@ fn step_bounded(
     }
 }
 
-/// The line that stands at a place, if the words are those of one that may, and the place behind it.
+/// The line that the words are and the place behind it, or none if no such line may stand at the place.
 #[tactic(auto, unfolding(crate::specs::Reading::entry_at))]
 pub fn step_at(
     alloc: Global,

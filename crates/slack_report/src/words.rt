@@ -1,15 +1,15 @@
-//! Words of which a line has one.
+//! Words of a report's lines: findings, kinds of bounds, and ends.
 
 /// Whether some times satisfy the network.
 #[derive(Clone, Copy, Debug, PartialEq, Eq)]
 pub enum FindingWord {
     Consistent,
     Inconsistent,
-    /// The search was ended before that was settled.
+    /// The search ended before this was settled.
     Unsettled,
 }
 
-/// Which separation of a pair a bound is of: the greatest or the least.
+/// Which separation of a pair is bounded: the greatest or the least.
 #[derive(Clone, Copy, Debug, PartialEq, Eq)]
 pub enum Which {
     Max,

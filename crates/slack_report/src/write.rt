@@ -23,8 +23,8 @@ use itv_base::{
 use line_words::{LineBuffer, put_spaced, put_words};
 use requirements::{Bound, Slack, Verdict};
 
-/// Room for the bytes of a line. Each line of a report on a design within the limits has fewer, since a time takes at most 21
-/// and an edge of a proof at most 23.
+/// The room of the buffer for a line, in bytes. Each line of a report on a design within the limits is shorter, since a
+/// time takes at most 21 bytes and an edge of a proof at most 23.
 pub const LINE_ROOM: u32 = 524_288;
 
 // ---- lines of a few words
@@ -185,7 +185,7 @@ fn put_ask<K: Sink>(
     )
 }
 
-// The line of a demand up to its names.
+// The line of a requirement up to its names.
 fn put_demand_names<K: Sink>(
     number: u32,
     from: EventName<'_>,
@@ -219,7 +219,7 @@ fn put_demand_names<K: Sink>(
     )
 }
 
-// The range of a demand, and the end of its line.
+// The range of a requirement, and the end of its line.
 fn put_range<K: Sink>(range: &Range, sink: &mut K) -> Result<(), PutFailed>
     ensures { Puts (K.told sink.old) (K.told sink.new) (ended (spaced (range_word range.now))) result }
 {
@@ -277,7 +277,7 @@ fn put_long<K: Sink>(value: &i64, sink: &mut K) -> Result<(), PutFailed>
     put_spaced(signed_text(*value, &mut digits).as_bytes(), sink)
 }
 
-// A space and a number, for each.
+// For each number a space and the number.
 fn put_longs<K: Sink>(list: &[i64], sink: &mut K) -> Result<(), PutFailed>
     ensures { Puts (K.told sink.old) (K.told sink.new) (flat_map spaced (map signed_text list.now)) result }
 {
@@ -352,8 +352,9 @@ fn put_item<K: Sink>(item: &Item<'_>, sink: &mut K) -> Result<(), PutFailed>
     }
 }
 
-/// Writes a line of a report and its end: by one put where it fits the buffer, and else piece by piece. Where a put failed a
-/// front of the line was written, and the sink's count of faults rose. What the buffer held before is forgotten.
+/// Writes a line of a report and its line end. It makes one put if the line fits the buffer, and else puts the line
+/// piece by piece. If a put failed, a front of the line was written, and the sink's count of faults rose. The old
+/// content of the buffer is lost.
 pub fn write_item<K: Sink>(
     item: &Item<'_>,
     buffer: &mut LineBuffer,

@@ -1,4 +1,4 @@
--- The notes of a session of rows, and of the sessions that edits lead through.
+-- The notes of a session of rows, and of the sessions through which edits lead.
 use Rattle.std.proofs.Common.{◌≡◌, ◌+◌, ◌<◌, ℕ, zero, suc, ℤ, pos, ◌-ℤ◌, List, [], ◌∷◌, length, get_or, map, All, Option, Some, None, inl, inr, refl, sym, subst, ap, ◌∙◌, arith}
 use Rattle.std.specs.Prelude.{IfSome}
 use Rattle.std.proofs.lemmas.Int.{ints}
@@ -69,7 +69,7 @@ note_by kinds s change Consistent is right same = record {
 note_by kinds s change Inconsistent is right same = record { timed = λ k d within. absurd (omega arith); count = inl refl }
 note_by kinds s change Unsettled is right same = record { timed = λ k d within. absurd (omega arith); count = inl refl }
 
--- the note of a session that is right
+-- the note of a right session fits its rows
 pub note_is : (kinds : List RowKind) (s : SessionView) (change : Change) → IsRight s → length kinds ≡ length s.pairs → IsNoteOf kinds (note_of change s)
 note_is kinds s change right same = note_by kinds s change s.found refl right same
 
@@ -85,13 +85,13 @@ notes_by kinds s (e ∷ edits) (t ∷ later) runs same =
       ap suc others.1,
     )
 
--- the notes of a run are of its rows, and there is one for each edit
+-- the notes of a run fit the session's rows, and there is one note for each edit
 pub notes_are : (kinds : List RowKind) (first last : SessionView) (edits : List RangeEdit) (notes : List Note) → IsRun first edits last notes → length kinds ≡ length first.pairs
     → All (IsNoteOf kinds) notes × (length notes ≡ length edits)
 notes_are kinds first last edits notes run same =
     subst (λ (ns : List Note). All (IsNoteOf kinds) ns × (length ns ≡ length edits)) (sym run.noted) (notes_by kinds first edits run.later run.runs same)
 
--- so is the last of them
+-- the last note fits the rows
 pub last_is_note : (kinds : List RowKind) (first : Note) (notes : List Note) → IsNoteOf kinds first → All (IsNoteOf kinds) notes → IsNoteOf kinds (last_note first notes)
 last_is_note kinds first [] is all = is
 last_is_note kinds first (note ∷ notes) is all =
@@ -99,7 +99,7 @@ last_is_note kinds first (note ∷ notes) is all =
 
 -- ---- pairs
 
--- the pairs of rows are of events of the network
+-- the pairs of the rows are pairs of events of the network
 pub pairs_within : (net own : Net) (rows slice : List Row) (pairs lent : List Pair) → All (IsRowOf net) rows → slice ≡ rows → pairs ≡ pairs_of slice → lent ≡ pairs → own ≡ net
     → All (IsPairOf own.events) lent
 pairs_within net own rows slice pairs lent all is_slice is_pairs is_lent is_own =

@@ -1,4 +1,4 @@
--- The text of rows and states from one on, and what the rows come to.
+-- The text of rows and states from a place on, and the tally of the rows.
 use Rattle.std.proofs.Common.{◌≡◌, ◌+◌, ◌*◌, ◌-◌, ◌<◌, ◌==◌, ◌⊎◌, ℕ, suc, Bool, true, false, ◌||◌, List, [], ◌∷◌, ◌++◌, length, get_or, drop, codes, Some, slice_get, inl, inr, refl, sym, ap, ◌∙◌, arith, add-one, drop-cons, append_assoc}
 use Rattle.std.specs.List.{flat_map}
 use Rattle.std.proofs.lemmas.Bool.{eqb-true}
@@ -43,7 +43,7 @@ row_is number kind least most start a b c d e end is_a is_b is_c is_d is_e is_en
     (flat_map spaced (bound_words least)) (flat_map spaced (judged_words kind least most)) (10 ∷ [])
     ∙ ap (λ l. start ++ ended l) (sym (line_is (number_text number) (bound_words most) (bound_words least) (judged_words kind least most)))
 
--- ---- one more of a list
+-- ---- one more element of a list
 
 drop_one : {A : Type 0} (xs : List A) (i : ℕ) (x d : A) → i < length xs → x ≡ get_or xs i d → drop i xs ≡ x ∷ drop (i + 1) xs
 drop_one xs i x d h e = rw (e, add-one) (drop-cons xs i d h)
@@ -54,7 +54,7 @@ drop_two xs k x y d e h is_x is_y =
     let next : 2 * k + 1 + 1 ≡ 2 * (k + 1) = omega arith in
     drop_one xs (2 * k) x d (omega (arith, h)) is_x ∙ ap (λ l. x ∷ l) (drop_one xs (2 * k + 1) y e h is_y ∙ ap (λ n. y ∷ drop n xs) next)
 
--- a list that is tested to be empty has no elements
+-- a list is empty if its length is 0 by the test
 pub none_in : (list : List GreatestAnswer) → true ≡ (length list == 0) → length list ≡ 0
 none_in list e = eqb-true (length list) 0 (sym e)
 
@@ -97,7 +97,7 @@ states_step whole text begun next rows edits notes k e f note g within noted is_
     regroup : (a b c d : List ℕ) → ((a ++ b) ++ c) ++ d ≡ a ++ (b ++ (c ++ d))
     regroup a b c d = simp append_assoc
 
--- ---- what the rows come to
+-- ---- the tally of the rows
 
 or_false : (b : Bool) → (b || false) ≡ b
 or_false true = refl
@@ -113,7 +113,7 @@ judged_row_is : (w : FindingWord) (fails within : Bool) (kind : RowKind) (least 
 judged_row_is w fails within kinds.Ask least most = rw (or_false fails) refl
 judged_row_is w fails within (kinds.Req range) least most = refl
 
--- the row at a place is taken in
+-- the row at a place is added to the tally
 pub judged_step : (w : FindingWord) (fails within fails_now within_now : Bool) (rows : List RowKind) (list : List GreatestAnswer) (k : ℕ) (kind c : RowKind) (most least d e : GreatestAnswer)
     (low high : Bound) → k < length rows → 2 * k + 1 < length list → kind ≡ get_or rows k c → most ≡ get_or list (2 * k) d → least ≡ get_or list (2 * k + 1) e
     → low ≡ least_bound least → high ≡ greatest_bound most → fails_now ≡ (fails || is_broken kind low high) → within_now ≡ (within || (is_within low || is_within high))

@@ -10,7 +10,7 @@ use Rattle.right_report.specs.Right.At.{is_fail}
 use Rattle.whatif.specs.Runs.{Note}
 use Rattle.whatif_report.specs.Text.{greatest_bound}
 
--- a requirement is known to be broken; an ask has none
+-- a row's requirement is known to be broken. A question is never broken
 abbrev pub is_broken : RowKind → Bound → Bound → Bool
 is_broken kinds.Ask least most = false
 is_broken (kinds.Req range) least most = is_fail (verdict_of range least most)
@@ -23,7 +23,7 @@ IsTimed answer = HasTimes (greatest_bound answer)
 abbrev pub IsCountFor : List RowKind → List GreatestAnswer → Type 0
 IsCountFor rows list = (length list ≡ 0) ⊎ (length list ≡ length rows + length rows)
 
--- a note is of a session of these rows
+-- a note fits these rows: its numbers are small, and it has two answers for each row, or none
 pub record IsNoteOf (rows : List RowKind) (note : Note) : Type 0 where
   pub timed : All IsTimed note.answers
   pub count : IsCountFor rows note.answers

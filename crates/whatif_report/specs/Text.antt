@@ -34,7 +34,7 @@ greatest_bound (answers.Enclosed upper attained) = bounds.Within upper (Some att
 abbrev pub least_bound : GreatestAnswer → Bound
 least_bound answer = reversed (greatest_bound answer)
 
--- the words of the verdict on a requirement; an ask has none
+-- the words of the verdict on a requirement. A question has no verdict
 abbrev pub judged_words : RowKind → Bound → Bound → List Word
 judged_words kinds.Ask least most = []
 judged_words (kinds.Req range) least most = verdict_words (verdict_of range least most)
@@ -44,7 +44,7 @@ abbrev pub row_words : ℕ → RowKind → Bound → Bound → List Word
 row_words number kind least most =
     codes "row" ∷ number_text number ∷ codes "max" ∷ (bound_words most ++ (codes "min" ∷ (bound_words least ++ judged_words kind least most)))
 
--- the lines of rows of these kinds, the first of which has a number, by the answers, two for each row; without answers there are none
+-- the lines of rows of these kinds, where the first row has this number. There are two answers for each row. Without answers there are no lines
 abbrev pub rows_text : ℕ → List RowKind → List GreatestAnswer → List ℕ
 rows_text number [] found = []
 rows_text number (kind ∷ others) [] = []
@@ -59,7 +59,7 @@ found_word founds.Consistent = findings.Consistent
 found_word founds.Inconsistent = findings.Inconsistent
 found_word founds.Unsettled = findings.Unsettled
 
--- the finding and the rows; where the finding isn't consistent there are no answers, and so no rows
+-- the finding and the rows. If the finding is not consistent, there are no answers, and so no rows
 abbrev pub found_text : List RowKind → SearchFinding → List GreatestAnswer → List ℕ
 found_text rows found list = entry_text (finding (found_word found)) ++ rows_text 0 rows list
 
@@ -73,7 +73,7 @@ state_words number e note =
     codes "state" ∷ number_text number ∷ cause_word e.constraint e.cause ∷ range_word e.range ∷ codes "kept" ∷ number_text note.change.kept
     ∷ codes "searched" ∷ number_text note.change.searched ∷ []
 
--- the states behind edits, the first of which has a number
+-- the states behind edits, where the first of these states has this number
 abbrev pub states_text : ℕ → List RowKind → List RangeEdit → List Note → List ℕ
 states_text number rows [] notes = []
 states_text number rows (e ∷ edits) [] = []
@@ -82,7 +82,7 @@ states_text number rows (e ∷ edits) (note ∷ notes) =
 
 -- ---- the end
 
--- what the rows so far and one more come to
+-- the tally of the rows so far and one more
 abbrev pub judged_row : ReportTally → RowKind → Bound → Bound → ReportTally
 judged_row course kinds.Ask least most = with_bounds course least most
 judged_row course (kinds.Req range) least most = with_verdict (with_bounds course least most) (verdict_of range least most)
@@ -93,18 +93,18 @@ judged_rows course (kind ∷ others) [] = course
 judged_rows course (kind ∷ others) (most ∷ []) = course
 judged_rows course (kind ∷ others) (most ∷ least ∷ found) = judged_rows (judged_row course kind (least_bound least) (greatest_bound most)) others found
 
--- the word at the end, by a finding and the answers for rows: a report of that state ends with it
+-- the word at the end, by a finding and the answers for rows. A report of that state ends with the same word
 abbrev pub ending_of : List RowKind → SearchFinding → List GreatestAnswer → EndWord
 ending_of rows found list = end_word (judged_rows (course_of (found_word found)) rows list)
 
--- the note of the last state: that behind all others
+-- the note of the last state, behind all others
 abbrev pub last_note : Note → List Note → Note
 last_note first [] = first
 last_note first (note ∷ notes) = last_note note notes
 
 -- ---- the whole
 
--- the heading, the state before any edit, those behind the edits, and the word at the end, by the last of them
+-- the heading, the state before any edit, the states behind the edits, and the word at the end, by the last state
 abbrev pub whatif_text : List RowKind → Note → List RangeEdit → List Note → List ℕ
 whatif_text rows first edits notes =
     ended (codes "itv whatif 1") ++ (ended (codes "state 0") ++ (found_text rows first.found first.answers ++ (states_text 1 rows edits notes

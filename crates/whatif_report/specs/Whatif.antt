@@ -17,14 +17,14 @@ use Rattle.whatif_report.specs.Text.{ending_of, last_note, whatif_text}
 abbrev pub pair_of : Row → Pair
 pair_of row = record { from = row.from; to = row.to }
 
--- the pairs of rows, and what is wanted of each
+-- the pairs of rows, and their kinds
 abbrev pub pairs_of : List Row → List Pair
 pairs_of rows = map pair_of rows
 
 abbrev pub kinds_of : List Row → List RowKind
 kinds_of rows = map (λ (row : Row). row.kind) rows
 
--- a new session of pairs of events of a network, each search of which closes at most so many cases
+-- a new session of pairs of events of a network. Each of its searches closes at most `budget` cases
 pub record IsFirst (net : Net) (pairs : List Pair) (budget : ℕ) (s : SessionView) : Type 0 where
   pub net_is : s.net ≡ net
   pub budget_is : s.budget ≡ budget
@@ -32,11 +32,11 @@ pub record IsFirst (net : Net) (pairs : List Pair) (budget : ℕ) (s : SessionVi
   pub right : IsRight s
   pub least : AttainsKnown s
 
--- nothing was kept and nothing searched anew
+-- nothing was kept, and nothing was searched anew
 abbrev pub no_change : Change
 no_change = record { kept = 0; searched = 0 }
 
--- The edits lead from a session through sessions, each of which is right. The text is of all of them, and the answer is by the last.
+-- The edits lead from a session through other sessions, each of which is right. The text is of all these sessions, and the answer is by the last one.
 pub record AnswersFrom (first : SessionView) (kinds : List RowKind) (edits : List RangeEdit) (answer : Answer) (text : List ℕ) : Type 0 where
   pub last : SessionView
   pub notes : List Note
@@ -46,15 +46,15 @@ pub record AnswersFrom (first : SessionView) (kinds : List RowKind) (edits : Lis
   pub is_text : text ≡ whatif_text kinds note edits notes
   pub is_answer : answer ≡ answer_of (ending_of kinds (last_note note notes).found (last_note note notes).answers)
 
--- the same from a new session
+-- the answer and the text from a new session
 abbrev pub AnswersFor : Net → List Pair → List RowKind → ℕ → List RangeEdit → Answer → List ℕ → Type 0
 AnswersFor net pairs kinds budget edits answer text = (first : SessionView) × IsFirst net pairs budget first × AnswersFrom first kinds edits answer text
 
--- What may have been begun: all states are known before anything is put, so it is a front of a whole text.
+-- What may have been begun. All states are known before anything is put, so it is a front of a whole text.
 abbrev pub BeginsFor : Net → List Pair → List RowKind → ℕ → List RangeEdit → List ℕ → Type 0
 BeginsFor net pairs kinds budget edits text = (answer : Answer) × AnswersFor net pairs kinds budget edits answer text
 
--- what the job answers and writes of a drawn network
+-- what the job answers and writes for a drawn network
 abbrev pub AnswersWhatif : Drawn → ℕ → List RangeEdit → Answer → List ℕ → Type 0
 AnswersWhatif drawn budget edits answer text = AnswersFor drawn.net (pairs_of drawn.rows) (kinds_of drawn.rows) budget edits answer text
 

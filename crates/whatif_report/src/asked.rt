@@ -28,7 +28,7 @@ fn pair_of(row: &Row) -> Pair
     }
 }
 
-/// What is wanted of each row.
+/// The kind of each row: a question, or a requirement with its range.
 pub fn kinds_of(alloc: Global, rows: &[Row]) -> Result<Vec<RowKind>, NoMemory>
     ensures kinds { IfOk result (λ kinds. kinds.items ≡ kinds_of rows.now) }
 {

@@ -1,4 +1,4 @@
-//! The word at the end, by the last state.
+//! The word at the end. It depends on the last state.
 
 ghost use Rattle.std.specs.Prelude.{◌≡◌, ◌++◌, ◌||◌, ◌≤◌, All, OnOk, length};
 ghost use Rattle.slack_report.specs.Entry.{ending};
@@ -18,7 +18,7 @@ use right_report::{is_fail, is_within};
 use slack_report::EndWord;
 use whatif::Note;
 
-/// The note of the last state: the last of those behind the first, or that one where there are none.
+/// The note of the last state: the last of `notes`, or `first` if there are none.
 pub fn last_of<'a>(first: &'a Note, notes: &'a [Note]) -> &'a Note
     ensures last { result.now ≡ last_note first.now notes.now }
 {
@@ -28,7 +28,7 @@ pub fn last_of<'a>(first: &'a Note, notes: &'a [Note]) -> &'a Note
     }
 }
 
-/// The word at the end, by the last state.
+/// The word at the end, by the note of the last state.
 pub fn end_word(kinds: &[RowKind], note: &Note) -> EndWord
     requires of { IsNoteOf kinds.now note.now }
     requires few { length kinds.now ≤ MAX_PAIRS }
@@ -51,14 +51,14 @@ pub fn add_ending(text: &mut Vec<u8>, word: EndWord) -> Result<(), NoMemory>
     }
 }
 
-// What rows come to: whether some requirement is known to be broken, and whether some bound was left open.
+// The tally of rows: whether some requirement is known to be broken, and whether some bound was left open.
 #[derive(Clone, Copy, Debug)]
 struct Marks {
     fails: bool,
     within: bool,
 }
 
-// What all rows come to.
+// The tally of all rows.
 fn judged_rows(kinds: &[RowKind], answers: &[GreatestAnswer]) -> Marks
     requires timed { All IsTimed answers.now }
     requires count { IsCountFor kinds.now answers.now }
@@ -79,7 +79,7 @@ fn judged_rows(kinds: &[RowKind], answers: &[GreatestAnswer]) -> Marks
     marks
 }
 
-// What the rows so far and one more come to.
+// The tally of the rows so far and one more.
 fn judged_row(marks: Marks, kind: RowKind, both: &BothBounds) -> Marks
     ensures fails { result.fails ≡ (marks.fails || is_broken kind both.now.least both.now.greatest) }
     ensures within { result.within ≡ (marks.within || (is_within both.now.least || is_within both.now.greatest)) }
@@ -99,7 +99,7 @@ fn either(first: bool, second: bool) -> bool
     first || second
 }
 
-// Whether a requirement is known to be broken.
+// Whether a row's requirement is known to be broken. A question is never broken.
 fn is_broken(kind: RowKind, both: &BothBounds) -> bool
     ensures { result ≡ is_broken kind both.now.least both.now.greatest }
 {
@@ -109,7 +109,7 @@ fn is_broken(kind: RowKind, both: &BothBounds) -> bool
     }
 }
 
-// The word by a finding, and by what the rows come to.
+// The word for a finding and the tally of the rows.
 fn word_by(found: SearchFinding, marks: Marks) -> EndWord
     ensures { result ≡ end_word (record { found = found_word found; fails = marks.fails; within = marks.within }) }
 {

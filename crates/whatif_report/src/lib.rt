@@ -1,6 +1,7 @@
-//! Job whatif: from a drawn network and edits of its ranges to the bounds of its rows before and behind each edit.
-//! The contract of the crate: `write_whatif` writes the states of a session that the edits lead through, each with its finding, how
-//! many bounds were kept and searched, and both bounds of each row; where a put failed, a front of such a text.
+//! Job whatif: from a drawn network and edits of its ranges to the bounds of its rows before and behind each edit. The
+//! contract of the crate: `write_whatif` writes the states of a session through which the edits lead. Each state has
+//! its finding, how many bounds were kept and how many were searched, and both bounds of each row. If a put failed, a
+//! front of such a text was written.
 #![tactic(auto)]
 
 mod asked;

@@ -14,7 +14,8 @@ use branch::GreatestAnswer;
 use itv_base::{NoMemory, RowKind};
 use requirements::{BothBounds, Bound, judge};
 
-/// Adds the lines of rows by the answers for their pairs: two for each row, its own and that of the reversed pair, or none.
+/// Adds the lines of rows. There are two answers for each row, for its own pair and for the reversed pair, or no
+/// answers at all. Without answers nothing is added.
 pub fn add_rows(
     text: &mut Vec<u8>,
     kinds: &[RowKind],
@@ -35,7 +36,7 @@ pub fn add_rows(
     Ok(())
 }
 
-/// Both bounds of a row, by the answers for its pair and for the reversed pair.
+/// Both bounds of a row. `most` is the answer for its pair, and `least` the answer for the reversed pair.
 pub fn both_of(most: GreatestAnswer, least: GreatestAnswer) -> BothBounds
     requires most { IsTimed most }
     requires least { IsTimed least }
@@ -66,7 +67,7 @@ fn greatest_bound(answer: GreatestAnswer) -> Bound
     }
 }
 
-// The line of a row.
+// Adds the line of a row.
 fn add_row(
     text: &mut Vec<u8>,
     number: u64,
@@ -84,7 +85,7 @@ fn add_row(
     Ok(())
 }
 
-// A word, and the words of a bound.
+// Adds a word, and the words of a bound.
 fn add_side(text: &mut Vec<u8>, word: &[u8], value: Bound) -> Result<(), NoMemory>
     ensures { OnOk result (text.new.items ≡ text.old.items ++ (spaced word.now ++ flat_map spaced (bound_words value))) }
 {
@@ -92,7 +93,7 @@ fn add_side(text: &mut Vec<u8>, word: &[u8], value: Bound) -> Result<(), NoMemor
     add_bound(text, value)
 }
 
-// The verdict on a requirement; an ask has none.
+// Adds the verdict on a requirement. A question has no verdict.
 fn add_judged(text: &mut Vec<u8>, kind: RowKind, both: &BothBounds) -> Result<(), NoMemory>
     ensures { OnOk result (text.new.items ≡ text.old.items ++ flat_map spaced (judged_words kind both.now.least both.now.greatest)) }
 {

@@ -1,4 +1,4 @@
-//! The states of a session: the lines of its finding, of its rows, and of what an edit did.
+//! The states of a session: the lines of a finding, of its rows, and of what an edit did.
 
 ghost use Rattle.std.specs.Prelude.{◌≡◌, ◌++◌, ◌≤◌, All, OnOk, codes, length};
 ghost use Rattle.itv_base.specs.Numerals.{end_text, number_text};
@@ -17,7 +17,7 @@ use itoa::Buffer;
 use itv_base::{NoMemory, Range, RowKind, end_text, number_text};
 use whatif::{Change, Note};
 
-/// Adds the states behind edits, by their notes: the first of them has number 1.
+/// Adds the states behind edits, by their notes. The first of these states has number 1.
 pub fn add_states(
     text: &mut Vec<u8>,
     kinds: &[RowKind],
@@ -46,7 +46,7 @@ pub fn add_found(text: &mut Vec<u8>, kinds: &[RowKind], note: &Note) -> Result<(
     add_rows(text, kinds, &note.answers)
 }
 
-// The line of a finding.
+// Adds the line of a finding.
 #[tactic(auto, unfolding(slack_report::specs::Text::words_of))]
 fn add_finding(text: &mut Vec<u8>, found: SearchFinding) -> Result<(), NoMemory>
     ensures { OnOk result (text.new.items ≡ text.old.items ++ entry_text (finding (found_word found))) }
@@ -71,7 +71,7 @@ fn add_state(text: &mut Vec<u8>, number: u64, edit: RangeEdit, note: &Note) -> R
     add(text, b"\n")
 }
 
-// A space, and a constraint and its cause.
+// Adds a space, a constraint and its cause.
 fn add_cause(text: &mut Vec<u8>, constraint: u32, cause: u32) -> Result<(), NoMemory>
     ensures { OnOk result (text.new.items ≡ text.old.items ++ spaced (cause_word constraint cause)) }
 {
@@ -80,7 +80,7 @@ fn add_cause(text: &mut Vec<u8>, constraint: u32, cause: u32) -> Result<(), NoMe
     add_digits(text, u64::from(cause))
 }
 
-// A space, and a range.
+// Adds a space and a range.
 fn add_range(text: &mut Vec<u8>, range: Range) -> Result<(), NoMemory>
     ensures { OnOk result (text.new.items ≡ text.old.items ++ spaced (range_word range)) }
 {
@@ -91,7 +91,7 @@ fn add_range(text: &mut Vec<u8>, range: Range) -> Result<(), NoMemory>
     add(text, b"]")
 }
 
-// How many bounds were kept, and how many were searched anew.
+// Adds how many bounds were kept, and how many were searched anew.
 fn add_change(text: &mut Vec<u8>, change: Change) -> Result<(), NoMemory>
     ensures { OnOk result (text.new.items ≡ text.old.items ++ (spaced (codes "kept") ++ (spaced (number_text change.kept)
         ++ (spaced (codes "searched") ++ spaced (number_text change.searched))))) }

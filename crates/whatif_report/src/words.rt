@@ -1,4 +1,4 @@
-//! Words behind a text that is gathered.
+//! Adding words behind a text that is gathered.
 
 ghost use Rattle.std.specs.Prelude.{◌≡◌, ◌++◌, OnOk, codes};
 ghost use Rattle.std.specs.List.{flat_map};
@@ -34,7 +34,7 @@ pub fn add_number(text: &mut Vec<u8>, number: u64) -> Result<(), NoMemory>
     add_spaced(text, number_text(number, &mut digits).as_bytes())
 }
 
-// A space and a number that may be below 0.
+// Adds a space and a number that may be below 0.
 fn add_signed(text: &mut Vec<u8>, number: i64) -> Result<(), NoMemory>
     ensures { OnOk result (text.new.items ≡ text.old.items ++ spaced (signed_text number)) }
 {
@@ -42,7 +42,7 @@ fn add_signed(text: &mut Vec<u8>, number: i64) -> Result<(), NoMemory>
     add_spaced(text, signed_text(number, &mut digits).as_bytes())
 }
 
-// A space and a number, or a star for none.
+// Adds a space and a number, or a star for none.
 fn add_end(text: &mut Vec<u8>, end: Option<i64>) -> Result<(), NoMemory>
     ensures { OnOk result (text.new.items ≡ text.old.items ++ spaced (end_text end)) }
 {
@@ -50,7 +50,7 @@ fn add_end(text: &mut Vec<u8>, end: Option<i64>) -> Result<(), NoMemory>
     add_spaced(text, end_text(end, &mut digits).as_bytes())
 }
 
-// How far a bound that is left open may reach.
+// Adds how far an open bound may reach.
 fn add_within(text: &mut Vec<u8>, limit: Option<i64>) -> Result<(), NoMemory>
     ensures { OnOk result (text.new.items ≡ text.old.items ++ (spaced (codes "within") ++ spaced (end_text limit))) }
 {
@@ -58,7 +58,7 @@ fn add_within(text: &mut Vec<u8>, limit: Option<i64>) -> Result<(), NoMemory>
     add_end(text, limit)
 }
 
-// What was attained of it.
+// Adds what was attained of an open bound.
 fn add_found(text: &mut Vec<u8>, found: i64) -> Result<(), NoMemory>
     ensures { OnOk result (text.new.items ≡ text.old.items ++ (spaced (codes "found") ++ spaced (signed_text found))) }
 {

@@ -21,9 +21,9 @@ use jobs::{Answer, Unanswered, answer_of};
 use std::alloc::Global;
 use whatif::{Change, Note, Pair, Session, SessionFault, note_session, run_edits};
 
-/// Writes the bounds of the rows of a drawn network, of which there are at most [`MAX_PAIRS`](whatif::MAX_PAIRS), and those behind each
-/// edit of a list. Each cause of an edit is there, and each search closes at most `budget` cases. All states are computed before the
-/// one put.
+/// Writes the bounds of the rows of a drawn network before any edit and behind each edit of a list. There may be at
+/// most [`MAX_PAIRS`](whatif::MAX_PAIRS) rows. The cause of each edit must be in the network. Each search closes at
+/// most `budget` cases. All states are computed before the one put.
 pub fn write_whatif<K: Sink>(
     alloc: Global,
     drawn: &DrawnNetwork,
@@ -51,7 +51,7 @@ pub fn write_whatif<K: Sink>(
     )
 }
 
-// The text of all states, and what the job answers.
+// The text of all states, and the answer of the job.
 #[derive(Drop)]
 struct Told {
     text: Vec<u8>,
@@ -81,7 +81,7 @@ fn write_states<K: Sink>(
     Ok(told.answer)
 }
 
-// The states of a new session along edits.
+// The text and the answer for a new session along edits.
 fn told_of(
     alloc: Global,
     net: &Network,
@@ -104,7 +104,7 @@ fn told_of(
     }
 }
 
-// The states of a session along edits.
+// The text and the answer for a session along edits.
 fn states_of(
     alloc: Global,
     session: &mut Session,

@@ -1,4 +1,4 @@
--- What times meet of a clause.
+-- When times meet a literal, a way and a clause.
 use Rattle.std.specs.Prelude.{◌⊎◌, ℤ, ◌+ℤ◌, ◌≤ℤ◌, List, Any, IsSomeAnd}
 use Rattle.itv_base.specs.declared.names.EventId.{EventId}
 use Rattle.event_graph.specs.Edges.{Meets}

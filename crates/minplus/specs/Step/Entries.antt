@@ -13,22 +13,22 @@ use Rattle.minplus.specs.declared.rows.TheConstants.{ABSENT}
 abbrev pub Entries : Type 0
 Entries = ℕ → ℕ → ℤ
 
--- there is a path
+-- the entry is present: it stands for a path
 abbrev pub IsPresent : ℤ → Type 0
 IsPresent entry = entry <ℤ ABSENT
 
--- an entry is at most the sum of two others, where both are there
+-- an entry is at most the sum of two others, if both are present
 abbrev pub IsAtMostSum : ℤ → ℤ → ℤ → Type 0
 IsAtMostSum entry first second = IsPresent first → IsPresent second → entry ≤ℤ (first +ℤ second)
 
--- each entry was improved through an event: it is the lesser of itself and the sum over that event
+-- each entry was improved through an event: it is the lesser of itself and the sum of the entries to the event and from it
 pub record IsThrough (event : ℕ) (old new : Entries) : Type 0 where
   pub falls : (from to : ℕ) → new from to ≤ℤ old from to
   pub least : (from to : ℕ) → IsAtMostSum (new from to) (old from event) (old event to)
   pub made : (from to : ℕ) → (new from to ≡ old from to)
       ⊎ (IsPresent (old from event) × IsPresent (old event to) × (new from to ≡ (old from event +ℤ old event to)))
 
--- no detour over an event below a number is shorter
+-- no detour over an event below a number is shorter than the entry
 abbrev pub IsClosedBelow : ℕ → Entries → Type 0
 IsClosedBelow events entries = (over from to : ℕ) → over < events → IsAtMostSum (entries from to) (entries from over) (entries over to)
 
@@ -37,14 +37,14 @@ abbrev pub BoundsAlways : Net → Entries → Type 0
 BoundsAlways net entries = (times : List ℤ) → MeetsAlways times net → (from to : ℕ) → IsPresent (entries from to)
     → separation times (record { 0 = from }) (record { 0 = to }) ≤ℤ entries from to
 
--- an edge between events below a number, no shorter than the entry of its ends
+-- the edge is held: its events are below a number, and its weight is at least the entry from the one to the other
 pub record IsEdgeHeld (events : ℕ) (entries : Entries) (e : Edge) : Type 0 where
   pub from : e.from.0 < events
   pub to : e.to.0 < events
   pub small : IsSmall e.weight
   pub longer : entries e.from.0 e.to.0 ≤ℤ e.weight
 
--- so is each always-edge
+-- each always-edge is held
 abbrev pub HoldsEdges : Net → Entries → Type 0
 HoldsEdges net entries = (name : EdgeName) (e : Edge) → IsAlways net name → edge net name ≡ Some e → IsEdgeHeld net.events entries e
 

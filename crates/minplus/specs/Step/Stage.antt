@@ -6,7 +6,7 @@ use Rattle.minplus.specs.Rows.{IsEntry}
 use Rattle.minplus.specs.Step.Entries.{BoundsAlways, Entries, HoldsEdges, IsClosedBelow}
 use Rattle.minplus.specs.Step.Paths.{ArePaths, AreSteps}
 
--- the matrix was improved through the events below a number, from the steps on, and no event is before itself
+-- the matrix of steps was improved through the events below a number, and each entry of the diagonal is 0
 pub record PivotStage (net : Net) (steps : Entries) (event : ℕ) (entries : Entries) : Type 0 where
   pub small : AreSteps END_LIMIT steps
   pub held : (from to : ℕ) → IsEntry (entries from to)

@@ -18,13 +18,13 @@ use Rattle.settle.specs.declared.race.RaceEnd.TheVariants.{Closed, Unbounded, In
 use Rattle.settle.specs.declared.race.Race.{Race}
 use Rattle.settle.specs.Proofs.{IsProving}
 
--- times within the greatest cap that satisfy and have a separation
+-- times within the greatest cap that satisfy and have this separation
 pub record AreRaceTimes (net : Net) (from to : EventId) (value : ℤ) (times : List ℤ) : Type 0 where
   pub satisfies : Satisfies times net
   pub attained : separation times from to ≡ value
   pub near : All IsNearValue times
 
--- the best times found attain the claim, and where none were found the claim is one that shows that no times satisfy
+-- the best times found attain the claim. If none were found, the claim lies below minus the far line, so that a proof of it shows that no times satisfy
 pub record IsBest (net : Net) (from to : EventId) (best : Best) : Type 0 where
   pub found : IfSome best.times (λ times. AreRaceTimes net from to best.claim.value times.items)
   pub none : IfNone best.times (best.claim.value <ℤ neg_ℤ (pos (far_line net)))
@@ -33,7 +33,7 @@ pub record IsBest (net : Net) (from to : EventId) (best : Best) : Type 0 where
 abbrev pub line_count : Race → ℕ
 line_count race = length race.plain.lines + length race.turned.lines
 
--- both searches are at lines that lead from the start, and claim what the best times attain
+-- for both searches, lines lead from the start to the checker's state, and the checker claims what the best times attain
 pub record IsRacing (net : Net) (race : Race) : Type 0 where
   pub from : race.from.0 < net.events
   pub to : race.to.0 < net.events
@@ -54,14 +54,14 @@ abbrev pub IsOverAs : View → Net → Race → Type 0
 IsOverAs Plain net race = IsOver net race.plain.check.goal race.plain.check.state
 IsOverAs Negated net race = IsOver (negated net) race.turned.check.goal race.turned.check.state
 
--- an ending with a ray of these times
+-- an ending with a ray that starts at these times
 abbrev pub IsRayEnding : Net → EventId → EventId → List ℤ → RaceEnd → Type 0
 IsRayEnding net from to times (Closed view) = ⊥
 IsRayEnding net from to times (Unbounded ray) = IsRay net from to times ray.items
 IsRayEnding net from to times (Inconsistent view) = ⊥
 
--- with what a race ends: the lines of a view prove that nothing exceeds the best times, or that no times satisfy, or the best times and a ray show
--- that every number is exceeded
+-- how a race ends: the lines of a view prove that nothing exceeds the best times, or that no times satisfy, or the best times and a ray show that every
+-- number is exceeded
 abbrev pub IsEnding : Net → Race → RaceEnd → Type 0
 IsEnding net race (Closed view) = IsOverAs view net race × IsSome race.best.times × (race.best.claim.value <ℤ pos (far_line net))
 IsEnding net race (Unbounded ray) = IsSomeAnd race.best.times (λ times. IsRay net race.from race.to times.items ray.items)

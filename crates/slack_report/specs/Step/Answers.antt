@@ -1,4 +1,4 @@
--- What is answered to a text, by the lines that are stored.
+-- What the reader answers for a text, with the lines that are stored.
 use Rattle.std.specs.Prelude.{◌≡◌, Result, Ok, Err}
 use Rattle.std.specs.Global.{Vec}
 use Rattle.slack_report.specs.declared.fault.ReportFault.{ReportFault}

@@ -1,4 +1,4 @@
--- What is cut of a text.
+-- Parts that are cut off the front of a text.
 use Rattle.std.specs.Prelude.{◌≡◌, ◌<◌, ℕ, Bool, false, List, [], ◌∷◌, length, Option, Some, None}
 use Rattle.std.specs.List.{after_first, before_first, position_or_len}
 use denote.Ref.{Bor}
@@ -6,17 +6,17 @@ use Rattle.itv_base.specs.Characters.{is_mark}
 use Rattle.line_words.specs.Lines.{is_feed}
 use Rattle.line_words.specs.Words.{Word, is_word, when}
 
--- its first line, and the text behind the end of that line, or none where no line ends
+-- the parts are the first line of the text and the text behind its end. There are none if no line ends
 abbrev pub Cuts : List ℕ → Option (Bor (List ℕ) × Bor (List ℕ)) → Type 0
 Cuts text None = position_or_len is_feed text ≡ length text
 Cuts text (Some parts) = (position_or_len is_feed text < length text) × (parts.0.now ≡ before_first is_feed text) × (parts.1.now ≡ after_first is_feed text)
 
--- the mark that a text begins with, and the text behind it
+-- the mark with which a text begins, and the text behind it
 abbrev pub mark_of : List ℕ → Option (ℕ × List ℕ)
 mark_of [] = None
 mark_of (mark ∷ rest) = when (is_mark mark) (Some (mark, rest))
 
--- a word stands first
+-- the first word is this one
 abbrev pub stands_first : Word → List Word → Bool
 stands_first key [] = false
 stands_first key (word ∷ words) = is_word word key

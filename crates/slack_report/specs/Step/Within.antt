@@ -1,4 +1,4 @@
--- What the program keeps of a place: its numbers fit 32 bits.
+-- What the program keeps true of a place: its numbers fit 32 bits.
 use Rattle.std.specs.Prelude.{◌+◌, ◌^◌, ◌<◌}
 use Rattle.slack_report.specs.declared.place.Place.{Place}
 use Rattle.slack_report.specs.declared.place.Place.TheVariants as at

@@ -4,6 +4,6 @@ use Rattle.clauses.specs.Checking.{OfClause}
 use Rattle.clauses.specs.Lines.{IsKnownFalse}
 use Rattle.clauses.proofs.judge.first_open.Given as goal
 
--- so it is with each literal so far
+-- each literal so far is known not to hold
 abbrev pub invariant-loop-place : goal.invariant-loop-place
 invariant-loop-place l = OfClause l.net l.kept l.basis (λ c. (k : ℕ) (x : Literal) → k < l.place → slice_get c.literals k ≡ Some x → IsKnownFalse l.frame x)

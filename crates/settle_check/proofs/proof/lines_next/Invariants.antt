@@ -2,7 +2,7 @@ use Rattle.std.proofs.Common.{◌≡◌}
 use Rattle.settle.specs.Proofs.{IsProving}
 use Rattle.settle_check.proofs.proof.lines_next.Given as goal
 
--- the lines lead to where the checker of the goal is
+-- the lines lead to the state of the checker of the goal
 abbrev pub invariant-loop : goal.invariant-loop
 invariant-loop l = record {
   proving : IsProving l.net (record { check = l.checker; lines = l.lines.items });

@@ -2,6 +2,6 @@ use Rattle.std.proofs.Common.{◌≡◌, take}
 use Rattle.whatif_report.specs.Whatif.{kinds_of}
 use Rattle.whatif_report.proofs.asked.kinds_of.Given as goal
 
--- what is wanted of each row so far
+-- the kinds of the rows so far
 abbrev pub invariant-loop-k : goal.invariant-loop-k
 invariant-loop-k l = l.kinds.items ≡ kinds_of (take l.k l.rows)

@@ -2,7 +2,7 @@ use Rattle.std.proofs.Common.{◌≡◌, ◌≤◌}
 use Rattle.settle.specs.Step.Racing.{IsRacing, line_count}
 use Rattle.settle.proofs.settler.Settler.greatest.Given as goal
 
--- both searches are under way, and together have taken no more lines than turns
+-- both searches are under way, and together have taken at most as many lines as turns
 abbrev pub invariant-loop-turn : goal.invariant-loop-turn
 invariant-loop-turn l = record {
   racing : IsRacing l.net l.race;
