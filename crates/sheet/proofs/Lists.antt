@@ -43,7 +43,7 @@ pub list_any-none : {X : Type 0} (p : X → Bool) (xs : List X) → ((x : X) →
 list_any-none p [] none = refl
 list_any-none p (x ∷ xs) none = rw (none x) (list_any-none p xs none)
 
--- where all that fail a test are mapped to the same, and none passes it
+-- two maps that agree on each element that fails a test agree on a list of which no element passes it
 pub map_none : {X Y : Type 0} (f g : X → Y) (p : X → Bool) (xs : List X) → ((x : X) → p x ≡ false → g x ≡ f x) → list_any p xs ≡ false → map g xs ≡ map f xs
 map_none f g p [] same none = refl
 map_none f g p (x ∷ xs) same none =
