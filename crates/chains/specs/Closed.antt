@@ -6,7 +6,7 @@ use Rattle.event_graph.specs.Edges.{edge}
 use Rattle.event_graph.specs.Network.{Net}
 use Rattle.chains.specs.Chain.{IsTight}
 
--- the event is in the set, which has a flag for each
+-- the event is in the set; the set has a flag for each event
 abbrev pub Has : List Bool → EventId → Type 0
 Has set event = IsTrue (slice_index_or set event.0 false)
 
