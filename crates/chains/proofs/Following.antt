@@ -22,8 +22,8 @@ walk_on net from (first ∷ names) at end name walk leads =
     let found = some_and (edge net first) (λ e. (e.from ≡ from) × IsWalk net e.to names at) walk in
     rw found.1 (found.2.0, walk_on net found.0.to names at end name found.2.1 leads)
 
--- Some edges were followed from an event. For any times and any end, if the found edges lead on to the end, the followed edges are tight and
--- the edges left lead on from the event at hand.
+-- Some of the found edges were followed from an event to the event at hand. For any times and any target: if the found edges lead on to the
+-- target and reach the event, the followed edges are tight, and the edges left lead on to the target and reach the event at hand.
 pub record IsUnderway (net : Net) (from : EventId) (found left : List EdgeName) (names : List EdgeName) (at : EventId) : Type 0 where
   pub walk : IsWalk net from names at
   pub tight : (times : List ℤ) (to : EventId) → LeadOn net times to found → IsReached net to found from → All (IsTight net times) names

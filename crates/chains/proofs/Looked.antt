@@ -73,7 +73,7 @@ looked_on net times name e spread is_edge within has = record {
 pub looked_none : (net : Net) (times : List ℤ) (spread : Spread) → LooksAt net times (λ name. ⊥) spread spread
 looked_none net times spread = record { events = refl; spreads = λ to is. is; more = omega arith; none = λ same. (refl, λ name seen. absurd seen) }
 
--- some edges were looked at, and then others: so all edges that are among the first or the others, if the times meet them with equality, were
+-- first some edges were looked at, and then others: so all edges of a set were, if each of them that the times meet with equality is among these
 pub looked_further : (net : Net) (times : List ℤ) (First Second Seen : EdgeName → Type 0) (old mid new : Spread) → LooksAt net times First old mid
     → LooksAt net times Second mid new → ((name : EdgeName) → IsTight net times name → Seen name → First name ⊎ Second name) → LooksAt net times Seen old new
 looked_further net times First Second Seen old mid new first second among = record {
@@ -109,7 +109,7 @@ then_some : {X Y : Type 0} (f : X → Option Y) (o : Option X) (y : Y) → optio
 then_some f None y e = absurd (cc)
 then_some f (Some x) y e = (x, refl, e)
 
--- a constraint has no more causes than it names, or one
+-- a constraint has at most as many causes as it names, or one if it names none
 named_most : (kind : RuleKind) (count : ℕ) → IsCauseCount kind count → count ≤ max (named_causes kind count) 1
 named_most Lin count h = omega arith
 named_most Late count h = omega arith
@@ -119,7 +119,7 @@ named_most Early count h = omega arith
 counted_is : (f : Constraint → ℕ) (o : Option Constraint) (k : Constraint) (count : ℕ) → option_map f o ≡ Some count → o ≡ Some k → f k ≡ count
 counted_is f o k count counted is = same_Some (f k) count (rw is at counted)
 
--- an edge that is there is an edge of a constraint that is there, and of one of the causes that it names, or of the only one
+-- an edge that is there is an edge of a constraint that is there, and of one of the causes that it names, or of cause 0 if it names none
 edge_within : (net : Net) (name : EdgeName) (e : Edge) → IsNet net → edge net name ≡ Some e
     → (k : Constraint) × (slice_get net.constraints name.constraint ≡ Some k) × (name.cause < max (cause_count_of k) 1)
 edge_within net name e is_net is_edge =

@@ -12,7 +12,7 @@ use Rattle.event_graph.specs.Times.{separation}
 abbrev pub IsTight : Net → List ℤ → EdgeName → Type 0
 IsTight net times name = IsSomeAnd (edge net name) (λ e. separation times e.from e.to ≡ e.weight)
 
--- The named edges lead one after another from an event to another event, and the times meet each edge with equality.
+-- the named edges lead one after another from an event to an event, and the times meet each edge with equality
 pub record IsChain (net : Net) (times : List ℤ) (from to : EventId) (names : List EdgeName) : Type 0 where
   pub walk : IsWalk net from names to
   pub tight : All (IsTight net times) names

@@ -4,7 +4,7 @@ use Rattle.std.proofs.Common.{inl, inr, ◌∙◌, subst}
 use Rattle.event_graph.specs.Proof.{ProofLine}
 use Rattle.chains.specs.Named.{HasMarked, IsIn, SomeNames}
 
--- what lines name, a first part of them names or the rest
+-- what lines name, either the first of them name or the others
 named_apart : (xs ys : List ProofLine) (number : ℕ) → SomeNames (xs ++ ys) number → SomeNames xs number ⊎ SomeNames ys number
 named_apart [] ys number some = inr some
 named_apart (x ∷ xs) ys number (inl here) = inl (inl here)

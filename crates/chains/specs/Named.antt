@@ -9,7 +9,7 @@ use Rattle.event_graph.specs.Satisfying.{Holds}
 abbrev pub HasEdgeOf : List EdgeName → ℕ → Type 0
 HasEdgeOf edges number = Any (λ (name : EdgeName). name.constraint ≡ number) edges
 
--- the line splits by the constraint of a number, or its edges have one of this constraint
+-- the line splits by the constraint of a number, or one of its edges is an edge of this constraint
 abbrev pub Names : ProofLine → ℕ → Type 0
 Names (Split constraint) number = constraint ≡ number
 Names (Path edges) number = HasEdgeOf edges number

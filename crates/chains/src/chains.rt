@@ -65,7 +65,7 @@ impl Chains {
         ensures best { AreBest net.now times.now from to → IsTrue result }
         ensures empty { result ≡ false → self.new.names ≡ [] }
     {
-        // This call gives that the network is within the limits.
+        // The call also gives the invariant: the network is within its limits.
         let _events = net.events();
         self.names.clear();
         self.spread.begin(to);

@@ -8,7 +8,7 @@ pub fn chain_sums()
 {}
 
 /// If the times satisfy the network, they still satisfy it with one picosecond more for each event of a closed set: no edge that the times
-/// meet with equality leads into the set.
+/// meet with equality leads into the set from outside.
 pub fn closed_set_rises()
     ensures law { ClosedSetRises }
 {}

@@ -7,8 +7,8 @@ use itv_base::{EdgeName, EventId, NoMemory};
 use std::alloc::Global;
 use std::marker::Model;
 
-/// The events from which edges lead to one event, and the edges by which they were reached: one edge for each of these events except the
-/// target. Contracts see a flag for each event, and the edges, the edge that was found last first.
+/// The events from which edges lead to one event, the target, and the edges by which they were reached: one edge for each of these events
+/// except the target. Contracts see a flag for each event, and the edges, the edge that was found last first.
 #[derive(Debug, Drop)]
 pub struct Spread {
     reached: Vec<bool>,

@@ -44,7 +44,7 @@ const TWO_PROVED: &str =
 fn a_text_is_accepted_whoever_wrote_it(rt: HostRuntime) -> Result<(), Fail> {
     let alloc = rt.alloc();
     confirms(alloc, TWO, TWO_PROVED, 0)?;
-    // other times, the other view, which the line of its proof does not fit, more lines than are needed, and other times that break the requirement
+    // other times; the other view, in which the fall is refused; more lines than are needed; other times that break the requirement
     for (number, lines) in [
         (6, "times 0 17\n"),
         (9, "view negated\n"),

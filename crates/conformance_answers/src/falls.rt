@@ -214,7 +214,7 @@ fn the_lines_of_its_derivations(rt: HostRuntime) -> Result<(), Fail> {
 
 // ---- other ends
 
-// The numbers are the numbers of the first latest and of the first earliest rule with two causes.
+// The refusal gives the numbers of the first latest and of the first earliest rule with two causes.
 #[test]
 fn choices_of_both_kinds_are_refused(rt: HostRuntime) -> Result<(), Fail> {
     let alloc = rt.alloc();

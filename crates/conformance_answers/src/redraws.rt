@@ -171,8 +171,8 @@ fn count_of(text: &str, part: &str) -> usize {
     text.split(part).count() - 1
 }
 
-// Up to 93 events are all drawn. Of more events 93 are drawn, the pair of the row among them. The drawing has one rule less than events, and one
-// demand.
+// Up to 93 events are all drawn. Of more events the first 93 are drawn, the pair of the row among them. The drawing has one rule less than
+// events, and one demand.
 #[test]
 fn more_events_than_marks(rt: HostRuntime) -> Result<(), Fail> {
     let alloc = rt.alloc();

@@ -143,8 +143,9 @@ fn sheets_that_were_worked_by_hand(rt: HostRuntime) -> Result<(), Fail> {
     each_explains(rt.alloc(), &BY_HAND)
 }
 
-// A processor, a memory and three nets over two cycles. The clock has 25,000. The address leaves at most 8,000 behind the clock, two nets take
-// 300 each and the memory takes 12,000: 4,400 are left. The address leaves at least 2,000 behind the clock, and 100, 3,000 and 100 come on top.
+// A processor, a memory and three nets over two cycles. A cycle of the clock takes 25,000. The address leaves at most 8,000 behind the clock,
+// two nets take 300 each and the memory takes 12,000: 4,400 are left. The address leaves at least 2,000 behind the clock, and 100, 3,000 and
+// 100 come on top.
 #[test]
 fn a_processor_and_its_memory(rt: HostRuntime) -> Result<(), Fail> {
     let files = [("b", BOARD), ("s", PROCESSOR), ("t", MEMORY)];

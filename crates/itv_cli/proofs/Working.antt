@@ -1,4 +1,4 @@
--- What a job answers that passes on the answer of another part.
+-- What a job answers that goes on with the answer of another part.
 use Rattle.std.proofs.Common.{◌≡◌, ℕ, List, Result, Ok, Err, IsErrAnd}
 use Rattle.itv_base.specs.Outside.{SinkView}
 use Rattle.jobs.specs.Works.{JobWrote}

@@ -314,7 +314,7 @@ fn for_whatif<H: Shelf>(
     with_edits(alloc, drawn, edits, budget, shelf)
 }
 
-// The same for few enough rows: fetches the edits.
+// The same for a network with few enough rows: fetches the edits.
 fn with_edits<H: Shelf>(
     alloc: Global,
     drawn: DrawnNetwork,

@@ -31,7 +31,7 @@ pub fn program<R: Env + Files + Print + AllocGlobal>(rt: &R) -> ExitCode
     }
 }
 
-/// Runs on the words of the system except the first, on a shelf and a sink, and returns the status of the run's end. Nothing else is read
+/// Runs on the words that a system gives except the first, on a shelf and a sink, and returns the status of the run's end. Nothing else is read
 /// or written. If the system gives an error in place of the words, nothing is read or written. The status is then 10, or the status of
 /// [`Outcome::NoMemory`] if the system lacks the memory for the words.
 pub fn run_words<H: Shelf, K: Sink>(

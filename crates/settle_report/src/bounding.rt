@@ -56,7 +56,7 @@ fn bound_by(
     ensures bound { IsBound cert net.now which row.now result }
     ensures nearby { HasNearby result }
 {
-    // The network is within its limits.
+    // The call also gives the invariant: the network is within its limits.
     let _events = net.events();
     let ShownAnswer {
         answer,

@@ -47,7 +47,7 @@ fn finding_of(alloc: Global, net: &Network, found: ShownAnswer, cert: bool) -> F
     requires found { (turns : ℕ) × IsFound net.now first_event first_event turns found }
     ensures finding { IsFinding cert net.now result }
 {
-    // The network is within its limits.
+    // The call also gives the invariant: the network is within its limits.
     let _events = net.events();
     let ShownAnswer {
         answer,

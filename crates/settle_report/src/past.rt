@@ -114,7 +114,7 @@ fn past_limit(
     requires beyond { IsBeyond which found.now limit }
     ensures past { IfOk result (λ past. ArePast net.now which row.now limit past.items) }
 {
-    // The network is within its limits.
+    // The call also gives the invariant: the network is within its limits.
     let _events = net.events();
     match found {
         SettledBound::Closed(_, times, _) => copy_of(alloc, times),

@@ -58,7 +58,7 @@ count_by_kind links o Early cause = length-map (filter (joins o) links) source_o
 count_by_kind links o Req cause = cc
 count_by_kind links o Ask cause = cc
 
--- the rule of an opener is full where a link that joins it is
+-- the rule of an opener is full if and only if a link that joins the opener is full
 pub full-rule : (links : List Link) (link o : Link) → joins link o ≡ true → nat_le MAX_CAUSES (length (rule_for links o).causes) ≡ is_full links link
 full-rule links link o joined =
     ap (nat_le MAX_CAUSES) (count_by_kind links o o.label.kind (joins-cause o link (sym (joins-comm link o) ∙ joined))

@@ -65,7 +65,7 @@ All-flat_map : {X Y : Type 0} (P : X → Type 0) (Q : Y → Type 0) (f : X → L
 All-flat_map P Q f gives [] all = All-nil Q
 All-flat_map P Q f gives (x ∷ xs) all = All-append Q (f x) (flat_map f xs) (gives x (All-head P x xs all)) (All-flat_map P Q f gives xs (All-tail P x xs all))
 
--- a place that is found is one of the list
+-- a place that is found is a place of the list
 position_within : {X : Type 0} (p : X → Bool) (xs : List X) → IfSome (position p xs) (λ k. k < length xs)
 position_within p xs =
     cond_both (ltb (position_or_len p xs) (length xs)) (Some (position_or_len p xs)) None (λ o. IfSome o (λ k. k < length xs)) (ltb-true (position_or_len p xs) (length xs)) (λ _. tt)
@@ -219,7 +219,7 @@ link_of_whole labels whole marks n text = seen_link_whole labels whole marks n (
 
 -- ---- how many causes
 
--- any link is joined by no more links than a rule may have causes
+-- each link joins at most as many links as a rule may have causes
 abbrev pub AreFew : List Link → Type 0
 AreFew links = (o : Link) → length (filter (joins o) links) ≤ MAX_CAUSES
 
@@ -235,7 +235,7 @@ few_push done link few room o =
     let both : filter (joins o) (done ++ link ∷ []) ≡ filter (joins o) done ++ cond (joins o link) (link ∷ []) [] = filter-append (joins o) done (link ∷ []) in
     rw both (omega (arith, length-append (filter (joins o) done) (cond (joins o link) (link ∷ []) []), few_joined done link o (joins o link) refl few room))
 
--- links between marks that are there; few of them join any one link
+-- links between marks that are there; each link joins few of them
 pub record AreWhole (marks : ℕ) (links : List Link) : Type 0 where
   pub all : All (IsWholeLink marks) links
   pub few : AreFew links
@@ -434,7 +434,7 @@ sheet_of_whole labels are drawing =
 pub sheet_whole : (labels : Labels) → AreWholeLabels labels → (drawing : Drawing) (sheet : SheetContents) → sheet_of labels drawing ≡ Ok sheet → IsWhole sheet
 sheet_whole labels are drawing sheet is = IfOk-at_ok IsWhole is (sheet_of_whole labels are drawing)
 
--- the grade of a name among those that give ranges gives ranges
+-- if each grade gives ranges, the grade with a name gives ranges
 pub grade_named_whole : (grades : List Grade) (name : Option (List ℕ)) → AreRanges grades → IfOk (grade_named grades name) (λ grade. IfSome grade HasRanges)
 grade_named_whole grades None whole = tt
 grade_named_whole grades (Some name) whole = found (grade_called grades name) (grade_called_whole grades name whole)

@@ -18,7 +18,7 @@ is_memory NoGrade = false
 is_memory (NoParam n) = false
 is_memory NoMemory = true
 
--- the fault of an edge whose group already has as many causes as it may have
+-- the fault of a group as a fault of a drawing
 abbrev pub sheet_fault : GroupFault → SheetFault
 sheet_fault (group.TooManyCauses n) = TooManyCauses n
 sheet_fault group.NoMemory = NoMemory

@@ -14,7 +14,7 @@ use Rattle.sheet.specs.Contents.{SheetContents}
 use Rattle.sheet.specs.Lanes.{has_bad_node, marks_of, pins_of, order_rules, first_repeated}
 use Rattle.sheet.specs.Links.{Labels, plain, graded, links_of, link_rules, link_rows}
 
--- the marks of the lanes; or else the first lane with a bad node; or else the first mark that an earlier mark repeats
+-- the marks of the lanes; or else the first lane with a bad node; or else the first mark that repeats an earlier mark
 unfoldable pub read_marks : List LaneText → Result (List Mark) SheetFault
 read_marks lanes = do
   lanes' ← unless (position has_bad_node lanes) BadNode lanes

@@ -16,7 +16,7 @@ use Rattle.sheet.specs.Links.{Labels, plain, graded}
 use Rattle.sheet.specs.Rule.{SheetRule}
 use Rattle.sheet.specs.Contents.{SheetContents}
 
--- how many causes a rule of a kind may have: a linear rule has one, its from-mark; the others have from 1 to the limit
+-- how many causes a rule of a kind may have: a linear rule has one, its from-mark; the others have 1 to `MAX_CAUSES`
 abbrev pub IsCauseCount : RuleKind → ℕ → Type 0
 IsCauseCount rules.Lin count = count ≡ 1
 IsCauseCount rules.Late count = (1 ≤ count) × (count ≤ MAX_CAUSES)

@@ -97,7 +97,7 @@ fn node_of(lane: &LaneText) -> &[u8]
     }
 }
 
-// Puts the marks of a lane at the end, or gives the fault of the first mark that an earlier mark repeats.
+// Puts the marks of a lane at the end, or gives the fault of the first mark that repeats an earlier mark.
 fn push_marks(marks: &mut Marks, number: u64, lane: &LaneText) -> Result<(), SheetFault>
     ensures answer { AgreesWith is_memory (λ _. marks.new) result (with_marks marks.old (lane_marks (number, lane.now))) }
     ensures distinct { OnOk result (AreMarks marks.old → AreMarks marks.new) }
