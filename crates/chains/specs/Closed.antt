@@ -1,4 +1,4 @@
--- Sets of events that no edge enters which the times meet with equality.
+-- Sets of events that no tight edge enters from outside. An edge is tight if the times meet it with equality.
 use Rattle.std.specs.Prelude.{false, ℤ, Bool, IsTrue, List, IfSome, slice_index_or}
 use Rattle.itv_base.specs.declared.names.EdgeName.{EdgeName}
 use Rattle.itv_base.specs.declared.names.EventId.{EventId}

@@ -16,7 +16,7 @@ pub fn cause(event: u32, (low, high): Ends) -> Result<Cause, Fail> {
     })
 }
 
-/// Adds a constraint, behind a test of what the network requires.
+/// Adds a constraint, after a test of what the network requires.
 pub fn add(
     alloc: Global,
     net: &mut Network,

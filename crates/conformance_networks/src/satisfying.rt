@@ -44,7 +44,7 @@ fn with_causes(alloc: Global, counts: &[i64]) -> Result<Network, Fail> {
     Ok(net)
 }
 
-// The first broken constraint, behind a test of what `broken` requires.
+// The first broken constraint, after a test of what `broken` requires.
 fn broken(net: &Network, times: &[i64]) -> Option<u32> {
     let limit: i64 = 1 << 61;
     if times.len() == net.events() as usize

@@ -14,7 +14,7 @@ type NameRow = (u32, u32, Side);
 // The letters of two events, times, and the chain from the first event to the second, if there is one.
 type Row<'a> = (&'a str, &'a str, &'a [i64], Option<&'a [NameRow]>);
 
-// The chain from an event to another at some times, behind a test of what `find` requires.
+// The chain from an event to another at some times, after a test of what `find` requires.
 fn chain_of(
     alloc: Global,
     net: &Network,

@@ -59,7 +59,7 @@ pub fn rules_of(alloc: Global, text: &'static str) -> Result<Vec<Rule>, Fail> {
     Ok(rules)
 }
 
-// Adds a rule to a network, behind a test of what the network requires.
+// Adds a rule to a network, after a test of what the network requires.
 fn add(alloc: Global, net: &mut Network, rule: &Rule) -> Result<(), Fail> {
     let events = net.events();
     let causes = rule.causes.as_slice();
