@@ -141,7 +141,7 @@ edge_plain edge =
     plain_append (number_text edge.constraint) (46 ∷ (number_text edge.cause ++ side_letter edge.side)) (number_plain edge.constraint)
     (plain_append (number_text edge.cause) (side_letter edge.side) (number_plain edge.cause) (side_plain edge.side))
 
--- the words of a line of a proof: one and others, all of them plain
+-- the words of a line of a proof: a first word and others, all of them plain
 pub record LineWords (line : ProofLine) : Type 0 where
   pub first : Word
   pub others : List Word
@@ -159,7 +159,7 @@ line_words_are line =
     let w = proof_plain line in
     rw w.parts (split-join w.first w.others w.plain)
 
--- a text that is read is a line's, and a line's text is read
+-- a text that is read is the text of a line, and the text of a line is read
 pub text_is_line : (text : List ℕ) (line : ProofLine) → line_in text ≡ Some line → Spells text line
 text_is_line text line e =
     let t = proof_takes (split_words text) line e in record {
@@ -171,7 +171,7 @@ pub line_is_read : (text : List ℕ) (line : ProofLine) → Spells text line →
 line_is_read text line spells =
     ap proof_in (ap split_words spells.text_is ∙ line_words_are line) ∙ proof_again line spells.form
 
--- what is no text is no line of a proof
+-- bytes that are no text are no line of a proof
 pub no_proof_line : (text : List ℕ) → (IsUtf8 text → ⊥) → line_in text ≡ None
 no_proof_line text other = none_at (line_in text) refl
   where
@@ -199,7 +199,7 @@ tells_bad text (Ok owned) read bad line spells = cc
 tells_bad text (Err BadLine) read bad line spells = none-some line (sym read ∙ line_is_read text line spells)
 tells_bad text (Err NoMemory) read bad line spells = absurd (cc)
 
--- two lines have two texts
+-- two different lines have different texts
 pub line_texts_differ : (a b : ProofLine) → IsProofLine a → IsProofLine b → proof_line a ≡ proof_line b → a ≡ b
 line_texts_differ a b p q e =
     same_Some a b (sym (line_is_read (proof_line a) a (record { form = p; text_is = refl })) ∙ line_is_read (proof_line a) b (record { form = q; text_is = e }))

@@ -1,4 +1,4 @@
--- Lines of a proof that are stored with their edges in one row.
+-- Lines of a proof are stored with their edges in one row.
 use Rattle.std.proofs.Common.{◌≡◌, ◌+◌, ◌-◌, ◌<◌, ◌≤◌, ℕ, zero, suc, List, [], ◌∷◌, ◌++◌, length, get_or, take, drop, Some, slice_get, refl, sym, ap, subst, ◌∙◌, arith, length-append, zero-add}
 use Rattle.std.specs.List.{sum_by}
 use Rattle.std.proofs.lemmas.List.{drop-append-le, length-drop, length-take, take-append-le, take_all}
@@ -68,7 +68,7 @@ pub part_within : (stored : List Stored) (last k : ℕ) (d : Stored) → EndsRis
     → (start_of stored k ≤ (get_or stored k d).end) × ((get_or stored k d).end ≤ last)
 part_within stored last k d ends h = ends_within 0 stored last k d ends h
 
--- the line is that of its kind and its part of the edges
+-- the line has its kind and its part of the edges
 pub line_is : (stored : List Stored) (all part : List EdgeName) (k start : ℕ) (d : Stored) (kind : StoredKind) → k < length stored → start ≡ start_of stored k
     → part ≡ take ((get_or stored k d).end - start) (drop start all) → (get_or stored k d).kind ≡ kind
     → slice_get (stored_lines 0 stored all) k ≡ Some (stored_line kind part)
@@ -81,7 +81,7 @@ pub length-stored : (start : ℕ) (stored : List Stored) (edges : List EdgeName)
 length-stored start [] edges = refl
 length-stored start (s ∷ stored) edges = ap suc (length-stored s.end stored edges)
 
--- a part of a row of edges is not changed by what is put behind the row
+-- a part of a row of edges is unchanged by what is put behind the row
 part_same : (start end : ℕ) (all more : List EdgeName) → start ≤ end → end ≤ length all → take (end - start) (drop start (all ++ more)) ≡ take (end - start) (drop start all)
 part_same start end all more h k =
     let within : start ≤ length all = omega arith in
@@ -101,7 +101,7 @@ stored_more start (t ∷ stored) all more s ends last =
     ap (λ edges. stored_line t.kind edges ∷ stored_lines t.end (stored ++ s ∷ []) (all ++ more)) (part_same start t.end all more low high)
     ∙ ap (λ lines. stored_line t.kind (take (t.end - start) (drop start all)) ∷ lines) (stored_more t.end stored all more s ends.1 last)
 
--- what keeping a line leaves
+-- the ends still rise behind a line that is kept
 pub kept_ends : (stored : List Stored) (all more : List EdgeName) (kind : StoredKind) (end : ℕ) → EndsRise 0 stored (length all) → IsSplitEnd 0 kind (length more) → end ≡ length (all ++ more)
     → EndsRise 0 (stored ++ (record { kind = kind; end = end }) ∷ []) (length (all ++ more))
 kept_ends stored all more kind end ends is last =
@@ -138,7 +138,7 @@ edges_in_line (kinds.Split constraint) edges h = sym h
 edges_in_line kinds.Path edges h = refl
 edges_in_line kinds.Loop edges h = refl
 
--- a line that is not kept does not fit beside those that are
+-- a line that is not kept does not fit beside the lines that are kept
 pub too_full : (stored : List Stored) (all edges : List EdgeName) (kind : StoredKind) (line_room edge_room : ℕ) → EndsRise 0 stored (length all) → IsSplitEnd 0 kind (length edges)
     → ((length stored < line_room) × (length all + length edges ≤ edge_room) → ⊥) → FitsTree line_room edge_room (stored_lines 0 stored all ++ stored_line kind edges ∷ []) → ⊥
 too_full stored all edges kind line_room edge_room ends is full fits =

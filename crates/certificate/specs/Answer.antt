@@ -1,4 +1,4 @@
--- What is answered to the text of a line of a proof.
+-- The answer to the text of a line of a proof.
 use Rattle.std.specs.Prelude.{◌≡◌, Result, Ok, Err}
 use Rattle.event_graph.specs.Proof.{ProofLine}
 use Rattle.certificate.specs.declared.fault.LineFault.{LineFault}

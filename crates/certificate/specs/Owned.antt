@@ -1,4 +1,4 @@
--- Lines of proofs that are owned.
+-- Lines of proofs that own their edges.
 use Rattle.event_graph.specs.Proof.{Loop, Path, ProofLine, Split}
 use Rattle.certificate.specs.declared.line.OwnedLine.{OwnedLine}
 use Rattle.certificate.specs.declared.line.OwnedLine.TheVariants as lines

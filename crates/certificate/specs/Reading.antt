@@ -23,7 +23,7 @@ unfoldable pub edge_in : Word → Option EdgeName
 edge_in word =
     number_in (2 ^ 32 - 1) (take_while is_ascii_digit word) >>= λ constraint. stripped (codes ".") (after_while is_ascii_digit word) >>= cause_in constraint
 
--- the line of a proof that has the words
+-- the line of a proof with these words
 unfoldable pub proof_in : List Word → Option ProofLine
 proof_in words =
     or_else (option_map Split (keyed (codes "split") (one (number_in (2 ^ 32 - 1))) words)) (or_else (option_map Path (keyed (codes "path") (many edge_in) words)) (option_map Loop (keyed (codes "loop") (many edge_in) words)))

@@ -7,17 +7,17 @@ use Rattle.certificate.specs.Text.{proof_text}
 
 -- ---- writing them
 
--- what a sink tells grew by just the texts of the lines
+-- the view of a sink grew by just the texts of the lines
 abbrev pub SinkGrew : SinkView → List ProofLine → SinkView → Type 0
 SinkGrew old lines new = new ≡ grown old (proof_text lines)
 
--- it grew by a front of their texts, and its count of faults rose
+-- the view of a sink grew by a front of their texts, and its count of faults rose
 abbrev pub SinkWasCut : SinkView → List ProofLine → SinkView → Type 0
 SinkWasCut old lines new = CutShort old new (proof_text lines)
 
 -- ---- keeping them
 
--- the lines kept, the room for lines and for edges in all of them, and how often a line did not fit
+-- the lines kept, the room for lines, the room for the edges of all lines, and how often a line did not fit
 pub record Tree : Type 0 where
   pub lines : List ProofLine
   pub line_room : ℕ
@@ -37,7 +37,7 @@ FitsTree line_room edge_room lines = (length lines ≤ line_room) × (sum_by edg
 abbrev pub TreeGrew : Tree → List ProofLine → Tree → Type 0
 TreeGrew old lines new = new ≡ record old { lines = old.lines ++ lines }
 
--- all lines but the last were appended, that one did not fit beside the lines then kept, and the count of faults rose by one
+-- All lines but the last were appended. The last line did not fit beside the lines then kept, and the count of faults rose by one.
 pub record TreeWasCut (old : Tree) (lines : List ProofLine) (new : Tree) : Type 0 where
   pub before : List ProofLine
   pub last : ProofLine

@@ -11,7 +11,7 @@ use Rattle.line_words.specs.Lines.{ended, line_of}
 
 -- ---- which lines have a text
 
--- the numbers of its constraint and of its cause fit 32 bits
+-- the constraint and the cause of the edge fit 32 bits
 abbrev pub IsEdgeName : EdgeName → Type 0
 IsEdgeName edge = (edge.constraint < 2 ^ 32) × (edge.cause < 2 ^ 32)
 
@@ -36,18 +36,18 @@ proof_words (Split constraint) = codes "split" ∷ number_text constraint ∷ []
 proof_words (Path edges) = codes "path" ∷ map edge_word edges
 proof_words (Loop edges) = codes "loop" ∷ map edge_word edges
 
--- the line without its end, and with it
+-- the line without its line end, and then with it
 abbrev pub proof_line : ProofLine → List ℕ
 proof_line line = line_of (proof_words line)
 
 abbrev pub proof_line_text : ProofLine → List ℕ
 proof_line_text line = ended (proof_line line)
 
--- the text of lines of a proof
+-- the text of lines of a proof, one after another
 abbrev pub proof_text : List ProofLine → List ℕ
 proof_text lines = flat_map proof_line_text lines
 
--- the text is that of the line, without its end
+-- the text is the text of the line, without its line end
 pub record Spells (text : List ℕ) (line : ProofLine) : Type 0 where
   pub form : IsProofLine line
   pub text_is : text ≡ proof_line line

@@ -1,4 +1,4 @@
-//! Why a text is no line of a proof.
+//! Why a text is not a line of a proof.
 
 ghost use Rattle.std.specs.Prelude.{◌≡◌};
 ghost use Rattle.certificate.specs.declared.fault.LineFault.TheVariants.{NoMemory};
@@ -8,7 +8,7 @@ use itv_base::NoMemory as OutOfMemory;
 /// Why a text was not read as a line of a proof.
 #[derive(Clone, Copy, Debug, PartialEq, Eq)]
 pub enum LineFault {
-    /// The text is no line's text.
+    /// The text is not the text of a line.
     BadLine,
     /// Memory was wanted and not found.
     NoMemory,

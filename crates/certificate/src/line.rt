@@ -1,11 +1,11 @@
-//! Lines of proofs that are owned.
+//! Lines of proofs that own their edges.
 
 ghost use Rattle.std.specs.Prelude.{◌≡◌};
 
 use event_graph::Line;
 use itv_base::EdgeName;
 
-/// A line of a proof that owns its edges. It splits the case at hand by the causes of a constraint, or closes it by a path or by
+/// A line of a proof that owns its edges. It splits the case at hand by the causes of a constraint, or closes the case by a path or by
 /// a loop.
 #[derive(Debug, Drop)]
 pub enum OwnedLine {

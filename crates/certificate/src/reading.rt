@@ -64,7 +64,7 @@ fn edges_in(alloc: Global, words: &[&str]) -> Result<Option<Vec<EdgeName>>, NoMe
     Ok(Some(list))
 }
 
-// A constraint of which a case is split.
+// The constraint by which a line splits a case.
 fn split_in(words: &[&str]) -> Option<u32>
     ensures { result ≡ keyed (codes "split") (one (number_in (2 ^ 32 - 1))) (texts words.now) }
 {
@@ -82,7 +82,7 @@ fn edges_behind(alloc: Global, words: &[&str], key: &str) -> Result<Option<Vec<E
     }
 }
 
-/// The line of a proof that has the words, if there is one.
+/// The line of a proof with these words, if there is one.
 #[tactic(auto, unfolding(crate::specs::Reading::proof_in))]
 pub fn proof_in(alloc: Global, words: &[&str]) -> Result<Option<OwnedLine>, NoMemory>
     ensures line { IfOk result (λ o. option_map (λ l. line_view l) o ≡ proof_in (texts words.now)) }
@@ -106,7 +106,7 @@ fn read_words(alloc: Global, text: &str) -> Result<OwnedLine, LineFault>
     }
 }
 
-// The line that the bytes are, which need be no text.
+// The line with these bytes, which need not be text.
 fn read_owned(alloc: Global, text: &[u8]) -> Result<OwnedLine, LineFault>
     ensures { IsLineRead result (line_in text.now) }
 {
@@ -116,13 +116,13 @@ fn read_owned(alloc: Global, text: &[u8]) -> Result<OwnedLine, LineFault>
     }
 }
 
-/// The line of a proof that a text is, without its line end. Memory is the only other fault.
+/// The line of a proof with this text, which has no line end. Want of memory is the only other fault.
 pub fn read_line(alloc: Global, text: &[u8]) -> Result<OwnedLine, LineFault>
-    // What is read is a line of a proof, and the text is its text.
+    // A line that is read has this text.
     ensures ok { IfOk result (λ line. Spells text.now (line_view line)) }
-    // The text of a line is read as that line, unless memory runs out.
+    // The text of a line is read as this line, unless memory runs out.
     ensures only { (line : ProofLine) → Spells text.now line → IsReadAs result line }
-    // A text that is called bad is no line's.
+    // A text that is called bad is not the text of a line.
     ensures bad { IsErrOf result LineFault.BadLine → (line : ProofLine) → Spells text.now line → ⊥ }
 {
     read_owned(alloc, text)

@@ -13,14 +13,14 @@ use event_graph::{Line, Scribe, ScribeFailed};
 use itv_base::{EdgeName, PutFailed, Sink};
 use line_words::LineBuffer;
 
-/// Writes each line to a lent sink, by one put where it fits a lent buffer.
+/// Writes each line to a lent sink, with one put if the line fits a lent buffer.
 #[derive(Drop)]
 pub struct SinkScribe<'a, K: Sink> {
     pub buffer: &'a mut LineBuffer,
     pub sink: &'a mut K,
 }
 
-// Writes a line by one put where it fits the buffer, and else piece by piece.
+// Writes a line with one put if it fits the buffer; otherwise writes it piece by piece.
 fn put_line<K: Sink>(
     line: &Line<'_>,
     buffer: &mut LineBuffer,

@@ -8,7 +8,7 @@ pub enum StoredKind {
     Loop,
 }
 
-/// A stored line: its kind, and how many edges there are up to its end in all lines.
+/// A stored line: its kind, and the number of edges of all lines up to its end.
 #[derive(Clone, Copy, Debug, PartialEq, Eq)]
 pub struct Stored {
     pub kind: StoredKind,

@@ -13,7 +13,7 @@ use itv_base::{EdgeName, NoMemory};
 use std::alloc::Global;
 use std::marker::Model;
 
-/// Keeps lines of a proof, as many as there is room for. A line that doesn't fit is a fault and changes nothing else.
+/// Keeps lines of a proof, as many as it has room for. A line that doesn't fit counts as a fault and changes nothing else.
 #[derive(Debug, Drop)]
 pub struct TreeScribe {
     stored: Vec<Stored>,
@@ -37,7 +37,7 @@ impl Model for TreeScribe {
 }
 
 impl TreeScribe {
-    /// Room for a number of lines with a number of edges in all of them, and no line yet. Takes all the memory that it ever needs.
+    /// Room for a number of lines and for a number of edges of all lines; no line is kept yet. Takes all the memory that it ever needs.
     pub fn new(alloc: Global, lines: u32, edges: u32) -> Result<TreeScribe, NoMemory>
         ensures empty { IfOk result (λ s. s ≡ record { lines = []; line_room = lines; edge_room = edges; faults = 0 }) }
     {
@@ -106,7 +106,7 @@ impl TreeScribe {
     }
 }
 
-// The edge before which the edges of a stored line begin.
+// The place of the first edge of a stored line.
 fn start_of(stored: &[Stored], k: usize) -> usize
     requires { k < length stored.now }
     ensures { result ≡ start_of stored.now k }
@@ -114,7 +114,7 @@ fn start_of(stored: &[Stored], k: usize) -> usize
     if k == 0 { 0 } else { stored[k - 1].end }
 }
 
-// The edges from one on, up to another.
+// The edges from a place up to another, which is not among them.
 fn part(edges: &[EdgeName], start: usize, end: usize) -> &[EdgeName]
     requires low { start ≤ end }
     requires high { end ≤ length edges.now }
@@ -123,7 +123,7 @@ fn part(edges: &[EdgeName], start: usize, end: usize) -> &[EdgeName]
     &edges[start..end]
 }
 
-// Whether there is room for a line of so many edges beside some lines with some edges.
+// Whether there is room for a line with `more` edges beside `lines` lines with `edges` edges.
 fn has_room(lines: usize, line_room: usize, edges: usize, more: usize, edge_room: usize) -> bool
     requires { edges ≤ edge_room }
     ensures { IsTrue result ↔ ((lines < line_room) × (edges + more ≤ edge_room)) }

@@ -23,7 +23,7 @@ pub fn side_letter(side: Side) -> &'static [u8]
     }
 }
 
-/// Puts a space and an edge. Where a put failed a front of them was put, and the sink's count of faults rose.
+/// Puts a space and an edge. If a put failed, a front of them was put, and the sink's count of faults rose.
 pub fn put_edge<K: Sink>(edge: EdgeName, sink: &mut K) -> Result<(), PutFailed>
     ensures puts { Puts (K.told sink.old) (K.told sink.new) (spaced (edge_word edge)) result }
 {
@@ -41,7 +41,7 @@ pub fn put_edge<K: Sink>(edge: EdgeName, sink: &mut K) -> Result<(), PutFailed>
     )
 }
 
-// A space and an edge, for each.
+// Puts a space and an edge, for each edge.
 fn put_edges<K: Sink>(edges: &[EdgeName], sink: &mut K) -> Result<(), PutFailed>
     ensures { Puts (K.told sink.old) (K.told sink.new) (flat_map spaced (map edge_word edges.now)) result }
 {
@@ -62,7 +62,7 @@ fn put_split<K: Sink>(constraint: u32, sink: &mut K) -> Result<(), PutFailed>
     )
 }
 
-// The line of a word and edges.
+// Puts a line of a word and edges.
 fn put_edge_line<K: Sink>(word: &[u8], edges: &[EdgeName], sink: &mut K) -> Result<(), PutFailed>
     ensures { Puts (K.told sink.old) (K.told sink.new) (ended (line_of (word.now ∷ map edge_word edges.now))) result }
 {
@@ -71,7 +71,7 @@ fn put_edge_line<K: Sink>(word: &[u8], edges: &[EdgeName], sink: &mut K) -> Resu
     sink.put(b"\n")
 }
 
-/// Writes a line of a proof and its end. Where a put failed a front of it was written, and the sink's count of faults rose.
+/// Writes a line of a proof and its line end. If a put failed, a front of it was written, and the sink's count of faults rose.
 pub fn write_line<K: Sink>(line: &Line<'_>, sink: &mut K) -> Result<(), PutFailed>
     ensures puts { Puts (K.told sink.old) (K.told sink.new) (proof_line_text (lent_line line.now)) result }
 {

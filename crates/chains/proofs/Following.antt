@@ -22,8 +22,8 @@ walk_on net from (first ∷ names) at end name walk leads =
     let found = some_and (edge net first) (λ e. (e.from ≡ from) × IsWalk net e.to names at) walk in
     rw found.1 (found.2.0, walk_on net found.0.to names at end name found.2.1 leads)
 
--- some edges were followed from an event: those that lead on from it lead to another, whatever that and the times are, and the edges
--- left reach the event where they end
+-- Some of the found edges were followed from an event to the event at hand. For any times and any target: if the found edges lead on to the
+-- target and reach the event, the followed edges are tight, and the edges left lead on to the target and reach the event at hand.
 pub record IsUnderway (net : Net) (from : EventId) (found left : List EdgeName) (names : List EdgeName) (at : EventId) : Type 0 where
   pub walk : IsWalk net from names at
   pub tight : (times : List ℤ) (to : EventId) → LeadOn net times to found → IsReached net to found from → All (IsTight net times) names
@@ -62,7 +62,7 @@ underway_past net from found left names at name way other = record {
   reached = λ times to lead reached. elim (way.reached times to lead reached) [ inl here ↦ absurd (other here) | inr later ↦ later ];
 }
 
--- where no edges are left the edges that were followed are a chain
+-- where no edges are left, the followed edges are a chain
 pub underway_ends : (net : Net) (from : EventId) (found names : List EdgeName) (at : EventId) → IsUnderway net from found [] names at → (times : List ℤ) (to : EventId)
     → LeadOn net times to found → IsReached net to found from → IsChain net times from to names
 underway_ends net from found names at way times to lead reached = record {

@@ -21,16 +21,16 @@ use Rattle.chains.proofs.Raised.{some_and}
 
 -- ---- one edge
 
--- the edge leads into no set that lacks its end or has its start
+-- the edge does not enter a set that lacks its end or has its start
 pub closed_at : (net : Net) (times : List ℤ) (set : List Bool) (name : EdgeName) (e : Edge) → edge net name ≡ Some e → (Has set e.to → Has set e.from)
     → DoesNotEnter net times set name
 closed_at net times set name e is_edge enters tight = rw is_edge enters
 
--- an edge that the times do not meet with equality leads into no set
+-- an edge that the times do not meet with equality does not enter any set
 pub closed_loose : (net : Net) (times : List ℤ) (set : List Bool) (name : EdgeName) → (IsTight net times name → ⊥) → DoesNotEnter net times set name
 closed_loose net times set name loose tight = absurd (loose tight)
 
--- an edge was looked at by which no event is reached
+-- an edge was looked at, and no event is reached by it
 pub looked_past : (net : Net) (times : List ℤ) (name : EdgeName) (spread : Spread) → DoesNotEnter net times spread.reached name
     → LooksAt net times (λ other. other ≡ name) spread spread
 looked_past net times name spread closed = record {
@@ -73,7 +73,7 @@ looked_on net times name e spread is_edge within has = record {
 pub looked_none : (net : Net) (times : List ℤ) (spread : Spread) → LooksAt net times (λ name. ⊥) spread spread
 looked_none net times spread = record { events = refl; spreads = λ to is. is; more = omega arith; none = λ same. (refl, λ name seen. absurd seen) }
 
--- some edges were looked at and then others: with them all that are among the first or the others, if the times meet them with equality
+-- first some edges were looked at, and then others: so all edges of a set were, if each of them that the times meet with equality is among these
 pub looked_further : (net : Net) (times : List ℤ) (First Second Seen : EdgeName → Type 0) (old mid new : Spread) → LooksAt net times First old mid
     → LooksAt net times Second mid new → ((name : EdgeName) → IsTight net times name → Seen name → First name ⊎ Second name) → LooksAt net times Seen old new
 looked_further net times First Second Seen old mid new first second among = record {
@@ -109,7 +109,7 @@ then_some : {X Y : Type 0} (f : X → Option Y) (o : Option X) (y : Y) → optio
 then_some f None y e = absurd (cc)
 then_some f (Some x) y e = (x, refl, e)
 
--- the causes of a constraint are no more than those that it names, or one
+-- a constraint has at most as many causes as it names, or one if it names none
 named_most : (kind : RuleKind) (count : ℕ) → IsCauseCount kind count → count ≤ max (named_causes kind count) 1
 named_most Lin count h = omega arith
 named_most Late count h = omega arith
@@ -119,7 +119,7 @@ named_most Early count h = omega arith
 counted_is : (f : Constraint → ℕ) (o : Option Constraint) (k : Constraint) (count : ℕ) → option_map f o ≡ Some count → o ≡ Some k → f k ≡ count
 counted_is f o k count counted is = same_Some (f k) count (rw is at counted)
 
--- an edge that is there is of a constraint that is there, and of one of the causes that it names, or of one
+-- an edge that is there is an edge of a constraint that is there, and of one of the causes that it names, or of cause 0 if it names none
 edge_within : (net : Net) (name : EdgeName) (e : Edge) → IsNet net → edge net name ≡ Some e
     → (k : Constraint) × (slice_get net.constraints name.constraint ≡ Some k) × (name.cause < max (cause_count_of k) 1)
 edge_within net name e is_net is_edge =
@@ -160,12 +160,12 @@ causes_more net times number cause old before between new first lower upper =
       | inr apart ↦ inl (is_number, omega arith)
     ])
 
--- at first none was
+-- at first none of its edges was
 pub causes_none : (net : Net) (times : List ℤ) (number : ℕ) (spread : Spread) → LooksAt net times (HasCauseBelow number 0) spread spread
 causes_none net times number spread =
     looked_fewer net times (λ name. ⊥) (HasCauseBelow number 0) spread spread (looked_none net times spread) (λ name tight (is_number, below). omega arith)
 
--- then all edges of the constraint were
+-- at the end all of its edges were
 pub causes_all : (net : Net) (times : List ℤ) (number count : ℕ) (old new : Spread) → IsNet net
     → option_map cause_count_of (slice_get net.constraints number) ≡ Some count → LooksAt net times (HasCauseBelow number (max count 1)) old new
     → LooksAt net times (λ (name : EdgeName). name.constraint ≡ number) old new
@@ -205,18 +205,18 @@ constraints_all net times old new is_net looked =
     let (k, at_k, below) = edge_within net name e is_net is_edge in
     slice_get_within net.constraints name.constraint k at_k)
 
--- all edges were looked at, and then some again
+-- all edges were looked at, and then some of them again
 pub looked_again : (net : Net) (times : List ℤ) (Again : EdgeName → Type 0) (old mid new : Spread) → LooksAt net times IsAny old mid → LooksAt net times Again mid new
     → LooksAt net times IsAny old new
 looked_again net times Again old mid new all again = looked_further net times IsAny Again IsAny old mid new all again (λ name tight any. inl any)
 
--- where no event is new the reached events are closed
+-- where no event is new, the reached events are closed
 pub closed_then : (net : Net) (times : List ℤ) (old new : Spread) → LooksAt net times IsAny old new → length new.found ≡ length old.found
     → IsClosedSet net times new.reached
 closed_then net times old new looked same name =
     subst (λ (s : Spread). DoesNotEnter net times s.reached name) (sym (looked.none same).0) ((looked.none same).1 name tt)
 
--- and one that was not reached is not reached
+-- and an event that was not reached before is not reached
 pub unreached_then : (net : Net) (times : List ℤ) (old new : Spread) (event : EventId) → LooksAt net times IsAny old new → length new.found ≡ length old.found
     → get_or old.reached event.0 false ≡ false → Has new.reached event → ⊥
 unreached_then net times old new event looked same unreached has =
@@ -224,7 +224,7 @@ unreached_then net times old new event looked same unreached has =
 
 -- ---- the beginning
 
--- at first the event to which all lead is reached
+-- at first only the event to which all events are to lead is reached
 pub begun : (net : Net) (times : List ℤ) (to : EventId) → to.0 < net.events → IsSpread net times to (spread_at net.events to)
 begun net times to within =
     let inside : to.0 < length (replicate net.events false) = omega (arith, length-replicate {A = Bool}) in
@@ -245,7 +245,7 @@ begun net times to within =
       | inr past ↦ get_or_past (replicate n false) k false (omega (arith, length-replicate {A = Bool}))
     ]
 
--- what is reached from there on leads to it
+-- events that are reached from this beginning on lead to this event
 pub spread_from : (net : Net) (times : List ℤ) (to : EventId) (events : ℕ) (start new : Spread) → to.0 < net.events → events ≡ net.events → start ≡ spread_at events to
     → ((last : EventId) → IsSpread net times last start → IsSpread net times last new) → IsSpread net times to new
 spread_from net times to events start new within same first spreads =

@@ -89,6 +89,6 @@ edges_more old mid new names name before next = record {
   ];
 }
 
--- a loop names what a path does
+-- a loop names what the path of its edges names
 pub marked_loop : (old new : List Bool) (names : List EdgeName) → HasMarked old (Path names ∷ []) new → HasMarked old (Loop names ∷ []) new
 marked_loop old new names marked = record { count = marked.count; kept = marked.kept; named = marked.named; fresh = marked.fresh }

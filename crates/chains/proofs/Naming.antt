@@ -1,4 +1,4 @@
--- Proofs read in the network of the constraints that they name.
+-- Proofs are read in the network that has only the constraints that they name.
 use Rattle.std.proofs.Common.{◌≡◌, ◌<◌, ◌≤◌, ◌⊎◌, inl, inr, ℕ, zero, suc, ℤ, ◌+ℤ◌, Bool, true, false, IsTrue, List, [], ◌∷◌, ◌++◌, All, Contains, length, get_or, Option, Some, None, IsSome, IsSomeAnd, option_and_then, slice_get, sym, ap, ◌∙◌, refl, subst, arith}
 use Rattle.std.proofs.lemmas.Bool.{cases_lt}
 use Rattle.std.proofs.lemmas.Option.{get_or_from_slice_get, same_Some, slice_get-get_or, slice_get_within}
@@ -31,7 +31,7 @@ length-only set [] = refl
 length-only [] (c ∷ cs) = ap suc (length-only [] cs)
 length-only (is_in ∷ set) (c ∷ cs) = ap suc (length-only set cs)
 
--- what stands there, by its flag
+-- what stands at a number, by its flag
 at_only : (set : List Bool) (cs : List Constraint) (number : ℕ) (c : Constraint) → slice_get cs number ≡ Some c
     → slice_get (only_constraints set cs) number ≡ Some (only_constraint (get_or set number false) c)
 at_only set [] number c at_c = absurd (cc)
@@ -45,7 +45,7 @@ none_past [] number past = refl
 none_past (x ∷ xs) zero past = absurd (omega arith)
 none_past (x ∷ xs) (suc number) past = none_past xs number (omega arith)
 
--- a constraint of the set is as it was
+-- a constraint of the set is unchanged
 in_only : (set : List Bool) (cs : List Constraint) (number : ℕ) (c : Constraint) → slice_get cs number ≡ Some c → IsIn set number
     → slice_get (only_constraints set cs) number ≡ Some c
 in_only set cs number c at_c is_in = let here = at_only set cs number c at_c in rw is_in at here
@@ -88,7 +88,7 @@ only_is_wider net set times h = (only_is_of net set times).1 (record {
 
 -- ---- lines are read as before
 
--- the constraint of a number is the same in two networks, or in neither
+-- the constraint of a number is the same in two networks, or neither has one
 abbrev pub Agree : Net → Net → ℕ → Type 0
 Agree other net number = slice_get other.constraints number ≡ slice_get net.constraints number
 
@@ -96,7 +96,7 @@ agree_within : (set : List Bool) (cs : List Constraint) (number : ℕ) (c : Cons
     → slice_get (only_constraints set cs) number ≡ slice_get cs number
 agree_within set cs number c at_c is_in = in_only set cs number c at_c is_in ∙ sym at_c
 
--- so is each constraint that is in the set if it is there
+-- the networks agree in each constraint that is in the set if it is there
 agree : (net : Net) (set : List Bool) (number : ℕ) → length set ≡ length net.constraints → (number < length set → IsIn set number) → Agree (only_net set net) net number
 agree net set number count is_in = elim (cases_lt number (length net.constraints)) [
   | inl below ↦
@@ -173,7 +173,7 @@ module _ (other net : Net) (events : other.events ≡ net.events) where
   cases_agree : (chosen : Case) (number : ℕ) → Agree other net number → cases_of other chosen number ≡ cases_of net chosen number
   cases_agree chosen number agrees = ap (λ o. cases_from chosen number 0 (count_causes o)) agrees
 
-  -- lines are read alike in networks that agree in each constraint that they name
+  -- lines are read alike in two networks that agree in each constraint that the lines name
   agree_reads : (goal : ProofGoal) (lines : List ProofLine) (cases left : List Case) → ((number : ℕ) → SomeNames lines number → Agree other net number)
       → ProofLeaves net goal cases lines left → ProofLeaves other goal cases lines left
   agree_reads goal [] cases left agrees reads = reads
@@ -188,7 +188,7 @@ module _ (other net : Net) (events : other.events ≡ net.events) where
   agree_reads goal (Loop names ∷ lines) (chosen ∷ cases) left agrees reads =
       (loop_agrees chosen names (λ n has. agrees n (inl has)) reads.0, agree_reads goal lines cases left (λ n some. agrees n (inr some)) reads.1)
 
--- a proof is one of the network of the constraints that it names
+-- a proof is also a proof in the network of the constraints that it names
 named_proof : (net : Net) (set : List Bool) (goal : ProofGoal) (lines : List ProofLine) → length set ≡ length net.constraints → HasNames set lines → IsProof net goal lines
     → IsProof (only_net set net) goal lines
 named_proof net set goal lines count has proof =

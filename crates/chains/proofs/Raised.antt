@@ -1,4 +1,4 @@
--- Sets of events that no tight edge enters, raised by a picosecond.
+-- Sets of events that no tight edge enters. Their events are raised by a picosecond.
 use Rattle.std.proofs.Common.{◌≡◌, ℕ, zero, suc, ℤ, pos, ◌+ℤ◌, ◌-ℤ◌, ◌≤ℤ◌, ◌<ℤ◌, Bool, true, false, cond, if◌then◌else◌, List, [], ◌∷◌, All, length, get_or, Option, Some, None, IsSomeAnd, slice_get, sym, ap, ◌∙◌, refl, subst, arith}
 use Rattle.std.proofs.lemmas.Int.{ints, by_lt_z}
 use Rattle.std.proofs.lemmas.Bool.{false≢true}
@@ -41,7 +41,7 @@ raised_at (is_in ∷ set) (time ∷ times) (suc k) same = raised_at set times k 
 
 -- ---- one edge
 
--- one inequality, in which the later time is raised alone only where there is a picosecond to spare
+-- one inequality: the later time is raised alone only where a picosecond is to spare
 kept : (earlier later weight : ℤ) (in_earlier in_later : Bool) → (later -ℤ earlier) ≤ℤ weight
     → ((later -ℤ earlier) ≡ weight → in_later ≡ true → in_earlier ≡ true)
     → ((later +ℤ rise in_later) -ℤ (earlier +ℤ rise in_earlier)) ≤ℤ weight
@@ -52,7 +52,7 @@ kept earlier later weight false true meets closed =
     by_lt_z (later -ℤ earlier) weight (λ spare. omega (arith, ints))
     (λ least. let tight : (later -ℤ earlier) ≡ weight = omega (arith, ints) in absurd (false≢true (closed tight refl)))
 
--- an edge that the times meet is met by the raised ones
+-- an edge that the times meet is also met by the raised times
 meets_raised : (net : Net) (times : List ℤ) (set : List Bool) (name : EdgeName) (e : Edge) → length set ≡ length times → DoesNotEnter net times set name
     → edge net name ≡ Some e → Meets times e → Meets (raised set 1 times) e
 meets_raised net times set name e same closed is_edge meets =
@@ -97,7 +97,7 @@ closed_set_rises net times set is_net count satisfies closed =
           constraint_raised net times set k (get_or net.constraints k d) is_net same closed (slice_get-get_or net.constraints k d within) (satisfies.each k d within);
     }
 
--- where the from-event is outside of a closed set that has the to-event, the raised times have a greater separation
+-- if the from-event is outside of a closed set that has the to-event, the raised times have a greater separation
 pub unreached_exceeded : (net : Net) (times : List ℤ) (set : List Bool) (from to : EventId) → IsNet net → length set ≡ net.events → IsClosedSet net times set
     → Has set to → (Has set from → ⊥) → Satisfies times net → IsExceeded net times from to
 unreached_exceeded net times set from to is_net count closed has lacks satisfies =
@@ -125,7 +125,7 @@ not_best net times from to (others, satisfies, farther) best =
 
 -- ---- chains
 
--- the value that is there, and what holds of it
+-- the value of the option, and what holds of it
 pub some_and : {X : Type 0} (o : Option X) (P : X → Type 0) → IsSomeAnd o P → (x : X) × (o ≡ Some x) × P x
 some_and None P h = absurd h
 some_and (Some x) P h = (x, refl, h)
@@ -148,7 +148,7 @@ sums net times to (name ∷ names) from walk tight =
 pub chain_sums : ChainSums
 chain_sums net times from to names chain = sums net times to names from chain.walk chain.tight
 
--- a closed set that has the end of a walk along tight edges has its start
+-- a closed set that has the end of a walk along tight edges also has the start of the walk
 pub walk_within : (net : Net) (times : List ℤ) (set : List Bool) (to : EventId) (names : List EdgeName) (from : EventId) → IsClosedSet net times set → Has set to
     → IsWalk net from names to → All (IsTight net times) names → Has set from
 walk_within net times set to [] from closed has walk tight = subst (Has set) (sym walk) has
@@ -159,7 +159,7 @@ walk_within net times set to (name ∷ names) from closed has walk tight =
     at_some (λ d. Has set d.to → Has set d.from) (edge net name) found.0 found.1 (closed name (All-head (IsTight net times) name names tight)) in
     subst (Has set) found.2.0 (enters later)
 
--- so no chain leads into one from outside
+-- so no chain leads into a closed set from outside
 pub no_chain : (net : Net) (times : List ℤ) (set : List Bool) (from to : EventId) → IsClosedSet net times set → Has set to → (Has set from → ⊥) → (names : List EdgeName)
     → IsChain net times from to names → ⊥
 no_chain net times set from to closed has lacks names chain = lacks (walk_within net times set to names from closed has chain.walk chain.tight)

@@ -12,7 +12,7 @@ use Rattle.event_graph.specs.Times.{separation}
 abbrev pub IsTight : Net → List ℤ → EdgeName → Type 0
 IsTight net times name = IsSomeAnd (edge net name) (λ e. separation times e.from e.to ≡ e.weight)
 
--- the named edges lead one after another from an event to an event, and the times meet each of them with equality
+-- the named edges lead one after another from an event to an event, and the times meet each edge with equality
 pub record IsChain (net : Net) (times : List ℤ) (from to : EventId) (names : List EdgeName) : Type 0 where
   pub walk : IsWalk net from names to
   pub tight : All (IsTight net times) names
@@ -21,12 +21,12 @@ pub record IsChain (net : Net) (times : List ℤ) (from to : EventId) (names : L
 abbrev pub IsExceeded : Net → List ℤ → EventId → EventId → Type 0
 IsExceeded net times from to = (others : List ℤ) × Satisfies others net × (separation times from to <ℤ separation others from to)
 
--- the times satisfy the network, and no others that do have a greater separation of the pair
+-- the times satisfy the network, and no other satisfying times have a greater separation of the pair
 pub record AreBest (net : Net) (times : List ℤ) (from to : EventId) : Type 0 where
   pub satisfies : Satisfies times net
   pub most : (others : List ℤ) → Satisfies others net → separation others from to ≤ℤ separation times from to
 
--- the number of events of the networks that a memory is for, and the chain that was found last
+-- the number of events of the networks for which a memory is made, and the chain that was found last
 pub record ChainsView : Type 0 where
   pub events : ℕ
   pub names : List EdgeName

@@ -1,4 +1,4 @@
--- Sets of events that no edge enters which the times meet with equality.
+-- Sets of events that no tight edge enters from outside. An edge is tight if the times meet it with equality.
 use Rattle.std.specs.Prelude.{false, ℤ, Bool, IsTrue, List, IfSome, slice_index_or}
 use Rattle.itv_base.specs.declared.names.EdgeName.{EdgeName}
 use Rattle.itv_base.specs.declared.names.EventId.{EventId}
@@ -6,7 +6,7 @@ use Rattle.event_graph.specs.Edges.{edge}
 use Rattle.event_graph.specs.Network.{Net}
 use Rattle.chains.specs.Chain.{IsTight}
 
--- the event is in the set, which has a flag for each
+-- the event is in the set; the set has a flag for each event
 abbrev pub Has : List Bool → EventId → Type 0
 Has set event = IsTrue (slice_index_or set event.0 false)
 

@@ -16,25 +16,25 @@ abbrev pub ChainSums : Type 0
 ChainSums = (net : Net) (times : List ℤ) (from to : EventId) (names : List EdgeName) → IsChain net times from to names
     → path_sum net names ≡ separation times from to
 
--- satisfying times go on satisfying with one picosecond more for each event of a closed set
+-- if the times satisfy the network, they still satisfy it with one picosecond more for each event of a closed set
 abbrev pub ClosedSetRises : Type 0
 ClosedSetRises = (net : Net) (times : List ℤ) (set : List Bool) → IsNet net → length set ≡ net.events → Satisfies times net → IsClosedSet net times set
     → Satisfies (raised set 1 times) net
 
--- the constraints that a proof of nothing names contradict each other by themselves
+-- the constraints that a proof names contradict each other by themselves, if the proof shows that no times satisfy
 abbrev pub NamedContradict : Type 0
 NamedContradict = (net : Net) (set : List Bool) (lines : List ProofLine) → length set ≡ length net.constraints → IsProof net Nothing lines
     → HasNames set lines → IsContradiction net set
 
--- the constraints that a proof of a bound names keep the separation within it by themselves
+-- the constraints that the proof of a bound names keep the separation within the bound by themselves
 abbrev pub NamedBound : Type 0
 NamedBound = (net : Net) (set : List Bool) (from to : EventId) (value : ℤ) (lines : List ProofLine) (times : List ℤ) → length set ≡ length net.constraints
     → IsProof net (Bound from to value) lines → HasNames set lines → SatisfiesOf set times net → separation times from to ≤ℤ value
 
--- times satisfy the network of a set's constraints exactly where those constraints of the whole network hold
+-- times satisfy the network of a set's constraints if and only if these constraints of the whole network hold
 abbrev pub OnlyIsOf : Type 0
 OnlyIsOf = (net : Net) (set : List Bool) (times : List ℤ) → (Satisfies times (only_net set net) ↔ SatisfiesOf set times net)
 
--- satisfying times satisfy the constraints of each set
+-- satisfying times satisfy the network of each set's constraints
 abbrev pub OnlyIsWider : Type 0
 OnlyIsWider = (net : Net) (set : List Bool) (times : List ℤ) → Satisfies times net → Satisfies times (only_net set net)

@@ -1,10 +1,10 @@
--- The laws of a scribe that marks the constraints that lines of a proof name.
+-- The laws of a scribe that marks the constraints that the lines of a proof name.
 use Rattle.std.specs.Prelude.{◌<◌, ◌⊎◌, ℕ, Bool, List, [], ◌∷◌, ◌++◌, length, refl}
 use Rattle.std.proofs.Common.{inl, inr, ◌∙◌, subst}
 use Rattle.event_graph.specs.Proof.{ProofLine}
 use Rattle.chains.specs.Named.{HasMarked, IsIn, SomeNames}
 
--- lines name what some of them name, or the others
+-- what lines name, either the first of them name or the others
 named_apart : (xs ys : List ProofLine) (number : ℕ) → SomeNames (xs ++ ys) number → SomeNames xs number ⊎ SomeNames ys number
 named_apart [] ys number some = inr some
 named_apart (x ∷ xs) ys number (inl here) = inl (inl here)
@@ -32,7 +32,7 @@ fresh_more : (s : List Bool) (xs ys : List ProofLine) (number : ℕ) → IsIn s 
 fresh_more s xs ys number (inl old) = inl old
 fresh_more s xs ys number (inr first) = inr (named_left xs ys number first)
 
--- lines and then more mark what all of them name
+-- lines and then more lines mark what all of them name
 pub marked_more : (s t u : List Bool) (xs ys : List ProofLine) → HasMarked s xs t → HasMarked t ys u → HasMarked s (xs ++ ys) u
 marked_more s t u xs ys p q = record {
   count = q.count ∙ p.count;

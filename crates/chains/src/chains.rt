@@ -14,8 +14,8 @@ use itv_base::{EdgeName, EventId, NoMemory};
 use std::alloc::Global;
 use std::marker::Model;
 
-/// The memory in which chains of a network are found, one after another. It has a flag and the names of two edges for each event.
-/// Contracts see the number of events and the chain that was found last.
+/// The memory in which chains of a network are found, one after another. It has a flag for each event and room for the names of two edges for
+/// each event. Contracts see the number of events and the chain that was found last.
 #[derive(Debug, Drop)]
 pub struct Chains {
     spread: Spread,
@@ -34,7 +34,7 @@ impl Model for Chains {
 }
 
 impl Chains {
-    /// The memory for a network, and no edges yet. Takes all the memory that is ever needed, or answers `NoMemory`.
+    /// The memory for a network, with no chain yet. Takes all the memory that is ever needed, or answers `NoMemory`.
     pub fn new(alloc: Global, net: &Network) -> Result<Chains, NoMemory>
         ensures made { IfOk result (λ chains. chains ≡ record { events = net.now.events; names = [] }) }
     {
@@ -45,11 +45,10 @@ impl Chains {
         })
     }
 
-    /// Looks for a chain: edges that lead one after another from an event to another, and that times meet with equality, so that
-    /// their weights sum to the separation. The answer is whether there is one. Where there is none and the times satisfy the
-    /// network, other satisfying times have a greater separation. So there is always one where the times attain the greatest
-    /// separation of the pair. From an event to itself the chain has no edges. The times are in picoseconds, one per event, each
-    /// below 2^61 in absolute value. Takes no memory.
+    /// Looks for a chain and returns whether there is one. A chain is edges that lead one after another from an event to another, each met with
+    /// equality by the times; so the weights of its edges sum to the separation. If there is none and the times satisfy the network, other
+    /// satisfying times have a greater separation. So there is a chain if the times attain the greatest separation of the pair. From an event to
+    /// itself the chain has no edges. The times are in picoseconds, one per event, each below 2^61 in absolute value. Takes no memory.
     pub fn find(&mut self, net: &Network, times: &[i64], from: EventId, to: EventId) -> bool
         requires made { self.old.events ≡ net.now.events }
         requires count { length times.now ≡ net.now.events }
@@ -66,7 +65,7 @@ impl Chains {
         ensures best { AreBest net.now times.now from to → IsTrue result }
         ensures empty { result ≡ false → self.new.names ≡ [] }
     {
-        // That the network is within the limits.
+        // The call also gives the invariant: the network is within its limits.
         let _events = net.events();
         self.names.clear();
         self.spread.begin(to);
@@ -77,8 +76,8 @@ impl Chains {
         true
     }
 
-    /// The edges of the chain that was found last, from its first event on. There are none before the first one was looked for, and
-    /// where none was found.
+    /// The edges of the chain that was found last, from its first event on. There are none before the first search, and none if the last search
+    /// found no chain.
     pub fn names(&self) -> &[EdgeName]
         ensures { result.now ≡ self.now.names }
     {

@@ -1,4 +1,4 @@
-//! How a chain is read off the edges by which its events were reached.
+//! How a chain is read off the edges by which events were reached.
 
 ghost use Rattle.std.specs.Prelude.{◌≡◌, ◌≤◌, [], ℤ, List, IfNone, IfSome, IsSomeAnd, length, vec_capacity};
 ghost use Rattle.itv_base.specs.declared.names.EventId.{EventId as EventIdOf};
@@ -10,8 +10,9 @@ use crate::spread::Spread;
 use event_graph::Network;
 use itv_base::{EdgeName, EventId};
 
-/// Follows the edges that were found from an event on, from the one that was found last on: each leads to the event to which all lead,
-/// or to one that was reached before. The names follow those that are there, and there is room for them. The edges found are used up.
+/// Follows the found edges from an event on, beginning with the edge that was found last. Each edge leads to the event to which all edges lead,
+/// or to an event that was reached before. The names are put at the end of `names`, which is empty and has room for them. The found edges
+/// are used up.
 pub fn follow(net: &Network, from: EventId, spread: &mut Spread, names: &mut Vec<EdgeName>)
     requires empty { names.old.items ≡ [] }
     requires room { length spread.old.reached ≤ vec_capacity names.old }
@@ -31,7 +32,7 @@ pub fn follow(net: &Network, from: EventId, spread: &mut Spread, names: &mut Vec
     }
 }
 
-// Where an edge leads that leads from an event.
+// Where the edge of a name leads, if it leads from this event.
 fn end_from(net: &Network, name: EdgeName, event: EventId) -> Option<EventId>
     ensures end { IfSome result (λ end. IsSomeAnd (edge net.now name)
         (λ e. (e.from ≡ event) × (e.to ≡ end))) }

@@ -7,28 +7,28 @@ pub fn chain_sums()
     ensures law { ChainSums }
 {}
 
-/// Satisfying times go on satisfying with one picosecond more for each event of a set into which no edge leads that they meet with
-/// equality.
+/// If the times satisfy the network, they still satisfy it with one picosecond more for each event of a closed set: no edge that the times
+/// meet with equality leads into the set from outside.
 pub fn closed_set_rises()
     ensures law { ClosedSetRises }
 {}
 
-/// The constraints that a proof of nothing names contradict each other by themselves.
+/// The constraints that a proof names contradict each other by themselves, if the proof shows that no times satisfy.
 pub fn named_contradict()
     ensures law { NamedContradict }
 {}
 
-/// The constraints that a proof of a bound names keep the separation within it by themselves.
+/// The constraints that the proof of a bound names keep the separation within the bound by themselves.
 pub fn named_bound()
     ensures law { NamedBound }
 {}
 
-/// Times satisfy the network of a set's constraints exactly where those constraints of the whole network hold.
+/// Times satisfy the network of a set's constraints if and only if these constraints of the whole network hold.
 pub fn only_is_of()
     ensures law { OnlyIsOf }
 {}
 
-/// Satisfying times satisfy the constraints of each set.
+/// Satisfying times satisfy the network of each set's constraints.
 pub fn only_is_wider()
     ensures law { OnlyIsWider }
 {}

@@ -1,6 +1,6 @@
 //! Why a bound is what it is: chains of edges that satisfying times meet with equality, and the constraints that a proof rests on.
-//! The contract of the crate: `find` gives a chain between two events exactly where there is one, and where there is none the times
-//! are not the best; the constraints that a marking has are those that the lines of a proof named, and prove by themselves as much.
+//! The contract of the crate: `find` gives a chain between two events if and only if there is one; if there is none, the times are not the
+//! best. The constraints that a marking has are the constraints that the lines of a proof name, and by themselves they prove as much.
 #![tactic(auto)]
 
 mod chains;

@@ -10,8 +10,8 @@ use itv_base::{EdgeName, NoMemory};
 use std::alloc::Global;
 use std::marker::Model;
 
-/// Marks the constraints that the lines of a proof name: those that a line splits by, and those of the edges of a path or a loop. It
-/// takes every line, so it never fails. Contracts see a flag for each constraint.
+/// Marks the constraints that the lines of a proof name: the constraints that a line splits by, and the constraints of the edges of a path or
+/// a loop. It takes every line, so it never fails. Contracts see a flag for each constraint.
 #[derive(Debug, Drop)]
 pub struct Marking {
     marks: Vec<bool>,
@@ -26,7 +26,7 @@ impl Model for Marking {
 }
 
 impl Marking {
-    /// A flag for each constraint of a network, none of which is set. Takes all the memory that it ever needs, or answers `NoMemory`.
+    /// A flag for each constraint of a network; none is set. Takes all the memory that it ever needs, or answers `NoMemory`.
     pub fn new(alloc: Global, net: &Network) -> Result<Marking, NoMemory>
         ensures made { IfOk result (λ marking. marking ≡ replicate (length net.now.constraints) false) }
     {
@@ -42,7 +42,7 @@ impl Marking {
         self.marks.fill(false);
     }
 
-    /// For each constraint whether the proof names it.
+    /// A flag for each constraint: whether the proof names it.
     pub fn marks(&self) -> &[bool]
         ensures { result.now ≡ self.now }
     {
@@ -50,7 +50,7 @@ impl Marking {
     }
 }
 
-// Marks a constraint. One without a flag is passed over.
+// Marks a constraint. A constraint without a flag is passed over.
 fn mark(marks: &mut [bool], number: u32)
     ensures { HasMarked marks.old (Split number ∷ []) marks.new }
 {

@@ -7,8 +7,8 @@ use itv_base::{EdgeName, EventId, NoMemory};
 use std::alloc::Global;
 use std::marker::Model;
 
-/// The events from which edges lead to one event, and the edges by which they were reached: one for each of these events but the one
-/// to which all lead. Contracts see a flag for each event, and the edges, the one that was found last first.
+/// The events from which edges lead to one event, the target, and the edges by which they were reached: one edge for each of these events
+/// except the target. Contracts see a flag for each event, and the edges, the edge that was found last first.
 #[derive(Debug, Drop)]
 pub struct Spread {
     reached: Vec<bool>,
@@ -26,7 +26,7 @@ impl Model for Spread {
 }
 
 impl Spread {
-    /// Room for a number of events, none of which is reached. Takes all the memory that it ever needs, or answers `NoMemory`.
+    /// Room for a number of events, none of them reached. Takes all the memory that it ever needs, or answers `NoMemory`.
     pub fn new(alloc: Global, events: u32) -> Result<Spread, NoMemory>
         ensures { IfOk result (λ s. s ≡ record { reached = replicate events false; found = [] }) }
     {
@@ -37,7 +37,7 @@ impl Spread {
         })
     }
 
-    /// Begins anew at the event to which all are to lead.
+    /// Begins anew with the event to which all events are to lead.
     pub fn begin(&mut self, to: EventId)
         requires { to.0 < length self.old.reached }
         ensures { self.new ≡ spread_at (length self.old.reached) to }

@@ -13,7 +13,7 @@ use crate::spread::Spread;
 use event_graph::{Edge, Network};
 use itv_base::{EdgeName, EventId, Side};
 
-/// Reaches events backwards until one is reached, or all that can be are. The answer is whether that one was reached.
+/// Reaches events backwards until the one that is looked for is reached, or no more can be. Returns whether it was reached.
 pub fn spread_back(net: &Network, times: &[i64], from: EventId, spread: &mut Spread) -> bool
     requires net { IsNet net.now }
     requires count { length times.now ≡ net.now.events }
@@ -37,8 +37,8 @@ pub fn spread_back(net: &Network, times: &[i64], from: EventId, spread: &mut Spr
     true
 }
 
-// Looks at all edges, from the first constraint to the last and back: edges that lead through the constraints in either order are
-// found in one sweep.
+// Looks at all edges, from the first constraint to the last and back. So one sweep finds edges that lead through the constraints in either
+// order.
 fn sweep(net: &Network, times: &[i64], spread: &mut Spread)
     requires net { IsNet net.now }
     requires count { length times.now ≡ net.now.events }
@@ -80,8 +80,8 @@ fn look_along(net: &Network, times: &[i64], number: u32, spread: &mut Spread)
     }
 }
 
-// Looks at an edge: if the times meet it with equality, and it leads from an event that was not reached to one that was, the first one
-// is reached too.
+// Looks at an edge. If the times meet it with equality, and it leads from an event that was not reached to an event that was, then its first
+// event is reached too.
 fn look(net: &Network, times: &[i64], name: EdgeName, spread: &mut Spread)
     requires count { length times.now ≡ net.now.events }
     requires times { All IsTime times.now }

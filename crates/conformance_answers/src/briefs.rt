@@ -1,4 +1,4 @@
-//! Job brief: the order of the rows, what each line tells, the counts, and the other ends.
+//! Job brief: the order of the rows, what each line says, the counts, and the other ends.
 
 use conformance_kit::{run_ends, sheet_of, shelf_with};
 use itv_cli::Outcome;
@@ -7,7 +7,7 @@ use std::test::Fail;
 
 const BRIEF: [&str; 3] = ["--job", "brief", "s"];
 
-// The job on a sheet with these nodes and edges ends so, and writes just this behind its heading.
+// The job on a sheet with these nodes and edges ends in this way, and writes just this behind its heading.
 fn tells(alloc: Global, nodes: &str, edges: &str, wanted: (Outcome, &str)) -> Result<(), Fail> {
     let (end, rest) = wanted;
     let file = sheet_of(alloc, nodes, edges)?;
@@ -26,8 +26,8 @@ fn each_tells(alloc: Global, cases: &[(&str, &str, (Outcome, &str))]) -> Result<
 
 // The nodes and the edges of sheets, the end, and what is written behind the heading.
 const IN_ORDER: [(&str, &str, (Outcome, &str)); 3] = [
-    // b is 10 to 20 behind a. The requirement that misses by 5 stands first, then the one that misses by 1, the passing ones by their
-    // lesser slacks of 0 and 3, the one without an end, and the question.
+    // b is 10 to 20 behind a. The requirement that misses by 5 stands first, and then the one that misses by 1. The passing requirements follow
+    // by their lesser slacks of 0 and 3, and then the requirement without an end. The question stands last.
     (
         "ab",
         r#""a->b @lin [10,20]","a->b @ask how far","a->b @req [7,24] easy","a->b @req [*,19] tight","a->b @req [10,*] met","a->b @req [15,*] tSU","a->b @req [*,*]""#,
@@ -43,7 +43,7 @@ const IN_ORDER: [(&str, &str, (Outcome, &str)); 3] = [
             rows 6 pass 3 fail 2 undecided 0\nend fail\n",
         ),
     ),
-    // Rows that are alike stand by their numbers; a bound that is not there breaks an end, and has no slack.
+    // Rows that are alike stand in the order of their numbers. A bound that is not there breaks an end, and has no slack.
     (
         "abc",
         r#""a->b @lin [1,2]","a->c @lin [5,*]","a->b @req [0,2]","a->b @req [1,9]","a->c @req [*,7] late","b->a @ask""#,
@@ -57,7 +57,7 @@ const IN_ORDER: [(&str, &str, (Outcome, &str)); 3] = [
             rows 4 pass 2 fail 1 undecided 0\nend fail\n",
         ),
     ),
-    // Where rules contradict each other there are no rows.
+    // If rules contradict each other, there are no rows.
     (
         "ab",
         r#""a->b @lin [100,200]","b->a @lin [0,50]","a->b @ask""#,

@@ -1,4 +1,4 @@
-//! Budgets: what a search that is cut short says, and that it says all from the number of cause choices on.
+//! Budgets: what a search that is cut short says, and that no search is cut short if the budget is at least the number of cause choices.
 
 use conformance_kit::{
     CONTRADICTS, SETTLES, end_of, is_accepted_under, run_ends, shelf_with, written_by,
@@ -9,7 +9,7 @@ use std::alloc::Global;
 use std::process::Abort;
 use std::test::Fail;
 
-// The report under a budget, told by its lines behind the events.
+// The report under a budget, given by its lines behind the events.
 fn budget_ends(
     alloc: Global,
     file: &str,
@@ -26,7 +26,7 @@ fn budget_ends(
     is_accepted_under(alloc, budget, "s", &mut shelf)
 }
 
-// Two cause choices: a budget of 2 settles each, and one of 1 doesn't.
+// There are two cause choices: a budget of 2 settles each network, and a budget of 1 doesn't.
 #[test]
 fn rows_under_budgets(rt: HostRuntime) -> Result<(), Fail> {
     let alloc = rt.alloc();
@@ -55,8 +55,8 @@ fn rows_under_budgets(rt: HostRuntime) -> Result<(), Fail> {
     Ok(())
 }
 
-// A network: its file, its number of cause choices, the beginning of its line of the greatest separation where it is cut short, that
-// line where it is not, and the greatest separation; and the same of the least.
+// A network: its file and its number of cause choices. For the greatest separation: the beginning of its line if the search is cut short,
+// the whole line if it is not, and the separation itself. The same for the least separation.
 struct Searched {
     file: &'static str,
     choices: u32,
@@ -64,7 +64,7 @@ struct Searched {
     least: (&'static str, &'static str, i64),
 }
 
-// Worked out by trying all choices. The limits are those of the rules without a choice.
+// The separations were worked out by trying all choices. The limits are the bounds that the rules without a choice give.
 const NETWORKS: [Searched; 2] = [
     Searched {
         file: r#"{"signal":[{"node":"abcjk"}],"edge":["a->b @lin [100,300]","a->c @lin [0,50]","a->j @late [500,700]","b->j @late [200,400]","c->k @late [400,900]","j->k @late [10,20]","b->k @late [0,60]","a->k @lin [*,2000]","a->k @ask"]}"#,
@@ -80,26 +80,26 @@ const NETWORKS: [Searched; 2] = [
     },
 ];
 
-// The separation that a line found, where it begins so and found one.
+// The separation that a line found, if the line begins in this way and found one.
 fn found(line: &str, front: &str) -> Option<i64> {
     let tail = line.strip_prefix(front)?;
     let number = tail.strip_prefix(" found ")?;
     number.parse::<i64>().ok()
 }
 
-// Whether a line of the greatest separation is the whole answer, or a limit with a number that is not past it.
+// Whether a line of the greatest separation is the whole answer, or a limit alone, or a limit with a found number that is not past the answer.
 fn is_below(line: &str, answer: (&str, &str, i64)) -> bool {
     let (front, whole, value) = answer;
     line == whole || line == front || found(line, front).is_some_and(|number| number <= value)
 }
 
-// The same of the least.
+// The same for the least separation.
 fn is_above(line: &str, answer: (&str, &str, i64)) -> bool {
     let (front, whole, value) = answer;
     line == whole || line == front || found(line, front).is_some_and(|number| value <= number)
 }
 
-// What is printed encloses the answer, is accepted, and says by its end whether it is whole.
+// What is printed encloses the answer and is accepted, and its end says whether it is whole.
 fn encloses(
     rt: &impl Abort,
     alloc: Global,

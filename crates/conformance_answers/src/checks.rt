@@ -6,7 +6,7 @@ use conformance_kit::{
 use itv_cli::Outcome;
 use std::test::Fail;
 
-// The worked row: the report with proofs of the first row is accepted, and refused where one of its lines is changed.
+// The worked row: the report with proofs of the first row is accepted. If one of its lines is changed, the report is refused.
 #[test]
 fn the_row_on_a_checked_report(rt: HostRuntime) -> Result<(), Fail> {
     let alloc = rt.alloc();
@@ -25,7 +25,7 @@ fn the_row_on_a_checked_report(rt: HostRuntime) -> Result<(), Fail> {
     reports_end(alloc, CONTRADICTS, &[(CONTRADICTS_PROVED, 0)])
 }
 
-// What the program writes with proofs is what the worked reports show, byte for byte.
+// With proofs the program writes just the worked reports, byte for byte.
 #[test]
 fn the_worked_reports_with_proofs_are_written(rt: HostRuntime) -> Result<(), Fail> {
     for (design, budget, end, report) in [
@@ -50,7 +50,7 @@ const OPEN: (&str, &str) = (
     row 0 ask U.a@0 U.b@0\nmax unbounded\ntimes 0 0\nraise 1\nmin unbounded\ntimes 0 0\nraise 0\nend pass\n",
 );
 
-// A bound that is a number wants a proof, and so does the finding that no times satisfy. An unbounded one has none to give.
+// A bound that is a number needs a proof, and so does the finding that no times satisfy. An unbounded bound has no proof to give.
 #[test]
 fn a_bound_without_a_proof_is_refused(rt: HostRuntime) -> Result<(), Fail> {
     let alloc = rt.alloc();
@@ -62,7 +62,8 @@ fn a_bound_without_a_proof_is_refused(rt: HostRuntime) -> Result<(), Fail> {
     reports_end(alloc, CONTRADICTS, &[(contradicts, 7)])
 }
 
-// Proof lines before a finding or a bound that needs none are passed over, whatever they say, as long as they are proof lines.
+// A finding or a bound that needs no proof may have proof lines before it. They are passed over, whatever they say, as long as they are proof
+// lines.
 #[test]
 fn proof_lines_that_prove_nothing_are_passed_over(rt: HostRuntime) -> Result<(), Fail> {
     let alloc = rt.alloc();

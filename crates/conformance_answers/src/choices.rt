@@ -1,16 +1,16 @@
-//! Latest and earliest rules: sheets of three to five marks, drawn by chance with a fixed seed, whose answers were worked out by a plain
-//! program that tries every choice of causes.
+//! Latest and earliest rules: sheets of three to five marks, drawn by chance with a fixed seed. A plain program that tries every choice of
+//! causes worked out their answers.
 
 use conformance_kit::{all_answered, contradicts};
 use std::test::Fail;
 
-// In each the answer is another than that of the rules without a choice.
+// Each answer differs from the answer of the rules without a choice.
 #[test]
 fn all_choices_of_causes_are_thought_of(rt: HostRuntime) -> Result<(), Fail> {
     all_answered(rt.alloc(), &SHEETS)
 }
 
-// Each choice of causes contradicts the other rules, and the rules without a choice do not.
+// Each choice of causes contradicts the other rules. The rules without a choice do not contradict each other.
 #[test]
 fn no_choice_of_causes_is_left(rt: HostRuntime) -> Result<(), Fail> {
     for (file, marks) in CONTRADICTIONS {

@@ -1,4 +1,4 @@
-//! Job confirm: texts of job settle that are accepted, and forged ones, each with the line at which it is refused.
+//! Job confirm: texts of job settle that are accepted, and forged texts, each with the line at which it is refused.
 
 use conformance_kit::{edited, run_ends, shelf_of, written_by};
 use design_gen::make;
@@ -9,7 +9,7 @@ use std::test::Fail;
 
 const ACCEPTED: (Outcome, &str) = (Outcome::AllPass, "report accepted\n");
 
-// A text ends so for a design: refused at this line, or accepted where it is 0.
+// How a text ends for a design: refused at this line, or accepted if the line is 0.
 fn confirms(alloc: Global, design: &str, text: &str, line: usize) -> Result<(), Fail> {
     let mut shelf = shelf_of(alloc, &[("s", design), ("r", text)])?;
     let words = ["--job", "confirm", "--report", "r", "s"];
@@ -29,11 +29,12 @@ fn is_confirmed(alloc: Global, design: &str, shelf: &mut ShelfMem) -> Result<(),
     run_ends(alloc, &words, shelf, ACCEPTED)
 }
 
-// Two events with a rule between them, a question and a requirement that is broken on the high side.
+// Two events with a rule between them, and a requirement that is broken on the high side.
 const TWO: &str = r#"{"signal":[{"node":"ab"}],"edge":["a->b @lin [0,250]","a->b @req [0,200]"]}"#;
 
-// The lines are numbered from 1: 2 counts the events, 5 is the finding, 6 its times, 7 counts the rows, 8 is the row, 9 to 12 stand before
-// `max`, which is 12, 13 its times, 14 to 16 stand before `min`, which is 17, 18 its times, 19 the verdict, 20 its times, 21 the slack.
+// The lines are numbered from 1. Line 2 counts the events, 5 is the finding, 6 its times, 7 counts the rows, and 8 is the row. Lines 9 to 11
+// prove `max`; 12 is `max`, 13 its times. Lines 14 to 16 prove `min`; 17 is `min`, 18 its times. Line 19 is the verdict, 20 its times, 21 the
+// slack.
 const TWO_PROVED: &str =
     "itv settle 1\nevents 2\nevent 0 U.a@0\nevent 1 U.b@0\nfinding consistent\ntimes 0 250\nrows 1\n\
     row 0 req U.a@0 U.b@0 [0,200]\nview plain\nclaim 250\nfall 1 250 0.0u\nmax 250\ntimes 0 250\nview plain\nclaim 0\nfall 0 0 0.0l\n\
@@ -43,7 +44,7 @@ const TWO_PROVED: &str =
 fn a_text_is_accepted_whoever_wrote_it(rt: HostRuntime) -> Result<(), Fail> {
     let alloc = rt.alloc();
     confirms(alloc, TWO, TWO_PROVED, 0)?;
-    // other times, a proof in the negation, more lines than are needed, and a bound that is given up
+    // other times; the other view, in which the fall is refused; more lines than are needed; other times that break the requirement
     for (number, lines) in [
         (6, "times 0 17\n"),
         (9, "view negated\n"),

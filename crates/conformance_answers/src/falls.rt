@@ -8,7 +8,7 @@ use std::alloc::Global;
 use std::process::Abort;
 use std::test::Fail;
 
-// What the job writes of a sheet with these nodes behind its view.
+// What the job writes of a sheet with these nodes, from the heading on: the view, the events and then the rest.
 fn text_of(alloc: Global, view: &str, nodes: &str, rest: &str) -> Result<String, Fail> {
     let mut text = format!(in alloc; "itv fall 1\nview {view}\nevents {}\n", nodes.len())?;
     for (number, node) in nodes.chars().enumerate() {
@@ -18,7 +18,7 @@ fn text_of(alloc: Global, view: &str, nodes: &str, rest: &str) -> Result<String,
     Ok(text)
 }
 
-// The job on a sheet with these nodes, edges and words ends so, and writes just this behind the events.
+// The job on a sheet with these nodes, edges and words ends in this way, and writes just this behind the events.
 fn falls(
     alloc: Global,
     sheet: (&str, &str),
@@ -33,10 +33,10 @@ fn falls(
     run_ends(alloc, words, &mut shelf, (end, text.as_str()))
 }
 
-// A cause that follows its own target: the values fall by 5 from the cap of 36.
+// A cause that follows its own target. The values fall by 5 from the cap of 36.
 const FOLLOWS: &str = r#""i->y @late [*,0]","k->y @late [*,0]","y->k @lin [*,-5]","i->y @ask""#;
 
-// What is written of it where the turns are enough.
+// What is written of this design if the turns are enough.
 const FOLLOWED: &str =
     "finding consistent\ntimes 0 0 -5\nrows 1\nrow 0 ask U.i@0 U.y@0\nmax 0\ntimes 0 0 -5\n\
     min unbounded\ntimes 0 -36 -41\nraise 0\nend pass\n";
@@ -51,7 +51,7 @@ const FALL: &[&str] = &["--job", "fall", "s"];
 
 // Sheets with their words, the end, the view, and what is written behind the events.
 const WORKED: [((&str, &str), &[&str], (Outcome, &str, &str)); 13] = [
-    // The latest of two causes, one of them a range behind the other.
+    // The latest of two causes. One of them is a range behind the other.
     (
         (
             "abj",
@@ -101,7 +101,7 @@ const WORKED: [((&str, &str), &[&str], (Outcome, &str, &str)); 13] = [
             "finding spent\nend undecided\n",
         ),
     ),
-    // From the target one line is enough, so that the finding is told and the greatest separation is not.
+    // From the target one line is enough, so the finding is reported, but the greatest separation is not.
     (
         ("yik", FOLLOWS),
         &["--job=fall", "--cert", "--budget=2", "s"],
@@ -122,7 +122,7 @@ const WORKED: [((&str, &str), &[&str], (Outcome, &str, &str)); 13] = [
             max 0\ntimes 0 0 -5\nmin unbounded\ntimes -36 0 -41\nraise 1\nend pass\n",
         ),
     ),
-    // The same turned round, with a requirement, which has no verdict.
+    // The same design turned round, with a requirement. It has no verdict.
     (
         ("iyk", LEADS),
         &["--job=fall", "--budget=17", "s"],
@@ -142,7 +142,7 @@ const WORKED: [((&str, &str), &[&str], (Outcome, &str, &str)); 13] = [
             "finding spent\nend undecided\n",
         ),
     ),
-    // Rules that contradict each other: the third line brings event 0 below 0.
+    // Rules that contradict each other. The third line brings event 0 below 0.
     (
         ("ab", CONTRADICT),
         &["--job=fall", "--cert", "--budget=3", "s"],
@@ -161,7 +161,7 @@ const WORKED: [((&str, &str), &[&str], (Outcome, &str, &str)); 13] = [
             "finding spent\nend undecided\n",
         ),
     ),
-    // Designs of no event and of one.
+    // Designs with no event and with one.
     (
         ("", ""),
         &["--job=fall", "--cert", "--budget=1", "s"],
@@ -190,7 +190,7 @@ fn sheets_that_were_worked_by_hand(rt: HostRuntime) -> Result<(), Fail> {
     Ok(())
 }
 
-// The lines that fall from event 0 of it, which are 17.
+// The lines that fall from event 0 of this design. A whole derivation has one more line, its 17th.
 const FALLING: &str =
     "fall 2 31 1.0u\nlate 1 31 0\nfall 2 26 1.0u\nlate 1 26 0\nfall 2 21 1.0u\nlate 1 21 0\n\
     fall 2 16 1.0u\nlate 1 16 0\nfall 2 11 1.0u\nlate 1 11 0\nfall 2 6 1.0u\nlate 1 6 0\nfall 2 1 1.0u\nlate 1 1 0\n\
@@ -214,7 +214,7 @@ fn the_lines_of_its_derivations(rt: HostRuntime) -> Result<(), Fail> {
 
 // ---- other ends
 
-// The numbers are those of the first latest and of the first earliest rule with two causes.
+// The refusal gives the numbers of the first latest and of the first earliest rule with two causes.
 #[test]
 fn choices_of_both_kinds_are_refused(rt: HostRuntime) -> Result<(), Fail> {
     let alloc = rt.alloc();
@@ -245,7 +245,7 @@ fn choices_of_both_kinds_are_refused(rt: HostRuntime) -> Result<(), Fail> {
 
 // ---- beside job bounds
 
-// The lines of the bounds of a text, without times.
+// The lines of the rows and bounds of a text, without times.
 fn bounds_in(alloc: Global, text: &str) -> Result<String, Fail> {
     let mut lines = String::new(alloc);
     for line in text.lines() {
@@ -256,7 +256,7 @@ fn bounds_in(alloc: Global, text: &str) -> Result<String, Fail> {
     Ok(lines)
 }
 
-// Both jobs tell the same bounds of a design, of which there are some. The answer is the lines of these.
+// Both jobs report the same bounds of a design, and there are some. Returns the lines of the bounds.
 fn agree(
     rt: &impl Abort,
     alloc: Global,
@@ -275,7 +275,7 @@ fn agree(
     Ok(bounds)
 }
 
-// A part that asks for data, and one that answers at the latest of two delays.
+// A part that asks for data, and a part that answers at the latest of two delays.
 const ASKS: &str =
     r#"{"signal":[{"name":"CLK","wave":"p","node":"c"},{"name":"ADDR","wave":"x=","node":".a"},{"name":"CE","wave":"10","node":".e"},{"name":"DATA","wave":"x=","node":".d"}],"edge":["c~>a @lin [2000,8000]","c~>e @lin [2000,7000]","d->c @req+1 [3000,*]","a->d @ask"]}"#;
 
@@ -299,7 +299,7 @@ fn buses_have_the_numbers_of_job_bounds(rt: HostRuntime) -> Result<(), Fail> {
     Ok(())
 }
 
-// Each event comes at the latest, or at the earliest, of the two before it.
+// Each event comes at the latest, or at the earliest, of the two events before it.
 #[test]
 fn chains_have_the_numbers_of_job_bounds(rt: HostRuntime) -> Result<(), Fail> {
     let alloc = rt.alloc();
@@ -326,9 +326,9 @@ fn chains_have_the_numbers_of_job_bounds(rt: HostRuntime) -> Result<(), Fail> {
     Ok(())
 }
 
-// The generated bus of size 16 has 33 rows. A slave answers at most 9000 after its request, which comes at most 8000 + 400 - 100 after
-// its clock, and at least 3000 after its clock. All have answered from 3100 to 17400 + 1000 after the clock of the master, and the next
-// clock comes from 100100 to 100300 after it.
+// The generated bus of size 16 has 33 rows. A slave answers at most 9000 after its request, and at least 3000 after its clock. The request
+// comes at most 8000 + 400 - 100 after the slave's clock. All slaves have answered 3100 to 17400 + 1000 after the clock of the master. The
+// next clock comes 100100 to 100300 after that clock.
 #[test]
 fn a_generated_bus_has_the_numbers_of_job_bounds(rt: HostRuntime) -> Result<(), Fail> {
     let alloc = rt.alloc();

@@ -76,8 +76,8 @@ fn forged_lines_are_refused(rt: HostRuntime) -> Result<(), Fail> {
     )
 }
 
-// Each line of a report is left out, doubled, and exchanged with the next one. One that is lost is missed at its place, one that stands
-// twice is refused the second time, and where each pair is refused that is exchanged is told.
+// Each line of a report is left out, doubled, and exchanged with the next line. A report without a line is refused at the place of that line,
+// and a report with a line twice is refused at the second. The caller says where the report is refused for each exchanged pair.
 fn moves_end(alloc: Global, design: &str, report: &str, exchanged: &[usize]) -> Result<(), Fail> {
     let mut number = 0usize;
     for text in report.lines() {
@@ -98,7 +98,7 @@ fn moves_end(alloc: Global, design: &str, report: &str, exchanged: &[usize]) -> 
     Ok(())
 }
 
-// A bound or a finding that comes before its proof is text, and what follows it isn't: 11, 14 and the second 10.
+// A bound or a finding can be read before its proof, but not the proof line behind it: that line is refused, at 11 and 14, and in the second at 10.
 #[test]
 fn lines_that_moved_are_refused(rt: HostRuntime) -> Result<(), Fail> {
     let first = [1, 2, 3, 4, 5, 6, 7, 8, 9, 11, 11, 12, 14, 14, 15];
@@ -123,7 +123,7 @@ fn a_cut_report_is_refused_where_it_ends(rt: HostRuntime) -> Result<(), Fail> {
     reports_end(alloc, FIRST, &[(front.as_str(), 0)])
 }
 
-// Reports with other proofs on the sheet that no times satisfy.
+// Reports with other proofs for the sheet that no times satisfy.
 #[test]
 fn forged_proofs_are_refused(rt: HostRuntime) -> Result<(), Fail> {
     let alloc = rt.alloc();
@@ -135,17 +135,17 @@ fn forged_proofs_are_refused(rt: HostRuntime) -> Result<(), Fail> {
             // a loop may begin anywhere, and go a longer way round
             (8, "loop 1.0l 0.0u\n", 0),
             (8, "loop 0.0u 1.0l 0.0u 1.0l\n", 8),
-            // the other case's loop, a loop that is left out, and one too many
+            // the loop of the other case, a loop that is left out, and one loop too many
             (8, "loop 0.1u 2.0l\n", 8),
             (9, "loop 0.0u 1.0l\n", 9),
             (9, "", 9),
             (9, "loop 0.1u 2.0l\nloop 0.1u 2.0l\n", 10),
-            // no split, a split on a linear constraint or on none, and one twice
+            // no split, a split on a linear constraint, a split on a constraint that is not there, and one split twice
             (7, "", 7),
             (7, "split 2\n", 7),
             (7, "split 9\n", 7),
             (7, "split 0\nsplit 0\n", 8),
-            // a path proves nothing here, and a loop has to end where it began and to sum below 0
+            // a path proves nothing here; a loop has to end where it began, and to sum below 0
             (8, "path 0.0u 1.0l\n", 8),
             (8, "loop 0.0u\n", 8),
             (8, "loop 0.0u 0.0l\n", 8),
@@ -155,7 +155,7 @@ fn forged_proofs_are_refused(rt: HostRuntime) -> Result<(), Fail> {
             (10, "finding unsettled\n", 11),
         ],
     )?;
-    // of the first design: its one loop sums to 250
+    // of the first design: its only loop sums to 250
     let loops =
         "itv report 1\nbudget 100000\nevents 2\nevent 0 U.a@0\nevent 1 U.b@0\nloop 0.0u 0.0l\n\
         finding inconsistent\nend inconsistent\n";
@@ -192,7 +192,7 @@ end fail
 ";
     reports_end(alloc, design, &[(report, 0)])?;
     let too_wide = with_ends(alloc, "row 0 req U.a@0 U.b@0 [-PAST,1000]\n")?;
-    // the greatest time that a report tells, which may be any that is far enough
+    // the greatest time that a report prints; any time that is far enough is accepted
     let farthest = 12 * i64::from(MAX_EVENTS) * END_LIMIT + END_LIMIT + 1;
     let far = format!(in alloc; "times 0 {farthest} {farthest}\n")?;
     edits_end(
@@ -209,7 +209,7 @@ end fail
             (12, far.as_str(), 0),
             (12, "times 0 2305843009213693951 2305843009213693951\n", 0),
             (12, "times 0 2305843009213693952 2305843009213693952\n", 12),
-            // the set: its own order, the right pair, and all that has to go along
+            // the set: its order, the right pair, and all events that have to be raised with it
             (13, "raise 2 1\n", 13),
             (13, "raise 1 1\n", 13),
             (13, "raise 1 3\n", 13),

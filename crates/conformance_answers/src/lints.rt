@@ -7,7 +7,7 @@ use std::test::Fail;
 
 const LINT: [&str; 3] = ["--job", "lint", "s"];
 
-// The job on some files, the design among them as `s`, writes just these warnings, and ends with a fail if and only if there are any.
+// The job on some files, the design among them as `s`, writes just these warnings. It ends with a fail if and only if there are any.
 fn warns(alloc: Global, files: &[(&str, &str)], warnings: &[&str]) -> Result<(), Fail> {
     let mut text = String::from_str(alloc, "itv lint 1\n")?;
     for warning in warnings {
@@ -35,20 +35,20 @@ fn each_warns(alloc: Global, cases: &[(&str, &[&str])]) -> Result<(), Fail> {
     Ok(())
 }
 
-// Of the rows below each part shows what stands above it.
+// Each comment among the cases says what the cases below it show.
 #[test]
 fn warnings_of_single_sheets(rt: HostRuntime) -> Result<(), Fail> {
     each_warns(
         rt.alloc(),
         &[
-            // A question and a requirement are rows, a rule is none.
+            // A question and a requirement are rows; a rule is no row.
             (r#""a->b @lin [1,2]""#, &["rows"]),
             ("", &["rows"]),
             (r#""a->b comment""#, &["rows"]),
             (r#""a->b @ask""#, &[]),
             (r#""a->b @req [*,*]""#, &[]),
             (r#""a->b @lin [1,2]","b->a @ask""#, &[]),
-            // A comment that has `@` or `[`, by the number of its edge.
+            // A comment that has `@` or `[` is reported by the number of its edge.
             (r#""a->b @ask","a->b  @lin [0,50]""#, &["comment U edge 1"]),
             (r#""a -> b @lin","a->b @ask""#, &["comment U edge 0"]),
             (
@@ -58,7 +58,7 @@ fn warnings_of_single_sheets(rt: HostRuntime) -> Result<(), Fail> {
             (r#""a->b @ask","a->b""#, &[]),
             (r#""a->b @ask","a->b 0,50]""#, &[]),
             (r#""a->b @ask @note [1,2]""#, &[]),
-            // A note whose first word is a unit in any letters, or that begins with a bracket.
+            // A note whose first word is a unit, in capital or small letters, or that begins with a bracket.
             (
                 r#""a->b @lin [0,3] ns tCO","a->b @ask""#,
                 &["note U edge 0"],
@@ -71,7 +71,7 @@ fn warnings_of_single_sheets(rt: HostRuntime) -> Result<(), Fail> {
             (r#""a->b @lin [0,3] nsec","a->b @ask""#, &[]),
             (r#""a->b @ask max [0,50]""#, &[]),
             (r#""a->b @ask tCO ns""#, &[]),
-            // Two linear rules with finite high ends into one mark from different marks; each later one with the first such one.
+            // Two linear rules with finite high ends into one mark from different marks. Each later rule is reported with the first.
             (
                 r#""a->c @lin [0,15]","b->c @lin [0,15]","a->c @ask""#,
                 &["both U edge 0 U edge 1"],
@@ -106,7 +106,7 @@ fn warnings_of_single_sheets(rt: HostRuntime) -> Result<(), Fail> {
                 &[],
             ),
             (r#""a->c @lin [0,15]","a->c @ask""#, &[]),
-            // Rules that contradict each other are no warning: there are no rows to be over an order.
+            // Rules that contradict each other are no warning: there are no rows that could rest on an order.
             (
                 r#""a->b @lin [100,200]","b->a @lin [0,50]","a->b @ask""#,
                 &[],
@@ -115,7 +115,7 @@ fn warnings_of_single_sheets(rt: HostRuntime) -> Result<(), Fail> {
     )
 }
 
-// Keys that would be read with other capitals, or with one final `s` more or less: those of the sheets, and then those of the netlist.
+// Keys that would be read with other capitals, or with one final `s` more or less: the keys of the sheets, and then the keys of the netlist.
 #[test]
 fn keys_that_nearly_are_known(rt: HostRuntime) -> Result<(), Fail> {
     let alloc = rt.alloc();
@@ -146,7 +146,7 @@ fn keys_that_nearly_are_known(rt: HostRuntime) -> Result<(), Fail> {
     )
 }
 
-// Other keys are passed over without a word, and so is `grade` in version 1.
+// Other keys are passed over without a warning. So is `grade` in version 1.
 #[test]
 fn keys_that_are_passed_over(rt: HostRuntime) -> Result<(), Fail> {
     let alloc = rt.alloc();
@@ -166,7 +166,7 @@ fn keys_that_are_passed_over(rt: HostRuntime) -> Result<(), Fail> {
     )
 }
 
-// A shift that is not less than the number of cycles; in a sheet alone there is one.
+// A shift that is not less than the number of cycles. A sheet alone has one cycle.
 #[test]
 fn rules_and_rows_in_no_cycle(rt: HostRuntime) -> Result<(), Fail> {
     let alloc = rt.alloc();
@@ -238,7 +238,7 @@ fn marks_that_follow_two_drivers(rt: HostRuntime) -> Result<(), Fail> {
     warns(alloc, &[("s", chain), ("x", SOURCE), ("z", READER)], &[])
 }
 
-// A rule of the pin's own sheet that holds it from above; one that only keeps it from coming early does not.
+// A rule of the pin's own sheet that holds the pin from above. A rule that only keeps the pin from coming early gives no warning.
 #[test]
 fn marks_with_a_rule_of_their_own(rt: HostRuntime) -> Result<(), Fail> {
     let alloc = rt.alloc();
@@ -253,7 +253,7 @@ fn marks_with_a_rule_of_their_own(rt: HostRuntime) -> Result<(), Fail> {
     warns(alloc, &[("s", board), ("x", HOLDER), ("z", READER)], &[])
 }
 
-// A sheet that two parts have is told once for each, and a wire by its number.
+// If two parts have a sheet, its warnings stand once for each part. A wire is given by its number.
 #[test]
 fn places_of_warnings(rt: HostRuntime) -> Result<(), Fail> {
     let sheet = r#"{"signal":[{"node":"a"},{"node":"b"}],"edge":["a->b @lin [0,3] ns"]}"#;
@@ -274,7 +274,7 @@ fn places_of_warnings(rt: HostRuntime) -> Result<(), Fail> {
     )
 }
 
-// ---- rows that go over the order of a lane
+// ---- rows that rest on the order of a lane
 
 #[test]
 fn rows_that_rest_on_an_order(rt: HostRuntime) -> Result<(), Fail> {
@@ -293,7 +293,7 @@ fn rows_that_rest_on_an_order(rt: HostRuntime) -> Result<(), Fail> {
 
 // ---- the other ends
 
-// A processor with its memory has nothing to be told.
+// A processor with its memory gives no warning.
 #[test]
 fn a_board_without_warnings(rt: HostRuntime) -> Result<(), Fail> {
     let board =

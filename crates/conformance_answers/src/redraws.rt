@@ -11,7 +11,7 @@ use std::test::Fail;
 
 const REDRAW: [&str; 3] = ["--job", "redraw", "s"];
 
-// The drawing of a sheet is this line with the status of a fail, and job bounds answers the drawing with a fail.
+// The drawing of a sheet is this line, and the job ends with a fail. Job bounds answers the drawing with a fail too.
 fn draws(alloc: Global, sheet: &str, drawing: &str) -> Result<(), Fail> {
     let text = format!(in alloc; "{drawing}\n")?;
     let mut shelf = shelf_with(alloc, "s", sheet.as_bytes())?;
@@ -37,7 +37,7 @@ fn fails_again(alloc: Global, drawing: &str) -> Result<(), Fail> {
     }
 }
 
-// A run of the job on a sheet ends so, and writes just this.
+// A run of the job on a sheet ends in this way, and writes just this.
 fn ends(alloc: Global, sheet: &str, wanted: (Outcome, &str)) -> Result<(), Fail> {
     files_end(alloc, &[("s", sheet)], &REDRAW, wanted)
 }
@@ -53,7 +53,7 @@ fn a_missed_requirement_is_drawn(rt: HostRuntime) -> Result<(), Fail> {
     )
 }
 
-// Sheets with these nodes and edges, each node on a lane of its own, are drawn so.
+// Sheets with these nodes and edges, each node on a lane of its own, give these drawings.
 fn each_draws(alloc: Global, cases: &[(&str, &str, &str)]) -> Result<(), Fail> {
     for (nodes, edges, drawing) in cases {
         let sheet = sheet_of(alloc, nodes, edges)?;
@@ -64,13 +64,13 @@ fn each_draws(alloc: Global, cases: &[(&str, &str, &str)]) -> Result<(), Fail> {
 
 // The nodes and the edges of sheets, and their drawings.
 const DRAWN: [(&str, &str, &str); 5] = [
-    // The first row in order that fails is drawn, at the times behind its verdict, by their order and with equal times at one place.
+    // The first row that fails is drawn. Its events are drawn in the order of the times behind its verdict, events of equal times at one place.
     (
         "abc",
         r#""a->b @lin [5,5]","a->c @lin [3,9]","a->b @req [0,5]","a->b @ask","a->c @req [4,9]","b->c @req [0,0]""#,
         r#"{"signal":[{"name":"U.a@0","wave":"01","node":".a"},{"name":"U.c@0","wave":"0.1","node":"..b"},{"name":"U.b@0","wave":"0..1","node":"...c"}],"edge":["a->b @lin [3,3]","b->c @lin [2,2]","a->b @req [4,9]"]}"#,
     ),
-    // Of events at one time the two of the row come first, and then the others by number.
+    // Of events at one time the two events of the row come first, and then the others by number.
     (
         "abcd",
         r#""a->b @lin [0,0]","b->c @lin [0,0]","c->d @lin [0,0]","d->c @req [1,2]""#,
@@ -88,7 +88,7 @@ const DRAWN: [(&str, &str, &str); 5] = [
         r#""a->a @req [1,2]""#,
         r#"{"signal":[{"name":"U.a@0","wave":"01","node":".a"}],"edge":["a->a @req [1,2]"]}"#,
     ),
-    // Nothing bounds the pair above, so its times are raised past the end, to one above the limit: the drawing has the limit.
+    // Nothing bounds the pair above, so the times are raised past the end, to one above the limit. The drawing has the limit.
     (
         "abc",
         r#""a->b @lin [10000000000000,*]","b->c @lin [0,5]","a->b @req [0,9999999999999]""#,
@@ -118,7 +118,7 @@ fn marks_that_are_escaped(rt: HostRuntime) -> Result<(), Fail> {
 
 // ---- gaps
 
-// Gaps below the limit of an end and at it stay, and a wider one between neighbours is made the limit.
+// A gap below the limit of an end, or at it, stays. A wider gap between neighbours becomes the limit.
 #[test]
 fn gaps_about_the_limit(rt: HostRuntime) -> Result<(), Fail> {
     let alloc = rt.alloc();
@@ -140,7 +140,7 @@ fn gaps_about_the_limit(rt: HostRuntime) -> Result<(), Fail> {
     )
 }
 
-// On a side that nothing bounds the times are raised past the end. The gap is within the limit and past the end.
+// On a side that nothing bounds, the times are raised past the end. The gap is within the limit and past the end.
 #[test]
 fn a_side_that_nothing_bounds(rt: HostRuntime) -> Result<(), Fail> {
     let alloc = rt.alloc();
@@ -157,7 +157,7 @@ fn a_side_that_nothing_bounds(rt: HostRuntime) -> Result<(), Fail> {
 
 // ---- many events
 
-// So many cycles of one clock, and a requirement from one edge to the next that fails.
+// So many cycles of one clock, and a requirement from one clock edge to the next that fails.
 fn cycles_of(alloc: Global, cycles: u32) -> Result<ShelfMem, Fail> {
     let netlist = format!(in alloc;
         r#"{{"itv":1,"cycles":{cycles},"parts":[{{"name":"C","sheet":"c"}}],"edges":["C.a C.a @req+1 [0,5]"]}}"#
@@ -171,7 +171,8 @@ fn count_of(text: &str, part: &str) -> usize {
     text.split(part).count() - 1
 }
 
-// All 93 events are drawn, and of more the first 93, with the pair among them. The drawing has a rule less than events, and a demand.
+// Up to 93 events are all drawn. Of more events the first 93 are drawn, the pair of the row among them. The drawing has one rule less than
+// events, and one demand.
 #[test]
 fn more_events_than_marks(rt: HostRuntime) -> Result<(), Fail> {
     let alloc = rt.alloc();
@@ -186,8 +187,8 @@ fn more_events_than_marks(rt: HostRuntime) -> Result<(), Fail> {
     Ok(())
 }
 
-// The row leads 64 cycles on, and of the two events of each cycle 91 more are drawn, up to the later one of cycle 45, at 455. The gap
-// from there to the row's event at 640 is that of both, whatever comes between.
+// The row leads 64 cycles on. Each cycle has two events; 91 of them are drawn beside the pair of the row, up to the later event of cycle 45, at
+// 455. The gap from there to the row's event at 640 is the gap between these two, whatever events lie between.
 #[test]
 fn a_gap_that_no_drawn_event_fills(rt: HostRuntime) -> Result<(), Fail> {
     let alloc = rt.alloc();
@@ -223,7 +224,7 @@ fn nothing_failed(rt: HostRuntime) -> Result<(), Fail> {
     files_end(alloc, &[("s", SETTLES)], &more, pass)
 }
 
-// A row that fails at an end of the widest kind is refused by its number, on either side, and just inside it is drawn.
+// A row that fails at the widest end is refused with its number, on either side. A row that fails just inside this end is drawn.
 #[test]
 fn ends_that_are_too_wide(rt: HostRuntime) -> Result<(), Fail> {
     let alloc = rt.alloc();

@@ -1,4 +1,4 @@
-//! What jobs why, brief and lint write where there is no design to tell of.
+//! What jobs why, brief and lint write where there is no design to report on.
 
 use conformance_kit::{run_ends, shelf_of, shelf_with};
 use itv_cli::Outcome;

@@ -25,7 +25,7 @@ fn a_bound_comes_with_times_that_attain_it(rt: HostRuntime) -> Result<(), Fail> 
                 "ab",
                 "ask b a\nmax 7\ntimes 7 0\nmin -250\ntimes -250 0\n",
             ),
-            // b is at most 10 after a by the first rule, and at most 4 by the second, whose low end is -4; at least 0 by the first
+            // b is at most 10 after a by the first rule, and at most 4 by the second, whose low end is -4; b is at least 0 after a by the first rule
             (
                 r#"{"signal":[{"node":"ab"}],"edge":["a->b @lin [0,10]","b->a @lin [-4,6]","a->b @ask","b->a @ask"]}"#,
                 "ab",
@@ -46,7 +46,7 @@ fn bounds_go_through_several_rules(rt: HostRuntime) -> Result<(), Fail> {
     all_answered(
         rt.alloc(),
         &[
-            // a cycle of high ends bounds each event from each: 3 + 4, then 5 + 3, then 4 + 5
+            // a cycle of high ends bounds each event from each other: 3 + 4, then 5 + 3, then 4 + 5
             (
                 r#"{"signal":[{"node":"abc"}],"edge":["a->b @lin [*,3]","b->c @lin [*,4]","c->a @lin [*,5]",
                 "a->c @ask","c->b @ask","b->a @ask"]}"#,
@@ -64,7 +64,7 @@ fn bounds_go_through_several_rules(rt: HostRuntime) -> Result<(), Fail> {
     )
 }
 
-// The greatest ends: twice forwards, and backwards once, since c is never before b.
+// The greatest ends, twice forwards. Backwards only one counts, since c is never before b.
 #[test]
 fn bounds_go_through_the_greatest_ends(rt: HostRuntime) -> Result<(), Fail> {
     let alloc = rt.alloc();
@@ -80,13 +80,13 @@ fn bounds_go_through_the_greatest_ends(rt: HostRuntime) -> Result<(), Fail> {
     all_answered(alloc, &[(file.as_str(), "abc", rows.as_str())])
 }
 
-// Beside each file stands which events can be put off. The times are open.
+// Each file stands with the events that can be put off. The times are left open.
 #[test]
 fn an_unbounded_separation_comes_with_events_to_raise(rt: HostRuntime) -> Result<(), Fail> {
     all_answered(
         rt.alloc(),
         &[
-            // no high end: b at a's time or later
+            // no high end: b comes with a or later
             (
                 r#"{"signal":[{"name":"D","node":"a"},{"name":"Q","node":"b"}],"edge":["a->b @lin [0,*]","a->b @ask"]}"#,
                 "ab",
@@ -98,13 +98,13 @@ fn an_unbounded_separation_comes_with_events_to_raise(rt: HostRuntime) -> Result
                 "ab",
                 "ask a b\nmax unbounded\ntimes ?\nraise 1\nmin unbounded\ntimes ?\nraise 0\n",
             ),
-            // the high end bounds b from a; a from b it leaves open: b is at most 5 after a wherever a is raised to
+            // the high end bounds b from a, but not a from b: b is at most 5 after a wherever a is raised to
             (
                 r#"{"signal":[{"node":"ab"}],"edge":["a->b @lin [*,5]","b->a @ask"]}"#,
                 "ab",
                 "ask b a\nmax unbounded\ntimes ?\nraise 0\nmin -5\ntimes -5 0\n",
             ),
-            // c goes up alone: b is at most 5 after a, and at 5 it is
+            // c goes up alone: b is at most 5 after a, and it is 5 after a
             (
                 r#"{"signal":[{"node":"abc"}],"edge":["a->b @lin [*,5]","a->c @ask"]}"#,
                 "abc",

@@ -8,7 +8,7 @@ use std::alloc::Global;
 use std::process::Abort;
 use std::test::Fail;
 
-// What the job writes of a sheet with these nodes.
+// What the job writes of a sheet with these nodes, from the heading on: the events and then the rest.
 fn text_of(alloc: Global, nodes: &str, rest: &str) -> Result<String, Fail> {
     let mut text = format!(in alloc; "itv settle 1\nevents {}\n", nodes.len())?;
     for (number, node) in nodes.chars().enumerate() {
@@ -18,7 +18,7 @@ fn text_of(alloc: Global, nodes: &str, rest: &str) -> Result<String, Fail> {
     Ok(text)
 }
 
-// The job on a sheet with these nodes, edges and words ends so, and writes just this behind the events.
+// The job on a sheet with these nodes, edges and words ends in this way, and writes just this behind the events.
 fn settles(
     alloc: Global,
     sheet: (&str, &str),
@@ -39,7 +39,7 @@ const FEW_TURNS: &[&str] = &["--job=settle", "--cert", "--budget=1", "s"];
 
 // Sheets with their words, the end, and what is written behind the events.
 const WORKED: [((&str, &str), &[&str], (Outcome, &str)); 8] = [
-    // The latest of two causes, one of them a range behind the other.
+    // The latest of two causes. One of them is a range behind the other.
     (
         (
             "abj",
@@ -53,8 +53,8 @@ const WORKED: [((&str, &str), &[&str], (Outcome, &str)); 8] = [
             row 1 ask U.b@0 U.j@0\nmax 600\ntimes -100 0 600\nmin 200\ntimes -300 0 200\nend pass\n",
         ),
     ),
-    // A latest event behind b and c, and an earliest one behind it: d comes at most 6 behind a, at b and 1 or c and 2, and at least 2; e
-    // at most 4 behind d, and at least 3 behind d or 6 behind a.
+    // d is the latest event behind b and c: it comes at most 6 behind a, at b and 1 or c and 2, and at least 2. e is the earliest event
+    // behind d and a: it comes at most 4 behind d, and at least 3 behind d or 6 behind a.
     (
         (
             "abcde",
@@ -109,7 +109,7 @@ const WORKED: [((&str, &str), &[&str], (Outcome, &str)); 8] = [
             "finding inconsistent\nend inconsistent\n",
         ),
     ),
-    // Designs of no event and of one.
+    // Designs with no event and with one.
     (
         ("", ""),
         FEW_TURNS,
@@ -150,7 +150,7 @@ fn other_files_and_words(rt: HostRuntime) -> Result<(), Fail> {
 
 // ---- beside job bounds
 
-// The lines of a text that a report of the same design has, without times and proofs.
+// The lines of a text that a report of the same design also has, without times and proofs.
 fn answers_in(alloc: Global, text: &str) -> Result<String, Fail> {
     let mut lines = String::new(alloc);
     for line in text.lines() {
@@ -165,7 +165,7 @@ fn answers_in(alloc: Global, text: &str) -> Result<String, Fail> {
     Ok(lines)
 }
 
-// Both jobs tell the same of a design, of which there are some bounds. The answer is what they tell.
+// Both jobs report the same of a design, and there are some bounds. Returns the lines that both report.
 fn agree(
     rt: &impl Abort,
     alloc: Global,
@@ -183,7 +183,7 @@ fn agree(
     Ok(answers)
 }
 
-// Each event comes at the latest or at the earliest of the two before it, by turns.
+// Each event comes at the latest or at the earliest of the two events before it, by turns.
 #[test]
 fn chains_have_the_numbers_of_job_bounds(rt: HostRuntime) -> Result<(), Fail> {
     let alloc = rt.alloc();

@@ -43,7 +43,7 @@ fn closed_bounds_are_judged(rt: HostRuntime) -> Result<(), Fail> {
     Ok(())
 }
 
-// A side that nothing bounds breaks every finite end. The times past it are open.
+// A side that nothing bounds breaks every finite end. The times past the end are left open.
 #[test]
 fn unbounded_bounds_are_judged(rt: HostRuntime) -> Result<(), Fail> {
     judged(
@@ -98,8 +98,8 @@ fn unbounded_bounds_are_judged(rt: HostRuntime) -> Result<(), Fail> {
     )
 }
 
-// No times satisfy this sheet, and a budget of 1 does not find that out. Its linear rules alone keep j from 20 to 30 after a: a range
-// that holds these is met whatever the search would find, and of every other nothing is known.
+// No times satisfy this sheet, but a budget of 1 does not find that out. Its linear rules alone keep j from 20 to 30 after a. A range that
+// contains 20 to 30 is met, whatever the search would find. For every other range the verdict is undecided.
 #[test]
 fn unsettled_bounds_are_judged_by_the_rules_without_a_choice(rt: HostRuntime) -> Result<(), Fail> {
     let alloc = rt.alloc();
@@ -128,9 +128,9 @@ fn unsettled_bounds_are_judged_by_the_rules_without_a_choice(rt: HostRuntime) ->
     Ok(())
 }
 
-// From b to j at most 600 is true, and a budget of 1 attains it without a limit: an end below 600 is broken by the times that were found,
-// and of an end of 600 or more nothing is known. The same holds of the least separation back. The other side is closed by the rules
-// without a choice, at 200.
+// The greatest separation from b to j is 600. A budget of 1 finds times that attain it, but no limit. These times break a high end below 600;
+// for a high end of 600 or more nothing is known. The same holds for the least separation from j to b. The rules without a choice close the
+// other side, at 200.
 #[test]
 fn a_found_separation_breaks_a_requirement(rt: HostRuntime) -> Result<(), Fail> {
     let fail = (Outcome::SomeFail, "fail");
@@ -185,7 +185,7 @@ fn a_found_separation_breaks_a_requirement(rt: HostRuntime) -> Result<(), Fail> 
     Ok(())
 }
 
-// The report under a budget of 1 of a sheet where j waits for a and b, with a requirement between b and j.
+// The report under a budget of 1 of a sheet where j waits for a and b. The requirement is between b and j.
 fn is_found(
     alloc: Global,
     requirement: (&str, &str),

@@ -1,4 +1,5 @@
-//! Job whatif: the worked rows, files of edits with each fault, limits, and numbers that a design answers whose rules are drawn so.
+//! Job whatif: the worked rows, files of edits with each fault, limits, and the numbers of a design that is drawn with the
+//! edited ranges.
 
 use conformance_kit::{CIRCLE, CONTRADICTS, FIRST, MET, files_end, shelf_of, written_by};
 use itv_cli::Outcome;
@@ -15,7 +16,7 @@ const LATEST: &str =
 const ASKED: &str =
     r#"{"signal":[{"node":"a"},{"node":"b"}],"edge":["a->b @lin [100,200]","b->a @lin [0,50]","a->b @ask"]}"#;
 
-// The job on a design and a file of edits ends so, and writes just this.
+// The job on a design and a file of edits ends in this way, and writes just this.
 fn whatif_ends(
     alloc: Global,
     design: &str,
@@ -25,7 +26,7 @@ fn whatif_ends(
     files_end(alloc, &[("s", design), ("e", edits)], WORDS, wanted)
 }
 
-// The same behind the heading.
+// The same, with the text behind the heading.
 fn states_are(
     alloc: Global,
     design: &str,
@@ -103,8 +104,8 @@ end pass
     )
 }
 
-// The second cause of a latest rule, then the rule before it, and both back. From a to j are at most the greater of 700 and what is between a and
-// b with 900 more.
+// The second cause of a latest rule is edited, then the rule before it, and then both go back. From a to j there are at most 700, or 900 more than
+// from a to b, whichever is greater.
 #[test]
 fn both_causes_of_a_latest_rule(rt: HostRuntime) -> Result<(), Fail> {
     states_are(
@@ -139,7 +140,7 @@ end pass
     )
 }
 
-// No bound is kept where the last finding was none, and no row is printed.
+// If the last finding was inconsistent, no bound is kept. If a finding is inconsistent, no row is printed.
 #[test]
 fn a_network_contradicts_itself_and_back(rt: HostRuntime) -> Result<(), Fail> {
     let alloc = rt.alloc();
@@ -215,7 +216,7 @@ fn last_rows(text: &str) -> Option<&str> {
     text.get(at..)
 }
 
-// Behind edits the job says what it says of the design that is drawn with these ranges.
+// Behind the edits the job reports what it reports of the design that is drawn with these ranges.
 #[test]
 fn edits_are_as_if_drawn(rt: HostRuntime) -> Result<(), Fail> {
     let alloc = rt.alloc();
@@ -266,7 +267,7 @@ fn many(alloc: Global, count: usize) -> Result<String, Fail> {
     Ok(edits)
 }
 
-// A text that the job writes in full has two lines of its own, three for each state with a row, and the end; the first state has no edit.
+// The whole text of the job has a heading, three lines for each state with a row, and the end. The first state has no edit.
 #[test]
 fn there_are_at_most_1000_edits(rt: HostRuntime) -> Result<(), Fail> {
     let alloc = rt.alloc();
@@ -280,13 +281,13 @@ fn there_are_at_most_1000_edits(rt: HostRuntime) -> Result<(), Fail> {
     let edits = many(alloc, 1_001)?;
     let wanted = (Outcome::Refused, "refused edits TooMany 1001\n");
     whatif_ends(alloc, FIRST, edits.as_str(), wanted)?;
-    // what stands behind the last line end is one more line
+    // what stands behind the last line end counts as one more line
     let mut edits = many(alloc, 1_000)?;
     edits.push_str("set")?;
     whatif_ends(alloc, FIRST, edits.as_str(), wanted)
 }
 
-// So many bytes of lines without an edit: the length is told first.
+// So many bytes of lines without an edit. The length is refused before the number of lines.
 #[test]
 fn a_file_of_edits_has_at_most_1048576_bytes(rt: HostRuntime) -> Result<(), Fail> {
     let alloc = rt.alloc();

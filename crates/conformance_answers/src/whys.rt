@@ -1,5 +1,5 @@
-//! Job why: chains that were worked by hand, over each kind of rule and over nets, rules that contradict each other, verdicts that rest on the
-//! order of a lane, notes, and the other ends.
+//! Job why: chains that were worked by hand, over each kind of rule and over nets; rules that contradict each other; verdicts that rest on the
+//! order of a lane; notes; and the other ends.
 
 use conformance_kit::{
     BOARD, CONTRADICTS, MEMORY, PROCESSOR, files_end, run_ends, sheet_of, shelf_with,
@@ -10,7 +10,7 @@ use std::test::Fail;
 
 const WHY: [&str; 3] = ["--job", "why", "s"];
 
-// The job on a file ends so, and writes just this behind its heading.
+// The job on a file ends in this way, and writes just this behind its heading.
 fn tells(alloc: Global, file: &str, wanted: (Outcome, &str)) -> Result<(), Fail> {
     let (end, rest) = wanted;
     let text = format!(in alloc; "itv why 1\n{rest}")?;
@@ -63,7 +63,7 @@ const BY_HAND: [(&str, &str, (Outcome, &str)); 9] = [
         ),
     ),
     // j comes at the latest of a + 450..700 and b + 200..500, and b is 100..300 behind a. So j is at most 300 + 500 behind a, by b, and at
-    // least 450, by a; and at most 700 - 100 behind b, by a, and at least 200.
+    // least 450, by a. j is at most 700 - 100 behind b, by a, and at least 200.
     (
         "abj",
         r#""a->b @lin [100,300]","a->j @late [450,700] tAA","b->j @late [200,500] tACE","a->j @ask","b->j @req [100,*] set-up""#,
@@ -78,7 +78,7 @@ const BY_HAND: [(&str, &str, (Outcome, &str)); 9] = [
             min 200\nstep U.b@0 U.j@0 200 edge 2 tACE\nverdict pass\nslack 100 *\nend pass\n",
         ),
     ),
-    // d comes at the earliest of a + 3..8 and b + 0..7, and b is 1..2 behind a: at most 8 behind a, by a, and at least 1 + 0, by b.
+    // d comes at the earliest of a + 3..8 and b + 0..7, and b is 1..2 behind a. So d is at most 8 behind a, by a, and at least 1 + 0, by b.
     (
         "abd",
         r#""a->d @early [3,8]","b->d @early [0,7]","a->b @lin [1,2]","a->d @req [2,9] hold""#,
@@ -90,7 +90,7 @@ const BY_HAND: [(&str, &str, (Outcome, &str)); 9] = [
             min 1\nstep U.a@0 U.b@0 1 edge 2\nstep U.b@0 U.d@0 0 edge 1\nverdict fail low\nslack -1 1\nend fail\n",
         ),
     ),
-    // From an event to itself there is nothing to go along.
+    // A row from an event to itself has no steps.
     (
         "ab",
         r#""a->b @lin [1,2]","a->a @ask""#,
@@ -99,7 +99,7 @@ const BY_HAND: [(&str, &str, (Outcome, &str)); 9] = [
             "finding consistent\nrow 0 ask U.a@0 U.a@0 edge 1\nmax 0\nmin 0\nend pass\n",
         ),
     ),
-    // Nothing holds b from above, and c follows b: both can be put off. The requirement has an open end there.
+    // Nothing holds b from above, and c follows b: both can be put off. The requirement has an open end on that side.
     (
         "abc",
         r#""a->b @lin [5,*] slow","b->c @lin [1,2]","a->c @req [4,*]""#,
@@ -110,7 +110,7 @@ const BY_HAND: [(&str, &str, (Outcome, &str)); 9] = [
             min 6\nstep U.a@0 U.b@0 5 edge 0 slow\nstep U.b@0 U.c@0 1 edge 1\nverdict pass\nslack 2 *\nend pass\n",
         ),
     ),
-    // b is at least 100 behind a and not before it; what c does has nothing to do with it.
+    // b is at least 100 behind a, and at most 0 behind a by the other rule. The rule of c has nothing to do with it.
     (
         "abc",
         r#""a->c @lin [0,5] another matter","a->b @lin [100,200] tPD","b->a @lin [0,50]","a->b @ask""#,
@@ -143,8 +143,9 @@ fn sheets_that_were_worked_by_hand(rt: HostRuntime) -> Result<(), Fail> {
     each_explains(rt.alloc(), &BY_HAND)
 }
 
-// A processor, a memory and three nets over two cycles. The address leaves 8,000 behind the clock at most, two nets take 300 each and the
-// memory 12,000, of the 25,000 of the clock: 4,400 are left. It leaves 2,000 behind the clock at least, and 100, 3,000 and 100 come on top.
+// A processor, a memory and three nets over two cycles. A cycle of the clock takes 25,000. The address leaves at most 8,000 behind the clock,
+// two nets take 300 each and the memory takes 12,000: 4,400 are left. The address leaves at least 2,000 behind the clock, and 100, 3,000 and
+// 100 come on top.
 #[test]
 fn a_processor_and_its_memory(rt: HostRuntime) -> Result<(), Fail> {
     let files = [("b", BOARD), ("s", PROCESSOR), ("t", MEMORY)];
@@ -175,7 +176,7 @@ fn a_processor_and_its_memory(rt: HostRuntime) -> Result<(), Fail> {
 
 // ---- the order of a lane
 
-// v comes before z on their lane, and z not behind h: so v is not behind h, although its own rule lets it come 20,000 later. A second requirement
+// v comes before z on their lane, and z not behind h. So v is not behind h, although its own rule lets it come 20,000 later. A second requirement
 // is met by its own rule.
 #[test]
 fn a_requirement_that_passes_by_an_order(rt: HostRuntime) -> Result<(), Fail> {
@@ -198,7 +199,7 @@ fn a_requirement_that_passes_by_an_order(rt: HostRuntime) -> Result<(), Fail> {
 
 // ---- notes
 
-// A note with a letter beyond ASCII is left out, and so is one with a tab; a note of a wire is told, and a comment keeps its number.
+// A note with a letter beyond ASCII is left out, and so is a note with a tab. A note of a wire is printed. A comment keeps its number.
 #[test]
 fn notes_that_are_told(rt: HostRuntime) -> Result<(), Fail> {
     let alloc = rt.alloc();
@@ -248,7 +249,7 @@ fn a_note_behind_a_parameter(rt: HostRuntime) -> Result<(), Fail> {
 
 // ---- the other ends
 
-// The search for times takes two cases: with a budget of one neither the times nor the bounds are found, and no step is told.
+// The search for times takes two cases. With a budget of one it finds neither the times nor the bounds, and no step is printed.
 #[test]
 fn a_budget_that_is_too_small(rt: HostRuntime) -> Result<(), Fail> {
     let alloc = rt.alloc();

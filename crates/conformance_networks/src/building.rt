@@ -5,7 +5,7 @@ use itv_base::{EventId, Range, RuleKind};
 use std::alloc::Global;
 use std::test::Fail;
 
-/// The low and the high end of a range in picoseconds, where `None` is an open one.
+/// The low and the high end of a range in picoseconds; `None` is an open end.
 pub type Ends = (Option<i64>, Option<i64>);
 
 /// A cause from an event with a range.
@@ -39,7 +39,7 @@ pub fn add(
     Ok(())
 }
 
-/// The events a, b and j, with `a->b @lin [100,300]` and a second constraint of the causes `a->j [500,700]` and `b->j [200,400]`.
+/// The events a, b and j, with `a->b @lin [100,300]` and a second constraint with the causes `a->j [500,700]` and `b->j [200,400]`.
 pub fn of_two_causes(alloc: Global, kind: RuleKind) -> Result<Network, Fail> {
     let mut net = Network::new(alloc, 3)?;
     let first = [cause(0, (Some(100), Some(300)))?];

@@ -1,4 +1,4 @@
-//! Proofs line by line: which are taken, and the fault of each other line.
+//! Proofs line by line: which lines are taken, and the fault of each other line.
 
 ghost use Rattle.std.specs.Prelude.{◌≡◌};
 ghost use Rattle.cert_checker.specs.Checking.{IsProofCheckerFor};
@@ -38,7 +38,7 @@ fn of_a_circle(alloc: Global, low: i64) -> Result<Network, Fail> {
     Ok(net)
 }
 
-// Takes lines one after another, and compares their faults with those that are wanted.
+// Takes lines one after another, and compares their faults with the wanted faults.
 fn take_each(
     rt: &impl Abort,
     net: &Network,
@@ -53,8 +53,8 @@ fn take_each(
     }
 }
 
-// Each fault of a line comes with its value, and the right line is taken after it. By hand: j comes at most 600 after
-// b, since it comes at most 700 after a, which is at least 100 before b, or at most 400 after b.
+// Each fault of a line comes with its value, and the right line is taken after it. By hand: j comes at most 700 after a, and a
+// comes at least 100 before b; or j comes at most 400 after b. So j comes at most 600 after b.
 #[test]
 fn a_bound_is_shown_by_cases(rt: HostRuntime) -> Result<(), Fail> {
     let net = of_two_causes(rt.alloc(), RuleKind::Late)?;
@@ -108,7 +108,7 @@ fn a_bound_is_shown_by_cases(rt: HostRuntime) -> Result<(), Fail> {
     Ok(())
 }
 
-// A proof that no times satisfy is one loop of the sum -50, and there is none where b comes just 100 after a. A path
+// The proof that no times satisfy is one loop with the sum -50. If b comes just 100 after a, there is no such proof. A path
 // whose sum exceeds the value is refused with its sum.
 #[test]
 fn a_negative_loop_shows_that_no_times_satisfy(rt: HostRuntime) -> Result<(), Fail> {

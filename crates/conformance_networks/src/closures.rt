@@ -33,7 +33,7 @@ impl Gap {
     }
 }
 
-// The entry of a place: absent in the gap, else one of the numbers `first`, `first + 7`, ..
+// The entry of a place: absent in the gap, otherwise one of the numbers `first`, `first + 7`, ..
 fn entry(place: usize, len: usize, first: u8, gap: Gap) -> i64
     requires place { place < len }
     requires len { len ≤ 100 }
@@ -59,7 +59,7 @@ fn row(alloc: Global, len: usize, first: u8, gap: Gap) -> Result<Vec<i64>, NoMem
     Ok(entries)
 }
 
-// Both rows do one thing, whatever the length and wherever an entry is absent.
+// Both kinds of rows give the same, whatever the length and wherever an entry is absent.
 #[test]
 fn lanes_do_what_plain_rows_do(rt: HostRuntime) -> Result<(), Fail> {
     for len in [0, 1, 7, 8, 9, 16, 23] {
@@ -84,7 +84,7 @@ fn lanes_do_what_plain_rows_do(rt: HostRuntime) -> Result<(), Fail> {
     Ok(())
 }
 
-// Compares each entry of the closure of a network with what is wanted.
+// Compares each entry of the closure of a network with the wanted entry.
 fn check(
     rt: &impl Abort,
     alloc: Global,
@@ -103,7 +103,7 @@ fn check(
     Ok(())
 }
 
-// Of latest causes the lower sides always hold, and of earliest ones the upper sides.
+// A latest constraint always keeps the lower sides of its causes, and an earliest constraint the upper sides.
 #[test]
 fn sides_that_always_hold(rt: HostRuntime) -> Result<(), Fail> {
     let latest = of_two_causes(rt.alloc(), RuleKind::Late)?;

@@ -51,7 +51,7 @@ fn settles_after_seventeen_lines(rt: HostRuntime) -> Result<(), Fail> {
     Ok(())
 }
 
-// With 16 turns one line more is wanted, so they are spent.
+// With 16 turns one more line is needed, so the turns are spent.
 #[test]
 fn spends_sixteen_turns(rt: HostRuntime) -> Result<(), Fail> {
     let alloc = rt.alloc();
@@ -62,7 +62,7 @@ fn spends_sixteen_turns(rt: HostRuntime) -> Result<(), Fail> {
     Ok(())
 }
 
-// From y one line lowers k to -5, and i stays at the cap, so it is unbounded and raised alone.
+// From y one line lowers k to -5, and i stays at the cap. So the separation is unbounded, and i is raised alone.
 #[test]
 fn shows_an_unbounded_pair(rt: HostRuntime) -> Result<(), Fail> {
     let alloc = rt.alloc();
@@ -124,8 +124,8 @@ fn checks_the_lines_of_a_derivation(rt: HostRuntime) -> Result<(), Fail> {
     Ok(())
 }
 
-// Over a latest constraint the pair (a, j) has 700 and (j, a) minus 500; over an earliest one they are 700 at
-// most as well, and minus 300.
+// Over a latest constraint the pair (a, j) has 700, and the pair (j, a) has -500. Over an earliest constraint they have 700
+// and -300.
 #[test]
 fn finds_bounds_of_both_kinds(rt: HostRuntime) -> Result<(), Fail> {
     let alloc = rt.alloc();
@@ -140,7 +140,7 @@ fn finds_bounds_of_both_kinds(rt: HostRuntime) -> Result<(), Fail> {
     Ok(())
 }
 
-// Two events of which each comes after the other by 1 have no times.
+// Each of two events comes at least 1 after the other, so no times satisfy.
 #[test]
 fn shows_an_inconsistent_network(rt: HostRuntime) -> Result<(), Fail> {
     let alloc = rt.alloc();
@@ -165,7 +165,7 @@ fn shows_an_inconsistent_network(rt: HostRuntime) -> Result<(), Fail> {
     Ok(())
 }
 
-// Constraints 1 and 2 are the first latest and the first earliest one with two causes.
+// Constraint 1 is the first latest constraint with two causes, and constraint 2 the first earliest one.
 #[test]
 fn refuses_choices_of_both_kinds(rt: HostRuntime) -> Result<(), Fail> {
     let alloc = rt.alloc();

@@ -1,5 +1,6 @@
-//! What the crates answer that speak of networks, each by itself, on networks that are built by hand: what is satisfied, a stack of graphs,
-//! closures, verdicts, checked proofs, splits of a search, and falling values. They stand apart from those crates, which so are proved once.
+//! What the crates that are about networks answer, each by itself, on networks that are built by hand: what is satisfied, a stack of graphs,
+//! closures, verdicts, checked proofs, splits of a search, and falling values. The tests stand apart from those crates, so the crates are
+//! proved only once.
 #![tactic(auto)]
 
 #[cfg(test)]

@@ -9,7 +9,7 @@ use std::alloc::Global;
 use std::process::Abort;
 use std::test::Fail;
 
-// A network of three events with one constraint, of event 2 by two causes at event 0.
+// A network of three events with one constraint; its target is event 2, and its two causes are at event 0.
 fn of_two_ranges(
     alloc: Global,
     kind: RuleKind,
@@ -22,7 +22,7 @@ fn of_two_ranges(
     Ok(net)
 }
 
-// A network of one event with one linear constraint, from that event to itself.
+// A network of one event with one linear constraint from this event to itself.
 fn of_own_event(alloc: Global, low: i64, high: i64) -> Result<Network, Fail> {
     let mut net = Network::new(alloc, 1)?;
     let causes = [cause(0, (Some(low), Some(high)))?];
@@ -56,15 +56,15 @@ fn broken(net: &Network, times: &[i64]) -> Option<u32> {
     }
 }
 
-// Compares what is broken with what is wanted, at times of three events.
+// Compares the first broken constraint with the wanted one, at times of three events.
 fn expect_broken(rt: &impl Abort, net: &Network, rows: &[([i64; 3], Option<u32>)]) {
     for (times, want) in rows {
         assert_eq!(rt; broken(net, times), *want, "at {times:?}");
     }
 }
 
-// Compares edges with what is wanted: the constraint, the cause and the side of the name, then the two
-// events and the weight of the edge if there is one, and whether it is an always-edge.
+// Compares edges with the wanted ones: the constraint, the cause and the side of the name; the two events and the
+// weight of the edge, if there is one; and whether it is an always-edge.
 fn expect_edges(
     rt: &impl Abort,
     net: &Network,
@@ -156,7 +156,7 @@ fn an_earliest_constraint_waits_for_some_cause(rt: HostRuntime) -> Result<(), Fa
 fn open_ends_ask_nothing(rt: HostRuntime) -> Result<(), Fail> {
     let closed = (Some(3), Some(5));
     let (no_low, no_high) = ((None, Some(5)), (Some(3), None));
-    // the kind, the two ranges, the time of the target where the causes are at 0, and whether it satisfies
+    // the kind, the two ranges, the time of the target if the causes are at 0, and whether the times satisfy
     for (kind, first, second, time, is_met) in [
         (Lin, no_low, no_low, -1_000, true),
         (Lin, no_low, no_low, 6, false),
@@ -259,7 +259,7 @@ fn a_constraint_may_have_64_causes(rt: HostRuntime) -> Result<(), Fail> {
 
 #[test]
 fn cause_choices_may_pass_64_bits(rt: HostRuntime) -> Result<(), Fail> {
-    // numbers of causes, and their product where it fits 64 bits
+    // numbers of causes, and their product if it fits 64 bits
     let rows: [(&[i64], Option<u64>); 6] = [
         (&[], Some(1)),
         (&[1, 1, 1], Some(1)),

@@ -1,4 +1,4 @@
-//! Which constraints are split, in which order: no clause speaks of it.
+//! Which constraints are split, and in which order. No contract says this.
 
 use crate::building::{add, cause};
 use RuleKind::{Early, Late, Lin};
@@ -50,7 +50,7 @@ impl Scribe for Splits {
     ghost grew_faults = { λ s t xs p. refl };
 }
 
-// Bounds the last event of a network from the first one: the answer, how many cases were closed, and the splits up to the eighth.
+// Bounds the last event of a network from the first event: the answer, the number of closed cases, and the splits up to the eighth.
 fn bound(alloc: Global, net: &Network) -> Result<(GreatestAnswer, u64, Splits), Fail> {
     let events = net.events();
     let mut work = Work::new(alloc, net)?;
@@ -75,8 +75,8 @@ fn bound(alloc: Global, net: &Network) -> Result<(GreatestAnswer, u64, Splits), 
     Ok((answer, work.leaves(), splits))
 }
 
-// Each of the events 1 to 3 is the later of two ways: from the event before, and from event 0. Without a bound that constraint is
-// split which enters the last event, then the one before it along the edge that was chosen.
+// Each of the events 1 to 3 comes at the later of two ways: from the event before it, and from event 0. While there is no bound, the
+// constraint that enters the last event is split, and then the constraint before it along the chosen edge.
 #[test]
 fn splits_go_back_along_choices(rt: HostRuntime) -> Result<(), Fail> {
     let alloc = rt.alloc();
@@ -150,8 +150,8 @@ fn the_nearest_broken_constraint_is_split(rt: HostRuntime) -> Result<(), Fail> {
     Ok(())
 }
 
-// The times of the bounds break constraints 0 to 2. Constraint 0 enters event 2; constraint 1 enters its causes, which are events 2 and
-// 4; and constraint 2 enters event 4.
+// The times of the bounds break constraints 0 to 2. Constraint 0 enters event 2. Constraint 1 enters its causes, the events 2 and 4.
+// Constraint 2 enters event 4.
 #[test]
 fn of_the_nearest_the_least_is_split(rt: HostRuntime) -> Result<(), Fail> {
     let alloc = rt.alloc();

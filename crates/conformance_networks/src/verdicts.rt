@@ -32,7 +32,7 @@ const fn within(limit: Option<i64>, attained: Option<i64>) -> Bound {
     Bound::Within { limit, attained }
 }
 
-// The two ends of a range, the least and the greatest bound, and the verdict and the slacks that are wanted.
+// The two ends of a range, the least and the greatest bound, and the wanted verdict and slacks.
 type Judged = (
     (Option<i64>, Option<i64>),
     Bound,
@@ -160,7 +160,7 @@ fn requirements_are_judged_side_by_side(rt: HostRuntime) -> Result<(), Fail> {
     Ok(())
 }
 
-// By the least number that exceeds the limit, and by nothing where it is exceeded already.
+// Times are raised by the least number that brings the separation past the limit, and by nothing if it is past the limit already.
 #[test]
 fn times_are_raised_past_a_limit(rt: HostRuntime) {
     let ray = [false, true, false, true];

@@ -13,7 +13,7 @@ use std::alloc::Global;
 use std::process::Abort;
 use std::test::Fail;
 
-// The last event that there may be.
+// The last event that a network may have.
 const LAST: u32 = MAX_EVENTS - 1;
 
 // The greatest separations of all events from the source.
@@ -28,7 +28,7 @@ fn uppers(alloc: Global, net: &Network, bounds: &Bounds) -> Result<Vec<Option<i6
     Ok(labels)
 }
 
-// The greatest separations from an event, or none where no times meet the always-edges.
+// The greatest separations from an event, or none if no times meet the always-edges.
 fn found(alloc: Global, net: &Network, from: u32) -> Result<Option<Vec<Option<i64>>>, Fail> {
     if net.events() <= from {
         return Err(Fail::new("no such event"));
@@ -40,7 +40,7 @@ fn found(alloc: Global, net: &Network, from: u32) -> Result<Option<Vec<Option<i6
     }
 }
 
-// They as a text, in which `*` stands for one that is unbounded.
+// The separations as a text; `*` stands for an unbounded separation.
 fn text_of(alloc: Global, labels: Option<Vec<Option<i64>>>) -> Result<String, Fail> {
     let Some(labels) = labels else {
         return Ok(String::from_str(alloc, "loop")?);
@@ -56,7 +56,7 @@ fn text_of(alloc: Global, labels: Option<Vec<Option<i64>>>) -> Result<String, Fa
     Ok(text)
 }
 
-// The events of a network, its rules, an event, and the greatest separations of all events from that one.
+// The number of events of a network, its rules, an event, and the greatest separations of all events from this event.
 const BY_HAND: [(u32, &str, &str, &str); 22] = [
     // no rule
     (1, "", "a", " 0"),
@@ -88,11 +88,11 @@ const BY_HAND: [(u32, &str, &str, &str); 22] = [
         "d",
         " 22 13 6 0",
     ),
-    // parts that nothing joins, and a loop in the other part
+    // parts that nothing joins, and a loop in the part without the event
     (4, "lin b a 0 3; lin d c 1 2", "a", " 0 3 * *"),
     (4, "lin b a 0 3; lin d c 1 2", "d", " * * -1 0"),
     (3, "lin b a 0 3; lin c c 1 1", "a", "loop"),
-    // all events in one loop of sum 0, from its first event and from another
+    // all events in one loop of sum 0, from its first event and from another event
     (
         5,
         "lin b a * 1; lin c b * 1; lin d c * 1; lin e d * 1; lin a e * -4",
@@ -105,7 +105,7 @@ const BY_HAND: [(u32, &str, &str, &str); 22] = [
         "c",
         " -2 -1 0 1 2",
     ),
-    // of a latest rule the low sides always hold, of an earliest one the high sides, and of a rule with one cause both
+    // a latest rule always keeps its low sides, an earliest rule its high sides, and a rule with one cause both sides
     (
         4,
         "late c a 500 700 b 200 400; early d a 500 700 b 200 400; lin b a 100 300",
@@ -126,7 +126,7 @@ fn separations_are_those_by_hand(rt: HostRuntime) -> Result<(), Fail> {
     Ok(())
 }
 
-// The chain of as many events as there may be, each in this range after the one before.
+// The chain of as many events as there may be. Each event comes in this range after the event before it.
 fn chain_of(alloc: Global, low: i64, high: i64) -> Result<Network, Fail> {
     let range = Range::new(Some(low), Some(high))?;
     let mut rules = Vec::with_capacity(alloc, LAST as usize)?;
@@ -141,7 +141,8 @@ fn chain_of(alloc: Global, low: i64, high: i64) -> Result<Network, Fail> {
     network_of(alloc, MAX_EVENTS, rules.as_slice())
 }
 
-// Each event of a chain is as many times an end from the first and from the last as it has events between.
+// Each event of the chain is as many times the high end after the first event as there are steps between them, and as many times the low end
+// before the last event.
 #[test]
 fn the_greatest_ends_add_up_along_a_chain(rt: HostRuntime) -> Result<(), Fail> {
     for (low, high) in [
@@ -163,7 +164,7 @@ fn the_greatest_ends_add_up_along_a_chain(rt: HostRuntime) -> Result<(), Fail> {
     Ok(())
 }
 
-// The same levels beside the bounds: the arcs of the start, and for each level the arc that it added.
+// The levels of the plain program: the arcs of the start, and for each level the arc that it added, if there is one.
 #[derive(Drop)]
 struct Levels {
     events: u32,
@@ -173,7 +174,7 @@ struct Levels {
 }
 
 impl Levels {
-    // The separations by all arcs and one more, worked out anew.
+    // The separations by all arcs and one more arc, worked out anew.
     fn separations(
         &self,
         alloc: Global,
@@ -188,7 +189,7 @@ impl Levels {
     }
 }
 
-// Goes a level down by an edge, where there is room for one.
+// Goes a level down by an edge, if there is room for a level.
 fn descend(net: &Network, bounds: &mut Bounds, choice: EdgeName) -> Option<Fit>
     requires stands { Stands net.now bounds.old }
     requires source { IsSome bounds.old.source }
@@ -201,7 +202,7 @@ fn descend(net: &Network, bounds: &mut Bounds, choice: EdgeName) -> Option<Fit>
     Some(bounds.descend(net, choice))
 }
 
-// Comes a level back, where there is one.
+// Comes a level back, if there is one.
 fn retreat(net: &Network, bounds: &mut Bounds)
     requires stands { Stands net.now bounds.old }
     requires source { IsSome bounds.old.source }
@@ -231,7 +232,7 @@ fn edge_by(chance: &mut Chance, rules: &[Rule]) -> Result<(EdgeName, Option<Arc>
     Ok((name, arc))
 }
 
-// A level down by chance, on both sides.
+// Goes a level down by chance, in the bounds and in the plain program.
 fn go_down(
     rt: &impl Abort,
     alloc: Global,
@@ -258,7 +259,7 @@ fn go_down(
     Ok(())
 }
 
-// A step down or back by chance.
+// Goes a step down or back by chance.
 fn step(
     rt: &impl Abort,
     alloc: Global,
@@ -281,7 +282,7 @@ fn step(
     go_down(rt, alloc, net, rules, bounds, levels, chance)
 }
 
-// The labels are those of the plain program.
+// The labels are the labels of the plain program.
 fn expect_same(
     rt: &impl Abort,
     alloc: Global,
@@ -298,7 +299,7 @@ fn expect_same(
     Ok(())
 }
 
-// Goes down and back by chance on a network, and answers whether its always-edges allow times.
+// Goes down and back by chance on a network, and returns whether its always-edges allow times.
 fn agrees(
     rt: &impl Abort,
     alloc: Global,

@@ -21,7 +21,7 @@ impl Chance {
         high.checked_rem(most).unwrap_or(0)
     }
 
-    // An end, or an open one at one time in six.
+    // An end; one time in six it is open.
     fn end(&mut self, value: u32) -> Option<i64> {
         match self.below(6) {
             0 => None,
@@ -29,7 +29,7 @@ impl Chance {
         }
     }
 
-    // A cause of which the ends are from -9 on, and at most 9 apart.
+    // A cause whose ends are -9 or more, and at most 9 apart.
     fn cause(&mut self, events: u32) -> Result<Cause, Fail> {
         let low = self.below(16);
         let high = low.saturating_add(self.below(10));

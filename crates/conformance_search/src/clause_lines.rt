@@ -1,4 +1,4 @@
-//! Lines of proofs by clauses, by hand: which a checker takes, and the first fault of each other one.
+//! Lines of proofs by clauses, by hand: which lines a checker takes, and the first fault of each other line.
 
 ghost use Rattle.clauses.specs.Checking.{IsChecking};
 
@@ -22,8 +22,8 @@ enum Steps {
     Two(WalkStep, WalkStep),
 }
 
-// A line: a fall of an event, which is told by its letter; a literal that is known; a loop from an event; two assumptions, or one twice; the
-// end of a block.
+// A line: a fall of an event, which is given by its letter; a literal that is known; a loop from an event; two assumptions, or one of them twice;
+// the end of a block.
 #[derive(Clone, Copy)]
 enum Row<'a> {
     Fall(&'a str, i64, Basis),
@@ -33,8 +33,8 @@ enum Row<'a> {
     Close,
 }
 
-// By hand: b comes 100 to 300 after a; c at the earlier of 500 to 700 after a and 200 to 400 after b; d at the later of 10 to 20 after b
-// and 30 to 40 after c, and at least 30 after b. So d comes at most 740 after a.
+// By hand: b comes 100 to 300 after a. c comes at the earlier of 500 to 700 after a and 200 to 400 after b. d comes at the later of 10 to 20
+// after b and 30 to 40 after c, and at least 30 after b. So d comes at most 740 after a.
 const RULES: &str =
     "lin b a 100 300; early c a 500 700 b 200 400; late d b 10 20 c 30 40; lin d b 30 *";
 
@@ -47,7 +47,7 @@ const fn by(constraint: u32, cause: u32, side: Side) -> Basis {
     })
 }
 
-// That the lower side of a cause of the second rule is met, or is not.
+// The literal that the low side of a cause of the second rule is met, or that it is not met.
 const fn side(cause: u32, is_met: bool) -> Literal {
     Literal {
         constraint: 1,
@@ -60,7 +60,7 @@ const fn step(basis: Basis, through: u32) -> WalkStep {
     WalkStep { basis, through }
 }
 
-// The text of the fault of a line, or an empty one where the line is taken.
+// The text of the fault of a line, or an empty text if the line is taken.
 fn take(
     alloc: Global,
     net: &Network,
@@ -83,7 +83,7 @@ fn take(
     }
 }
 
-// A fall of an event that is there.
+// A fall of an event, if the event is there.
 fn take_fall(
     alloc: Global,
     net: &Network,
@@ -172,7 +172,7 @@ fn close(alloc: Global, net: &Network, checker: &mut ClauseChecker) -> Result<St
     }
 }
 
-// Compares the faults of lines, one behind another, with what is wanted, and whether the lines are a proof in the end.
+// Compares the faults of lines, taken one after another, with the wanted faults, and whether the lines are a proof in the end.
 fn expect_lines(
     alloc: Global,
     claim: i64,
@@ -194,7 +194,7 @@ fn expect_lines(
     Ok(())
 }
 
-// Compares the faults of lines, one behind another, with what is wanted.
+// Compares the faults of lines, taken one after another, with the wanted faults.
 fn take_each(
     alloc: Global,
     net: &Network,
@@ -243,7 +243,7 @@ fn falls_by_edges_and_by_the_latest_rule(rt: HostRuntime) -> Result<(), Fail> {
     expect_lines(rt.alloc(), 739, &rows, false)
 }
 
-// Some side of the earliest rule is met: where the first is not, the second is.
+// Some side of the earliest rule is met: if the first side is not met, the second is.
 #[test]
 fn literals_that_are_known(rt: HostRuntime) -> Result<(), Fail> {
     let rows = [
@@ -289,8 +289,8 @@ fn literals_that_are_known(rt: HostRuntime) -> Result<(), Fail> {
     expect_lines(rt.alloc(), 740, &rows, false)
 }
 
-// Where c comes less than 500 after a, it comes at most 499 after a, and so d at most 539. Where d is claimed to come at most 600 after a,
-// that is refuted: where it comes later, c comes 500 or more after a. Behind the block its values are forgotten.
+// If c comes less than 500 after a, it comes at most 499 after a, and so d at most 539. The claim is that d comes at most 600 after a. If d comes
+// later, the assumption is refuted: c comes 500 or more after a. Behind the block its values are forgotten.
 #[test]
 fn a_block_that_is_refuted(rt: HostRuntime) -> Result<(), Fail> {
     let early = side(0, false);
@@ -333,8 +333,8 @@ fn a_block_that_is_refuted(rt: HostRuntime) -> Result<(), Fail> {
     expect_lines(rt.alloc(), 600, &rows, false)
 }
 
-// d comes at most 20 after b, or at most 40 after c. Since it comes at least 30 after b, the first is no way: a loop of the sum -10 keeps
-// the second.
+// d comes at most 20 after b, or at most 40 after c. It comes at least 30 after b, so the first is no way: a loop with the sum -10 keeps the
+// second.
 #[test]
 fn loops_that_are_kept(rt: HostRuntime) -> Result<(), Fail> {
     let back = by(3, 0, Lower);

@@ -11,7 +11,7 @@ use std::test::Fail;
 // An edge: the numbers of its constraint and of its cause, and its side.
 type NameRow = (u32, u32, Side);
 
-// Two letters and times, and the chain from the one event to the other, if there is one.
+// The letters of two events, times, and the chain from the first event to the second, if there is one.
 type Row<'a> = (&'a str, &'a str, &'a [i64], Option<&'a [NameRow]>);
 
 // The chain from an event to another at some times, after a test of what `find` requires.
@@ -37,7 +37,7 @@ fn chain_of(
     }
 }
 
-// Compares the chains of a network with what is wanted.
+// Compares the chains of a network with the wanted chains.
 fn expect_chains(
     alloc: Global,
     events: u32,
@@ -62,7 +62,7 @@ fn expect_chains(
     Ok(())
 }
 
-// Whether the edges are these ones.
+// Whether the edges are these.
 fn are_named(names: &[EdgeName], rows: &[NameRow]) -> bool {
     names
         .iter()
@@ -70,8 +70,8 @@ fn are_named(names: &[EdgeName], rows: &[NameRow]) -> bool {
         .eq(rows.iter().copied())
 }
 
-// By hand: c comes at most 700 after a, and a at least 100 before b, or c at most 400 after b. So c comes 600 after b where both are met
-// with equality, and it comes at least 200 after b. An event is no edge away from itself.
+// By hand: b comes at least 100 after a, and c comes at most 700 after a or at most 400 after b, whichever is later. So c comes 600 after b
+// where both edges over a are met with equality, and it comes at least 200 after b. A chain from an event to itself has no edges.
 #[test]
 fn a_chain_over_a_latest_rule(rt: HostRuntime) -> Result<(), Fail> {
     expect_chains(
@@ -94,7 +94,7 @@ fn a_chain_over_a_latest_rule(rt: HostRuntime) -> Result<(), Fail> {
     )
 }
 
-// By hand: c comes at most 400 after b, or at most 700 after a, whichever is the earlier.
+// By hand: c comes at most 400 after b, or at most 700 after a, whichever is earlier.
 #[test]
 fn a_chain_over_an_earliest_rule(rt: HostRuntime) -> Result<(), Fail> {
     expect_chains(
@@ -109,8 +109,8 @@ fn a_chain_over_an_earliest_rule(rt: HostRuntime) -> Result<(), Fail> {
     )
 }
 
-// A clock tree by hand: b comes 10 to 20 after a, c 5 or 6 after b, and d 1 or 2 after a; so c comes at most 25 after d. Where nothing
-// holds an event there is no chain to it.
+// A clock tree by hand: b comes 10 to 20 after a, c 5 or 6 after b, and d 1 or 2 after a. So c comes at most 25 after d. If nothing holds an
+// event, there is no chain to it.
 #[test]
 fn chains_through_a_clock_tree(rt: HostRuntime) -> Result<(), Fail> {
     expect_chains(
@@ -136,7 +136,7 @@ fn chains_through_a_clock_tree(rt: HostRuntime) -> Result<(), Fail> {
     )
 }
 
-// A proof names the constraints that it splits by, and those of the edges of its paths and loops; the next proof begins with none.
+// A proof names the constraints that it splits by, and the constraints of the edges of its paths and loops. The next proof begins with none.
 #[test]
 fn constraints_that_a_proof_names(rt: HostRuntime) -> Result<(), Fail> {
     let alloc = rt.alloc();

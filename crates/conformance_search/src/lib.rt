@@ -1,4 +1,4 @@
-//! What bounds, searches, chains and checkers of proofs answer, on networks in memory: by hand, and beside plain programs that work every label out
+//! What bounds, searches, chains and checkers of proofs answer on networks in memory: by hand, and beside plain programs that work every label out
 //! anew and try every choice of causes.
 #![tactic(auto)]
 

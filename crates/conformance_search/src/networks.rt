@@ -1,11 +1,11 @@
-//! Networks that are told by a text.
+//! Networks that a text gives.
 
 use event_graph::{Cause, Network};
 use itv_base::{EventId, MAX_EVENTS, Range};
 use std::alloc::Global;
 use std::test::Fail;
 
-/// A constraint of a network, or a row of a plain one: its kind, which is `lin`, `late` or `early`, its target, and its causes.
+/// A constraint of a network, or a rule of a plain program: its kind (`lin`, `late` or `early`), its target, and its causes.
 #[derive(Drop)]
 pub struct Rule {
     pub kind: &'static str,
@@ -13,13 +13,13 @@ pub struct Rule {
     pub causes: Vec<Cause>,
 }
 
-/// The number of an event that is told by its letter, from `a` on.
+/// The number of an event with this letter, from `a` on.
 pub fn event_of(letter: &str) -> u32 {
     let code = letter.bytes().next().unwrap_or(b'a');
     u32::from(code).saturating_sub(97)
 }
 
-// An end of a range: a number, or `*` for an open one.
+// An end of a range: a number, or `*` for an open end.
 fn end_of(word: &str) -> Result<Option<i64>, Fail> {
     match word {
         "*" => Ok(None),
@@ -27,7 +27,7 @@ fn end_of(word: &str) -> Result<Option<i64>, Fail> {
     }
 }
 
-// A rule that is told as in `late j a 500 700 b 200 *`: its kind, its target, and for each cause its event and its ends.
+// A rule as in `late j a 500 700 b 200 *`: its kind, its target, and for each cause its event and its ends.
 fn rule_of(alloc: Global, text: &'static str) -> Result<Rule, Fail> {
     let mut words = text.split_whitespace();
     let kind = words.next().ok_or("no kind")?;
@@ -48,7 +48,7 @@ fn rule_of(alloc: Global, text: &'static str) -> Result<Rule, Fail> {
     })
 }
 
-/// Rules that are told with `;` between them.
+/// Rules with `;` between them.
 pub fn rules_of(alloc: Global, text: &'static str) -> Result<Vec<Rule>, Fail> {
     let mut rules = Vec::new(alloc);
     for rule in text.split(';') {

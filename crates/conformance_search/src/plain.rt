@@ -1,5 +1,5 @@
-//! Plain programs: labels that are worked out anew along all arcs, and searches that try every choice of causes. They know constraints by
-//! what these say, and nothing of edges, levels or budgets.
+//! Plain programs: labels that are worked out anew along all arcs, and searches that try every choice of causes. They know what the constraints say,
+//! and nothing of edges, levels or budgets.
 
 use crate::networks::Rule;
 use std::alloc::Global;
@@ -13,7 +13,7 @@ pub struct Arc {
     pub weight: i64,
 }
 
-/// The arc of one side of a cause of a rule, or none where that end is open or the cause isn't there.
+/// The arc of one side of a cause of a rule, or none if this end is open or the cause isn't there.
 pub fn arc_of(rule: &Rule, cause: usize, is_high: bool) -> Option<Arc> {
     let cause = rule.causes.get(cause)?;
     let (event, target) = (cause.event.0, rule.target);
@@ -32,8 +32,8 @@ pub fn arc_of(rule: &Rule, cause: usize, is_high: bool) -> Option<Arc> {
     }
 }
 
-/// The arcs of a rule. A latest rule keeps the low sides of all its causes and an earliest one their high sides, and the cause that
-/// decides keeps both. So does the cause of a rule that has no other.
+/// The arcs of a rule. A latest rule keeps the low sides of all its causes, and an earliest rule their high sides. The cause that decides keeps
+/// both sides, and so does the only cause of a rule.
 pub fn add_arcs(arcs: &mut Vec<Arc>, rule: &Rule, deciding: Option<usize>) -> Result<(), Fail> {
     let is_alone = rule.causes.len() == 1;
     for cause in 0..rule.causes.len() {
@@ -48,7 +48,7 @@ pub fn add_arcs(arcs: &mut Vec<Arc>, rule: &Rule, deciding: Option<usize>) -> Re
     Ok(())
 }
 
-// Lets labels fall along arcs until none does, or answers `None` where they would fall for ever.
+// Lets labels fall along arcs until none falls, or answers `None` if they would fall for ever.
 fn settled(arcs: &[Arc], mut labels: Vec<Option<i64>>) -> Option<Vec<Option<i64>>> {
     for _ in 0..=labels.len() {
         let mut has_fallen = false;
@@ -70,7 +70,7 @@ fn settled(arcs: &[Arc], mut labels: Vec<Option<i64>>) -> Option<Vec<Option<i64>
     None
 }
 
-/// The greatest separations from an event by some arcs, `None` in place of one that is unbounded, or `None` where no times meet the arcs.
+/// The greatest separations from an event by some arcs, with `None` for an unbounded one; or `None` if no times meet the arcs.
 pub fn separations(
     alloc: Global,
     events: u32,
@@ -88,7 +88,7 @@ pub fn separations(
     Ok(settled(arcs, labels))
 }
 
-/// How many choices of a deciding cause there are, one for each rule.
+/// The number of choices of deciding causes, one cause for each rule.
 pub fn choices_of(rules: &[Rule]) -> usize {
     let mut choices = 1usize;
     for rule in rules {
@@ -97,7 +97,7 @@ pub fn choices_of(rules: &[Rule]) -> usize {
     choices
 }
 
-// The arcs of the choice of a number, which counts the causes of the first rule first.
+// The arcs of the choice with a number; the causes of the first rule count fastest.
 fn arcs_of(alloc: Global, rules: &[Rule], number: usize) -> Result<Vec<Arc>, Fail> {
     let mut arcs = Vec::new(alloc);
     let mut rest = number;
@@ -109,7 +109,7 @@ fn arcs_of(alloc: Global, rules: &[Rule], number: usize) -> Result<Vec<Arc>, Fai
     Ok(arcs)
 }
 
-/// The greatest separation of a pair over all choices, `Some(None)` where it is unbounded, or `None` where no times satisfy the rules.
+/// The greatest separation of a pair over all choices, `Some(None)` if it is unbounded, or `None` if no times satisfy the rules.
 pub fn greatest_by_all(
     alloc: Global,
     events: u32,

@@ -8,7 +8,7 @@ use event_graph::Line;
 use itv_base::{EdgeName, EventId, Side};
 use std::test::Fail;
 
-// An edge of the first cause of a constraint.
+// The edge of a constraint, a cause and a side.
 fn edge(constraint: u32, cause: u32, side: Side) -> EdgeName {
     EdgeName {
         constraint,
@@ -17,7 +17,7 @@ fn edge(constraint: u32, cause: u32, side: Side) -> EdgeName {
     }
 }
 
-// A sheet that no times satisfy: each of the two cases has a loop of two edges, which may begin at either.
+// A sheet that no times satisfy. Each of the two cases has a loop of two edges, which may begin at either edge.
 #[test]
 fn the_proof_of_a_contradiction_is_kept(rt: HostRuntime) -> Result<(), Fail> {
     let text = "late c a 0 10 b 0 10; lin c a 20 30; lin c b 20 30";
@@ -38,8 +38,8 @@ fn the_proof_of_a_contradiction_is_kept(rt: HostRuntime) -> Result<(), Fail> {
     Ok(())
 }
 
-// Times don't satisfy b at least 100 after a and at most 50, so any bound has the proof of one loop. A path of a greater sum is refused,
-// and then the loop is taken.
+// By these rules b comes at least 100 after a and at most 50. No times satisfy them, so a proof of one loop shows any bound. A path with a greater
+// sum than the bound is refused, and then the loop is taken.
 #[test]
 fn a_checker_goes_on_after_a_sum_that_is_too_great(rt: HostRuntime) -> Result<(), Fail> {
     let rules = rules_of(rt.alloc(), "lin b a 100 300; lin a b -50 50")?;

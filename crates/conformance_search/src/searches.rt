@@ -12,8 +12,8 @@ use std::alloc::Global;
 use std::process::Abort;
 use std::test::Fail;
 
-// What a search comes to within a budget: none where no times satisfy the network or the budget ended before it was known, as the finding
-// says, and how many cases the last search closed.
+// What a search within a budget gives: the finding; an answer, or none if no times satisfy the network or the budget ended before this was known; and
+// how many cases the last search closed.
 #[derive(Clone, Copy, Debug)]
 struct Outcome {
     found: SearchFinding,
@@ -49,7 +49,7 @@ fn searched(alloc: Global, net: &Network, pair: (u32, u32), budget: u64) -> Resu
     })
 }
 
-// A chain of latest pairs: each letter from b on is at most 10 after the one before, or at most 5 after a, as the later of the two says.
+// A chain of latest pairs: each letter from b on is at most 10 after the letter before it or at most 5 after a, whichever is later.
 fn chain_of_pairs(alloc: Global) -> Result<Vec<Rule>, Fail> {
     let mut rules = Vec::new(alloc);
     for target in 1..25 {
@@ -70,7 +70,7 @@ fn chain_of_pairs(alloc: Global) -> Result<Vec<Rule>, Fail> {
     Ok(rules)
 }
 
-// The worked row: 2^24 choices, of which the search for the greatest separation closes 25 cases.
+// The worked row: there are 2^24 choices, and the search for the greatest separation closes 25 cases.
 #[test]
 fn a_chain_of_latest_pairs_closes_25_cases(rt: HostRuntime) -> Result<(), Fail> {
     let rules = chain_of_pairs(rt.alloc())?;
@@ -84,8 +84,8 @@ fn a_chain_of_latest_pairs_closes_25_cases(rt: HostRuntime) -> Result<(), Fail> 
     Ok(())
 }
 
-// Whether a search within a budget says what is true of the greatest separation over all choices, and all of it where the budget is not
-// below the number of choices.
+// Whether the answer of a search within a budget is true of the greatest separation over all choices. If the budget is at least the number of
+// choices, the answer has to be exact.
 fn is_right(searched: &Outcome, wanted: Option<Option<i64>>, is_enough: bool) -> bool {
     match (searched.found, searched.answer, wanted) {
         (SearchFinding::Inconsistent, None, None) => true,
@@ -127,7 +127,7 @@ fn budgets_agree(
     Ok(wanted)
 }
 
-// Networks by chance beside the plain program that tries all choices. Among them are some of each kind.
+// Networks by chance beside the plain program that tries all choices. Each kind of answer comes up among them.
 #[test]
 fn searches_agree_with_all_choices(rt: HostRuntime) -> Result<(), Fail> {
     let alloc = rt.alloc();

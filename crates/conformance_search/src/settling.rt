@@ -1,4 +1,4 @@
-//! Greatest separations whatever the choices, as a plain program found them that goes over all choices.
+//! Greatest separations whatever the choices. A plain program that goes over all choices found them.
 
 use crate::networks::{event_of, network_of, rules_of};
 use event_graph::Network;
@@ -8,8 +8,8 @@ use settle::Settler;
 use std::alloc::Global;
 use std::test::Fail;
 
-// A network: how many events it has, and its rules; the letters of a pair of events, and the greatest separations of the pair and of the
-// reversed pair.
+// A network: its number of events and its rules; the letters of a pair of events; and the greatest separations of the pair and of the reversed
+// pair.
 type Row<'a> = (u32, &'a str, &'a str, &'a str, Settled, Settled);
 
 const TABLE: [Row<'static>; 30] = [
@@ -255,7 +255,7 @@ const TABLE: [Row<'static>; 30] = [
     ),
 ];
 
-// The greatest separation of a pair is this one.
+// The greatest separation of a pair is the wanted one.
 fn settles(alloc: Global, net: &Network, from: u32, to: u32, wanted: Settled) -> Result<(), Fail> {
     if net.events() <= from || net.events() <= to {
         Err("no such event")?;

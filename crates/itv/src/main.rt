@@ -1,6 +1,6 @@
 //! The program: a run on its words, on the files of the system and on standard output, which ends with the status of the run.
-//! What a run writes, and when it ends how, is in the contract of `itv_cli::run`; what the status says is in that of
-//! `itv_cli::program`, of which this is the one call.
+//! The contract of `itv_cli::run` says what a run writes, how it ends, and when. The program is one call of `itv_cli::program`, whose
+//! contract says what the status means.
 #![tactic(auto)]
 
 use itv_cli::program;

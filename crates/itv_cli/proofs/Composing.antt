@@ -1,4 +1,4 @@
--- What draws something is composed.
+-- If the network of a plan is drawn, its netlist was composed.
 use Rattle.std.proofs.Common.{◌≡◌, IsOk, Result, Ok, Err, refl}
 use Rattle.itv_base.specs.Outside.{ShelfView}
 use Rattle.compose.specs.Compose.{composed_on}

@@ -1,4 +1,4 @@
--- Where a budget may leave a search open.
+-- When a budget may leave a search open.
 use Rattle.std.proofs.Common.{◌≡◌, ◌<◌, ◌∙◌, ℕ, Bool, true, false, if◌then◌else◌, List, Some, refl, sym, subst}
 use Rattle.event_graph.specs.Edges.{cause_choices}
 use Rattle.event_graph.specs.Network.{IsNet}
@@ -20,7 +20,7 @@ use Rattle.itv_cli.specs.Bounds.{AnswersBounds, DecidesWithin}
 use Rattle.itv_cli.specs.Job.{Answers}
 use Rattle.itv_cli.specs.declared.ready.Ready.TheVariants as ready
 
--- a written report that ends undecided has a budget that is too low
+-- a written report that ends undecided has too low a budget
 written_below : (drawn : Drawn) (most : ℕ) (cert : Bool) (lines : List Entry) → IsNet drawn.net → IsWrittenReport drawn most cert lines → end_in lines ≡ Some endings.Undecided
     → most < cause_choices drawn.net.constraints
 written_below drawn most true lines net w e = shown_undecided_is_below drawn most lines net (written_is_shown drawn most lines w) e
@@ -32,14 +32,14 @@ undecided_word endings.Fail e = absurd (cc)
 undecided_word endings.Inconsistent e = absurd (cc)
 undecided_word endings.Undecided e = refl
 
--- so an answer is undecided only where the budget is too low
+-- so an answer is undecided only if the budget is too low
 pub decides : (drawn : Drawn) (most : ℕ) (cert : Bool) (lines : List Entry) (summary : Summary) (answer : Answer) → IsNet drawn.net → IsWrittenReport drawn most cert lines → Sums summary lines
     → answer ≡ answer_of summary.end → DecidesWithin drawn most answer
 decides drawn most cert lines summary answer net w sums is undecided =
     written_below drawn most cert lines net w
     (subst (λ word. end_in lines ≡ Some word) (undecided_word summary.end (sym is ∙ undecided)) sums.ends)
 
--- what a report gives as an answer of job bounds
+-- what a report is as an answer of job bounds
 pub answers_bounds : (drawn : Drawn) (most : ℕ) (cert : Bool) (summary : Summary) (answer : Answer) (text : List ℕ) → IsNet drawn.net → answer ≡ answer_of summary.end
     → Reports drawn most cert summary text → AnswersBounds drawn most cert answer text
 answers_bounds drawn most cert summary answer text net is reports = record {
@@ -49,7 +49,7 @@ answers_bounds drawn most cert summary answer text net is reports = record {
   decides = decides drawn most cert reports.lines summary answer net reports.is_written reports.sums is;
 }
 
--- what a summary gives as an answer of job self
+-- what a summary is as an answer of job self
 pub answers_generated : (drawn : Drawn) (size most : ℕ) (answer : Answer) (text : List ℕ) → IsNet drawn.net → AnswersSummary drawn size most answer text
     → Answers (ready.Generated drawn size most) answer text
 answers_generated drawn size most answer text net s = (s, decides drawn most false s.comes.lines s.summary answer net s.comes.is_written s.comes.sums s.is_answer)
@@ -66,7 +66,7 @@ says_undecided drawn lines endings.Fail answer text s e = absurd (drawn_or_refus
 says_undecided drawn lines endings.Inconsistent answer text s e = absurd (cc (s.0, e))
 says_undecided drawn lines endings.Undecided answer text s e = refl
 
--- what a drawing gives as an answer of job redraw
+-- what a drawing is as an answer of job redraw
 pub answers_redraw : (drawn : Drawn) (most : ℕ) (answer : Answer) (text : List ℕ) → IsNet drawn.net → AnswersRedraw drawn most answer text → Answers (ready.Redraw drawn most) answer text
 answers_redraw drawn most answer text net a = (
   a,

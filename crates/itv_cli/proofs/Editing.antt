@@ -1,4 +1,4 @@
--- What is read of a file of edits, by the answer of its reader.
+-- What is read of a file of edits, given the answer of its reader.
 use Rattle.std.proofs.Common.{◌≡◌, ℕ, List, Ok, Err, refl}
 use Rattle.itv_base.specs.Outside.{ShelfView}
 use Rattle.itv_base.specs.Reading.{IsReadingFault}
@@ -22,7 +22,7 @@ module _ (told : ShelfView) (drawn : Drawn) (budget : ℕ) (bytes : List ℕ) wh
       opens_then (λ (e : List RangeEdit). e) (λ (given : Ready). given) (at Edits refusals.Edits (edits_of drawn.net bytes)) (λ es. gives (Whatif drawn es budget)) told told told edits
       (Ok (Whatif drawn edits budget)) (at_ok told Edits refusals.Edits (edits_of drawn.net bytes) edits is, refl) (refl, refl)
 
-  -- they have a fault
+  -- the edits have a fault
   pub edits_refused : (fault : EditsFault) → IsReadingFault is_memory (edits_of drawn.net bytes) fault
       → Opens (λ (given : Ready). given) told told (edits_in budget drawn bytes) (Err (stop_of is_memory refusals.Edits Edits fault))
   edits_refused fault h =

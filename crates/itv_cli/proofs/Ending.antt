@@ -25,13 +25,13 @@ use Rattle.itv_cli.specs.Step.{OpensFor, Stops, EndsWithText, answered, end_afte
 
 -- ---- what each end says
 
--- what a run tells after a put of a text
+-- how a run ends after a put of a text
 pub tells : {E : Type 0} (old new : SinkView) (text : List ℕ) (end result : Outcome) (put : Result ⊤ E)
     → Puts old new text put → result ≡ end_after put end → EndsWithText old new text end result
 tells old new text end result (Ok x) puts is = inl (is, puts)
 tells old new text end result (Err e) puts is = inr (is, puts)
 
--- the end of a run that told a text
+-- what the end of a run that put a text says
 pub told : (call : Call) (text : List ℕ) (end result : Outcome) → EndsWithText call.sink_before call.sink_after text end result
     → IntendedText call text → (Wrote call text → OutcomeMeans call end) → OutcomeMeans call result
 told call text end result (inl p) wanted means = rw p.0 (means p.1)
@@ -45,7 +45,7 @@ means_answer call answers.Undecided h = h
 means_answer call answers.CheckRefused h = h
 means_answer call answers.DesignRefused h = inr h
 
--- what a reading that gave something leaves of the shelf
+-- a reading that gave something leaves the shelf unchanged
 kept_by : (made : Option Files) (old new : ShelfView) (asked : Task) (given : Ready) → ReadsOver made old new asked (ready given) → new ≡ old
 kept_by None old new asked given h = h.1
 kept_by (Some files) old new asked given h = h.1
@@ -86,7 +86,7 @@ when_some : {X : Type 0} (o : Option X) (P : X → Type 0) → ((x : X) → o �
 when_some None P h = tt
 when_some (Some x) P h = h x refl
 
--- the files of a reading that gave something decide
+-- the files decide the end where the reading gave something
 decide_ready : (made : Option Files) (old new : ShelfView) (asked : Task) (given : Ready) (outcome : Outcome) → ReadsOver made old new asked (ready given) → OutcomeBy (ready given) outcome
     → FilesDecide made old.files asked outcome
 decide_ready None old new asked given outcome h by =
@@ -129,7 +129,7 @@ completes call NoMemory m asked is quiet = inl refl
 completes call BadWords m asked is quiet = absurd (cc (m.words, is))
 completes call CheckRefused m asked is quiet = inr (by_answer call asked answers.CheckRefused is m)
 
--- words that ask for a task are neither bad nor a wish for help
+-- words that ask for a task are not refused and do not ask for help
 came_no_bad : (call : Call) (end : End Ready) → HasRead call end → taken call.words ≡ bad_words → ⊥
 came_no_bad call end c is = cc (c.words, is)
 
@@ -153,7 +153,7 @@ refuses_words call NoMemory m = λ quiet. (λ is. inl refl, λ is. inl refl)
 refuses_words call BadWords m = λ quiet. (λ is. inr refl, λ is. absurd (cc (m.words, is)))
 refuses_words call CheckRefused m = refuses_none call (ready m.given) CheckRefused m.came
 
--- a count that stayed as it was did not grow
+-- a count that is unchanged did not grow
 still : (before now : ℕ) → now ≡ before → before < now → ⊥
 still before now e h = omega (arith, e, h)
 

@@ -19,7 +19,7 @@ opens_shelf old new asked (Err (Refused place why)) own h = rw own h
 opens_shelf old new asked (Err (ReadFault place)) own h = rw own h
 opens_shelf old new asked (Err NoMemory) own h = h
 
--- what is read from made files, while the shelf stays as it is
+-- what is read from made files, while the shelf stays unchanged
 pub opens_made : (told : ShelfView) (files : Files) (asked : Task) (r : Result Ready Stop) → made_for asked ≡ Some files → OpensMade files asked r → OpensFor told told asked r
 opens_made told files asked (Ok given) made h = rw made (h, refl)
 opens_made told files asked (Err (Refused place why)) made h = rw made (h, refl)
@@ -39,7 +39,7 @@ module _ (size most : ℕ) (made : MemShelf) (after : ShelfView) (is : IsDesignS
   missing_in : (name : List ℕ) → FailedFor name (shelf_told made) after → IsNone (file_of (design_files size) name)
   missing_in name h = subst (λ told. IsMissing told name) files_are (h.missing faithful_is)
 
-  -- what is read from a shelf with the made files is what they decide
+  -- what is read from a shelf with the made files is what these files decide
   pub opens_design : (r : Result Ready Stop) → Opens (λ given. given) (shelf_told made) after (opening (generated size most)) r → OpensMade (design_files size) (generated size most) r
   opens_design (Ok given) h = sym (told_ready (shelf_told made) (design_files size) (opening (generated size most)) given files_are h.0)
   opens_design (Err (Refused place why)) h = sym (told_refused (shelf_told made) (design_files size) (opening (generated size most)) place why files_are h.0)

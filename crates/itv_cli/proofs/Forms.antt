@@ -7,6 +7,6 @@ use Rattle.reading.specs.Opening.{RunsToEnd, ready}
 use Rattle.drawn_names.proofs.Designs.{drawn_names_have_form, drawn_ranges_have_form}
 use Rattle.itv_cli.specs.Step.{HasForm}
 
--- they have their form
+-- the names and the ranges have their form
 pub drawn_has_form : (name : List ℕ) (old new : ShelfView) (drawn : Drawn) → RunsToEnd old new (design_at name) (ready drawn) → HasForm drawn
 drawn_has_form name old new drawn h = record { names = drawn_names_have_form old name drawn h.0; ranges = drawn_ranges_have_form old name drawn h.0 }

@@ -8,7 +8,7 @@ use Rattle.itv_cli.specs.Run.{call_of}
 use Rattle.itv_cli.specs.Status.{EndsWith, HasNoWords, HasRun, code_of, nothing_failed, nothing_written}
 use Rattle.itv_cli.specs.Status.EndsWith.{without_words, with_run}
 
--- want of memory before a run is a run that ends so
+-- where memory is missing before a run, the status is the status of a run that ends for want of memory
 pub without_memory : (status : ℕ) → status ≡ code_of NoMemory → EndsWith status
 without_memory status is = with_run [] nothing_failed nothing_written (NoMemory, record { sink = refl; shelf = refl }, is)
 
@@ -17,7 +17,7 @@ ends_without : (kind : ErrorKind) (shelf : ShelfView) (sink : SinkView) (status 
 ends_without OutOfMemory shelf sink status h = without_memory status h.2
 ends_without _ shelf sink status h = without_words h.2
 
--- whatever the system gives, over files and an output of which nothing is told
+-- the status whatever the system gives, over files and an output of which nothing is known
 pub ends_with : {A E : Type 0} (words : A → List (List ℕ)) (kind : E → ErrorKind) (args : Result A E) (shelf : ShelfView) (sink : SinkView) (status : ℕ)
     → MatchResult args (λ given. HasRun (call_of (words given) nothing_failed shelf nothing_written sink) status) (λ error. HasNoWords (kind error) nothing_failed shelf nothing_written sink status)
     → EndsWith status

@@ -1,4 +1,4 @@
--- What a job reads that reads a design and goes on.
+-- What a job reads that reads a design and then goes on.
 use Rattle.std.proofs.Common.{◌≡◌, ℕ, List, Result, Ok, Err, IsErrAnd, refl}
 use Rattle.itv_base.specs.Outside.{ShelfView}
 use Rattle.drawn.specs.Drawn.{Drawn}
@@ -12,24 +12,24 @@ use Rattle.itv_cli.specs.Job.{planned_at}
 use Rattle.itv_cli.specs.declared.planned.PlannedNetwork as code
 use Rattle.itv_cli.specs.declared.ready.Ready.{Ready}
 
--- the design was not had
+-- the design was not read
 pub design_up : (name : List ℕ) (f : Drawn → FileReading Ready) (old new : ShelfView) (s : Stop) (r : Result Ready Stop) → IsErrAnd r (λ e. e ≡ s) → Opens (λ (d : Drawn). d) old new (design_at name) (Err s)
     → Opens (λ given. given) old new (design_at name >>= f) r
 design_up name f old new s r is h = opens_up (λ d. d) (λ given. given) (design_at name) f old new s r is h
 
--- it was, and the rest is read
+-- the design was read, and then the rest is
 pub design_then : (name : List ℕ) (f : Drawn → FileReading Ready) (old mid new : ShelfView) (drawn : Drawn) (r : Result Ready Stop) → Opens (λ (d : Drawn). d) old mid (design_at name) (Ok drawn)
     → Opens (λ given. given) mid new (f drawn) r → Opens (λ given. given) old new (design_at name >>= f) r
 design_then name f old mid new drawn r h next = opens_then (λ d. d) (λ given. given) (design_at name) f old mid new drawn r h next
 
--- and that is all
+-- the design was read, and the job needs nothing else
 pub design_ready : (name : List ℕ) (f : Drawn → Ready) (old new : ShelfView) (drawn : Drawn) → Opens (λ (d : Drawn). d) old new (design_at name) (Ok drawn)
     → Opens (λ given. given) old new (design_at name >>= (λ d. gives (f d))) (Ok (f drawn))
 design_ready name f old new drawn h = design_then name (λ d. gives (f d)) old new new drawn (Ok (f drawn)) h (refl, refl)
 
 -- ---- the same of a plan with what it draws
 
--- a plan with what it draws, without where they lie in memory
+-- a plan with the network that it draws, without where they lie in memory
 abbrev pub both : code.PlannedNetwork → Planned × Drawn
 both p = (p.plan, p.drawn)
 

@@ -1,4 +1,4 @@
--- What a job answers that goes on with the answer of another.
+-- What a job answers that goes on with the answer of another part.
 use Rattle.std.proofs.Common.{◌≡◌, ℕ, List, Result, Ok, Err, IsErrAnd}
 use Rattle.itv_base.specs.Outside.{SinkView}
 use Rattle.jobs.specs.Works.{JobWrote}
@@ -15,6 +15,6 @@ module _ {A B : Type 0} (Answers : A → List ℕ → Type 0) (Others : B → Li
   works_up old new e (Ok y) is h = absurd is
   works_up old new e (Err x) is h = rw is (stop_as old new e h)
 
-  -- each answer is one of the other kind
+  -- each answer is also an answer of the other kind
   pub works_as : (old new : SinkView) (y : B) (x : A) → ((text : List ℕ) → Answers x text → Others y text) → JobWrote Answers Begins old new (Ok x) → JobWrote Others Begins old new (Ok y)
   works_as old new y x more h = (h.0, more h.0 h.1, h.2)

@@ -12,7 +12,7 @@ use Rattle.bounds_report.specs.declared.summary.Summary.{Summary}
 abbrev pub DecidesWithin : Drawn → ℕ → Answer → Type 0
 DecidesWithin drawn budget answer = answer ≡ Undecided → budget < cause_choices drawn.net.constraints
 
--- what job bounds answers and writes: a report, what this comes to, and that it is undecided only where the budget is too low
+-- what job bounds answers and writes: a report, the answer that its end gives, and that this is undecided only if the budget is too low
 pub record AnswersBounds (drawn : Drawn) (budget : ℕ) (cert : Bool) (answer : Answer) (text : List ℕ) : Type 0 where
   pub summary : Summary
   pub reports : Reports drawn budget cert summary text

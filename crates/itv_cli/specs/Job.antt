@@ -1,4 +1,4 @@
--- The jobs: what each reads, what it answers, and what it may have begun to write.
+-- The jobs: what each job reads, what it answers, and what it may have begun to write.
 use Rattle.std.specs.Prelude.{ℕ, nat_lt, if◌then◌else◌, Bool, List, length, Option, Some, None, Result, Ok, Err, codes}
 use Rattle.itv_base.specs.declared.limits.TheConstants.{MAX_MATRIX_EVENTS, REPORT_LIMIT}
 use Rattle.itv_base.specs.Outside.{Files}
@@ -36,13 +36,13 @@ use Rattle.itv_cli.specs.Bounds.{AnswersBounds, DecidesWithin}
 use Rattle.itv_cli.specs.declared.ready.Ready.{Ready}
 use Rattle.itv_cli.specs.declared.ready.Ready.TheVariants as ready
 
--- ---- what each reads
+-- ---- what each job reads
 
--- a drawn network for a matrix, which is refused where it has too many events
+-- a drawn network for a matrix; it is refused if it has too many events
 abbrev pub matrix_at : Drawn → FileReading Ready
 matrix_at drawn = if nat_lt MAX_MATRIX_EVENTS drawn.net.events then refuses Design (refusals.Limits (TooMany MatrixEvents drawn.net.events)) else gives (ready.Matrix drawn)
 
--- a drawn network for falling values, with its view; it is refused where it has choices of both kinds, with the first of each
+-- a drawn network for falling values, with its view; a network with choices of both kinds is refused, with the first choice of each kind
 abbrev pub fall_in : ℕ → Bool → Drawn → Result View Mixed → FileReading Ready
 fall_in budget cert drawn (Ok view) = gives (ready.Fall drawn view budget cert)
 fall_in budget cert drawn (Err choices) = refuses Design (refusals.Mixed choices.late choices.early)
@@ -50,19 +50,19 @@ fall_in budget cert drawn (Err choices) = refuses Design (refusals.Mixed choices
 abbrev pub fall_at : ℕ → Bool → Drawn → FileReading Ready
 fall_at budget cert drawn = fall_in budget cert drawn (view_of drawn.net)
 
--- a drawn network for the edits in the bytes of a file
+-- a drawn network with the edits in the bytes of a file
 abbrev pub edits_in : ℕ → Drawn → List ℕ → FileReading Ready
 edits_in budget drawn bytes = do
   edits ← at Edits refusals.Edits (edits_of drawn.net bytes)
   gives (ready.Whatif drawn edits budget)
 
--- with the file of edits behind it
+-- a drawn network with the edits of a file, which is fetched
 abbrev pub edits_at : List ℕ → ℕ → Drawn → FileReading Ready
 edits_at name budget drawn = do
   bytes ← file_at Edits name MAX_EDITS_BYTES
   edits_in budget drawn bytes
 
--- a drawn network for edits, which is refused where it has too many rows, before its edits are fetched
+-- a drawn network for edits; it is refused if it has too many rows, before its edits are fetched
 abbrev pub whatif_at : List ℕ → ℕ → Drawn → FileReading Ready
 whatif_at edits budget drawn =
     if nat_lt MAX_SESSION_ROWS (length drawn.rows) then refuses Design (refusals.Limits (TooMany SessionRows (length drawn.rows))) else edits_at edits budget drawn
@@ -114,12 +114,12 @@ opening (whatif design edits budget) = do
   drawn ← design_at design
   whatif_at edits budget drawn
 
--- the files that are made for a task, where it reads none of the shelf
+-- the files that are made for a task, if it reads no files of the shelf
 abbrev pub made_for : Task → Option Files
 made_for (generated size budget) = Some (design_files size)
 made_for _ = None
 
--- ---- what each answers and writes
+-- ---- what each job answers and writes
 
 abbrev pub Answers : Ready → Answer → List ℕ → Type 0
 Answers (ready.Bounds drawn budget cert) answer text = AnswersBounds drawn budget cert answer text
@@ -135,7 +135,7 @@ Answers (ready.Confirm drawn report) answer text = AnswersConfirm drawn report a
 Answers (ready.Generated drawn size budget) answer text = AnswersSummary drawn size budget answer text × DecidesWithin drawn budget answer
 Answers (ready.Whatif drawn edits budget) answer text = AnswersWhatif drawn budget edits answer text
 
--- what it may have begun to write
+-- what a job may have begun to write
 abbrev pub MayHaveWritten : Ready → List ℕ → Type 0
 MayHaveWritten (ready.Bounds drawn budget cert) text = MayHaveBegun drawn budget cert text
 MayHaveWritten (ready.Fall drawn view budget cert) text = BeginsFall drawn budget cert text

@@ -1,5 +1,5 @@
--- What the end of a run says: where it comes from, and what was written. The claim is `OutcomeMeans`; what stands above it are its words, and what
--- stands below follows from it. Nothing here speaks of a job: what each reads and answers stands in `Job`.
+-- What the end of a run says: where it comes from, and what was written. The claim is `OutcomeMeans`; the definitions above it are its words,
+-- and the definitions below follow from it. Nothing here is about one job: `Job` says what each job reads and answers.
 use Rattle.std.specs.Prelude.{◌≡◌, ◌<◌, ◌⊎◌, ℕ, List, Option, Some, None, IfSome, codes}
 use Rattle.itv_base.specs.Outside.{Files, ShelfView, SinkView, FaultCounted, grown, CutShort}
 use Rattle.jobs.specs.declared.answer.Answer.{Answer}
@@ -14,7 +14,7 @@ use Rattle.itv_cli.specs.declared.outcome.Outcome.TheVariants.{AllPass, Help, So
 use Rattle.itv_cli.specs.declared.ready.Ready.{Ready}
 use Rattle.itv_cli.specs.Job.{Answers, MayHaveWritten, made_for, opening}
 
--- a run: its words, and what the shelf and the sink tell before and after it
+-- a run: its words, and the views of the shelf and the sink before and after it
 pub record Call : Type 0 where
   pub words : List (List ℕ)
   pub shelf_before : ShelfView
@@ -22,14 +22,14 @@ pub record Call : Type 0 where
   pub sink_before : SinkView
   pub sink_after : SinkView
 
--- a run, from what is told before and after it
+-- a run, from the views before and after it
 abbrev pub call_of : List (List ℕ) → ShelfView → ShelfView → SinkView → SinkView → Call
 call_of words shelf shelf' sink sink' = record { words = words; shelf_before = shelf; shelf_after = shelf'; sink_before = sink; sink_after = sink' }
 
 -- ---- what was read
 
--- The reading for a task came to an end: over the files of the shelf, or over files that were made for it. These decide the end, and the
--- shelf tells what it told before.
+-- The reading for a task came to an end, over the files of the shelf or over files that were made for the task. These files decide the end.
+-- Made files leave the view of the shelf unchanged.
 abbrev pub ReadsOver : Option Files → ShelfView → ShelfView → Task → End Ready → Type 0
 ReadsOver None old new asked end = RunsToEnd old new (opening asked) end
 ReadsOver (Some made) old new asked end = (end ≡ told_end made (opening asked)) × (new ≡ old)
@@ -40,7 +40,7 @@ pub record HasRead (call : Call) (end : End Ready) : Type 0 where
   pub words : taken call.words ≡ task asked
   pub ends : ReadsOver (made_for asked) call.shelf_before call.shelf_after asked end
 
--- no fetch of the run failed, and what the shelf tells is as before
+-- no fetch of the run failed: the view of the shelf is unchanged
 abbrev pub IsShelfUnchanged : Call → Type 0
 IsShelfUnchanged call = call.shelf_after ≡ call.shelf_before
 
@@ -50,13 +50,13 @@ IsShelfUnchanged call = call.shelf_after ≡ call.shelf_before
 abbrev pub Wrote : Call → List ℕ → Type 0
 Wrote call text = call.sink_after ≡ grown call.sink_before text
 
--- what a run was to write at an end of its reading
+-- what a run was to write when its reading ended
 abbrev pub ToWrite : End Ready → List ℕ → Type 0
 ToWrite (ready given) text = MayHaveWritten given text
 ToWrite (refused place why) text = text ≡ refusal_text place why
 ToWrite (unread place name) text = text ≡ unread_text place
 
--- a text that the run was to write; of the text of help nothing is said
+-- a text that the run was to write; nothing is said of the text of help
 pub data IntendedText (call : Call) (text : List ℕ) : Type 0 where
   for_help : taken call.words ≡ help → IsShelfUnchanged call → IntendedText call text
   for_bad_words : taken call.words ≡ bad_words → IsShelfUnchanged call → text ≡ codes "bad words\n" → IntendedText call text
@@ -64,7 +64,7 @@ pub data IntendedText (call : Call) (text : List ℕ) : Type 0 where
 
 -- ---- the ends
 
--- all was read, and what the job answers was written
+-- all was read, and the job's answer was written
 pub record HasAnswered (call : Call) (answer : Answer) : Type 0 where
   pub given : Ready
   pub came : HasRead call (ready given)
@@ -79,7 +79,7 @@ pub record IsRefused (call : Call) : Type 0 where
   pub came : HasRead call (refused place why)
   pub wrote : Wrote call (refusal_text place why)
 
--- the files are refused, or all was read and the job refuses the design, and the line of that is what it answers
+-- the files are refused; or all was read, the job refuses the design, and the line of this refusal was written
 abbrev pub HasRefused : Call → Type 0
 HasRefused call = IsRefused call ⊎ HasAnswered call answers.DesignRefused
 
@@ -90,13 +90,13 @@ pub record HasReadFault (call : Call) : Type 0 where
   pub came : HasRead call (unread place name)
   pub wrote : Wrote call (unread_text place)
 
--- a put failed in this run, and a front of what was to be written was
+-- a put failed in this run, and a front of the text that was to be written was written
 pub record HasWriteFault (call : Call) : Type 0 where
   pub text : List ℕ
   pub wanted : IntendedText call text
   pub cut : CutShort call.sink_before call.sink_after text
 
--- memory was not found, before the first put
+-- memory was not found: nothing was written, and no fetch failed
 pub record IsUntouched (call : Call) : Type 0 where
   pub sink : call.sink_after ≡ call.sink_before
   pub shelf : IsShelfUnchanged call
@@ -128,7 +128,7 @@ OutcomeMeans call NoMemory = IsUntouched call
 OutcomeMeans call BadWords = HasBadWords call
 OutcomeMeans call CheckRefused = HasAnswered call answers.CheckRefused
 
--- ---- which end comes: these follow from what the ends say
+-- ---- which end comes; this follows from what the ends say
 
 -- neither count of faults rose
 pub record HasNoFault (call : Call) : Type 0 where
@@ -150,23 +150,23 @@ OutcomeBy (ready given) outcome = (answer : Answer) × (text : List ℕ) × Answ
 OutcomeBy (refused place why) outcome = outcome ≡ Refused
 OutcomeBy (unread place name) outcome = outcome ≡ ReadFault
 
--- the end is the one for the files of the shelf, where they are told, or for files that were made for a task
+-- the files of the shelf, if its view has them, or the files that were made for a task decide the end
 abbrev pub FilesDecide : Option Files → Option Files → Task → Outcome → Type 0
 FilesDecide None told asked outcome = IfSome told (λ files. OutcomeBy (told_end files (opening asked)) outcome)
 FilesDecide (Some made) told asked outcome = OutcomeBy (told_end made (opening asked)) outcome
 
--- where the words ask for a task and no fault rose, the end is the one for its files, or memory was not found
+-- if the words ask for a task and no fault was counted, the files of the task decide the end, or memory was not found
 abbrev pub Completes : Call → Outcome → Type 0
 Completes call outcome =
     (asked : Task) → taken call.words ≡ task asked → HasNoFault call → (outcome ≡ NoMemory) ⊎ FilesDecide (made_for asked) call.shelf_before.files asked outcome
 
--- where the words ask for no task and no put failed, the end is the one for them, or memory was not found
+-- if the words ask for no task and no put failed, the end is the end for these words, or memory was not found
 abbrev pub RefusesWords : Call → Outcome → Type 0
 RefusesWords call outcome =
     ¬ (FaultCounted call.sink_before.faults call.sink_after.faults)
     → (taken call.words ≡ bad_words → (outcome ≡ NoMemory) ⊎ (outcome ≡ BadWords)) × (taken call.words ≡ help → (outcome ≡ NoMemory) ⊎ (outcome ≡ Help))
 
--- a count that grew in the run shows in its end
+-- if a count of faults grew in the run, the end shows it
 abbrev pub ShowsFaults : Call → Outcome → Type 0
 ShowsFaults call outcome =
     (call.sink_before.faults < call.sink_after.faults → outcome ≡ WriteFault)

@@ -25,31 +25,31 @@ code_of CheckRefused = 9
 abbrev pub no_words : ℕ
 no_words = 10
 
--- the status where the system gives an error of a kind in place of the words: it wants memory for them, or it does not have them
+-- the status where the system gives an error of a kind in place of the words: it lacks the memory for them, or it does not have them
 abbrev pub status_without_words : ErrorKind → ℕ
 status_without_words OutOfMemory = code_of NoMemory
 status_without_words _ = no_words
 
--- a run came to an end, and this is its status
+-- a run came to an end, and this is the status of its end
 abbrev pub HasRun : Call → ℕ → Type 0
 HasRun call status = (outcome : Outcome) × OutcomeMeans call outcome × (status ≡ code_of outcome)
 
--- for want of words nothing was read and nothing written, and this is the status of it
+-- the words were not given, so nothing was read and nothing written; this is the status for the error
 abbrev pub HasNoWords : ErrorKind → ShelfView → ShelfView → SinkView → SinkView → ℕ → Type 0
 HasNoWords kind shelf shelf' sink sink' status = (shelf' ≡ shelf) × (sink' ≡ sink) × (status ≡ status_without_words kind)
 
 -- ---- the real files and the real output
 
--- files of which nothing is told, before a run
+-- files of which nothing is known, before a run
 abbrev pub nothing_failed : ShelfView
 nothing_failed = record { files = None; faults = 0; last = []; is_faithful = false }
 
--- an output of which nothing is told, before a run
+-- an output of which nothing is known, before a run
 abbrev pub nothing_written : SinkView
 nothing_written = record { written = None; faults = 0 }
 
--- What the status of the program says: the words were not to be had, or it is that of the end of a run over files and an output of which
--- nothing is told before it. Which words the run had is not said.
+-- What the status of the program says. Either the words were not given, or it is the status of the end of a run over files and an output of
+-- which nothing is known before it. It is not said which words the run had.
 pub data EndsWith (status : ℕ) : Type 0 where
   without_words : status ≡ no_words → EndsWith status
   with_run : (words : List (List ℕ)) (shelf : ShelfView) (sink : SinkView) → HasRun (call_of words nothing_failed shelf nothing_written sink) status → EndsWith status

@@ -45,7 +45,7 @@ IsAllowed (given.Confirm drawn report) = Unit {0}
 IsAllowed (given.Generated drawn size budget) = IsBudget budget
 IsAllowed (given.Whatif drawn edits budget) = (length drawn.rows ≤ MAX_SESSION_ROWS) × IsBudget budget × All (IsThere drawn.net) edits
 
--- what the reading for a task answers over files that are made for it; want of memory says nothing
+-- what the reading for a task answers over files that are made for it; nothing is said if memory was missing
 abbrev pub OpensMade : Files → Task → Result Ready Stop → Type 0
 OpensMade files asked (Ok x) = ready x ≡ told_end files (opening asked)
 OpensMade files asked (Err (Refused place why)) = refused place why ≡ told_end files (opening asked)
@@ -64,17 +64,17 @@ abbrev pub end_after : {E : Type 0} → Result ⊤ E → Outcome → Outcome
 end_after (Ok x) end = end
 end_after (Err e) end = ends.WriteFault
 
--- the end after what a job answered
+-- the end that the answer of a job gives
 abbrev pub answered : Result Answer Unanswered → Outcome
 answered (Ok answer) = outcome_of answer
 answered (Err unanswered.PutFailed) = ends.WriteFault
 answered (Err unanswered.NoMemory) = ends.NoMemory
 
--- a run that ends after a text was put, or a front of it
+-- a run ends after all of a text was put, or after a front of it was
 abbrev pub EndsWithText : SinkView → SinkView → List ℕ → Outcome → Outcome → Type 0
 EndsWithText old new text end outcome = ((outcome ≡ end) × (new ≡ grown old text)) ⊎ ((outcome ≡ ends.WriteFault) × CutShort old new text)
 
--- a run that ends where its reading gave nothing
+-- a run ends because its reading gave nothing
 abbrev pub Stops : SinkView → SinkView → Stop → Outcome → Type 0
 Stops old new (Refused place why) outcome = EndsWithText old new (refusal_text place why) ends.Refused outcome
 Stops old new (ReadFault place) outcome = EndsWithText old new (unread_text place) ends.ReadFault outcome

@@ -26,7 +26,7 @@ use summary_report::write_summary;
 use whatif_report::write_whatif;
 use why_report::write_why;
 
-/// Does the job for which all is read, and writes what it answers. All memory is taken before the first put.
+/// Does the job for which all was read, and writes its answer. All memory is taken before the first put.
 pub fn answer<K: Sink>(alloc: Global, given: &Ready, sink: &mut K) -> Result<Answer, Unanswered>
     requires allowed { IsAllowed given.now }
     ensures works { JobWrote (Answers given.now) (MayHaveWritten given.now) (K.told sink.old) (K.told sink.new) result }
@@ -92,7 +92,7 @@ fn answer_bounds<K: Sink>(
     ensures works { JobWrote (Answers (ready.Bounds drawn.now budget cert)) (MayHaveWritten (ready.Bounds drawn.now budget cert))
         (K.told sink.old) (K.told sink.new) result }
 {
-    // A network is within its limits, so that no search closes more cases than there are cause choices.
+    // The call also gives the invariant: the network is within its limits. So no search closes more cases than there are cause choices.
     let _events = drawn.network().events();
     let summary = write_bounds(alloc, drawn, budget, cert, sink)?;
     Ok(answer_of(summary.end))

@@ -22,8 +22,7 @@ use std::alloc::Global;
 use unroll::{Limit, MAX_SESSION_ROWS, UnrollFault};
 use words::Task;
 
-/// What a task reads. The files are those of the shelf, or for a generated design files that are made for it, and then the shelf
-/// is left alone.
+/// What a task reads. The files are the files of the shelf. For a generated design they are made for it, and the shelf is left alone.
 pub fn open<H: Shelf>(alloc: Global, task: Task<'_>, shelf: &mut H) -> Result<Ready, Stop>
     requires limits { IsWithinLimits (task_view task) }
     ensures opens { OpensFor (H.told shelf.old) (H.told shelf.new) (task_view task.entry) result }
@@ -98,7 +97,7 @@ fn open_fall<H: Shelf>(
     for_fall(drawn, budget, cert)
 }
 
-// A drawn network that has a view.
+// A drawn network with its view, or the refusal of a network that has none.
 fn for_fall(drawn: DrawnNetwork, budget: u64, cert: bool) -> Result<Ready, Stop>
     ensures reads { ReadsAs (λ given. given) (fall_at budget cert drawn) result }
     ensures allowed { IfOk result IsAllowed }
@@ -223,7 +222,7 @@ fn open_matrix<H: Shelf>(alloc: Global, design: &str, shelf: &mut H) -> Result<R
     for_matrix(drawn)
 }
 
-// A drawn network that has few enough events for a matrix.
+// A drawn network for a matrix, or the refusal of a network with too many events.
 fn for_matrix(drawn: DrawnNetwork) -> Result<Ready, Stop>
     ensures reads { ReadsAs (λ given. given) (matrix_at drawn) result }
     ensures allowed { IfOk result IsAllowed }
@@ -235,7 +234,7 @@ fn for_matrix(drawn: DrawnNetwork) -> Result<Ready, Stop>
     Ok(Ready::Matrix { drawn })
 }
 
-// The refusal of a network that has so much of what a job allows less of.
+// The refusal of a network that has more of something than a job allows.
 fn too_many(limit: Limit, count: u64) -> Stop
     ensures { result ≡ Stop.Refused RefusalPlace.Design (Refusal.Limits (UnrollFault.TooMany limit count)) }
 {
@@ -295,7 +294,7 @@ fn open_whatif<H: Shelf>(
     for_whatif(alloc, drawn, edits, budget, shelf)
 }
 
-// A drawn network that has few enough rows for edits.
+// A drawn network with its edits, or the refusal of a network with too many rows.
 fn for_whatif<H: Shelf>(
     alloc: Global,
     drawn: DrawnNetwork,
@@ -315,7 +314,7 @@ fn for_whatif<H: Shelf>(
     with_edits(alloc, drawn, edits, budget, shelf)
 }
 
-// The same with its edits, which are fetched.
+// The same for a network with few enough rows: fetches the edits.
 fn with_edits<H: Shelf>(
     alloc: Global,
     drawn: DrawnNetwork,
@@ -339,7 +338,7 @@ fn with_edits<H: Shelf>(
     for_edits(alloc, drawn, budget, bytes.as_slice())
 }
 
-// The same with the edits in the bytes of a file.
+// The same for the edits in the bytes of a file.
 fn for_edits(alloc: Global, drawn: DrawnNetwork, budget: u64, bytes: &[u8]) -> Result<Ready, Stop>
     requires rows { length drawn.rows ≤ MAX_SESSION_ROWS }
     requires budget { IsBudget budget }

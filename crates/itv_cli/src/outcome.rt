@@ -2,10 +2,10 @@
 
 ghost use Rattle.std.specs.Prelude.{◌≡◌};
 
-/// How a run ends. What each end says, and when it comes, is in the clauses of `run`.
+/// How a run ends. The clauses of `run` say what each end means and when it comes.
 #[derive(Clone, Copy, Debug, PartialEq, Eq)]
 pub enum Outcome {
-    /// What the job wrote has no bad news: every requirement passes and every bound is settled, there is a matrix, or the report
+    /// What the job wrote has no bad news: every requirement passes and every bound is settled, or there is a matrix, or the report
     /// is accepted.
     AllPass,
     /// The words ask for help, and the text of help was written.
@@ -17,7 +17,7 @@ pub enum Outcome {
     /// The budget ended a search, and no requirement is known to be broken.
     Undecided,
     /// The files are refused, and the line of the first refusal was written; or the job refuses the design for what its search found, and
-    /// the line of that was.
+    /// the line of that refusal was written.
     Refused,
     /// A file could not be read, and a line that names its place was written.
     ReadFault,
@@ -27,7 +27,7 @@ pub enum Outcome {
     NoMemory,
     /// The words are refused, or lack what their job needs.
     BadWords,
-    /// The report that was to be checked is refused, and the number of its first wrong line was written.
+    /// The report to be checked is refused, and the number of its first wrong line was written.
     CheckRefused,
 }
 

@@ -1,4 +1,4 @@
-//! The plan of a design with what it draws, for the jobs that want both.
+//! The plan of a design with the network that it draws, for the jobs that need both.
 
 ghost use Rattle.std.specs.Prelude.{IfOk, IsOk};
 ghost use Rattle.compose.specs.Compose.{composed_on};

@@ -35,20 +35,20 @@ pub enum Ready {
         drawn: DrawnNetwork,
         budget: u64,
     },
-    /// To tell why the bounds of the rows of a drawn network are what they are: the plan that draws it, and the cases that each search
+    /// To explain why the bounds of the rows of a drawn network are what they are: the plan that draws it, and the cases that each search
     /// may close.
     Why {
         plan: Plan,
         drawn: DrawnNetwork,
         budget: u64,
     },
-    /// To tell each row of a drawn network on one line: the plan that draws it, and the cases that each search may close.
+    /// To report each row of a drawn network on one line: the plan that draws it, and the cases that each search may close.
     Brief {
         plan: Plan,
         drawn: DrawnNetwork,
         budget: u64,
     },
-    /// To tell what of a plan may say something else than was meant: the network that it draws, and the cases that each search may
+    /// To warn of what in a plan may say something else than was meant: the network that it draws, and the cases that each search may
     /// close.
     Lint {
         plan: Plan,
@@ -76,7 +76,7 @@ pub enum Ready {
         size: u32,
         budget: u64,
     },
-    /// To bound the rows of a drawn network and again behind each edit: the edits, and the cases that each search may close.
+    /// To bound the rows of a drawn network, and to bound them again behind each edit: the edits, and the cases that each search may close.
     Whatif {
         drawn: DrawnNetwork,
         edits: Edits,

@@ -20,8 +20,8 @@ use std::{env, io};
 // The status where the system does not give the words.
 const NO_WORDS: u8 = 10;
 
-/// The whole program: a run on the words of the system, its files and its standard output, and the status of its end. It hands
-/// them on to [`run_words`], whose contract says what becomes of them; that it hands on these and no others is not proved.
+/// The whole program: a run on the words of the system, its files and its standard output, and the status of the run's end. It hands
+/// them to [`run_words`], whose contract says what happens with them. It is not proved that it hands on these and no others.
 pub fn program<R: Env + Files + Print + AllocGlobal>(rt: &R) -> ExitCode
     ensures status { EndsWith (exit_status result) }
 {
@@ -31,9 +31,9 @@ pub fn program<R: Env + Files + Print + AllocGlobal>(rt: &R) -> ExitCode
     }
 }
 
-/// Runs on the words behind the first of those that a system gives, on a shelf and a sink, and ends with the status of the end of
-/// the run. Nothing else is read or written. Where the system gives an error in place of the words nothing is, and the status is 10,
-/// or that of [`Outcome::NoMemory`] where the system lacks the memory for them.
+/// Runs on the words that a system gives except the first, on a shelf and a sink, and returns the status of the run's end. Nothing else is read
+/// or written. If the system gives an error in place of the words, nothing is read or written. The status is then 10, or the status of
+/// [`Outcome::NoMemory`] if the system lacks the memory for the words.
 pub fn run_words<H: Shelf, K: Sink>(
     alloc: Global,
     args: io::Result<Args<Global>>,
@@ -55,7 +55,7 @@ pub fn run_words<H: Shelf, K: Sink>(
     }
 }
 
-// The run on the words behind the first.
+// The run on the words behind the first word.
 fn run_given<H: Shelf, K: Sink>(
     alloc: Global,
     given: Args<Global>,
@@ -78,7 +78,7 @@ fn status_of(outcome: Outcome) -> ExitCode
     ExitCode::from(outcome.code())
 }
 
-// The status where the words are not to be had.
+// The status where the system does not give the words.
 fn status_without_words(error: &io::Error) -> ExitCode
     ensures { exit_status result ≡ status_without_words (error_kind error.now) }
 {

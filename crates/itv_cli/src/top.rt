@@ -17,12 +17,12 @@ use reading::{Refusal, RefusalPlace, Stop, put_refusal, put_unread};
 use std::alloc::Global;
 use words::{Invocation as Words, Task, read_words};
 
-/// Does what the words ask for: reads the files of a job, and writes what it answers.
+/// Does what the words ask for: reads the files of a job, and writes what the job answers.
 ///
-/// The words name a job and a design. The files of the design are fetched, and what they draw is unrolled; the first
-/// refusal ends the run with its line, and a file that can't be read with another. Then the job writes its report, its bounds, its
-/// matrix, whether a report is right, a drawing, or a summary. Bad words get a line of their own, and the wish for help the text of help. All
-/// memory is taken before the first put, and after a put that failed nothing more is put.
+/// The words name a job and a design. The files of the design are fetched, and what they draw is unrolled. The first refusal ends the run
+/// with its line, and so does a file that can't be read. Then the job writes its report, its bounds, its matrix, whether a report is right,
+/// a drawing, or a summary. Bad words get a line of their own, and a request for help gets the text of help. All memory is taken before the
+/// first put, and after a put that failed nothing more is put.
 ///
 /// Want of memory may come in place of any end, and nothing is written then.
 pub fn run<H: Shelf, K: Sink>(alloc: Global, words: &Texts, shelf: &mut H, sink: &mut K) -> Outcome
@@ -68,7 +68,7 @@ fn run_task<H: Shelf, K: Sink>(
     }
 }
 
-// The end of a run by what its job answered.
+// The end of a run for the answer of its job.
 fn answered(given: Result<Answer, Unanswered>) -> Outcome
     ensures { result ≡ answered given }
 {
@@ -95,21 +95,21 @@ fn stopped<K: Sink>(stop: &Stop, sink: &mut K) -> Outcome
     }
 }
 
-// Ends a run by a refusal.
+// Ends a run with a refusal.
 fn refuse<K: Sink>(place: RefusalPlace, why: Refusal, sink: &mut K) -> Outcome
     ensures { EndsWithText (K.told sink.old) (K.told sink.new) (refusal_text place why) Outcome.Refused result }
 {
     end_after(put_refusal(place, why, sink), Outcome::Refused)
 }
 
-// Ends a run by a file that could not be read.
+// Ends a run with a file that could not be read.
 fn miss<K: Sink>(place: RefusalPlace, sink: &mut K) -> Outcome
     ensures { EndsWithText (K.told sink.old) (K.told sink.new) (unread_text place) Outcome.ReadFault result }
 {
     end_after(put_unread(place, sink), Outcome::ReadFault)
 }
 
-// Ends a run by a text.
+// Ends a run with a text.
 fn tell<K: Sink>(text: &[u8], end: Outcome, sink: &mut K) -> Outcome
     ensures { EndsWithText (K.told sink.old) (K.told sink.new) text.now end result }
 {

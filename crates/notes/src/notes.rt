@@ -1,4 +1,4 @@
-//! Who keeps the notes of a design.
+//! Keepers of the notes of a design.
 
 ghost use Rattle.std.specs.Prelude.{◌≡◌, ℕ, List};
 ghost use Rattle.origin.specs.declared.origin.Origin.{Origin as From};
@@ -7,11 +7,11 @@ use origin::Origin;
 
 /// Keeps the notes of a design.
 pub trait Notes {
-    /// The note of what draws a cause or a row, by the name of the part; empty where there is none.
+    /// The note of what draws a cause or a row, by the name of the part; empty if there is none.
     ghost noted: { Self → List ℕ → From → List ℕ };
 
-    /// The note of what draws a cause of a constraint, or a row. The part is that of the constraint's target, or of the row's events; it
-    /// is not looked at where the netlist draws it. The note is empty where there is none.
+    /// The note of what draws a cause of a constraint, or a row. The part is the part of the constraint's target, or of the row's events; it
+    /// is not used if the netlist draws the cause or the row. The note is empty if there is none.
     fn note(&self, part: &str, origin: Origin) -> &str
         ensures note { result.now ≡ noted self.now part.now origin };
 }

@@ -17,14 +17,14 @@ use Rattle.plan.specs.Notes.{edge_named, edge_on}
 use Rattle.plan.specs.Plan.{IsPlan, NamedSheets, Planned, sheet_among}
 use Rattle.plan.specs.Step.{ArePartPlaces}
 
--- what stands at the first place of a list where a test is met
+-- the element at the first place where a test is met is the first element that meets it
 found_at : {X : Type 0} (p : X → Bool) (xs : List X) → option_and_then (slice_get xs) (position p xs) ≡ find p xs
 found_at p xs =
     cond_both (ltb (position_or_len p xs) (length xs)) (Some (position_or_len p xs)) None (λ o. option_and_then (slice_get xs) o ≡ find p xs)
     (λ _. sym (find_at p xs))
     (λ past. sym (find_at p xs ∙ slice_get_past xs (position_or_len p xs) (ltb-false (position_or_len p xs) (length xs) past)))
 
--- the place of one part more
+-- the place of one more part
 pub places_more : (sheets : NamedSheets) (parts : List Part) (k : ℕ) (part : Part) (places more : List ℕ) (place : ℕ) → k < length parts → part ≡ get_or parts k part
     → ArePartPlaces sheets (take k parts) places → slice_get (values_of sheets) place ≡ sheet_among sheets (key_of part) → more ≡ places ++ place ∷ []
     → ArePartPlaces sheets (take (k + 1) parts) more
@@ -32,7 +32,7 @@ places_more sheets parts k part places more place within is before found grown =
     let front : take (k + 1) parts ≡ take k parts ++ part ∷ [] = take_more parts k part within ∙ ap (λ x. take k parts ++ x ∷ []) (sym is) in
     rw (grown, front, map_push, map_push, before, found) refl
 
--- the sheet at the place of a part is that of the part
+-- the sheet at the place of a part is the sheet of the part
 place_read : (sheets : NamedSheets) (parts : List Part) (places : List ℕ) (k place : ℕ) → ArePartPlaces sheets parts places → slice_get places k ≡ Some place
     → option_and_then (λ (part : Part). sheet_among sheets (key_of part)) (slice_get parts k) ≡ slice_get (values_of sheets) place
 place_read sheets parts places k place are read =
@@ -68,7 +68,7 @@ module _ (plan : Planned) (places : List ℕ) (whole : IsPlan plan) (are : ArePa
       none_there None some is = cc some
       none_there (Some sheet) some is = cc is
 
-  -- and it is that of the part
+  -- and this sheet is the sheet of the part
   pub sheet_found : (key : SheetKey) (sheet : SheetContents) → Some (key, sheet) ≡ slice_get plan.sheets place
       → option_and_then (λ (part : Part). sheet_among plan.sheets (key_of part)) (slice_get plan.netlist.parts k) ≡ Some sheet
   sheet_found key sheet is = sheet_of ∙ ap (option_map (λ (e : SheetKey × SheetContents). e.1)) (sym is)

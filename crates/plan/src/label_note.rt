@@ -10,7 +10,7 @@ ghost use Rattle.plan.specs.Notes.{edge_note, is_printed, is_printed_byte, label
 
 use label_grammar::{EdgeText, WireText, read_edge, read_label, read_label2, read_wire};
 
-/// The note of the text of an edge of a sheet, by the version of the netlist.
+/// The note of the text of an edge of a sheet, in the version of the netlist.
 pub fn edge_note(version: u32, text: &str) -> &str
     ensures note { result.now ≡ edge_note version text.now }
 {
@@ -30,7 +30,7 @@ pub fn wire_note(text: &str) -> &str
     }
 }
 
-// The note of a label, by the version.
+// The note of a label, in the version of the netlist.
 fn label_note(version: u32, label: &str) -> &str
     ensures { result.now ≡ label_note version label.now }
 {
@@ -61,7 +61,7 @@ fn graded_note(label: &str) -> &str
     }
 }
 
-// A note that can be printed, and else an empty text.
+// A note that can be printed, or an empty text.
 fn printed_note(note: Option<&str>) -> &str
     ensures { result.now ≡ printed_note (option_copied note.entry) }
 {

@@ -12,7 +12,7 @@ use itv_base::NoMemory;
 use netlist::Part;
 use std::alloc::Global;
 
-/// Where the sheets of parts stand among sheets that have them, part by part.
+/// The place of the sheet of each part among sheets that have it, part by part.
 pub fn places_of(alloc: Global, parts: &[Part], sheets: &Sheets) -> Result<Vec<usize>, NoMemory>
     requires { All (λ (part : PartSeen). IsSome (sheet_among sheets.now.entries (key_of part))) parts.now }
     ensures { IfOk result (λ places. ArePartPlaces sheets.now.entries parts.now places.items) }
@@ -26,7 +26,7 @@ pub fn places_of(alloc: Global, parts: &[Part], sheets: &Sheets) -> Result<Vec<u
     Ok(places)
 }
 
-// Where the sheet of a key stands, which is there.
+// The place of the sheet of a key. The sheet is there.
 fn place_of(sheets: &Sheets, key: &SheetKey) -> usize
     requires { IsSome (sheet_among sheets.now.entries key.now) }
     ensures { slice_get (values_of sheets.now.entries) result ≡ sheet_among sheets.now.entries key.now }

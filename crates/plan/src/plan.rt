@@ -24,7 +24,7 @@ use std::marker::Model;
 pub struct Plan {
     netlist: Netlist,
     sheets: Sheets,
-    // Where the sheet of each part stands among the sheets, part by part.
+    // The place of the sheet of each part among the sheets, part by part.
     places: Vec<usize>,
 }
 
@@ -41,7 +41,7 @@ impl Model for Plan {
 }
 
 impl Plan {
-    /// The plan of a netlist and of sheets, among which each part has its own.
+    /// The plan of a netlist and of sheets; each part has its sheet among them.
     pub fn of(alloc: Global, netlist: Netlist, sheets: Sheets) -> Result<Plan, NoMemory>
         requires sheets { IsPlan (record { netlist = netlist; sheets = sheets.entries }) }
         ensures plan { IfOk result (λ plan. plan ≡ record { netlist = netlist; sheets = sheets.entries }) }

@@ -48,7 +48,7 @@ each_long name (s ∷ ss) = (long_enough (name s.event).part (name s.event).mark
 
 -- ---- of a row
 
--- what holds of a pair's drawn events in order
+-- what holds of the drawn events of a pair in order
 pub record IsPairDrawn (drawn : Drawn) (from to : EventId) (ends : Ends) (xs : List Timed) : Type 0 where
   pub drawable : IsDrawable (name_of drawn) from to ends (stands_of xs)
   pub stand : Every (IsStand drawn.net.events) (stands_of xs)

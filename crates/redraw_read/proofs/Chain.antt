@@ -1,4 +1,4 @@
--- A chain of events that are exactly so far apart is satisfied by its times alone, up to one number.
+-- The times that satisfy a chain of events, each exactly so far behind the event before it, are the drawn times plus one number.
 use Rattle.std.proofs.Common.{◌≡◌, ◌+◌, ◌<◌, ◌≤◌, ℕ, zero, suc, ℤ, pos, ◌+ℤ◌, ◌-ℤ◌, ◌≤ℤ◌, List, [], ◌∷◌, All, length, get_or, ◌∙◌, refl, sym, ap, subst, arith}
 use Rattle.std.proofs.lemmas.Int.{ints}
 use Rattle.std.proofs.lemmas.List.{ext_get_or, get_or-map, length-map}
@@ -27,7 +27,7 @@ chain_at k before (time ∷ times) (suc i) d within =
     chain_at (k + 1) time times i d (omega arith)
     ∙ ap (λ n. linear (event n) (event (n + 1)) (exactly (get_or times i (pos 0) -ℤ get_or (time ∷ times) i (pos 0)))) same
 
--- what such a constraint asks
+-- what such a constraint asks of times
 asks : (times : List ℤ) (a b : EventId) (d : ℤ) → Holds times (linear a b (exactly d)) → (time_of times b -ℤ time_of times a) ≡ d
 asks times a b d h =
     let c : Cause = record { event = a; range = exactly d } in
@@ -53,7 +53,7 @@ gives times a b d e =
       most : (x y d : ℤ) → (y -ℤ x) ≡ d → y ≤ℤ (x +ℤ d)
       most x y d e = omega (arith, ints)
 
--- each time of a list of times that satisfy is one number from that of the chain
+-- if times keep the steps of the chain, each of them is the drawn time plus one number
 steady : (drawn times : List ℤ) (before : ℤ) → ((i : ℕ) → i < length drawn → (get_or times (i + 1) (pos 0) -ℤ get_or times i (pos 0)) ≡ (get_or drawn i (pos 0) -ℤ get_or (before ∷ drawn) i (pos 0)))
     → (i : ℕ) → i ≤ length drawn → get_or times i (pos 0) ≡ (get_or (before ∷ drawn) i (pos 0) +ℤ (get_or times 0 (pos 0) -ℤ before))
 steady drawn times before h zero within = at_first (get_or times 0 (pos 0)) before where

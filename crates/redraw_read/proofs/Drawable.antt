@@ -1,4 +1,4 @@
--- Where the drawn events of a row stand, they can be drawn and read.
+-- The drawn events of a row can be drawn and read.
 use Rattle.std.proofs.Common.{◌≡◌, ◌+◌, ◌<◌, ◌≤◌, ℕ, ℤ, pos, ◌-ℤ◌, ◌≤ℤ◌, Bool, true, false, not, int_lt, List, [], ◌∷◌, ◌++◌, length, bytes_eq, Option, Some, None, IfSome, ◌∙◌, refl, sym, arith}
 use Rattle.std.specs.List.{list_any}
 use Rattle.std.proofs.lemmas.Bool.{or_from}
@@ -97,11 +97,11 @@ demand_sound name all from to ends numbered few range in_from in_to = record {
 
 -- ---- names
 
--- two events of a network have two names
+-- different events of a network have different names
 abbrev pub NamesDiffer : ℕ → (EventId → Name) → Type 0
 NamesDiffer events name = (a b : EventId) → a.0 < events → b.0 < events → name_word (name a) ≡ name_word (name b) → a.0 ≡ b.0
 
--- a name is none of those of some events
+-- the name of an event is not among some names
 abbrev IsFresh : (EventId → Name) → List (List ℕ) → Timed → Type 0
 IsFresh name before x = list_any (bytes_eq (name_word (name x.event))) before ≡ false
 

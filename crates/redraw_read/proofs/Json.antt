@@ -1,4 +1,4 @@
--- The text of a drawing is that of a JSON value, and reads as one.
+-- The text of a drawing is the text of a JSON value, and is read as this value.
 use Rattle.std.proofs.Common.{◌≡◌, ◌≤◌, ℕ, inl, inr, Bool, true, false, ◌&&◌, cond, nat_le, List, [], ◌∷◌, ◌++◌, map, codes, Some, option_and_then, ◌∙◌, refl, sym, ap, append_assoc, append-nil, arith, leb-true, ne_eqb}
 use Rattle.std.specs.List.{list_all}
 use Rattle.std.proofs.lemmas.Bool.{and_parts, cases_eq}
@@ -260,7 +260,7 @@ printable (tok ∷ ts) h = (printable_one tok h.0, printable ts h.1)
 
 -- ---- reading
 
--- a text that is printed is read
+-- a text with the tokens of a JSON value is read as this value
 pub read_of : (j : json.Json) (text : List ℕ) → tokens text ≡ json_tokens j → depth j ≤ 127 → read text ≡ of_json j
 read_of j text e h =
     ap (λ ts. option_and_then of_json (option_and_then (λ p. json.if_last p.0 p.1) (json.value max_depth ts))) (e ∙ sym (append-nil (json_tokens j)))
@@ -274,7 +274,7 @@ shallow_lanes : (lanes : List Lane) → items_depth (json_lanes lanes) ≤ 1
 shallow_lanes [] = omega arith
 shallow_lanes (lane ∷ lanes) = omega (arith, shallow_lanes lanes)
 
--- the text of a drawing reads as its JSON
+-- the text of a drawing is read as its JSON value
 pub sketch_reads : (sketch : Sketch) → IsPlainSketch sketch → read (sketch_text sketch) ≡ of_json (json_sketch sketch)
 sketch_reads sketch h =
     let lanes = shallow_lanes sketch.lanes in

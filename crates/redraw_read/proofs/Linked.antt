@@ -46,16 +46,16 @@ edge_seen from to label in_from in_to timed = rw (not_space from in_from, not_sp
 abbrev pub link_by : ℕ → ℕ → Kind → Ends → Link
 link_by from to kind ends = record { from = from; to = to; origin = Edge 0; label = range_label kind ends }
 
--- the link as it is read of edge n
+-- the link, as edge n gives it
 abbrev pub read_of : ℕ → Link → Link
 read_of n link = record link { origin = Edge n }
 
--- links as they are read of the edges from one on
+-- links, as the edges from a number on give them
 abbrev pub read_from : ℕ → List Link → List Link
 read_from n [] = []
 read_from n (link ∷ links) = read_of n link ∷ read_from (n + 1) links
 
--- a link between two marks, whose kind is linear or a demand
+-- a link between two marks; its kind is linear or a demand
 pub record IsSound (marks : List Mark) (link : Link) : Type 0 where
   pub from : number_of marks (mark_at link.from) ≡ Some link.from
   pub to : number_of marks (mark_at link.to) ≡ Some link.to

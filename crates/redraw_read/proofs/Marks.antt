@@ -61,7 +61,7 @@ node_good zero m h =
     and_from (m == 32 || is_ascii_graphic m) true (or_right (m == 32) (is_ascii_graphic m) graphic) refl
 node_good (suc p) m h = node_good p m h
 
--- ---- those of all lanes
+-- ---- the marks of all lanes
 
 abbrev pub text_lane : (EventId → Name) → DrawnEvent → LaneText
 text_lane name s = drawn_lane (lane_of name s)

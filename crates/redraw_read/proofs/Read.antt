@@ -109,7 +109,7 @@ pub pins_read : (name : EventId → Name) (ss : List DrawnEvent) → Every IsFew
 unfolding read_pins
 pins_read name ss h distinct = rw (numbers_are name 0 ss h, pins_named name 0 ss, pins_unrepeated name 0 [] ss distinct) refl
 
--- each lane's mark is to come no earlier than in the cycle before
+-- the mark of each lane comes no earlier than in the cycle before
 abbrev pub orders_from : ℕ → List DrawnEvent → List SheetRule
 orders_from k [] = []
 orders_from k (s ∷ ss) = follows_rule (Lane k) ((k + 1) - 1) k 1 ∷ orders_from (k + 1) ss

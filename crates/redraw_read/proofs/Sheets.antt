@@ -28,7 +28,7 @@ sheet_drawn name from to ends ss = record {
   near = near_drawn (sketch_of name from to ends ss);
 }
 
--- what holds of where drawn events stand, for their drawing to be read
+-- what holds of the places of drawn events, so that their drawing can be read
 pub record IsDrawable (name : EventId → Name) (from to : EventId) (ends : Ends) (ss : List DrawnEvent) : Type 0 where
   pub some : 1 ≤ length ss
   pub few : length ss ≤ MOST_DRAWN

@@ -1,4 +1,4 @@
--- The text of a drawing reads as a tree whose diagram is the drawing.
+-- The text of a drawing is read as a tree whose diagram is the drawing.
 use Rattle.std.proofs.Common.{◌≡◌, ◌<◌, ℕ, Bool, false, List, [], ◌∷◌, length, map, codes, filter_map, position, Some, None, Ok, option_map, ◌∙◌, refl, ap, arith, le-ltb}
 use Rattle.std.specs.List.{position_or_len}
 use Rattle.serde_json.specs.Data.{Data, Items, array, item, member, no_items, no_members, object, string}
@@ -43,7 +43,7 @@ tree_is sketch = rw (tree_of_lanes sketch.lanes, tree_of_texts sketch.edges) ref
 pub reads_tree : (sketch : Sketch) → IsPlainSketch sketch → read (sketch_text sketch) ≡ Some (sketch_tree sketch)
 reads_tree sketch h = sketch_reads sketch h ∙ tree_is sketch
 
--- it is no netlist
+-- the tree is no netlist
 pub lone_tree : (sketch : Sketch) → get (codes "itv") (sketch_tree sketch) ≡ None
 lone_tree sketch = refl
 
@@ -67,7 +67,7 @@ first_none : {X : Type 0} (p : X → Bool) (xs : List X) → Every (λ x. p x �
 first_none p [] h = refl
 first_none p (x ∷ xs) h = rw (h.0, first_none p xs h.1) (omega arith)
 
--- an element that passes a test is not there
+-- if no element passes a test, there is no place of such an element
 pub no_position : {X : Type 0} (p : X → Bool) (xs : List X) → Every (λ x. p x ≡ false) xs → position p xs ≡ None
 no_position p xs h = rw (first_none p xs h, le-ltb (length xs) (length xs) (omega arith)) refl
 
@@ -82,7 +82,7 @@ texts_are (text ∷ texts) = ap (λ l. text ∷ l) (texts_are texts)
 edges_are : (texts : List (List ℕ)) → texts_of (elements (texts_tree texts)) ≡ Ok texts
 edges_are texts = rw (no_position is_no_string (elements (texts_tree texts)) (none_wrong texts), texts_are texts) refl
 
--- the keys of its tree that nearly are known
+-- the near keys of its tree
 unfoldable pub near_drawn : Sketch → List (List ℕ)
 near_drawn sketch = near_in_sheet (sketch_tree sketch)
 

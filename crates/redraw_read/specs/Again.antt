@@ -20,8 +20,8 @@ use Rattle.redraw.specs.Drawing.{number_in, stands_drawn}
 use Rattle.redraw.specs.Laws.{NamesDiffer}
 use Rattle.redraw.specs.Text.{redrawn}
 
--- A text of a file that is not too long reads as a tree without the key of a netlist. The tree draws a sheet with a mark for each
--- event that stands, and with one row, which demands the range of the pair. The last edge draws it.
+-- The text is UTF-8 and not too long for a file. It is read as a tree without the key of a netlist. The tree draws a sheet with a mark for
+-- each event that stands, and with one row. The row demands the range of the pair, and the last edge draws it.
 pub record IsSheetText (text : List ℕ) (stands : List DrawnEvent) (from to : EventId) (ends : Ends) : Type 0 where
   pub utf8 : IsUtf8 text
   pub short : length text ≤ FILE_LIMIT
@@ -35,7 +35,7 @@ pub record IsSheetText (text : List ℕ) (stands : List DrawnEvent) (from to : E
   pub marks : length sheet.marks ≡ length stands
   pub rows : sheet.rows ≡ (record { kind = Req ends; from = number_in stands from; to = number_in stands to; shift = 0; origin = Edge (length stands - 1) }) ∷ []
 
--- the text of a row drawn at some times is read as a sheet without a fault
+-- the text of a row, drawn at some times, is read as a sheet without a fault
 abbrev pub RedrawnIsSheet : Type 0
 RedrawnIsSheet =
     (drawn : Drawn) (row : ℕ) (asked : Row) (ends : Ends) (times : List ℤ)

@@ -1,4 +1,4 @@
--- What the answer of a search says of a network and of a bound.
+-- What the answer of a search says about a network or about a bound.
 use Rattle.std.proofs.Common.{◌≡◌, ◌<◌, ℕ, ℤ, neg_ℤ, ◌-ℤ◌, Bool, List, [], length, All, refl, sym, subst, ◌∙◌, arith}
 use Rattle.std.proofs.lemmas.Int.{ints}
 use Rattle.itv_base.specs.declared.names.EventId.{EventId}
@@ -60,7 +60,7 @@ module _ (net : Net) (turns : ℕ) (found : ShownAnswer) (is_net : IsNet net) (s
   pub not_unbounded : found.answer ≡ Unbounded → ⊥
   not_unbounded is = no_ray net first_event found.times.items found.ray.items (says found Unbounded is f).raised
 
-  -- no times satisfy, as the lines prove where they are wanted
+  -- no times satisfy, and the lines prove it if proofs are wanted
   pub refuted : (cert : Bool) (proof : Proof) → found.answer ≡ Inconsistent
       → ((net : Net) (from to : EventId) → IsProofAs found.view net from to found.claim.value found.lines.items → ProvesClaim cert net from to found.claim.value proof)
       → IsRefuted cert net proof
@@ -101,7 +101,7 @@ can_rise : (net : Net) (which : Which) (row : Row) (times : List ℤ) (ray : Lis
 can_rise net Max row times ray is_net shown = ray-moved net row.from row.from row.to times ray is_net shown
 can_rise net Min row times ray is_net shown = ray-moved net row.from row.to row.from times ray is_net shown
 
--- the searched pair is there where the events of the row are
+-- the events of the searched pair are there if the events of the row are
 pub in_source : (which : Which) (row : Row) (events : ℕ) → row.from.0 < events → row.to.0 < events → (source which row).0 < events
 in_source Max row events in_from in_to = in_from
 in_source Min row events in_from in_to = in_to
@@ -121,7 +121,7 @@ module _ (net : Net) (which : Which) (row : Row) (turns : ℕ) (found : ShownAns
     printed = nearby_times (moved row.from times) near;
   }
 
-  -- the times that were found, where there are some
+  -- the times that were found, if there are some
   pub closed_near : (value : ℤ) → found.answer ≡ Closed value → All IsNearValue found.times.items × (row.from.0 < length found.times.items)
   closed_near value is = let a = (says found (Closed value) is f).0 in (a.near, in_times row.from a.satisfies is_row.0)
 

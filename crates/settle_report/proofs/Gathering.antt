@@ -1,4 +1,4 @@
--- Rows one after another: what is found of them, their texts, and what they come to.
+-- Rows, one after another: what is found of them, their texts, and their tally.
 use Rattle.std.proofs.Common.{◌≡◌, ◌<◌, ◌+◌, ℕ, zero, suc, ℤ, pos, ◌-ℤ◌, Bool, List, [], ◌∷◌, ◌++◌, length, get_or, take, drop, Some, slice_get, refl, sym, subst, ap, ◌∙◌, add-one, drop-cons, arith}
 use Rattle.std.proofs.lemmas.Int.{ints}
 use Rattle.std.proofs.lemmas.Option.{same_Some}
@@ -29,7 +29,7 @@ bound_times cert net which row (settled.Closed value times proof) is_row b =
 bound_times cert net which row (settled.Unbounded times ray) is_row b = tt
 bound_times cert net which row settled.Spent is_row b = (tt, tt)
 
--- ---- what is found of each
+-- ---- what is found of each row
 
 pub rows_push : (cert : Bool) (net : Net) (rows : List Row) (found : List RowFound) (row : Row) (of_row : RowFound) → AreRowsFound cert net rows found → IsRowFound cert net row of_row
     → AreRowsFound cert net (rows ++ (row ∷ [])) (found ++ (of_row ∷ []))

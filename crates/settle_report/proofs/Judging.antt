@@ -1,4 +1,4 @@
--- Which end a verdict says is broken, and times that break it.
+-- Which end a verdict reports as broken, and times that break it.
 use Rattle.std.proofs.Common.{◌≡◌, ℤ, neg_ℤ, ◌-ℤ◌, ◌<ℤ◌, Bool, true, false, ◌&&◌, cond, List, Option, Some, None, refl, sym, subst, arith}
 use Rattle.std.specs.Prelude.{IsSomeAnd, int_lt}
 use Rattle.std.proofs.lemmas.Int.{ints}
@@ -60,9 +60,9 @@ beyond_low low (settled.Closed value times proof) e = turned value low e
 beyond_low low (settled.Unbounded times ray) e = tt
 beyond_low low settled.Spent e = cc e
 
--- ---- times that break it
+-- ---- times that break the end
 
--- the times of a number that is beyond a limit are past it
+-- if the number of a bound is beyond a limit, the times of the bound are past the limit
 pub number_past : (cert : Bool) (net : Net) (which : Which) (row : Row) (value limit : ℤ) (times : List ℤ) (proof : Proof) → IsNumber cert net which row value times proof
     → limit <ℤ shown_by which value → ArePast net which row limit times
 number_past cert net which row value limit times proof n beyond = record {

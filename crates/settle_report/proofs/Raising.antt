@@ -19,7 +19,7 @@ use Rattle.drawn.specs.declared.row.Row.{Row}
 use Rattle.settle_report.specs.Answers.{CanRise, IsEndless}
 use Rattle.settle_report.specs.Step.{ArePast, IsNearTime, source, target}
 
--- the most that a set is raised by to pass an end
+-- the greatest number that a set is raised by to pass an end
 abbrev most_by : ℕ
 most_by = 2 * cap_limit + weight_limit + 1
 
@@ -31,7 +31,7 @@ raised_at (true ∷ set) by (time ∷ times) zero d h = inr refl
 raised_at (false ∷ set) by (time ∷ times) zero d h = inl refl
 raised_at (is_in ∷ set) by (time ∷ times) (suc k) d h = raised_at set by times k d (omega arith)
 
--- by how much they are raised
+-- by how much the times are raised
 raised_by : (old : List ℤ) (set : List Bool) (from to : EventId) (limit : ℤ) (new : List ℤ) (r : RaisesPast old set from to limit new) → IsNearTime (separation old from to)
     → IsEnd (Some limit) → slice_get set from.0 ≡ Some false → slice_get set to.0 ≡ Some true → to.0 < length old → pos r.by ≤ℤ pos most_by
 raised_by old set from to limit new r reached end lacks holds in_to = less r.by r.least
@@ -47,7 +47,7 @@ raised_time : (old new by : ℤ) → IsNearTime old → pos 0 ≤ℤ by → by �
 raised_time old new by near low high (inl e) = (omega (arith, ints, near.0, near.1, e), omega (arith, ints, near.0, near.1, e))
 raised_time old new by near low high (inr e) = (omega (arith, ints, near.0, near.1, low, high, e), omega (arith, ints, near.0, near.1, low, high, e))
 
--- a time less that of an origin, which was at 0: each is an old one, with or without the raise
+-- a time less the time of an origin that was at 0; both are old times, with or without the raise
 apart : (old new origin at by : ℤ) → IsNearTime old → origin ≡ pos 0 → pos 0 ≤ℤ by → by ≤ℤ pos most_by → (new ≡ old) ⊎ (new ≡ old +ℤ by) → (at ≡ origin) ⊎ (at ≡ origin +ℤ by)
     → IsPrintedTime (new +ℤ neg_ℤ at)
 apart old new origin at by n o low high (inl e) (inl f) = (omega (arith, ints, n.0, n.1, o, low, high, e, f), omega (arith, ints, n.0, n.1, o, low, high, e, f))
@@ -55,7 +55,7 @@ apart old new origin at by n o low high (inl e) (inr f) = (omega (arith, ints, n
 apart old new origin at by n o low high (inr e) (inl f) = (omega (arith, ints, n.0, n.1, o, low, high, e, f), omega (arith, ints, n.0, n.1, o, low, high, e, f))
 apart old new origin at by n o low high (inr e) (inr f) = (omega (arith, ints, n.0, n.1, o, low, high, e, f), omega (arith, ints, n.0, n.1, o, low, high, e, f))
 
--- the raise by the pair and the limit as the code has them
+-- the raise for the pair and the limit, as the code computes it
 pub raises : (old : List ℤ) (set : List Bool) (from to : EventId) (read limit : ℤ) (new : List ℤ) (which : Which) (row : Row) → from ≡ source which row → to ≡ target which row → read ≡ limit
     → RaisesPast old set from to read new → RaisesPast old set (source which row) (target which row) limit new
 raises old set from to read limit new which row f t e r =
@@ -64,7 +64,7 @@ raises old set from to read limit new which row f t e r =
 pub end_time : (end : ℤ) → IsEnd (Some end) → IsTime end
 end_time end h = (omega (arith, ints, h.0, h.1), omega (arith, ints, h.0, h.1))
 
--- the separation of a pair one of whose events is at 0
+-- the separation of a pair with one of its events at 0
 nearby_pair : (which : Which) (row : Row) (times : List ℤ) → time_of times row.from ≡ pos 0 → IsNearTime (time_of times row.to) → IsNearTime (separation times (source which row) (target which row))
 nearby_pair Max row times at_zero near = onward (time_of times row.from) (time_of times row.to) at_zero near
   where

@@ -12,11 +12,11 @@ use Rattle.settle_report.specs.Settle.{AnswersSettle, IsSettleText}
 use Rattle.settle_report.specs.Text.{ending_of, settle_text}
 
 module _ (drawn : Drawn) (cert : Bool) (finding : Finding) (found : List RowFound) (f : IsFinding cert drawn.net finding) (a : AreFound cert drawn.net drawn.rows finding found) where
-  -- the text tells what was found
+  -- the text reports what was found
   pub answers_settle : (answer : Answer) → answer ≡ answer_of (ending_of drawn.rows finding found) → AnswersSettle drawn cert answer (settle_text drawn cert finding found)
   answers_settle answer is = record { finding = finding; found = found; is_finding = f; are_found = a; is_text = refl; is_answer = is }
 
-  -- and a front of it begins it
+  -- and a front of the text begins it
   pub begins_settle : {B E : Type 0} (result : Result B E) (old new : SinkView) → CutShort old new (settle_text drawn cert finding found)
       → OnErr result ((text : List ℕ) × IsSettleText drawn cert text × CutShort old new text)
   begins_settle (Ok x) old new cut = tt

@@ -31,7 +31,7 @@ use Rattle.settle_report.specs.declared.row.RowFound.{RowFound}
 abbrev pub ProvesClaim : Bool → Net → EventId → EventId → ℤ → Proof → Type 0
 ProvesClaim cert net from to claim proof = (proof.claim ≡ claim) × (IsTrue cert → IsProofAs proof.view net from to claim proof.lines.items)
 
--- the printed times satisfy, with an event at 0
+-- the printed times satisfy the network, with an event at 0
 pub record ArePrintedTimes (net : Net) (origin : EventId) (times : List ℤ) : Type 0 where
   pub satisfied : Satisfies times net
   pub at_zero : time_of times origin ≡ pos 0
@@ -39,17 +39,17 @@ pub record ArePrintedTimes (net : Net) (origin : EventId) (times : List ℤ) : T
 
 -- ---- the finding
 
--- the times of the finding have event 0 at 0, and its proof is of event 0 and itself
+-- the times of the finding have event 0 at 0; its proof is about the pair of event 0 and itself
 abbrev pub first_event : EventId
 first_event = record { 0 = 0 }
 
--- no times satisfy, and where proofs are wanted the lines prove a claim below minus the far line
+-- no times satisfy; if proofs are wanted, the lines prove a claim below minus the far line
 pub record IsRefuted (cert : Bool) (net : Net) (proof : Proof) : Type 0 where
   pub none : IsInconsistent net
   pub low : proof.claim <ℤ neg_ℤ (pos (far_line net))
   pub proves : ProvesClaim cert net first_event first_event proof.claim proof
 
--- of a finding that was spent nothing is known
+-- a finding that was spent says nothing
 abbrev pub IsFinding : Bool → Net → Finding → Type 0
 IsFinding cert net (Consistent times) = ArePrintedTimes net first_event times.items
 IsFinding cert net (Inconsistent proof) = IsRefuted cert net proof
@@ -57,35 +57,35 @@ IsFinding cert net Spent = Unit {0}
 
 -- ---- a bound
 
--- the number is the greatest or the least separation of a row; where proofs are wanted the lines prove that no separation of the pair exceeds the
--- greatest one, or that none of the reversed pair exceeds minus the least one
+-- The number is the greatest or the least separation of a row. If proofs are wanted, the lines prove that no separation of the pair exceeds the
+-- greatest separation, or that no separation of the reversed pair exceeds minus the least separation.
 abbrev pub IsExtreme : Bool → Which → Net → Row → ℤ → Proof → Type 0
 IsExtreme cert Max net row value proof = IsGreatest net row.from row.to value × ProvesClaim cert net row.from row.to value proof
 IsExtreme cert Min net row value proof = IsLeast net row.from row.to value × ProvesClaim cert net row.to row.from (neg_ℤ value) proof
 
--- the set can be raised by any number: for a greatest separation with the to-event, and for a least one with the from-event
+-- the set can be raised by any number; it has the to-event for a greatest separation, and the from-event for a least separation
 abbrev pub CanRise : Which → Net → Row → List ℤ → List Bool → Type 0
 CanRise Max net row times set = IsRay net row.from row.to times set
 CanRise Min net row times set = IsRay net row.to row.from times set
 
--- the number is the bound, as the lines prove, and the printed times satisfy and attain it with the from-event at 0
+-- the number is the bound, and the lines prove it; the printed times satisfy and attain it, with the from-event at 0
 pub record IsNumber (cert : Bool) (net : Net) (which : Which) (row : Row) (value : ℤ) (times : List ℤ) (proof : Proof) : Type 0 where
   pub extreme : IsExtreme cert which net row value proof
   pub are_times : ArePrintedTimes net row.from times
   pub attained : separation times row.from row.to ≡ value
 
--- the printed times satisfy with the from-event at 0, and the set can be raised from them
+-- the printed times satisfy, with the from-event at 0, and the set can be raised from them
 pub record IsEndless (net : Net) (which : Which) (row : Row) (times : List ℤ) (set : List Bool) : Type 0 where
   pub are_times : ArePrintedTimes net row.from times
   pub raised : CanRise which net row times set
 
--- of a bound that was spent nothing is known
+-- a bound that was spent says nothing
 abbrev pub IsBound : Bool → Net → Which → Row → SettledBound → Type 0
 IsBound cert net which row (settled.Closed value times proof) = IsNumber cert net which row value times.items proof
 IsBound cert net which row (settled.Unbounded times ray) = IsEndless net which row times.items ray.items
 IsBound cert net which row settled.Spent = Unit {0}
 
--- the bound in a table of verdicts and slacks; a spent one is one of which nothing is known
+-- the bound as verdicts and slacks use it; of a spent bound nothing is known
 abbrev pub bound_of : SettledBound → Bound
 bound_of (settled.Closed value times proof) = bounds.Closed value
 bound_of (settled.Unbounded times ray) = bounds.Unbounded
@@ -96,19 +96,20 @@ bound_of settled.Spent = bounds.Within None None
 abbrev pub verdict_in : Ends → RowFound → Verdict
 verdict_in range found = verdict_of range (bound_of found.least) (bound_of found.greatest)
 
--- behind a verdict that is a fail stand printed times that satisfy with the from-event at 0, and break the end that it names; behind another none
+-- A fail is followed by printed times that satisfy, with the from-event at 0, and break the end that the verdict names. Another verdict is
+-- followed by no times.
 abbrev pub IsViolation : Net → Row → Ends → Verdict → List ℤ → Type 0
 IsViolation net row range verdicts.FailHigh past = ArePrintedTimes net row.from past × BreaksEnd row range verdicts.FailHigh past
 IsViolation net row range verdicts.FailLow past = ArePrintedTimes net row.from past × BreaksEnd row range verdicts.FailLow past
 IsViolation net row range verdicts.Pass past = past ≡ []
 IsViolation net row range verdicts.Undecided past = past ≡ []
 
--- of a row that only asks nothing is broken
+-- a row that only asks has no broken end, and no times
 abbrev pub IsPastOf : Net → Row → RowKind → RowFound → Type 0
 IsPastOf net row kinds.Ask found = found.past.items ≡ []
 IsPastOf net row (kinds.Req range) found = IsViolation net row range (verdict_in range found) found.past.items
 
--- what is found of a row: both of its bounds, and times that break it
+-- what is found of a row: both of its bounds, and times that break its requirement
 pub record IsRowFound (cert : Bool) (net : Net) (row : Row) (found : RowFound) : Type 0 where
   pub greatest : IsBound cert net Max row found.greatest
   pub least : IsBound cert net Min row found.least
@@ -121,7 +122,7 @@ AreRowsFound cert net [] (found ∷ others) = ⊥
 AreRowsFound cert net (row ∷ rows) [] = ⊥
 AreRowsFound cert net (row ∷ rows) (found ∷ others) = IsRowFound cert net row found × AreRowsFound cert net rows others
 
--- behind a consistent finding what is found of each row, and behind another nothing
+-- behind a consistent finding: what is found of each row; behind any other finding: nothing
 abbrev pub AreFound : Bool → Net → List Row → Finding → List RowFound → Type 0
 AreFound cert net rows (Consistent times) found = AreRowsFound cert net rows found
 AreFound cert net rows (Inconsistent proof) found = found ≡ []

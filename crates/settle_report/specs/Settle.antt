@@ -8,8 +8,8 @@ use Rattle.settle_report.specs.declared.row.RowFound.{RowFound}
 use Rattle.settle_report.specs.Answers.{AreFound, IsFinding}
 use Rattle.settle_report.specs.Text.{ending_of, settle_text}
 
--- The text tells what is found of the network and of each row, all of which is right, with proofs where they are wanted; the answer is by the word at
--- its end.
+-- The text reports what is found of the network and of each row. All of it is right, and it has proofs if they are wanted. The answer is the answer
+-- for the word at the end.
 pub record AnswersSettle (drawn : Drawn) (cert : Bool) (answer : Answer) (text : List ℕ) : Type 0 where
   pub finding : Finding
   pub found : List RowFound
@@ -18,6 +18,6 @@ pub record AnswersSettle (drawn : Drawn) (cert : Bool) (answer : Answer) (text :
   pub is_text : text ≡ settle_text drawn cert finding found
   pub is_answer : answer ≡ answer_of (ending_of drawn.rows finding found)
 
--- The text is one of the job. It is what may have been begun: all is found before anything is put, so a front of a whole text was.
+-- The text is a whole text of the job, of which a front may have been written: all is found before the first put.
 abbrev pub IsSettleText : Drawn → Bool → List ℕ → Type 0
 IsSettleText drawn cert text = (answer : Answer) × AnswersSettle drawn cert answer text

@@ -30,7 +30,7 @@ use Rattle.settle_report.specs.Answers.{bound_of, verdict_in}
 abbrev pub front_text : Drawn → List ℕ
 front_text drawn = ended (codes "itv settle 1") ++ report_text (event_lines drawn.names)
 
--- a proof, where proofs are wanted
+-- a proof, if proofs are wanted
 abbrev pub shown_text : Bool → Proof → List ℕ
 shown_text true proof = proof_text proof.view proof.claim (lines_of proof.lines.items)
 shown_text false proof = []
@@ -40,13 +40,13 @@ finding_text cert (Consistent times) = entry_text (line.finding findings.Consist
 finding_text cert (Inconsistent proof) = shown_text cert proof ++ entry_text (line.finding findings.Inconsistent)
 finding_text cert Spent = ended (line_of (codes "finding" ∷ codes "spent" ∷ []))
 
--- a bound: a number with its proof and times, or that there is none with times and the events that can be raised from them, or that it was spent
+-- A bound is a number with its proof and times; or it is unbounded, with times and the events that can be raised from them; or it was spent.
 abbrev pub bound_text : Bool → Which → SettledBound → List ℕ
 bound_text cert which (settled.Closed value times proof) = shown_text cert proof ++ (entry_text (line.bound which (bounds.Closed value)) ++ entry_text (line.times times.items))
 bound_text cert which (settled.Unbounded times ray) = entry_text (line.bound which bounds.Unbounded) ++ (entry_text (line.times times.items) ++ entry_text (line.raise ray.items))
 bound_text cert which settled.Spent = ended (line_of (which_word which ∷ codes "spent" ∷ []))
 
--- the verdict on a requirement, times that break it if it is a fail, and the slack; a row that only asks has none
+-- the verdict on a requirement, times that break it if it is a fail, and the slack; a row that only asks has no verdict
 abbrev pub judged_text : RowKind → RowFound → List ℕ
 judged_text kinds.Ask found = []
 judged_text (kinds.Req range) found =
@@ -54,25 +54,25 @@ judged_text (kinds.Req range) found =
     ++ ((if is_fail (verdict_in range found) then entry_text (line.times found.past.items) else [])
     ++ entry_text (line.slack (slack_of range (bound_of found.least) (bound_of found.greatest))))
 
--- a row of a number
+-- a row with its number
 abbrev pub row_text : Drawn → Bool → ℕ → Row → RowFound → List ℕ
 row_text drawn cert number row found =
     entry_text (line.row number row.kind (name_of drawn row.from) (name_of drawn row.to))
     ++ (bound_text cert Max found.greatest ++ (bound_text cert Min found.least ++ judged_text row.kind found))
 
--- rows, the first of which has a number
+-- rows; the first has a number
 abbrev pub rows_text : Drawn → Bool → ℕ → List Row → List RowFound → List ℕ
 rows_text drawn cert number [] found = []
 rows_text drawn cert number (row ∷ rows) [] = []
 rows_text drawn cert number (row ∷ rows) (found ∷ others) = row_text drawn cert number row found ++ rows_text drawn cert (number + 1) rows others
 
--- how many rows there are, and each of them; only behind a consistent finding
+-- behind a consistent finding the number of rows and each row; behind any other finding nothing
 abbrev pub behind_text : Drawn → Bool → Finding → List RowFound → List ℕ
 behind_text drawn cert (Consistent times) found = entry_text (line.rows (length drawn.rows)) ++ rows_text drawn cert 0 drawn.rows found
 behind_text drawn cert (Inconsistent proof) found = []
 behind_text drawn cert Spent found = []
 
--- what the rows so far and one more come to
+-- the tally of the rows so far and one more
 abbrev pub with_row : ReportTally → RowKind → RowFound → ReportTally
 with_row course kinds.Ask found = with_bounds course (bound_of found.least) (bound_of found.greatest)
 with_row course (kinds.Req range) found = with_verdict (with_bounds course (bound_of found.least) (bound_of found.greatest)) (verdict_in range found)
@@ -82,7 +82,7 @@ with_rows course [] found = course
 with_rows course (row ∷ rows) [] = course
 with_rows course (row ∷ rows) (found ∷ others) = with_rows (with_row course row.kind found) rows others
 
--- the word at the end, as a report of these bounds has it
+-- the word at the end, as a report with these bounds has it
 abbrev pub ending_of : List Row → Finding → List RowFound → EndWord
 ending_of rows (Consistent times) found = end_word (with_rows (course_of findings.Consistent) rows found)
 ending_of rows (Inconsistent proof) found = endings.Inconsistent

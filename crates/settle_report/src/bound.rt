@@ -6,18 +6,18 @@ ghost use Rattle.settle_report.specs.Answers.{bound_of};
 use crate::proof::Proof;
 use requirements::{BothBounds, Bound};
 
-/// What is found of a bound of a row. Times are in picoseconds, one per event, satisfy the network and have the from-event at 0.
+/// What is found of a bound of a row. The times are in picoseconds, one per event; they satisfy the network, with the from-event at 0.
 #[derive(Debug, Drop)]
 pub enum SettledBound {
-    /// The number of picoseconds, times that attain it, and what proves it.
+    /// The bound in picoseconds, times that attain it, and its proof.
     Closed(i64, Vec<i64>, Proof),
-    /// There is none: times, and for each event whether it can be raised from them without end.
+    /// There is no bound: times, and for each event whether it can be raised from them without end.
     Unbounded(Vec<i64>, Vec<bool>),
-    /// The turns were spent before it was known.
+    /// The turns were spent before the bound was known.
     Spent,
 }
 
-/// The bound as it is printed, and as verdicts and slacks are judged by it: of a spent one nothing is known.
+/// The bound as it is printed, and as verdicts and slacks use it; of a spent bound nothing is known.
 pub fn bound_of(found: &SettledBound) -> Bound
     ensures bound { result ≡ bound_of found.now }
 {
@@ -31,7 +31,7 @@ pub fn bound_of(found: &SettledBound) -> Bound
     }
 }
 
-/// Both bounds of a row, as verdicts and slacks are judged by them.
+/// Both bounds of a row, as verdicts and slacks use them.
 pub fn both_of(least: &SettledBound, greatest: &SettledBound) -> BothBounds
     ensures least { result.least ≡ bound_of least.now }
     ensures greatest { result.greatest ≡ bound_of greatest.now }

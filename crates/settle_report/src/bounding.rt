@@ -41,7 +41,7 @@ pub fn find_bound(
     Ok(bound_by(alloc, which, row, net, found, wanted.cert))
 }
 
-// The bound of a row, by what was found of the searched pair.
+// The bound of a row that the search of its pair gives.
 fn bound_by(
     alloc: Global,
     which: Which,
@@ -56,7 +56,7 @@ fn bound_by(
     ensures bound { IsBound cert net.now which row.now result }
     ensures nearby { HasNearby result }
 {
-    // The network is within its limits.
+    // The call also gives the invariant: the network is within its limits.
     let _events = net.events();
     let ShownAnswer {
         answer,
@@ -79,7 +79,7 @@ fn bound_by(
     }
 }
 
-// The number of a bound, by the greatest separation of the searched pair.
+// The number of the bound that the greatest separation of the searched pair gives.
 fn shown_by(which: Which, value: i64) -> i64
     requires value { IsTime value }
     ensures shown { result ≡ shown_by which value }

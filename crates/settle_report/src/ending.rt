@@ -16,7 +16,7 @@ use requirements::judge;
 use right_report::{is_fail, is_within};
 use slack_report::EndWord;
 
-/// The word at the end, by what was found of the network and of each row.
+/// The word at the end, for what was found of the network and of each row.
 pub fn ending_of(drawn: &DrawnNetwork, finding: &Finding, found: &[RowFound]) -> EndWord
     requires found { (cert : Bool) × AreFound cert drawn.now.net drawn.now.rows finding.now found.now }
     ensures word { result ≡ ending_of drawn.now.rows finding.now found.now }
@@ -28,14 +28,14 @@ pub fn ending_of(drawn: &DrawnNetwork, finding: &Finding, found: &[RowFound]) ->
     }
 }
 
-// What rows come to: whether some requirement is broken, and whether some bound was spent.
+// The tally of rows: whether some requirement is broken, and whether some bound was spent.
 #[derive(Clone, Copy, Debug)]
 struct Marks {
     fails: bool,
     within: bool,
 }
 
-// What all rows come to.
+// The tally of all rows.
 fn marks_of(drawn: &DrawnNetwork, found: &[RowFound]) -> Marks
     requires found { (cert : Bool) × AreRowsFound cert drawn.now.net drawn.now.rows found.now }
     ensures marks { with_rows (course_of FindingWord.Consistent) drawn.now.rows found.now
@@ -52,7 +52,7 @@ fn marks_of(drawn: &DrawnNetwork, found: &[RowFound]) -> Marks
     marks
 }
 
-// What the rows so far and one more come to.
+// The tally of the rows so far and one more.
 fn marked(marks: Marks, kind: RowKind, found: &RowFound) -> Marks
     ensures marks { with_row (record { found = FindingWord.Consistent; fails = marks.fails; within = marks.within }) kind found.now
         ≡ record { found = FindingWord.Consistent; fails = result.fails; within = result.within } }
@@ -75,7 +75,7 @@ fn either(first: bool, second: bool) -> bool
     first || second
 }
 
-// The word behind a consistent finding, by what the rows come to.
+// The word behind a consistent finding, for the tally of the rows.
 fn word_of(marks: Marks) -> EndWord
     ensures word { result ≡ end_word (record { found = FindingWord.Consistent; fails = marks.fails; within = marks.within }) }
 {

@@ -15,15 +15,15 @@ use std::alloc::Global;
 /// What is found of a network.
 #[derive(Debug, Drop)]
 pub enum Finding {
-    /// These times satisfy it, in picoseconds, one per event, with event 0 at 0.
+    /// These times satisfy the network, in picoseconds, one per event, with event 0 at 0.
     Consistent(Vec<i64>),
-    /// No times satisfy it.
+    /// No times satisfy the network.
     Inconsistent(Proof),
-    /// The turns were spent before that was known.
+    /// The turns were spent before the finding was known.
     Spent,
 }
 
-/// Looks for times that satisfy a network. The times of no events satisfy a network without events.
+/// Looks for times that satisfy a network. A network without events is satisfied by the empty list of times.
 pub fn find(
     alloc: Global,
     net: &Network,
@@ -41,13 +41,13 @@ pub fn find(
     Ok(finding_of(alloc, net, found, wanted.cert))
 }
 
-// What is found of a network with events by a search between event 0 and itself.
+// The finding of a network with events, from a search for the greatest separation of event 0 and itself.
 fn finding_of(alloc: Global, net: &Network, found: ShownAnswer, cert: bool) -> Finding
     requires events { 0 < net.now.events }
     requires found { (turns : ℕ) × IsFound net.now first_event first_event turns found }
     ensures finding { IsFinding cert net.now result }
 {
-    // The network is within its limits.
+    // The call also gives the invariant: the network is within its limits.
     let _events = net.events();
     let ShownAnswer {
         answer,

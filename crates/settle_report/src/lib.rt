@@ -1,6 +1,6 @@
 //! Job settle: from a drawn network and a number of turns to its exact bounds, whatever its choices.
-//! The contract of the crate: `write_settle` writes what is found of the network and of each of its rows, with proofs where they are
-//! wanted; where a put failed, a front of such a text.
+//! The contract of the crate: `write_settle` writes what is found of the network and of each of its rows, with proofs if they are wanted.
+//! If a put failed, a front of such a text was written.
 #![tactic(auto)]
 
 mod bound;

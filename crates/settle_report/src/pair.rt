@@ -1,4 +1,4 @@
-//! The pair of events whose greatest separation is searched for a bound of a row: for the least bound the reversed one.
+//! The pair of events whose greatest separation is searched for a bound of a row; for the least bound it is the reversed pair.
 
 ghost use Rattle.std.specs.Prelude.{◌≡◌};
 ghost use Rattle.settle_report.specs.Step.{source, target};

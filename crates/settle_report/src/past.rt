@@ -18,7 +18,7 @@ use requirements::{Verdict, judge, raise_past};
 use slack_report::Which;
 use std::alloc::Global;
 
-/// Times that break what is required of a row, where its bounds say that some do, and else none.
+/// Times that break the requirement of a row, if its bounds show that some do; otherwise no times.
 pub fn past_of(
     alloc: Global,
     row: &Row,
@@ -37,7 +37,7 @@ pub fn past_of(
     }
 }
 
-// The same for a range.
+// The same for the range of a requirement.
 fn past_range(
     alloc: Global,
     range: Range,
@@ -99,7 +99,7 @@ fn negated(end: i64) -> i64
     -end
 }
 
-// Times past a limit of the searched pair of a bound, which some separation exceeds.
+// Times past a limit on the separation of the searched pair of a bound; the bound shows that some separation exceeds the limit.
 fn past_limit(
     alloc: Global,
     which: Which,
@@ -114,7 +114,7 @@ fn past_limit(
     requires beyond { IsBeyond which found.now limit }
     ensures past { IfOk result (λ past. ArePast net.now which row.now limit past.items) }
 {
-    // The network is within its limits.
+    // The call also gives the invariant: the network is within its limits.
     let _events = net.events();
     match found {
         SettledBound::Closed(_, times, _) => copy_of(alloc, times),
@@ -136,7 +136,7 @@ fn copy_of(alloc: Global, times: &[i64]) -> Result<Vec<i64>, NoMemory>
     Ok(copy)
 }
 
-// Raises the set of events until the separation of the searched pair is past a limit, and takes the from-event back to 0.
+// Raises the set of events until the separation of the searched pair is past a limit, and then moves all times so that the from-event is at 0.
 fn raise(times: &mut [i64], set: &[bool], which: Which, limit: i64, row: &Row, net: &Network)
     requires net { IsNet net.now }
     requires limit { IsEnd (Some limit) }

@@ -15,17 +15,17 @@ use settle::StoredLine;
 use settle_lines::write_proof;
 use std::alloc::Global;
 
-/// What lines prove: that no satisfying separation of a pair exceeds the claim, in picoseconds.
+/// What the lines prove: no satisfying separation of a pair exceeds the claim, in picoseconds.
 #[derive(Debug, Drop)]
 pub struct Proof {
-    /// Whether the lines are a proof in the network or in its negation, where the pair is turned round.
+    /// Whether the lines are a proof in the network, or in its negation with the pair turned round.
     pub view: View,
     pub claim: i64,
-    /// Empty where no proofs are wanted.
+    /// Empty if no proofs are wanted.
     pub lines: Vec<StoredLine>,
 }
 
-/// The proof of a claim by lines of a view. Where no proofs are wanted the lines are let go.
+/// The proof of a claim by lines in a view. If no proofs are wanted, the lines are dropped.
 pub fn proof_of(
     alloc: Global,
     view: View,
@@ -50,7 +50,7 @@ pub fn proof_of(
     }
 }
 
-/// Puts a proof, where proofs are wanted.
+/// Puts a proof, if proofs are wanted.
 pub fn put_proof<K: Sink>(cert: bool, proof: &Proof, sink: &mut K) -> Result<(), PutFailed>
     ensures puts { Puts (K.told sink.old) (K.told sink.new) (shown_text cert proof.now) result }
 {

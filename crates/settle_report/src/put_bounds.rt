@@ -16,7 +16,7 @@ use line_words::LineBuffer;
 use requirements::Bound;
 use slack_report::{FindingWord, Item, Which, write_item};
 
-/// Puts the finding: with times that satisfy the network, or with the proof that none do, where proofs are wanted.
+/// Puts the finding, with times that satisfy the network or, if proofs are wanted, with the proof that none do.
 pub fn put_finding<K: Sink>(
     cert: bool,
     finding: &Finding,
@@ -38,7 +38,7 @@ pub fn put_finding<K: Sink>(
     }
 }
 
-/// Puts a bound: with its proof, where proofs are wanted, and with times.
+/// Puts a bound, with its proof if proofs are wanted, and with times.
 pub fn put_bound<K: Sink>(
     cert: bool,
     which: Which,
@@ -58,7 +58,7 @@ pub fn put_bound<K: Sink>(
     }
 }
 
-// A bound, and times that attain it.
+// Puts a bound, and times that attain it.
 fn put_number<K: Sink>(
     which: Which,
     bound: Bound,
@@ -72,7 +72,7 @@ fn put_number<K: Sink>(
     write_item(&Item::Times(times), buffer, sink)
 }
 
-// That there is no bound, times, and the events that can be raised from them.
+// Puts that there is no bound, times, and the events that can be raised from them.
 fn put_unbounded<K: Sink>(
     which: Which,
     times: &[i64],
@@ -89,7 +89,7 @@ fn put_unbounded<K: Sink>(
     write_item(&Item::Raise(ray), buffer, sink)
 }
 
-// That the turns were spent.
+// Puts that the turns were spent.
 fn put_spent<K: Sink>(which: Which, sink: &mut K) -> Result<(), PutFailed>
     ensures puts { Puts (K.told sink.old) (K.told sink.new) (ended (line_of (which_word which ∷ codes "spent" ∷ []))) result }
 {

@@ -22,7 +22,7 @@ use requirements::{Verdict, judge, slack};
 use right_report::is_fail;
 use slack_report::{Item, Which, write_item};
 
-/// Puts how many rows there are and what was found of each, behind a consistent finding; behind another one nothing.
+/// Behind a consistent finding, puts how many rows there are and what was found of each. Behind any other finding, puts nothing.
 pub fn put_behind<K: Sink>(
     drawn: &DrawnNetwork,
     cert: bool,
@@ -40,7 +40,7 @@ pub fn put_behind<K: Sink>(
     }
 }
 
-// How many rows there are, and what was found of each.
+// Puts how many rows there are, and what was found of each.
 fn put_rows<K: Sink>(
     drawn: &DrawnNetwork,
     cert: bool,
@@ -57,7 +57,7 @@ fn put_rows<K: Sink>(
     put_each(drawn, cert, found, buffer, sink)
 }
 
-// What was found of each row.
+// Puts what was found of each row.
 fn put_each<K: Sink>(
     drawn: &DrawnNetwork,
     cert: bool,
@@ -83,7 +83,7 @@ fn put_each<K: Sink>(
     Ok(())
 }
 
-// A row, its bounds and the verdict on it.
+// Puts a row, its bounds and the verdict on it.
 fn put_found<K: Sink>(
     number: u32,
     row: &Row,
@@ -104,7 +104,7 @@ fn put_found<K: Sink>(
     put_judged(row.kind, found, buffer, sink)
 }
 
-/// Puts the verdict on a requirement, with times that break it if it is a fail and the slack; an ask has none.
+/// Puts the verdict on a requirement, times that break it if it is a fail, and the slack. A row that only asks has no verdict.
 pub fn put_judged<K: Sink>(
     kind: RowKind,
     found: &RowFound,
@@ -121,7 +121,7 @@ pub fn put_judged<K: Sink>(
     }
 }
 
-// The verdict, times that break the requirement if it is a fail, and the slack.
+// Puts the verdict, times that break the requirement if it is a fail, and the slack.
 fn put_verdict<K: Sink>(
     range: Range,
     found: &RowFound,
@@ -139,7 +139,7 @@ fn put_verdict<K: Sink>(
     write_item(&Item::Slack(slack(range, &both)), buffer, sink)
 }
 
-// Behind a verdict that is a fail, times that break the requirement.
+// Puts times that break the requirement, if the verdict is a fail.
 fn put_past<K: Sink>(
     word: Verdict,
     past: &[i64],

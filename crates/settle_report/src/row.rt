@@ -7,6 +7,6 @@ use crate::bound::SettledBound;
 pub struct RowFound {
     pub greatest: SettledBound,
     pub least: SettledBound,
-    /// Times that break the requirement, in picoseconds, one per event, with the from-event at 0; none where it is not broken.
+    /// Times that break the requirement, in picoseconds, one per event, with the from-event at 0. Empty if no requirement is broken.
     pub past: Vec<i64>,
 }

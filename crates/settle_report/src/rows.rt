@@ -1,4 +1,4 @@
-//! Finding what is asked of all rows.
+//! Finding what the rows ask for.
 
 ghost use Rattle.std.specs.Prelude.{ℤ, List, IfOk};
 ghost use Rattle.event_graph.specs.Satisfying.{Satisfies};
@@ -19,7 +19,7 @@ use settle::Settler;
 use slack_report::Which;
 use std::alloc::Global;
 
-/// What is found of each row behind a finding: behind one that is not consistent nothing.
+/// What is found of each row behind a consistent finding; nothing behind any other finding.
 pub fn find_rows(
     alloc: Global,
     drawn: &DrawnNetwork,

@@ -1,4 +1,4 @@
-//! What is wanted of each search.
+//! How each search is to be made.
 
 /// How many turns each search may take, and whether its proof is printed.
 #[derive(Clone, Copy, Debug, PartialEq, Eq)]

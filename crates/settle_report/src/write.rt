@@ -23,7 +23,7 @@ use slack_report::{EndWord, Item, LINE_ROOM, write_item};
 use std::alloc::Global;
 
 /// Writes the exact bounds of a drawn network, whatever its choices: the events, whether some times satisfy the network, and both
-/// bounds of each of its rows, with verdict and slack of each requirement. Each search takes at most so many turns, and with `cert`
+/// bounds of each of its rows, with verdict and slack of each requirement. Each search takes at most this many turns, and with `cert`
 /// its proof is printed. All is found before the first put.
 pub fn write_settle<K: Sink>(
     alloc: Global,
@@ -61,7 +61,7 @@ fn find_network(
     Ok(NetworkFound { finding, rows })
 }
 
-// Puts the whole text. The answer is by the word at its end.
+// Puts the whole text. The word at its end gives the answer.
 fn put_found<K: Sink>(
     drawn: &DrawnNetwork,
     cert: bool,
@@ -79,7 +79,7 @@ fn put_found<K: Sink>(
     Ok(answer_of(word))
 }
 
-// Puts the whole text with the word at its end.
+// Puts the whole text, with the word at its end.
 fn put_text<K: Sink>(
     drawn: &DrawnNetwork,
     cert: bool,

@@ -1,4 +1,4 @@
--- Elements put at the end one by one, where no key stands before.
+-- Elements are put at the end one by one, each only if its key is new.
 use Rattle.std.proofs.Common.{◌≡◌, Bool, true, false, List, [], ◌∷◌, ◌++◌, map, Option, Some, None, Ok, Err, refl, ap, sym, ◌∙◌}
 use Rattle.std.specs.List.{list_any}
 use Rattle.std.proofs.lemmas.List.{append-nil, append_assoc, map_push}
@@ -36,6 +36,6 @@ module _ {X K : Type 0} (same : K → K → Bool) (key : X → K) (fault : X →
   unless-ok None all xs is = cc
   unless-ok (Some x) all xs is = cc
 
-  -- what is answered is all of them
+  -- the answer lists all of them
   pub with_distinct-ok : (done more all : List X) → with_distinct same key fault done more ≡ Ok all → all ≡ done ++ more
   with_distinct-ok done more all is = unless-ok _ all (done ++ more) is

@@ -20,7 +20,7 @@ in_range q a (suc n) from below =
     [ true ↦ λ _. refl | false ↦ λ other. let apart = eqb-false q a other in in_range q (a + 1) n (omega arith) (omega arith) ] is in
     here (eqb q a) refl
 
--- what passes a test is found among those that pass it
+-- an element that passes a test is found among the elements that pass it
 found_by : (p : ℕ → Bool) (q x : ℕ) (rest : List ℕ) (passes same : Bool) → p x ≡ passes → eqb q x ≡ same → p q ≡ true → (list_any (eqb q) rest ≡ true → list_any (eqb q) (filter p rest) ≡ true)
     → (same || list_any (eqb q) rest) ≡ true → list_any (eqb q) (cond passes (x ∷ filter p rest) (filter p rest)) ≡ true
 found_by p q x rest true true px is pq more found = rw is refl

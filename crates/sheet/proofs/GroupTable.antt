@@ -96,7 +96,7 @@ module _ (front : List SheetRule) (links : List Link) (all : List SheetRule) (pl
       )
 
   module _ (g : Group) (kind : kind_of g.kind ≡ link.label.kind) (cause : is_cause link.label.kind ≡ true) (target : g.target ≡ link.to) (tag : option_copied g.tag ≡ link.label.tag) where
-    -- the group's links are those that the link joins
+    -- the links of the group are the links that the link joins
     joins_group : (m : Link) → joins (group_link g) m ≡ joins link m
     joins_group m = rw (kind, target, tag)
 

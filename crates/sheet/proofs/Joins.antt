@@ -86,7 +86,7 @@ by_both false true f g = g refl
 pub joins-comm : (a b : Link) → joins a b ≡ joins b a
 joins-comm a b = by_both (joins a b) (joins b a) (joins-back a b) (joins-back b a)
 
--- no link joins one that is no cause
+-- no link joins a link that is no cause
 pub joins-no_cause : (a b : Link) → is_cause a.label.kind ≡ false → joins a b ≡ false
 joins-no_cause a b no_cause = by_false (joins a b) (joins-cause a b)
   where

@@ -5,7 +5,7 @@ use Rattle.std.specs.List.{list_any, position_from}
 use Rattle.std.proofs.lemmas.List.{drop_more, take_more}
 use Rattle.std.proofs.lemmas.Option.{get_or_from_slice_get, slice_get_within}
 
--- what is left of a list, of which the next element was read
+-- what is left of a list after its next element was read
 pub drop-read : {X : Type 0} (xs : List X) (k : ℕ) (x : X) → slice_get xs k ≡ Some x → drop k xs ≡ x ∷ drop (k + 1) xs
 drop-read xs k x read =
     let within : k < length xs = slice_get_within xs k x read in
@@ -43,7 +43,7 @@ pub list_any-none : {X : Type 0} (p : X → Bool) (xs : List X) → ((x : X) →
 list_any-none p [] none = refl
 list_any-none p (x ∷ xs) none = rw (none x) (list_any-none p xs none)
 
--- where all that fail a test are mapped to the same, and none passes it
+-- two maps that agree on each element that fails a test agree on a list of which no element passes it
 pub map_none : {X Y : Type 0} (f g : X → Y) (p : X → Bool) (xs : List X) → ((x : X) → p x ≡ false → g x ≡ f x) → list_any p xs ≡ false → map g xs ≡ map f xs
 map_none f g p [] same none = refl
 map_none f g p (x ∷ xs) same none =

@@ -1,11 +1,11 @@
--- A map that changes at the one element that passes a test.
+-- A map that changes only at the element that passes a test.
 use Rattle.std.proofs.Common.{◌≡◌, ℕ, ◌+◌, ◌<◌, Bool, true, false, cond, List, [], ◌∷◌, ◌++◌, length, map, set, get_or, Some, refl, sym, ◌∙◌, arith}
 use Rattle.std.specs.List.{list_any, position_from}
 use Rattle.std.proofs.lemmas.List.{append_assoc, length-append, length_push, set_at, get_or_at}
 use Rattle.std.proofs.lemmas.Option.{same_Some}
 use Rattle.sheet.proofs.Lists.{AtMostOne, map_none}
 
--- The elements of f stand behind others, and from f to g they change at this place alone, at the element that passes.
+-- The elements of f stand behind others. From f to g they change only at this place, where the element that passes stands.
 pub record ChangesAt {X Y : Type 0} (f g : X → Y) (p : X → Bool) (front : List Y) (xs : List X) (place : ℕ) : Type 0 where
   pub element : X
   pub passes : p element ≡ true

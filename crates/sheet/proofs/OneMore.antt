@@ -1,4 +1,4 @@
--- The rules of links with one link more: there is one rule more, or one cause more in a rule, or all is as it was.
+-- The rules of links with one link more: they have one rule more, or one rule has one cause more, or they stay the same.
 use Rattle.std.proofs.Common.{◌≡◌, ℕ, Bool, true, false, cond, List, [], ◌∷◌, ◌++◌, length, map, filter, Some, refl, ap, sym, ◌∙◌, ◌⊎◌, inl, inr}
 use Rattle.std.specs.Prelude.{nat_le}
 use Rattle.std.specs.List.{list_any, position_from}
@@ -58,7 +58,7 @@ count_by_kind links o Early cause = length-map (filter (joins o) links) source_o
 count_by_kind links o Req cause = cc
 count_by_kind links o Ask cause = cc
 
--- the rule of an opener is full where a link that joins it is
+-- the rule of an opener is full if and only if a link that joins the opener is full
 pub full-rule : (links : List Link) (link o : Link) → joins link o ≡ true → nat_le MAX_CAUSES (length (rule_for links o).causes) ≡ is_full links link
 full-rule links link o joined =
     ap (nat_le MAX_CAUSES) (count_by_kind links o o.label.kind (joins-cause o link (sym (joins-comm link o) ∙ joined))
@@ -80,7 +80,7 @@ rules_pushed links link =
 same_if_apart : (links : List Link) (link o : Link) → joins link o ≡ false → rule_for (links ++ link ∷ []) o ≡ rule_for links o
 same_if_apart links link o apart = rule_for-apart links link o (sym (joins-comm link o) ∙ apart)
 
--- a link that joins none of the links before leaves their rules as they were, and may open one
+-- a link that joins none of the links before it leaves their rules unchanged, and may open a rule
 rules_new : (links : List Link) (link : Link) → list_any (joins link) links ≡ false
     → link_rules (links ++ link ∷ []) ≡ link_rules links ++ cond (opens links link) (rule_for (links ++ link ∷ []) link ∷ []) []
 rules_new links link none =

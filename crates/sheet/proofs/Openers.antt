@@ -82,13 +82,13 @@ opens_by-cause before link Early e = refl
 opens_by-cause before link Req e = cc
 opens_by-cause before link Ask e = cc
 
--- a link that another one joins opens a rule where that one joins none before
+-- a link that another link joins opens a rule if and only if the other link joins no link before it
 pub opens-joined : (link l : Link) (before : List Link) → joins link l ≡ true → opens before l ≡ not (list_any (joins link) before)
 opens-joined link l before e =
     opens_by-cause before l l.label.kind (joins-cause l link (sym (joins-comm link l) ∙ e))
     ∙ ap not (list_any-same (joins l) (joins link) before (λ m. sym (joins-same link l m e)))
 
--- what a link joins of what another one opens
+-- a link joins what another link opens if and only if the other link opens a rule and the link joins the other link
 joined_of : (opened : Bool) (link l : Link) → list_any (joins link) (cond opened (l ∷ []) []) ≡ (opened && joins link l)
 joined_of true link l = or-false (joins link l)
 joined_of false link l = refl
@@ -105,7 +105,7 @@ any_openers link l before rest =
     list_any-append (joins link) (opening before l) (openers_from (before ++ l ∷ []) rest)
     ∙ ap (λ b. b || list_any (joins link) (openers_from (before ++ l ∷ []) rest)) (joined_of (opens before l) link l)
 
--- none where it joins one of the links before
+-- if the link joins one of the links before, it joins no opener among the rest
 openers_from-none : (link : Link) (before rest : List Link) → list_any (joins link) before ≡ true → list_any (joins link) (openers_from before rest) ≡ false
 openers_from-none link before [] stood = refl
 openers_from-none link before (l ∷ rest) stood =
@@ -118,7 +118,7 @@ some_step : (link l : Link) (before rest : List Link) (b : Bool) → joins link 
 some_step link l before rest true e new more = rw (opens-joined link l before e, new, e)
 some_step link l before rest false e new more = rw (e, and-false) (more (any_push link l before ∙ rw (new, e)))
 
--- and else one where it joins one of the rest
+-- otherwise it joins an opener among the rest if and only if it joins one of the rest
 openers_from-some : (link : Link) (before rest : List Link) → list_any (joins link) before ≡ false → list_any (joins link) (openers_from before rest) ≡ list_any (joins link) rest
 openers_from-some link before [] new = refl
 openers_from-some link before (l ∷ rest) new =

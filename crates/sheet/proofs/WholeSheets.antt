@@ -52,7 +52,7 @@ use Rattle.sheet.proofs.Lists.{filter-same}
 
 -- ---- lists and answers
 
--- what each answer to an element has, all answers have
+-- what holds of each answer to an element holds of all answers
 All-filter_map : {X Y : Type 0} (P : X → Type 0) (Q : Y → Type 0) (h : X → Option Y) → ((x : X) → P x → IfSome (h x) Q) → (xs : List X) → All P xs → All Q (filter_map h xs)
 All-filter_map P Q h gives [] all = All-nil Q
 All-filter_map {X} {Y} P Q h gives (x ∷ xs) all =
@@ -60,24 +60,24 @@ All-filter_map {X} {Y} P Q h gives (x ∷ xs) all =
     let rest : All Q (filter_map h xs) = All-filter_map P Q h gives xs (All-tail P x xs all) in
     elim (h x) as (λ (o : Option Y). IfSome o Q → All Q (cons_option o (filter_map h xs))) [ None ↦ λ _. rest | Some y ↦ λ q. All-cons Q y (filter_map h xs) q rest ] here
 
--- what the elements of each part have, all elements have
+-- what holds of the elements of each part holds of all elements
 All-flat_map : {X Y : Type 0} (P : X → Type 0) (Q : Y → Type 0) (f : X → List Y) → ((x : X) → P x → All Q (f x)) → (xs : List X) → All P xs → All Q (flat_map f xs)
 All-flat_map P Q f gives [] all = All-nil Q
 All-flat_map P Q f gives (x ∷ xs) all = All-append Q (f x) (flat_map f xs) (gives x (All-head P x xs all)) (All-flat_map P Q f gives xs (All-tail P x xs all))
 
--- a place that is found is one of the list
+-- a place that is found is a place of the list
 position_within : {X : Type 0} (p : X → Bool) (xs : List X) → IfSome (position p xs) (λ k. k < length xs)
 position_within p xs =
     cond_both (ltb (position_or_len p xs) (length xs)) (Some (position_or_len p xs)) None (λ o. IfSome o (λ k. k < length xs)) (ltb-true (position_or_len p xs) (length xs)) (λ _. tt)
 
 -- ---- the number of marks
 
--- a choice between a value and another answer is none only where it takes the other, and that is none
+-- a choice between a value and another answer gives none only if it takes the other answer, and the other answer is none
 cond_none : {X : Type 0} (test : Bool) (x : X) (other : Option X) → cond test (Some x) other ≡ None → (test ≡ false) × (other ≡ None)
 cond_none true x other h = absurd (cc)
 cond_none false x other h = (refl, h)
 
--- keys of which none is repeated are distinct
+-- keys are distinct if none is repeated
 distinct_keys : {X K : Type 0} {same : K → K → Bool} → IsEquivalence same → (key : X → K) (before : List K) (xs : List X) → IsDistinct same before
     → first_repeated same key before xs ≡ None → IsDistinct same (before ++ map key xs)
 distinct_keys laws key before [] distinct none = rw append-nil distinct
@@ -85,24 +85,24 @@ distinct_keys {same = same} laws key before (x ∷ xs) distinct none =
     let apart = cond_none (list_any (same (key x)) before) x (first_repeated same key (before ++ key x ∷ []) xs) none in
     rw (← append_assoc before (key x ∷ []) (map key xs)) (distinct_keys laws key (before ++ key x ∷ []) xs (IsDistinct-push laws before (key x) distinct apart.0) apart.1)
 
--- the name of the mark is a character that may be one
+-- the name of a mark is a character that may be a mark
 abbrev IsNamed : Mark → Type 0
 IsNamed mark = is_mark mark.name ≡ true
 
--- so is that of a mark at a place
+-- so is the name of a mark at a place
 mark_at_named : (number : ℕ) (lane : LaneText) (at : ℕ × ℕ) → IfSome (mark_at number lane at) IsNamed
 mark_at_named number lane at = cond_both (is_mark at.1) _ None (λ o. IfSome o IsNamed) (λ is. is) (λ _. tt)
 
--- so are those of the marks on a lane
+-- so are the names of the marks on a lane
 lane_marks_named : (lane : ℕ × LaneText) → All IsNamed (lane_marks lane)
 lane_marks_named lane =
     All-filter_map (λ _. Unit {0}) IsNamed (mark_at lane.0 lane.1) (λ at _. mark_at_named lane.0 lane.1 at) (enumerate_from 0 (node_of lane.1)) (λ _ _ _. tt)
 
--- and those on all lanes
+-- and the names of the marks on all lanes
 marks_of_named : (lanes : List LaneText) → All IsNamed (marks_of lanes)
 marks_of_named lanes = All-flat_map (λ _. Unit {0}) IsNamed lane_marks (λ lane _. lane_marks_named lane) (enumerate_from 0 lanes) (λ _ _ _. tt)
 
--- marks of which none is repeated are few
+-- marks are few if none is repeated
 length-marks : (lanes : List LaneText) → first_repeated nat_eq (λ mark. mark.name) [] (marks_of lanes) ≡ None → length (marks_of lanes) ≤ MAX_MARKS
 unfolding IsDistinct
 length-marks lanes none =
@@ -110,12 +110,12 @@ length-marks lanes none =
     let named : All (λ b. is_mark b ≡ true) (map (λ (mark : Mark). mark.name) (marks_of lanes)) = All-map (λ b. is_mark b ≡ true) (λ (mark : Mark). mark.name) (marks_of lanes) (marks_of_named lanes) in
     rw (length-map (marks_of lanes) (λ (mark : Mark). mark.name)) at (few_marks _ distinct named)
 
--- what is read of the lanes are their marks, of which there are few
+-- the marks that are read are the marks of the lanes, and there are few
 record IsMarksOf (lanes : List LaneText) (marks : List Mark) : Type 0 where
   whole : marks ≡ marks_of lanes
   few : length marks ≤ MAX_MARKS
 
--- the marks that are read are those of the lanes
+-- the marks that are read are the marks of the lanes
 read_marks_whole : (lanes : List LaneText) → IfOk (read_marks lanes) (IsMarksOf lanes)
 unfolding read_marks
 read_marks_whole lanes =
@@ -137,7 +137,7 @@ pub record IsWholeLink (marks : ℕ) (link : Link) : Type 0 where
   pub shift : link.label.shift ≤ MAX_SHIFT
   pub range : IsRange (range_of link.label)
 
--- a label that looks back no more cycles than it may, with ends that are a range
+-- a label that looks back no more cycles than it may, with two ends that are a range
 record IsWholeLabel (label : LooseLabel Ends) : Type 0 where
   shift : label.shift ≤ MAX_SHIFT
   range : IsRange (range_of label)
@@ -195,7 +195,7 @@ link_to_whole n marks label (Some a) None from to whole in_a in_b = tt
 link_to_whole n marks label (Some a) (Some b) from to whole in_a in_b =
     record { from = in_a; to = in_b; shift = whole.shift; range = whole.range }
 
--- the number of a mark is below that of all marks
+-- the number of a mark is below the number of marks
 number_within : (marks : List Mark) (name : ℕ) → IfSome (number_of marks name) (λ k. k < length marks)
 number_within marks name = position_within (λ mark. mark.name == name) marks
 
@@ -219,7 +219,7 @@ link_of_whole labels whole marks n text = seen_link_whole labels whole marks n (
 
 -- ---- how many causes
 
--- no more links than a rule may have causes join any one
+-- each link joins at most as many links as a rule may have causes
 abbrev pub AreFew : List Link → Type 0
 AreFew links = (o : Link) → length (filter (joins o) links) ≤ MAX_CAUSES
 
@@ -235,7 +235,7 @@ few_push done link few room o =
     let both : filter (joins o) (done ++ link ∷ []) ≡ filter (joins o) done ++ cond (joins o link) (link ∷ []) [] = filter-append (joins o) done (link ∷ []) in
     rw both (omega (arith, length-append (filter (joins o) done) (cond (joins o link) (link ∷ []) []), few_joined done link o (joins o link) refl few room))
 
--- links between marks that are there, of which few join any one
+-- links between marks that are there; each link joins few of them
 pub record AreWhole (marks : ℕ) (links : List Link) : Type 0 where
   pub all : All (IsWholeLink marks) links
   pub few : AreFew links
@@ -243,7 +243,7 @@ pub record AreWhole (marks : ℕ) (links : List Link) : Type 0 where
 pub AreWhole-none : (marks : ℕ) → AreWhole marks []
 AreWhole-none marks = record { all = All-nil (IsWholeLink marks); few = λ o. omega arith }
 
--- they stay so with one link more
+-- both still hold with one link more
 pub with_link_whole : (marks n : ℕ) (done : List Link) (link : Option Link) → AreWhole marks done → IfSome link (IsWholeLink marks) → IfOk (with_link n done link) (AreWhole marks)
 with_link_whole marks n done None whole h = whole
 with_link_whole marks n done (Some link) whole h =
@@ -259,7 +259,7 @@ with_edge_whole labels are marks n done text whole =
 links_of_whole : (labels : Labels) → AreWholeLabels labels → (marks : List Mark) (edges : List (List ℕ)) → IfOk (links_of labels marks edges) (AreWhole (length marks))
 links_of_whole labels are marks edges = IfOk-walk (AreWhole (length marks)) (with_edge labels marks) (with_edge_whole labels are marks) 0 [] edges (AreWhole-none (length marks))
 
--- a cause among links joins one at least: itself
+-- a cause among links joins at least one: itself
 some_joined : (before rest : List Link) (link : Link) → is_cause link.label.kind ≡ true → 1 ≤ length (filter (joins link) (before ++ link ∷ rest))
 some_joined before rest link cause =
     let both : filter (joins link) (before ++ link ∷ rest) ≡ filter (joins link) before ++ cond (joins link link) (link ∷ filter (joins link) rest) (filter (joins link) rest) = filter-append (joins link) before (link ∷ rest) in
@@ -369,7 +369,7 @@ order_of_whole marks origin first count h =
 abbrev IsNumberedWithin : ℕ → NumberedLane → Type 0
 IsNumberedWithin marks l = l.first + l.count ≤ marks
 
--- the marks of the lanes from one on are there, where those before and those on them are
+-- the marks of the lanes from one on are there, if all marks before them and on them are
 numbered_within : (marks number first : ℕ) (lanes : List LaneText) → first + length (flat_map lane_marks (enumerate_from number lanes)) ≤ marks
     → All (IsNumberedWithin marks) (numbered_from number first lanes)
 numbered_within marks number first [] h = All-nil (IsNumberedWithin marks)
@@ -434,7 +434,7 @@ sheet_of_whole labels are drawing =
 pub sheet_whole : (labels : Labels) → AreWholeLabels labels → (drawing : Drawing) (sheet : SheetContents) → sheet_of labels drawing ≡ Ok sheet → IsWhole sheet
 sheet_whole labels are drawing sheet is = IfOk-at_ok IsWhole is (sheet_of_whole labels are drawing)
 
--- the grade of a name among those that give ranges gives ranges
+-- if each grade gives ranges, the grade with a name gives ranges
 pub grade_named_whole : (grades : List Grade) (name : Option (List ℕ)) → AreRanges grades → IfOk (grade_named grades name) (λ grade. IfSome grade HasRanges)
 grade_named_whole grades None whole = tt
 grade_named_whole grades (Some name) whole = found (grade_called grades name) (grade_called_whole grades name whole)

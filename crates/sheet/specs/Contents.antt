@@ -5,9 +5,9 @@ use Rattle.sheet.specs.declared.pin.Pin.{Pin}
 use Rattle.sheet.specs.declared.row.SheetRow.{SheetRow}
 use Rattle.sheet.specs.Rule.{SheetRule}
 
--- the marks lane by lane and then by place, the pins, the rules in the order of their constraints, the rows in the order of their
--- edges, the texts of the edges in order, as they are written, comments among them, and the keys of the drawing's tree that are passed
--- over and nearly are keys which are read
+-- the marks lane by lane and then by place; the pins; the rules in the order of their constraints; the rows in the order of their edges;
+-- the texts of the edges in order, as they are written, with the comments; and the near keys of the drawing's tree, which are passed over
+-- and nearly are keys that are read
 pub record SheetContents : Type 0 where
   pub marks : List Mark
   pub pins : List Pin

@@ -5,7 +5,7 @@ use Rattle.sheet.specs.declared.fault.SheetFault.TheVariants.{BadNode, DoubleMar
 use Rattle.sheet.specs.declared.groups.GroupFault.{GroupFault}
 use Rattle.sheet.specs.declared.groups.GroupFault.TheVariants as group
 
--- memory was wanted and not found, which says nothing of the drawing
+-- memory was wanted and not found; this says nothing of the drawing
 abbrev pub is_memory : SheetFault → Bool
 is_memory (BadNode lane) = false
 is_memory (DoubleMark mark) = false
@@ -18,7 +18,7 @@ is_memory NoGrade = false
 is_memory (NoParam n) = false
 is_memory NoMemory = true
 
--- the fault of an edge that is one cause too many of its group
+-- the fault of a group as a fault of a drawing
 abbrev pub sheet_fault : GroupFault → SheetFault
 sheet_fault (group.TooManyCauses n) = TooManyCauses n
 sheet_fault group.NoMemory = NoMemory

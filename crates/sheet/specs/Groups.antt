@@ -36,7 +36,7 @@ abbrev pub openers_from : List Link → List Link → List Link
 openers_from before [] = []
 openers_from before (link ∷ links) = cond (opens before link) (link ∷ []) [] ++ openers_from (before ++ link ∷ []) links
 
--- those that open a rule
+-- the links that open a rule
 abbrev pub openers : List Link → List Link
 openers links = openers_from [] links
 
@@ -57,7 +57,7 @@ kind_of rules.Lin = Lin
 kind_of rules.Late = Late
 kind_of rules.Early = Early
 
--- some link of a group
+-- a link that stands for a group: it has the group's kind, target and tag
 abbrev pub group_link : Group → Link
 group_link group = record {
   from = 0;
@@ -66,11 +66,11 @@ group_link group = record {
   label = record { kind = kind_of group.kind; shift = 0; tag = option_copied group.tag; ends = None; note = None };
 }
 
--- each place is that of one of so many rules
+-- each place is less than the number of rules
 abbrev pub ArePlaces : Places → ℕ → Type 0
 ArePlaces places count = (group : Group) → IfSome (place_of places group) (λ place. place < count)
 
--- Behind others stand the rules of the links, and the table has the place of the rule that each group opened.
+-- The rules of the links stand behind other rules. The table has, for each group, the place of the rule that the group opened.
 pub record RepresentsRules (front : List SheetRule) (links : List Link) (all : List SheetRule) (places : Places) : Type 0 where
   pub stand : all ≡ front ++ link_rules links
   pub found : (group : Group) → place_of places group ≡ position_from (joins (group_link group)) (length front) (openers links)
@@ -80,7 +80,7 @@ abbrev pub TellsFull : ℕ → Bool → GroupFault → Type 0
 TellsFull n full (TooManyCauses m) = (m ≡ n) × (full ≡ true)
 TellsFull n full NoMemory = Unit {0}
 
--- what is answered to one link more, of edge n, and what stands then
+-- the answer to one more link, the link of edge n, and the rules and the table behind it
 abbrev pub AddsLink : List SheetRule → List Link → ℕ → Link → Result ⊤ GroupFault → List SheetRule → Places → Type 0
 AddsLink front links n link (Ok x) all places = (is_full links link ≡ false) × RepresentsRules front (links ++ link ∷ []) all places
 AddsLink front links n link (Err fault) all places = TellsFull n (is_full links link) fault

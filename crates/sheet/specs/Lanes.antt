@@ -17,7 +17,7 @@ use Rattle.sheet.specs.Rule.{SheetRule}
 
 -- ---- marks
 
--- A full stop, a space or a mark. These are ASCII, so in a node of these alone the places of bytes are those of characters.
+-- A full stop, a space or a mark. These are ASCII, so in a node that has only these the places of bytes are the places of characters.
 abbrev pub is_node_byte : ℕ → Bool
 is_node_byte b = b == 32 || is_ascii_graphic b
 
@@ -27,7 +27,7 @@ node_of lane = unwrap_or lane.node []
 abbrev pub has_bad_node : LaneText → Bool
 has_bad_node lane = not (list_all is_node_byte (node_of lane))
 
--- what a lane's wave draws at a place; without a wave nothing
+-- what a lane's wave draws at a place; nothing if the lane has no wave
 abbrev pub drawn_kind : Option (List ℕ) → ℕ → MarkKind
 drawn_kind None place = Bare
 drawn_kind (Some wave) place = kind_of (chars wave) place
@@ -53,7 +53,7 @@ pub record NumberedLane : Type 0 where
   pub first : ℕ
   pub count : ℕ
 
--- the lanes from one on, of which the first has this number and this many marks before it
+-- the lanes from a number on: the first has this number, and this many marks stand before it
 abbrev pub numbered_from : ℕ → ℕ → List LaneText → List NumberedLane
 numbered_from number first [] = []
 numbered_from number first (lane ∷ lanes) =
@@ -80,13 +80,13 @@ abbrev pub follows_rule : Origin → ℕ → ℕ → ℕ → SheetRule
 follows_rule origin from to shift =
     record { kind = Lin; target = to; causes = record { mark = from; shift = shift; range = record { low = Some (pos 0); high = None }; origin = origin } ∷ [] }
 
--- each mark and the next, and then the last mark and the first one of the next cycle, also where they are one mark
+-- each mark and the next, and then the last mark and the first mark of the next cycle, even if the lane has only one mark
 abbrev pub order_of : Origin → ℕ → ℕ → List SheetRule
 order_of origin first count =
     if count == 0 then []
     else map (λ k. follows_rule origin k (k + 1) 0) (range_with_len first (count - 1)) ++ follows_rule origin (first + count - 1) first 1 ∷ []
 
--- a lane with a name and a wave is in order, and draws the rules of that
+-- a lane with a name and a wave is in order, and draws the rules of its order
 abbrev pub order_named : NumberedLane → Option (List ℕ) → Option (List ℕ) → List SheetRule
 order_named l (Some name) (Some wave) = order_of (Lane l.number) l.first l.count
 order_named l name wave = []
@@ -99,7 +99,7 @@ order_rules lanes = flat_map lane_order (numbered lanes)
 
 -- ---- what stands twice
 
--- the first element whose key is that of an element before it
+-- the first element whose key an earlier element has
 abbrev pub first_repeated : {X K : Type 0} → (K → K → Bool) → (X → K) → List K → List X → Option X
 first_repeated same key before [] = None
 first_repeated same key before (x ∷ xs) = if list_any (same (key x)) before then Some x else first_repeated same key (before ++ key x ∷ []) xs

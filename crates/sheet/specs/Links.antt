@@ -28,17 +28,17 @@ use Rattle.sheet.specs.Rule.{SheetRule}
 
 -- ---- labels
 
--- How the labels of a sheet are read: those of version 1, or those of version 2, whose parameters a grade gives, if there is one.
+-- How the labels of a sheet are read: as in version 1, or as in version 2, where a grade, if there is one, gives the ranges of parameters.
 pub data Labels : Type 0 where
   plain : Labels
   graded : Option Grade → Labels
 
--- a label that was read, or its fault as that of edge n
+-- a label that was read, or its fault as a fault of edge n
 abbrev pub told : {E : Type 0} → ℕ → Result (LooseLabel E) LabelFault → Result (LooseLabel E) SheetFault
 told n (Ok label) = Ok label
 told n (Err fault) = Err (Label n fault)
 
--- the ends of a span of edge n; those of a parameter are the range that the grade gives for it
+-- the ends of a span of edge n; the ends of a parameter are the range that the grade gives for it
 abbrev pub span_ends : ℕ → Option Grade → Option Span → Result (Option Ends) SheetFault
 span_ends n grade None = Ok None
 span_ends n grade (Some (fixed ends)) = Ok (Some ends)
@@ -132,8 +132,8 @@ source_of link = record { mark = link.from; shift = link.label.shift; range = un
 abbrev pub group_rule : RuleKind → List Link → Link → SheetRule
 group_rule kind links link = record { kind = kind; target = link.to; causes = map source_of (filter (joins link) links) }
 
--- The rule that a link opens among all links, with the links before it: a linear link opens one of its own, and a cause opens
--- one where no earlier link joins it, with all causes that join it in order.
+-- The rule that a link opens among all links, with the links before it. A linear link opens a rule of its own. A cause opens a rule if
+-- no earlier link joins it; the rule has all causes that join it, in order.
 abbrev pub rule_opened : List Link → List Link → Link → Kind → Option SheetRule
 rule_opened links before link Lin = Some (record { kind = rules.Lin; target = link.to; causes = source_of link ∷ [] })
 rule_opened links before link Late = if list_any (joins link) before then None else Some (group_rule rules.Late links link)

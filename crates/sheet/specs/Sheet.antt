@@ -14,17 +14,17 @@ use Rattle.sheet.specs.Contents.{SheetContents}
 use Rattle.sheet.specs.Lanes.{has_bad_node, marks_of, pins_of, order_rules, first_repeated}
 use Rattle.sheet.specs.Links.{Labels, plain, graded, links_of, link_rules, link_rows}
 
--- the marks of the lanes; else the first lane with a bad node, or the first mark that stands before
+-- the marks of the lanes; or else the first lane with a bad node; or else the first mark that repeats an earlier mark
 unfoldable pub read_marks : List LaneText → Result (List Mark) SheetFault
 read_marks lanes = do
   lanes' ← unless (position has_bad_node lanes) BadNode lanes
   unless (first_repeated nat_eq (λ mark. mark.name) [] (marks_of lanes')) (λ mark. DoubleMark mark.name) (marks_of lanes')
 
--- the pins of the lanes; else the lane of the first pin with the name of an earlier one
+-- the pins of the lanes; or else the lane of the first pin that has the name of an earlier pin
 unfoldable pub read_pins : List LaneText → Result (List Pin) SheetFault
 read_pins lanes = unless (first_repeated bytes_eq (λ pin. pin.name) [] (pins_of lanes)) (λ pin. DoublePin pin.lane) (pins_of lanes)
 
--- the sheet of a drawing, whose labels are read so
+-- the sheet of a drawing, with its labels read in this way
 unfoldable pub sheet_of : Labels → Drawing → Result SheetContents SheetFault
 sheet_of labels drawing = do
   marks ← read_marks drawing.lanes
@@ -44,11 +44,11 @@ abbrev pub grade_named : List Grade → Option (List ℕ) → Result (Option Gra
 grade_named grades None = Ok None
 grade_named grades (Some name) = ok_or (option_map (λ grade. Some grade) (grade_called grades name)) NoGrade
 
--- The sheet of a drawing at a grade or at none, where its labels are those of version 2. A grade that is not there is told first.
+-- The sheet of a drawing of version 2 at a grade or at none. A named grade that is not there is the first fault.
 unfoldable pub sheet_at : List Grade → Option (List ℕ) → Drawing → Result SheetContents SheetFault
 sheet_at grades name drawing = grade_named grades name >>= λ grade. sheet_of (graded grade) drawing
 
--- the sheet of a drawing in version 1, where there are no grades, and in version 2 at a grade of these or at none
+-- the sheet of a drawing in version 1, where there are no grades, or in version 2 at one of these grades or at none
 abbrev pub sheet_by : Option (List Grade) → Option (List ℕ) → Drawing → Result SheetContents SheetFault
 sheet_by None name drawing = sheet_of plain drawing
 sheet_by (Some grades) name drawing = sheet_at grades name drawing

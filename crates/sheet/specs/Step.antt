@@ -27,14 +27,14 @@ use Rattle.sheet.specs.Groups.{TellsFull}
 use Rattle.sheet.specs.Links.{Labels, plain, graded, Link, link_rules, link_rows}
 use Rattle.sheet.specs.Rule.{SheetRule}
 
--- elements with more behind them, or the fault of the first one whose key stood before
+-- elements with more behind them, or the fault of the first element whose key an earlier element has
 abbrev pub with_distinct : {X K : Type 0} → (K → K → Bool) → (X → K) → (X → SheetFault) → List X → List X → Result (List X) SheetFault
 with_distinct same key fault done more = unless (first_repeated same key (map key done) more) fault (done ++ more)
 
 abbrev pub with_marks : List Mark → List Mark → Result (List Mark) SheetFault
 with_marks = with_distinct nat_eq (λ mark. mark.name) (λ mark. DoubleMark mark.name)
 
--- no mark stands twice, and each is a character that may be one
+-- no mark stands twice, and each is a character that may be a mark
 pub record AreMarks (marks : List Mark) : Type 0 where
   pub distinct : IsDistinct nat_eq (map (λ mark. mark.name) marks)
   pub named : All (λ mark. is_mark mark.name ≡ true) marks
@@ -46,7 +46,7 @@ with_pins = with_distinct bytes_eq (λ pin. pin.name) (λ pin. DoublePin pin.lan
 abbrev pub span_of : NumberedLane → LaneSpan
 span_of l = record { first = l.first; count = l.count }
 
--- those of each lane, by number
+-- the marks of each lane, by the lane's number
 abbrev pub spans_of : List LaneText → List LaneSpan
 spans_of lanes = map span_of (numbered lanes)
 
@@ -69,7 +69,7 @@ abbrev pub labels_view : code_labels.Labels → Labels
 labels_view Plain = plain
 labels_view (Graded grade) = graded (option_copied grade)
 
--- latest and earliest edges are causes, those of one kind with one target and one tag of one constraint
+-- latest and earliest edges are causes; causes of one kind, one target and one tag belong to one constraint
 abbrev pub is_cause : Kind → Bool
 is_cause Lin = false
 is_cause Late = true
@@ -77,12 +77,12 @@ is_cause Early = true
 is_cause Req = false
 is_cause Ask = false
 
--- what is answered to one cause more for a rule, that of edge n, and what the rule is then
+-- the answer to one more cause of a rule, the cause of edge n, and the rule behind it
 abbrev pub AddsCause : SheetRule → ℕ → Source → Result ⊤ GroupFault → SheetRule → Type 0
 AddsCause old n cause (Ok x) new = (nat_le MAX_CAUSES (length old.causes) ≡ false) × (new ≡ record old { causes = old.causes ++ cause ∷ [] })
 AddsCause old n cause (Err fault) new = TellsFull n (nat_le MAX_CAUSES (length old.causes)) fault
 
--- a grade whose parameters are ranges gives the labels theirs, if there is one
+-- if there is a grade, its parameters are ranges
 abbrev pub AreWholeLabels : Labels → Type 0
 AreWholeLabels plain = Unit {0}
 AreWholeLabels (graded grade) = IfSome grade HasRanges

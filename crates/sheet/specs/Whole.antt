@@ -16,7 +16,7 @@ use Rattle.sheet.specs.Links.{Labels, plain, graded}
 use Rattle.sheet.specs.Rule.{SheetRule}
 use Rattle.sheet.specs.Contents.{SheetContents}
 
--- how many causes a rule of a kind may have: a linear one its from-mark, and the others some
+-- how many causes a rule of a kind may have: a linear rule has one, its from-mark; the others have 1 to `MAX_CAUSES`
 abbrev pub IsCauseCount : RuleKind → ℕ → Type 0
 IsCauseCount rules.Lin count = count ≡ 1
 IsCauseCount rules.Late count = (1 ≤ count) × (count ≤ MAX_CAUSES)
@@ -46,7 +46,7 @@ pub record IsWholeRow (marks : ℕ) (row : SheetRow) : Type 0 where
   pub shift : row.shift ≤ MAX_SHIFT
   pub kind : IsWholeKind row.kind
 
--- there are few marks, those of each pin are among them, and rules and rows are between them
+-- there are few marks; the marks of each pin are among them; rules and rows are between them
 pub record IsWhole (sheet : SheetContents) : Type 0 where
   pub marks : length sheet.marks ≤ MAX_MARKS
   pub pins : All (λ (pin : Pin). (1 ≤ pin.count) × (pin.first + pin.count ≤ length sheet.marks)) sheet.pins

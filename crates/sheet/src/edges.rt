@@ -24,9 +24,9 @@ pub struct EdgeRules {
     pub rows: SheetRows,
 }
 
-/// The rules of the edges, behind those that are given, and the rows of the edges; or the first fault of an edge.
+/// The rules of the edges, behind the given rules, and the rows of the edges; or the first fault of an edge.
 ///
-/// The edges are read once. Where a cause belongs is looked up in a table that has the place of the rule of each group.
+/// The edges are read once. A table gives the place of the rule of each group; it says where a cause belongs.
 pub fn read_edges(
     alloc: Global,
     labels: Labels<'_>,

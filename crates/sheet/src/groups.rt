@@ -1,4 +1,4 @@
-//! Groups of causes: those of one kind with one target and one tag are the causes of one rule.
+//! Groups of causes: causes of one kind, one target and one tag are the causes of one rule.
 
 ghost use Rattle.std.specs.Prelude.{◌≡◌, ◌++◌, ◌∷◌, [], List, length, if◌then◌else◌, true, Some, None, OnOk};
 ghost use Rattle.sheet.specs.Groups.{AddsLink, ArePlaces, RepresentsRules, kind_of, place_of, same_group};
@@ -49,8 +49,9 @@ impl From<OutOfMemory> for GroupFault {
 /// Where the rule of each group stands among the rules.
 pub type Places<'a> = HashMap<Group<'a>, usize>;
 
-/// Puts the link of edge n into the rules: a linear one as a rule of its own, a cause into the rule of its group, which it opens
-/// where it is the first. A link that is a row changes nothing. After a fault neither the rules nor the table is to be used.
+/// Puts the link of edge n into the rules. A linear link becomes a rule of its own. A cause goes into the rule of its group, or opens
+/// that rule if it is the group's first cause. A link that is a row changes nothing. After a fault neither the rules nor the table is
+/// to be used.
 pub fn push_link<'a>(
     alloc: Global,
     rules: &mut Vec<Rule>,
@@ -122,7 +123,7 @@ fn push_rule(
     Ok(())
 }
 
-// Puts the cause of edge n at the end of those of a rule.
+// Puts the cause of edge n at the end of the causes of a rule.
 fn push_cause(rule: &mut Rule, n: u64, cause: Source) -> Result<(), GroupFault>
     ensures { AddsCause rule.old n cause result rule.new }
 {

@@ -17,9 +17,9 @@ use label_grammar::{Label, Span, read_label, read_label2};
 /// How the labels of a sheet are read.
 #[derive(Clone, Copy)]
 pub enum Labels<'a> {
-    /// In version 1: each tells its range itself.
+    /// In version 1: each label gives its range itself.
     Plain,
-    /// In version 2: one that names a parameter has the range that the grade gives, if there is one.
+    /// In version 2: a label that names a parameter has the range that the grade gives, if there is one.
     Graded(Option<&'a Grade>),
 }
 
@@ -43,7 +43,7 @@ fn read_plain<'a>(n: u64, text: &'a str) -> Result<Label<'a>, SheetFault>
     }
 }
 
-// The label of edge n in version 2, with the range that a grade gives for the parameter that it names.
+// The label of edge n in version 2. If it names a parameter, the grade gives its range.
 fn read_graded<'a>(grade: Option<&Grade>, n: u64, text: &'a str) -> Result<Label<'a>, SheetFault>
     ensures { AgreesWith is_memory label_view result (label_in (graded (option_copied grade.entry)) n text.now) }
 {
@@ -62,7 +62,7 @@ fn read_graded<'a>(grade: Option<&Grade>, n: u64, text: &'a str) -> Result<Label
     })
 }
 
-// The range that edge n tells, if it tells one.
+// The range that edge n gives, if it gives one.
 fn span_range(
     grade: Option<&Grade>,
     n: u64,

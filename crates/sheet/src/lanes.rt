@@ -15,21 +15,21 @@ use std::alloc::Global;
 use wave_string::{MarkKind, kind_at};
 use wavejson::{LaneText, Lanes};
 
-/// Which marks of a sheet stand on a lane: those from number `first` on, `count` of them.
+/// Which marks of a sheet stand on a lane: `count` marks from number `first` on.
 #[derive(Clone, Copy, Debug, PartialEq, Eq)]
 pub struct LaneSpan {
     pub first: u32,
     pub count: u32,
 }
 
-/// The marks of a drawing, and where those of each lane stand among them.
+/// The marks of a drawing, and which of them stand on each lane.
 #[derive(Debug, Drop)]
 pub struct LaneMarks {
     pub marks: Marks,
     pub spans: Vec<LaneSpan>,
 }
 
-/// The marks of all lanes, or the first fault of a node. No character is a mark twice, so there are few.
+/// The marks of all lanes, or the first fault of a node. No character is a mark twice, so at most `MAX_MARKS` marks are read.
 pub fn read_marks(alloc: Global, lanes: &Lanes) -> Result<LaneMarks, SheetFault>
     ensures answer { AgreesWith is_memory (λ read. read.marks) result (read_marks lanes.now) }
     ensures few { IfOk result (λ read. length read.marks ≤ MAX_MARKS) }
@@ -52,7 +52,7 @@ pub fn read_marks(alloc: Global, lanes: &Lanes) -> Result<LaneMarks, SheetFault>
     Ok(LaneMarks { marks, spans })
 }
 
-// The first lane whose node has a character that does not belong there.
+// The first lane whose node has a character that may not stand there.
 fn bad_node(lanes: &Lanes) -> Option<u64>
     ensures { result ≡ position has_bad_node lanes.now }
 {
@@ -97,7 +97,7 @@ fn node_of(lane: &LaneText) -> &[u8]
     }
 }
 
-// Puts the marks of a lane at the end, as far as none stood before.
+// Puts the marks of a lane at the end, or gives the fault of the first mark that repeats an earlier mark.
 fn push_marks(marks: &mut Marks, number: u64, lane: &LaneText) -> Result<(), SheetFault>
     ensures answer { AgreesWith is_memory (λ _. marks.new) result (with_marks marks.old (lane_marks (number, lane.now))) }
     ensures distinct { OnOk result (AreMarks marks.old → AreMarks marks.new) }
@@ -107,7 +107,7 @@ fn push_marks(marks: &mut Marks, number: u64, lane: &LaneText) -> Result<(), She
         if !is_mark(*name) {
             continue;
         }
-        // Found here, before the next kind is worked out: a hostile node has many marks, and a kind is a walk over the wave.
+        // Found here, before the next kind is worked out: a hostile node has many marks, and finding a kind walks over the wave.
         if has_mark(marks.as_slice(), *name) {
             return Err(SheetFault::DoubleMark(*name));
         }

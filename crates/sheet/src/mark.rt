@@ -3,7 +3,7 @@
 use itv_base::Listing;
 use wave_string::MarkKind;
 
-/// Marks of a sheet: there are as many characters that may be one.
+/// The most marks that a sheet can have: so many characters may be a mark.
 pub const MAX_MARKS: u32 = 93;
 
 /// A mark on a lane: the lane's number from 0, the place of its character in the lane's `node` from 0, the character itself,

@@ -12,7 +12,7 @@ use origin::Origin;
 use std::alloc::Global;
 use wavejson::{LaneText, Lanes};
 
-/// Puts the rules of the lanes that are in order at the end: of those with a name and a wave.
+/// Puts the rules of the lanes that are in order at the end. A lane is in order if it has a name and a wave.
 pub fn push_lane_orders(
     alloc: Global,
     rules: &mut Vec<Rule>,
@@ -30,7 +30,7 @@ pub fn push_lane_orders(
     Ok(())
 }
 
-// Puts the rules of the lane of a number, if it is in order.
+// Puts the rules of the lane with this number at the end, if the lane is in order.
 fn push_lane_order(
     alloc: Global,
     rules: &mut Vec<Rule>,
@@ -47,7 +47,7 @@ fn push_lane_order(
     Ok(())
 }
 
-// Each mark and the next, and then the last one and the first one of the next cycle.
+// Each mark and the next, and then the last mark and the first mark of the next cycle.
 fn push_order(
     alloc: Global,
     rules: &mut Vec<Rule>,
@@ -68,7 +68,7 @@ fn push_order(
     Ok(())
 }
 
-// The target comes no earlier than a mark that many cycles before it.
+// The target comes no earlier than a mark this many cycles before it.
 fn follows(alloc: Global, origin: Origin, from: u32, to: u32, shift: u32) -> Result<Rule, NoMemory>
     ensures { IfOk result (λ rule. rule ≡ follows_rule origin from to shift) }
 {

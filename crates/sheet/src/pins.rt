@@ -16,7 +16,7 @@ use itv_base::Text;
 use std::alloc::Global;
 use wavejson::{LaneText, Lanes};
 
-/// The pins of lanes, where the spans of their marks are known; or the first lane with the name of an earlier pin.
+/// The pins of the lanes, whose spans of marks are given; or the first lane that has the name of an earlier pin.
 pub fn read_pins(alloc: Global, lanes: &Lanes, spans: &[LaneSpan]) -> Result<Pins, SheetFault>
     requires { spans.now ≡ spans_of lanes.now }
     ensures { AgreesWith is_memory (λ pins. pins) result (read_pins lanes.now) }
@@ -29,7 +29,7 @@ pub fn read_pins(alloc: Global, lanes: &Lanes, spans: &[LaneSpan]) -> Result<Pin
     Ok(pins)
 }
 
-// Puts a lane at the end, if it is a pin and none has its name.
+// Puts a lane at the end if it is a pin, or gives its fault if an earlier pin has its name.
 fn push_pin(
     alloc: Global,
     pins: &mut Pins,

@@ -35,10 +35,10 @@ pub fn read_sheet(alloc: Global, diagram: &Diagram) -> Result<Sheet, SheetFault>
     read_with(alloc, Labels::Plain, diagram)
 }
 
-/// The sheet of a drawing at a grade of these or at none, or its first fault in the order of [`SheetFault`].
+/// The sheet of a drawing at one of these grades or at none, or its first fault in the order of [`SheetFault`].
 ///
-/// It is what [`read_sheet`] gives, but that a label may name a parameter, as `@late $tAA`: its range is then the one that the grade
-/// gives for the name.
+/// It is what [`read_sheet`] gives, except that a label may name a parameter, as in `@late $tAA`. The range of such a label is the range
+/// that the grade gives for the name.
 ///
 /// `NoMemory` may come in place of a sheet or a fault. After any fault no sheet was made.
 pub fn read_sheet_at(
@@ -70,7 +70,7 @@ fn grade_named<'g>(grades: &'g Grades, name: Option<&str>) -> Result<Option<&'g 
     }
 }
 
-// The sheet of a drawing whose labels are read so.
+// The sheet of a drawing, with its labels read in this way.
 fn read_with(alloc: Global, labels: Labels<'_>, diagram: &Diagram) -> Result<Sheet, SheetFault>
     requires { AreWholeLabels (labels_view labels) }
     ensures { AgreesWith is_memory (λ sheet. sheet) result (sheet_of (labels_view labels.entry) diagram.now) }

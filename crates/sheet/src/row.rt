@@ -3,7 +3,7 @@
 use itv_base::{Listing, RowKind};
 use origin::Origin;
 
-/// A separation that is asked for: from a mark to a mark, both by number, the first that many cycles before the second; and what
+/// A separation that is asked for: from a mark to a mark, both by number; how many cycles the first stands before the second; and what
 /// draws it.
 #[derive(Clone, Copy, Debug, PartialEq, Eq)]
 pub struct SheetRow {

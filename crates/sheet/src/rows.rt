@@ -9,7 +9,7 @@ use crate::row::{SheetRow, SheetRows};
 use itv_base::{NoMemory, RowKind};
 use label_grammar::Kind;
 
-/// Puts the row at the end of a link that asks for a separation or demands a range of it.
+/// Puts the row of a link at the end, if the link asks for a separation or demands a range of it.
 pub fn push_row(rows: &mut SheetRows, link: &Link<'_>) -> Result<(), NoMemory>
     ensures rows { OnOk result (rows.new ≡ rows.old ++ option_to_list (row_by (link_view link.now) link.now.label.kind)) }
 {

@@ -6,7 +6,7 @@ use itv_base::{Listing, NoMemory, Range, RuleKind};
 use origin::Origin;
 use std::marker::Model;
 
-/// A cause of a rule: a mark by number, how many cycles before the target it stands, the range of its delay, and what draws it.
+/// A cause of a rule: a mark by number, how many cycles it stands before the target, the range of its delay, and what draws it.
 #[derive(Clone, Copy, Debug, PartialEq, Eq)]
 pub struct Source {
     pub mark: u32,

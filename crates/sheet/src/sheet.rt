@@ -62,15 +62,15 @@ impl Sheet {
         &self.rows
     }
 
-    /// The texts of the edges of the drawing in order, as they are written, comments among them.
+    /// The texts of the edges of the drawing in order, as they are written, with the comments.
     pub fn edges(&self) -> &Texts
         ensures edges { result.now ≡ self.now.edges }
     {
         &self.edges
     }
 
-    /// The keys of the drawing's tree that are passed over and nearly are keys which are read: its own, and then those of its lanes in
-    /// order.
+    /// The near keys of the drawing's tree, which are passed over and nearly are keys that are read: its own, and then the near keys of
+    /// its lanes in order.
     pub fn near(&self) -> &Texts
         ensures near { result.now ≡ self.now.near }
     {

@@ -1,4 +1,4 @@
--- What is answered within this crate to the text of a line of a proof.
+-- The answer within this crate to the text of a line of a proof.
 use Rattle.std.specs.Prelude.{◌≡◌, Option, Some, None, Result, Ok, Err}
 use Rattle.event_graph.specs.Proof.{ProofLine}
 use Rattle.certificate.specs.declared.fault.LineFault.{LineFault}

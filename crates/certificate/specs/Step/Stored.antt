@@ -11,7 +11,7 @@ stored_line (kinds.Split constraint) edges = Split constraint
 stored_line kinds.Path edges = Path edges
 stored_line kinds.Loop edges = Loop edges
 
--- the lines, of which the first one's edges begin at a place
+-- the lines; the edges of the first begin at a place
 abbrev pub stored_lines : ℕ → List Stored → List EdgeName → List ProofLine
 stored_lines start [] edges = []
 stored_lines start (s ∷ stored) edges = stored_line s.kind (take (s.end - start) (drop start edges)) ∷ stored_lines s.end stored edges
@@ -22,7 +22,7 @@ IsSplitEnd start (kinds.Split constraint) end = end ≡ start
 IsSplitEnd start kinds.Path end = start ≤ end
 IsSplitEnd start kinds.Loop end = start ≤ end
 
--- the ends rise from a place to another
+-- the ends rise from a place to another; a split has no edges
 abbrev pub EndsRise : ℕ → List Stored → ℕ → Type 0
 EndsRise start [] last = start ≡ last
 EndsRise start (s ∷ stored) last = IsSplitEnd start s.kind s.end × EndsRise s.end stored last

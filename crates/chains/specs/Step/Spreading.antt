@@ -10,7 +10,8 @@ use Rattle.chains.specs.declared.spread.Spread.TheInside.{Inside}
 use Rattle.chains.specs.Chain.{IsTight}
 use Rattle.chains.specs.Closed.{Has, DoesNotEnter}
 
--- a flag for each event that was reached, and an edge that leads from each of them but one, from the event that was reached last on
+-- A flag for each event says whether it was reached. Each reached event but one has an edge that leads from it; the edge of the event that was
+-- reached last stands first.
 pub record Spread : Type 0 where
   pub reached : List Bool
   pub found : List EdgeName
@@ -26,7 +27,7 @@ pub record HasRoom (s : Inside) : Type 0 where
   pub room : length s.found.items + count_by is_unreached s.reached.items ≤ length s.reached.items
   pub capacity : length s.reached.items ≤ vec_capacity s.found
 
--- one event was reached, and no edge yet
+-- one event was reached, and there is no edge yet
 abbrev pub spread_at : ℕ → EventId → Spread
 spread_at events to = record { reached = slice_set (replicate events false) to.0 true; found = [] }
 
@@ -38,31 +39,31 @@ spread_by spread event name = record { reached = slice_set spread.reached event.
 abbrev pub LeadsFrom : Net → EventId → EdgeName → Type 0
 LeadsFrom net event name = IsSomeAnd (edge net name) (λ e. e.from ≡ event)
 
--- the event is the one to which all lead, or one of the edges leads from it
+-- the event is the event to which all edges lead, or one of the edges leads from it
 abbrev pub IsReached : Net → EventId → List EdgeName → EventId → Type 0
 IsReached net to [] event = event ≡ to
 IsReached net to (name ∷ names) event = LeadsFrom net event name ⊎ IsReached net to names event
 
--- the times meet each edge with equality, and each leads to an event that the edges behind it reach
+-- the times meet each edge with equality, and each edge leads to an event that the edges behind it reach
 abbrev pub LeadOn : Net → List ℤ → EventId → List EdgeName → Type 0
 LeadOn net times to [] = Unit {0}
 LeadOn net times to (name ∷ names) =
     IsTight net times name × IsSomeAnd (edge net name) (λ e. IsReached net to names e.to) × LeadOn net times to names
 
--- from each event that was reached the edges found lead to one event, and from no other
+-- the found edges lead from each reached event to one event
 pub record IsSpread (net : Net) (times : List ℤ) (to : EventId) (spread : Spread) : Type 0 where
   pub count : length spread.reached ≡ net.events
   pub lead : LeadOn net times to spread.found
   pub each : (event : EventId) → Has spread.reached event → IsReached net to spread.found event
   pub end : Has spread.reached to
 
--- the name of an edge that is there, and that the times meet with equality
+-- the edge of a name is there, and the times meet it with equality
 pub record IsTightEdge (net : Net) (times : List ℤ) (name : EdgeName) (e : Edge) : Type 0 where
   pub named : edge net name ≡ Some e
   pub tight : separation times e.from e.to ≡ e.weight
 
--- some edges were looked at: no event is lost, those that are new are reached by edges found, and where none is new no edge that was
--- looked at leads into the reached events from outside
+-- Some edges were looked at. No event is lost, and new events are reached by edges found. If no event is new, no edge that was looked at
+-- leads into the reached events from outside.
 pub record LooksAt (net : Net) (times : List ℤ) (IsSeen : EdgeName → Type 0) (old new : Spread) : Type 0 where
   pub events : length new.reached ≡ length old.reached
   pub spreads : (to : EventId) → IsSpread net times to old → IsSpread net times to new

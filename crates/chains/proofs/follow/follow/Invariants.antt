@@ -2,7 +2,7 @@ use Rattle.std.proofs.Common.{◌≡◌, ◌+◌, ◌≤◌, length, vec_capacit
 use Rattle.chains.proofs.Following.{IsUnderway}
 use Rattle.chains.proofs.follow.follow.Given as goal
 
--- the edges that were taken are followed, and there is room for those that are left
+-- the edges that were taken were followed, and there is room for the edges that are left
 abbrev pub invariant-loop-name : goal.invariant-loop-name
 invariant-loop-name l = record {
   way : IsUnderway l.net l.fn.from l.fn.spread.found l.spread.found l.names.items l.at;

@@ -3,7 +3,7 @@ use Rattle.itv_base.specs.declared.names.EventId.{EventId}
 use Rattle.chains.specs.Step.Spreading.{IsSpread}
 use Rattle.chains.proofs.spreading.spread_back.Given as goal
 
--- no event is lost, and those that are new are reached by edges found
+-- no event is lost, and new events are reached by edges found
 abbrev pub invariant-loop-from : goal.invariant-loop-from
 invariant-loop-from l = record {
   events : length l.spread.reached ≡ length l.fn.spread.reached;

@@ -8,11 +8,11 @@ use Rattle.itv_cli.specs.declared.planned.PlannedNetwork as code
 use Rattle.itv_cli.proofs.Composing.{drawn_composed}
 use Rattle.itv_cli.proofs.planned.open_planned.Goals as goal
 
--- a plan with what it draws, without where they lie in memory
+-- a plan with the network that it draws, without where they lie in memory
 abbrev both : code.PlannedNetwork → Planned × Drawn
 both p = (p.plan, p.drawn)
 
--- what a plan draws, beside it
+-- a plan with the network that it draws
 abbrev with_drawn : Planned → FileReading (Planned × Drawn)
 with_drawn plan = drawn_at plan.netlist plan.sheets >>= (λ drawn. gives (plan, drawn))
 

@@ -4,7 +4,7 @@ use Rattle.right_report.specs.Right.At.{course_of}
 use Rattle.settle_report.specs.Text.{with_rows}
 use Rattle.settle_report.proofs.ending.marks_of.Given as goal
 
--- what the first rows come to, and the rows that are left, come to what all do
+-- the tally of the first rows, with the rows that are left, is the tally of all rows
 abbrev pub invariant-loop-number : goal.invariant-loop-number
 invariant-loop-number l =
     with_rows (record { found = Consistent; fails = l.marks.fails; within = l.marks.within }) (drop l.number l.drawn.rows) (drop l.number l.found)
