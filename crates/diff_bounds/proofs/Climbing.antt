@@ -24,7 +24,7 @@ pub there_is : (net : Net) (actual parent : Parents) (from to at : ℕ) (names l
 there_is net actual parent from to at names [] one climb off = absurd (off climb)
 there_is net actual parent from to at names (name ∷ left) one climb off = (name, climb.1.0, one.agrees at name climb.0, climb.1.1)
 
--- so the actual parent is that
+-- so it is the actual parent
 pub parent_is : (net : Net) (actual parent : Parents) (from to at : ℕ) (names left : List EdgeName) (name : EdgeName) → IsOneClimb net actual parent from names to → IsClimb net parent at left to → (at ≡ to → ⊥) → actual at ≡ Some name → parent at ≡ Some name
 parent_is net actual parent from to at names [] name one climb off is = absurd (off climb)
 parent_is net actual parent from to at names (other ∷ left) name one climb off is = climb.0 ∙ sym (one.agrees at other climb.0) ∙ is

@@ -19,7 +19,7 @@ use Rattle.diff_bounds.proofs.Forests.{StopIsTop, climb_potential, climb_walk, c
 
 -- ---- old parents and fresh ones together
 
--- labels that fell on from those of a forest, and have settled
+-- labels that fell on from the labels of a forest, and have settled
 pub record FellOn (s : Scope) (start old label : GraphLabels) (before parent : Parents) : Type 0 where
   pub was : IsForest s start old before
   pub fell : IsForest s old label (fresh old label parent)

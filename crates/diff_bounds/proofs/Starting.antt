@@ -132,7 +132,7 @@ none_among net chosen name e is_net among =
     let below = within.from in
     omega arith
 
--- labels without parents that are those at the start are a forest
+-- without parents, labels that are the first labels are a forest
 pub bare_forest : (s : Scope) (start label : GraphLabels) (parent : Parents) → ((v : ℕ) → v < s.net.events → parent v ≡ None) → ((v : ℕ) → v < s.net.events → label v ≡ start v) → IsForest s start label parent
 bare_forest s start label parent bare same = record {
   rooted = λ v below. record { root = v; way = []; climb = refl; top = bare v below };

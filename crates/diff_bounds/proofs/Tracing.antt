@@ -14,12 +14,12 @@ use Rattle.diff_bounds.specs.Step.Waiting.{Waiting}
 use Rattle.diff_bounds.proofs.Falls.{falls_not}
 use Rattle.diff_bounds.proofs.Parts.{Tried, falls_first, tried_among, tried_falls}
 
--- how many edges lie before a place and at it
+-- how many edges lie up to a place, with the edge at the place
 abbrev pub edges_to : Option ℕ → ℕ
 edges_to None = 0
 edges_to (Some place) = suc place
 
--- what was tried of some edges: all from a count on, and the next one is the latest before it that starts at the event
+-- what was tried of some edges: all edges from a count on; the next edge is the latest before the count that starts at the event
 pub record Traced (net : Net) (run : Run) (from : ℕ) (arcs : List Arc) (t₀ t : Stack) (p₀ p : Waiting) (next : Option ℕ) : Type 0 where
   pub falls : Falls (scope_of net t₀ run) run t₀ t p₀ p
   pub count : ℕ

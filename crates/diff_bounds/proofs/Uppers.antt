@@ -163,7 +163,7 @@ has_path s source label parent v z forest below at =
       short = omega (arith, length-reverse climb.0);
     }
 
--- the source is at 0, where it has a parent at all
+-- the source has the label 0
 pub source_zero : (s : Scope) (source : EventId) (label : GraphLabels) (parent : Parents) → IsForest s (at_source source) label parent → source.0 < s.net.events → label source.0 ≡ Some (pos 0)
 source_zero s source label parent forest origin =
     let up = forest.rooted source.0 origin in
