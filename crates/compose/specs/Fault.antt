@@ -5,7 +5,7 @@ use Rattle.sheet.specs.declared.groups.GroupFault.TheVariants as group
 use Rattle.compose.specs.declared.fault.JoinFault.{JoinFault}
 use Rattle.compose.specs.declared.fault.JoinFault.TheVariants.{NoPart, NoPin, MarkCounts, KindsDiffer, WireNoPart, WireNoMark, TooManyCauses, NoMemory}
 
--- memory was wanted and not found, which says nothing of the netlist
+-- there was not enough memory, which says nothing of the netlist
 abbrev pub is_memory : JoinFault → Bool
 is_memory (NoPart net pin) = false
 is_memory (NoPin net pin) = false
@@ -16,7 +16,7 @@ is_memory (WireNoMark wire) = false
 is_memory (TooManyCauses wire) = false
 is_memory NoMemory = true
 
--- the fault of a wire that is one cause too many of its group
+-- the fault of wires as a fault of the netlist: a wire is one cause too many for its rule, or memory was not found
 abbrev pub join_fault : GroupFault → JoinFault
 join_fault (group.TooManyCauses n) = TooManyCauses n
 join_fault group.NoMemory = NoMemory
