@@ -206,7 +206,7 @@ fn grades_and_parameters_are_there(rt: HostRuntime) -> Result<(), Fail> {
                 edges,
                 "refused file 1 NoParam 0",
             ),
-            // a sheet is read once for each grade, in the order in which the parts name the grades
+            // a sheet is checked once for each grade, in the order in which the parts name the grades
             (
                 "2",
                 r#"{"name":"U1","sheet":"s","grade":"h"},{"name":"U2","sheet":"s","grade":"g"}"#,

@@ -1,4 +1,4 @@
--- What is answered within this crate to the text of a line of a proof by clauses.
+-- What a reader within this crate answers to the text of a line of a proof by clauses.
 use Rattle.std.specs.Prelude.{◌≡◌, Option, Some, None, Result, Ok, Err}
 use Rattle.certificate.specs.declared.fault.LineFault.{LineFault}
 use Rattle.certificate.specs.declared.fault.LineFault.TheVariants.{BadLine, NoMemory}
@@ -6,7 +6,7 @@ use Rattle.clauses.specs.Lines.{ClauseLine}
 use Rattle.settle.specs.declared.line.StoredLine.{StoredLine}
 use Rattle.settle.specs.Proofs.{line_of}
 
--- what was read is what reading gives, unless memory ran out
+-- the answer is what the definition reads, unless memory ran out
 abbrev pub IsClauseRead : Result StoredLine LineFault → Option ClauseLine → Type 0
 IsClauseRead (Ok line) read = read ≡ Some (line_of line)
 IsClauseRead (Err BadLine) read = read ≡ None
