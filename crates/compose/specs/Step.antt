@@ -1,4 +1,4 @@
--- The calls of this crate one after another, on the way to a design.
+-- What the calls of this crate do one after another, on the way to a design.
 use Rattle.std.specs.Prelude.{List, Result, Ok}
 use Rattle.itv_base.specs.Reading.{◌>>=◌}
 use Rattle.sheet.specs.Links.{Link, link_rules, link_rows}
