@@ -32,7 +32,7 @@ use Rattle.bounds_report.proofs.Shifted.{at_zero, length-shifted, satisfies-shif
 
 -- ---- numbers of times that are raised
 
--- the greatest number by which a set is raised to pass an end
+-- the greatest number that a set is raised by to pass an end
 abbrev most_by : ℕ
 most_by = 3 * reach_limit + weight_limit + 1
 
@@ -48,7 +48,7 @@ raised_at (true ∷ set) by (time ∷ times) zero d h = inr refl
 raised_at (false ∷ set) by (time ∷ times) zero d h = inl refl
 raised_at (is_in ∷ set) by (time ∷ times) (suc k) d h = raised_at set by times k d (omega arith)
 
--- the number by which times are raised past an end is at most `most_by`
+-- by how much the times are raised
 raised_by : (old : List ℤ) (set : List Bool) (from to : EventId) (limit : ℤ) (new : List ℤ) (r : RaisesPast old set from to limit new) → IsKnownReach (separation old from to) → IsEnd (Some limit)
     → slice_get set from.0 ≡ Some false → slice_get set to.0 ≡ Some true → to.0 < length old → pos r.by ≤ℤ pos most_by
 raised_by old set from to limit new r reached end lacks holds in_to = less r.by r.least
@@ -65,7 +65,7 @@ unfolding IsRaised
 is_raised old new by near low high (inl e) = (omega (arith, ints, near.0, near.1, e), omega (arith, ints, near.0, near.1, e))
 is_raised old new by near low high (inr e) = (omega (arith, ints, near.0, near.1, low, high, e), omega (arith, ints, near.0, near.1, low, high, e))
 
--- a new time less the new time of an origin may be printed: each of both is an old one, raised or not, and the old origin was at 0
+-- a time less the time of an origin that was at 0; both are old times, with or without the raise
 apart : (old new origin at by : ℤ) → IsNearby old → origin ≡ pos 0 → pos 0 ≤ℤ by → by ≤ℤ pos most_by → (new ≡ old) ⊎ (new ≡ old +ℤ by) → (at ≡ origin) ⊎ (at ≡ origin +ℤ by)
     → IsPrintedTime (new +ℤ neg_ℤ at)
 apart old new origin at by n o low high (inl e) (inl f) = (omega (arith, ints, n.0, n.1, o, low, high, e, f), omega (arith, ints, n.0, n.1, o, low, high, e, f))

@@ -84,7 +84,7 @@ raise_may net most cert basis drawn told side pair which list set of kept = (set
 
 -- ---- the end of the lines of a bound
 
--- a closed bound, or one within, is not unbounded
+-- a bound that is closed or within is not unbounded
 pub is_bounded : (value : Bound) → ((most : ℤ) × (value ≡ bounds.Closed most)) ⊎ ((limit : Option ℤ) × (found : Option ℤ) × (value ≡ bounds.Within limit found)) → value ≡ bounds.Unbounded → ⊥
 is_bounded value (inl (most, e)) u = cc (e, u)
 is_bounded value (inr (limit, found, e)) u = cc (e, u)

@@ -138,7 +138,7 @@ module _ {facts : LineClaims} {drawn : Drawn} where
   goes_then to words new (Ok x) a b = told_then a b
   goes_then to words new (Err e) a b = stopped_then (wrote_of a) b
 
-  -- a step failed, and so does its caller
+  -- a step failed, and so its caller fails
   pub goes_up : {B E : Type 0} {here : ReportState} {old new : SinkView} (to : B → ReportState) (words : B → List Verdict) (result : Result B E) → IsErr result → WroteFront facts drawn here old new
       → WritesVerdicts facts drawn here to words old new result
   goes_up to words (Ok x) is stopped = absurd (cc is)

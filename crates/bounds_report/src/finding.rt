@@ -19,7 +19,7 @@ use event_graph::Network;
 use itv_base::{EventId, PutFailed, Sink};
 use slack_report::{FindingWord, Item, write_item};
 
-/// Looks for times that satisfy a network, and writes the finding. If there are such times, writes them behind it.
+/// Looks for times that satisfy a network. Writes the finding and the times, if there are any.
 pub fn tell_finding<K: Sink>(
     net: &Network,
     wanted: Wanted,

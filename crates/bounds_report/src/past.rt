@@ -160,7 +160,7 @@ fn pass_limit(
     }
 }
 
-// Raises the events of the set until the separation of the searched pair is past a limit, and moves all times so that the from-event is at 0 again.
+// Raises the set of events until the separation of the searched pair is past a limit, and then moves all times so that the from-event is at 0.
 fn raise(which: Which, limit: i64, pair: Pair, net: &Network, times: &mut [i64], set: &[bool])
     requires net { IsNet net.now }
     requires limit { IsEnd (Some limit) }

@@ -75,7 +75,7 @@ pub fn part_named(parts: &[Part], name: &Text) -> Option<usize>
     parts.iter().position(|part| *name == part.name)
 }
 
-/// The sheet of a part. The part has to be there.
+/// The sheet of a part that is there.
 pub fn sheet_at<'a, 'b>(sheets: &'b [&'a Sheet], part: usize) -> &'b Sheet
     requires { part < length sheets.now }
     ensures { slice_get (map (λ s. s.now) sheets.now) part ≡ Some result.now }

@@ -6,6 +6,6 @@ use Rattle.event_graph.specs.Limits.{reach_limit}
 abbrev pub near_limit : ℕ
 near_limit = 2 * reach_limit
 
--- a time that `times_into` writes: below 0 by at most the reach of a path, or above 0 by at most twice this reach
+-- a time that `times_into` writes: not below 0 by more than the reach of a path, nor above 0 by more than twice the reach of a path
 abbrev pub IsTimely : ℤ → Type 0
 IsTimely time = (neg_ℤ (pos reach_limit) ≤ℤ time) × (time ≤ℤ pos near_limit)

@@ -17,7 +17,7 @@ use Rattle.grades.specs.declared.grade.Parameter.{Parameter}
 
 -- ---- what grades give
 
--- the range that a grade gives for a parameter, by the name of the parameter
+-- the range that a grade gives for the name of a parameter
 abbrev pub range_in : Grade → List ℕ → Option Ends
 range_in grade name = option_map (λ (p : Parameter). p.range) (find (λ (p : Parameter). bytes_eq name p.name) grade.parameters)
 

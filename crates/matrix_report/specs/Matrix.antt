@@ -61,6 +61,6 @@ AnswersMatrix drawn Undecided text = ⊥
 AnswersMatrix drawn CheckRefused text = ⊥
 AnswersMatrix drawn DesignRefused text = ⊥
 
--- a text that the job may have begun to write
+-- what the job may have begun to write
 abbrev pub BeginsMatrix : Drawn → List ℕ → Type 0
 BeginsMatrix drawn text = (answer : Answer) × AnswersMatrix drawn answer text

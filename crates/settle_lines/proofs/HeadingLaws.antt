@@ -1,4 +1,4 @@
--- The two lines before a proof are read from their texts, and from no other text. No line of a proof has one of these texts.
+-- The two lines before a proof are read from their texts, and from no other. No line of a proof has one of these texts.
 use Rattle.std.proofs.Common.{◌≡◌, ℕ, ℤ, List, [], ◌∷◌, ◌++◌, codes, Option, Some, None, option_map, refl, sym, ap, subst, ◌∙◌}
 use Rattle.std.specs.Prelude.{◌↔◌}
 use Rattle.std.specs.Str.{IsUtf8}

@@ -1,4 +1,4 @@
--- A line of a proof is read from its text, and from no other text.
+-- A line of a proof is read from its text, and from no other.
 use Rattle.std.proofs.Common.{◌≡◌, ◌^◌, ◌<◌, ℕ, ℤ, List, [], ◌∷◌, map, codes, Option, Some, None, Result, Ok, Err, refl, sym, ap, subst, ◌∙◌}
 use Rattle.std.specs.Prelude.{All, IfOk, IsErrOf}
 use Rattle.std.specs.List.{AllByRecursion}
@@ -160,7 +160,7 @@ steps_plain : (steps : List WalkStep) → ArePlain (step_words steps)
 steps_plain [] = tt
 steps_plain (step ∷ steps) = (basis_plain step.basis, (number_plain step.through, steps_plain steps))
 
--- the words of a line of a proof: at least one; all are plain
+-- the words of a line of a proof: a first word and others, all of them plain
 record LineWords (line : ClauseLine) : Type 0 where
   first : Word
   others : List Word
@@ -197,7 +197,7 @@ pub line_is_read : (text : List ℕ) (line : ClauseLine) → SpellsClause text l
 line_is_read text line spells =
     ap clause_in (ap split_words spells.text_is ∙ line_words_are line) ∙ clause_again line spells.form
 
--- bytes that are no UTF-8 are no line of a proof
+-- bytes that are no text are no line of a proof
 pub no_clause_line : (text : List ℕ) → (IsUtf8 text → ⊥) → line_in text ≡ None
 no_clause_line text other = none_at (line_in text) refl
   where
@@ -209,7 +209,7 @@ no_clause_line text other = none_at (line_in text) refl
         let ascii : IsUtf8 (line_of (clause_words line)) = rw w.parts (line_is_text (w.first ∷ w.others) w.plain) in
         absurd (other (rw spells.text_is ascii))
 
--- ---- answers of the reader
+-- ---- what is answered
 
 pub tells_ok : (text : List ℕ) (r : Result StoredLine LineFault) → IsClauseRead r (line_in text) → IfOk r (λ line. SpellsClause text (stored_line_of line))
 tells_ok text (Ok line) read = text_is_line text (stored_line_of line) read

@@ -1,4 +1,4 @@
--- A word of a line of a proof is read from its text, and from no other text.
+-- A word of a line of a proof is read from its text, and from no other.
 use Rattle.std.proofs.Common.{◌≡◌, ◌^◌, ◌-◌, ◌<◌, ◌≤◌, ℕ, Bool, true, false, ◌∷◌, ◌++◌, codes, Option, Some, None, option_map, refl, ap, subst, ◌∙◌, arith}
 use Rattle.std.specs.List.{take_while}
 use Rattle.std.specs.Char.{is_ascii_digit, is_ascii_graphic}

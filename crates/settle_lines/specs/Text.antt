@@ -39,7 +39,7 @@ IsClauseLine (Loop event steps) = (event.0 < 2 ^ 32) × All IsStepName steps
 IsClauseLine (Assume literals) = All IsLiteralName literals
 IsClauseLine Close = Unit {0}
 
--- ---- the text of a line
+-- ---- its text
 
 -- `+` before a side that is met, `-` before a side that is not
 abbrev pub met_sign : Bool → ℕ

@@ -20,17 +20,17 @@ use std::alloc::Global;
 
 /// Reads a line of a proof, without its line end. The faults are `BadLine`, for any other text, and `NoMemory`.
 pub fn read_clause_line(alloc: Global, text: &[u8]) -> Result<StoredLine, LineFault>
-    // The text is the text of the line that was read.
+    // A line that is read has this text.
     ensures ok { IfOk result (λ line. SpellsClause text.now (line_of line)) }
     // The text of a line is read as this line, unless memory runs out.
     ensures only { (line : ClauseLine) → SpellsClause text.now line → IsReadAs result line }
-    // A text with the answer `BadLine` is the text of no line.
+    // A text that is called bad is not the text of a line.
     ensures bad { IsErrOf result LineFault.BadLine → (line : ClauseLine) → SpellsClause text.now line → ⊥ }
 {
     read_bytes(alloc, text)
 }
 
-// The line of a proof with these bytes. They need not be UTF-8.
+// The line with these bytes, which need not be text.
 fn read_bytes(alloc: Global, text: &[u8]) -> Result<StoredLine, LineFault>
     ensures { IsClauseRead result (line_in text.now) }
 {

@@ -101,7 +101,7 @@ fn edge_in(word: &str) -> Option<EdgeName>
     cause_in(constraint, strip(rest, ".")?)
 }
 
-// The rest of an edge's word behind its constraint: the cause and the side.
+// A cause and a side.
 fn cause_in(constraint: u32, word: &str) -> Option<EdgeName>
     ensures { result ≡ cause_in constraint word.now }
 {

@@ -79,7 +79,7 @@ abbrev pub number_on : Which → ℤ → ℤ
 number_on sorts.Max value = value
 number_on sorts.Min value = neg_ℤ value
 
--- the value that a bound attains is past a limit; both count as separations of the searched pair
+-- a bound goes past a limit: it is unbounded, or the value that it attains is past the limit; both count as separations of the searched pair
 abbrev pub IsBeyond : Which → Bound → ℤ → Type 0
 IsBeyond which (bounds.Closed value) limit = limit <ℤ number_on which value
 IsBeyond which bounds.Unbounded limit = Unit {0}

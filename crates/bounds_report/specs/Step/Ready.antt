@@ -25,7 +25,7 @@ HasFound net findings.Consistent known = IsSomeAnd known (λ times. Satisfies ti
 HasFound net findings.Inconsistent known = Unit {0}
 HasFound net findings.Unsettled known = (list : List ℤ) × MeetsAlways list net
 
--- the memory of a report is made for a network
+-- the memory is made for a network
 pub record IsSet (net : Net) (desk : Desk) : Type 0 where
   pub made : IsMadeFor net desk.work
   pub greatest : IsRoomFor net desk.greatest

@@ -72,7 +72,7 @@ pub record IsRunning (s : Scope) (run : Run) (stamps : List Stamp) : Type 0 wher
   pub meets : IsPotential s run.stop potential
   pub ran : RunHasFallen s run old stamps
 
--- whatever labels a run had before, it has the new labels too
+-- if a run led from any old labels to the middle ones, it leads from them to the new ones too
 abbrev pub KeepsRuns : Scope → Run → List Stamp → List Stamp → Type 0
 KeepsRuns s run mid new =
     (old : List Stamp) (potential : ℕ → ℤ) → AreAbove s.net.events (labels_from old run.base) → IsPotential s run.stop potential → RunHasFallen s run old mid → RunHasFallen s run old new

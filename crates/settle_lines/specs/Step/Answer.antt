@@ -6,7 +6,7 @@ use Rattle.clauses.specs.Lines.{ClauseLine}
 use Rattle.settle.specs.declared.line.StoredLine.{StoredLine}
 use Rattle.settle.specs.Proofs.{line_of}
 
--- the answer is what the definition reads, unless memory ran out
+-- what was read is what reading gives, unless memory ran out
 abbrev pub IsClauseRead : Result StoredLine LineFault → Option ClauseLine → Type 0
 IsClauseRead (Ok line) read = read ≡ Some (line_of line)
 IsClauseRead (Err BadLine) read = read ≡ None

@@ -102,7 +102,7 @@ close_in words = keyed (codes "close") closing words
 unfoldable pub clause_in : List Word → Option ClauseLine
 clause_in words = or_else (fall_in words) (or_else (know_in words) (or_else (loop_in words) (or_else (assume_in words) (close_in words))))
 
--- the line of a proof with this text, without its line end
+-- the line of a proof with this text, which has no line end
 abbrev pub line_in : List ℕ → Option ClauseLine
 line_in text = clause_in (split_words text)
 
