@@ -131,7 +131,7 @@ way_on net parent at target name e held is off (other ∷ es) climb =
 
 -- ---- after one parent has changed
 
--- the parents are as they were but at one event
+-- the parents are as they were, save for one event
 pub record ChangesAt (old new : Parents) (v : ℕ) (name : EdgeName) : Type 0 where
   pub here : new v ≡ Some name
   pub others : (u : ℕ) → u ≢ v → new u ≡ old u
@@ -153,7 +153,7 @@ top_kept : (net : Net) (old new : Parents) (v : ℕ) (name : EdgeName) → Chang
 top_kept net old new v name changes x r es off climb top =
     changes.others r (λ same. let P : ℕ → Type 0 = λ y. IsClimb net old x es y in off es (subst P same climb)) ∙ top
 
--- v hangs from an edge, so it is rooted where the start of the edge is, off v
+-- v has the edge as its parent, so v is rooted where the start of the edge is, if the climb from there does not meet v
 rooted_at : (net : Net) (old new : Parents) (v : ℕ) (name : EdgeName) (e : Edge) → ChangesAt old new v name → edge net name ≡ Some e → IsRooted net old e.from.0 → ((fs : List EdgeName) → IsClimb net old e.from.0 fs v → ⊥) → IsRooted net new v
 rooted_at net old new v name e changes is rooted off = record {
   root = rooted.root;

@@ -66,7 +66,7 @@ scope_same net s run a b u v falls = ap (λ (x : Stack). scope_of net x run) fal
 
 -- ---- one fall
 
--- the labels after it
+-- the labels after one fall
 pub record FallenAt (label label' : GraphLabels) (to : ℕ) (sum : ℤ) : Type 0 where
   pub here : label' to ≡ Some sum
   pub others : (u : ℕ) → u ≢ to → label' u ≡ label u

@@ -279,7 +279,7 @@ fresh_is_parent old label parent v name at =
       | inr not ↦ absurd (none-some name (sym (cond-false (is_lower (label v) (old v)) (parent v) None not) ∙ at))
     ]
 
--- at first there are none
+-- at first there are no fresh parents
 pub fresh_none : (s : Scope) (old : GraphLabels) (parent : Parents) → IsForest s old old (fresh old old parent)
 fresh_none s old parent = record {
   rooted = λ v below. record { root = v; way = []; climb = refl; top = fresh_same old old parent v refl };

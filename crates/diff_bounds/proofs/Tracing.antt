@@ -36,7 +36,7 @@ traced_not net run from arcs t p next latest = record {
   done = λ k d low high. absurd (omega arith);
 }
 
--- none of them need have been tried
+-- the same as edges that were tried from the first one on, where none need have been
 pub traced_tried : (net : Net) (run : Run) (from : ℕ) (arcs : List Arc) (t₀ t : Stack) (p₀ p : Waiting) (next : Option ℕ) → Traced net run from arcs t₀ t p₀ p next → Tried net run from arcs t₀ t p₀ p 0
 traced_tried net run from arcs t₀ t p₀ p next traced = record { falls = traced.falls; done = λ k d low high. absurd (omega arith) }
 
@@ -77,7 +77,7 @@ traced_on net run from arcs t₀ t t' p₀ p p' place a next traced among at fal
           ];
     }
 
--- where none is left all were tried
+-- where no edge is left, all were tried
 pub traced_all : (net : Net) (run : Run) (from : ℕ) (arcs : List Arc) (t₀ t : Stack) (p₀ p : Waiting) → Traced net run from arcs t₀ t p₀ p None → All (IsDoneFrom run from t.current.stamps p.marks) arcs
 traced_all net run from arcs t₀ t p₀ p traced k d high =
     elim (cases_lt k traced.count) [ inl before ↦ λ there. absurd (traced.latest k d (omega arith) before there) | inr past ↦ traced.done k d past high ]

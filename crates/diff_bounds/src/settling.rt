@@ -138,7 +138,8 @@ fn settle_at_once(
     }
 }
 
-// Lets all events wait. Each counts as if its label had fallen to 0 from as far above 0 as its guess is below 0.
+// Lets all events wait. Each starts with the number by which 0 is above its guess. The falls of its label are added later, so the number stays how
+// far the label is above the guess.
 fn push_all(events: u32, guess: &Guess, pending: &mut Pending)
     requires guess { length guess.now ≡ events }
     requires marks { length pending.old.marks ≡ events }
