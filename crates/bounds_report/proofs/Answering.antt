@@ -52,7 +52,7 @@ separation_printed times from to close = apart (time_of times from) (time_of tim
     apart : (a b : ℤ) → IsClose a → IsClose b → IsPrintedTime (b -ℤ a)
     apart a b h k = (omega (arith, ints, h.0, h.1, k.0, k.1), omega (arith, ints, h.0, h.1, k.0, k.1))
 
--- the numbers of the bound that an answer tells
+-- the numbers of the bound that an answer gives
 greatest_printed : (search : PairSearch) (left : Evidence) (answer : GreatestAnswer) → IsGreatestAnswer search left answer → All IsClose left.times → HasPrintedTimes (greatest_of answer)
 greatest_printed search left (answers.Closed value) a close = subst IsPrintedTime a.attained (separation_printed left.times search.from search.to close)
 greatest_printed search left answers.Unbounded a close = tt
@@ -122,7 +122,7 @@ shows_in net most pair which left answer a count r side f t w =
 
 -- ---- what is kept
 
--- an answer of another kind is not unbounded
+-- a closed or enclosed answer is not unbounded
 pub not_unbounded : (answer : GreatestAnswer) → ((value : ℤ) × (answer ≡ answers.Closed value)) ⊎ ((upper : Option ℤ) × (found : ℤ) × (answer ≡ answers.Enclosed upper found))
     → answer ≡ answers.Unbounded → ⊥
 not_unbounded answer (inl (value, e)) u = cc (e, u)

@@ -1,4 +1,4 @@
--- The lines that tell a finding.
+-- The lines of a finding.
 use Rattle.std.proofs.Common.{◌≡◌, ◌<◌, ◌≤◌, ℕ, ℤ, pos, neg_ℤ, Bool, List, [], ◌∷◌, length, unwrap_or, All, Option, Some, None, IsSomeAnd, refl, sym, subst, ap, ◌∙◌, ◌⊎◌, inl, inr, arith}
 use Rattle.branch.specs.Answers.{Finds}
 use Rattle.branch.specs.Needed.{IsNeededToFind}
@@ -60,7 +60,7 @@ none_is : (list : List ℤ) → length list ≡ 0 → list ≡ []
 none_is [] e = refl
 none_is (time ∷ list) e = absurd (cc e)
 
--- their separations stay when they are printed
+-- the known times keep their separations when they are printed
 pub known_apart : (net : Net) (known : Option (List ℤ)) (basis : List ℤ) (from to : EventId) → IsSomeAnd known (λ times. Satisfies times net) → from.0 < net.events → to.0 < net.events → basis ≡ printed_known known
     → separation (unwrap_or known []) from to ≡ separation basis from to
 known_apart net None basis from to sat in_from in_to is = absurd sat

@@ -32,11 +32,11 @@ use Rattle.bounds_report.proofs.Shifted.{at_zero, length-shifted, satisfies-shif
 
 -- ---- numbers of times that are raised
 
--- the most that a set is raised by to pass an end
+-- the greatest number that a set is raised by to pass an end
 abbrev most_by : ℕ
 most_by = 3 * reach_limit + weight_limit + 1
 
--- a time of a list that was raised by little
+-- a time that was raised by at most this number
 IsRaised : ℤ → Type 0
 IsRaised time = (neg_ℤ (pos (9 * reach_limit)) ≤ℤ time) × (time ≤ℤ pos (9 * reach_limit + most_by))
 
@@ -48,7 +48,7 @@ raised_at (true ∷ set) by (time ∷ times) zero d h = inr refl
 raised_at (false ∷ set) by (time ∷ times) zero d h = inl refl
 raised_at (is_in ∷ set) by (time ∷ times) (suc k) d h = raised_at set by times k d (omega arith)
 
--- by how much they are raised
+-- by how much the times are raised
 raised_by : (old : List ℤ) (set : List Bool) (from to : EventId) (limit : ℤ) (new : List ℤ) (r : RaisesPast old set from to limit new) → IsKnownReach (separation old from to) → IsEnd (Some limit)
     → slice_get set from.0 ≡ Some false → slice_get set to.0 ≡ Some true → to.0 < length old → pos r.by ≤ℤ pos most_by
 raised_by old set from to limit new r reached end lacks holds in_to = less r.by r.least
@@ -65,7 +65,7 @@ unfolding IsRaised
 is_raised old new by near low high (inl e) = (omega (arith, ints, near.0, near.1, e), omega (arith, ints, near.0, near.1, e))
 is_raised old new by near low high (inr e) = (omega (arith, ints, near.0, near.1, low, high, e), omega (arith, ints, near.0, near.1, low, high, e))
 
--- a time less that of an origin, which was at 0: each is an old one, with or without the raise
+-- a time less the time of an origin that was at 0; both are old times, with or without the raise
 apart : (old new origin at by : ℤ) → IsNearby old → origin ≡ pos 0 → pos 0 ≤ℤ by → by ≤ℤ pos most_by → (new ≡ old) ⊎ (new ≡ old +ℤ by) → (at ≡ origin) ⊎ (at ≡ origin +ℤ by)
     → IsPrintedTime (new +ℤ neg_ℤ at)
 apart old new origin at by n o low high (inl e) (inl f) = (omega (arith, ints, n.0, n.1, o, low, high, e, f), omega (arith, ints, n.0, n.1, o, low, high, e, f))
@@ -77,7 +77,7 @@ raised_time : (a : ℤ) → IsRaised a → IsTime a
 unfolding IsRaised
 raised_time a h = (omega (arith, ints, h.0, h.1), omega (arith, ints, h.0, h.1))
 
--- nearby times, of which one is at 0, are near
+-- nearby times are near 0, if one of them is 0
 near_zero : (times : List ℤ) (origin : EventId) (k : ℕ) → AreNearby times → origin.0 < length times → time_of times origin ≡ pos 0 → k < length times → IsNearby (get_or times k (pos 0))
 near_zero times origin k near in' at within = from_zero (get_or times k (pos 0)) (time_of times origin) at (near origin (record { 0 = k }) in' within)
   where
@@ -147,7 +147,7 @@ module _ (net : Net) (pair : Pair) (which : Which) (limit : ℤ) (old : List ℤ
           (apart (get_or old k (pos 0)) (get_or new k (pos 0)) (time_of old pair.from) (time_of new pair.from) (pos r.by) (old_nearby k (in_old k inside)) kept.at_zero (omega (arith, ints)) by_at_most
           (new_at k (in_old k inside)) (new_at pair.from.0 (in_old pair.from.0 f))))
 
--- what a call that raises tells, of the searched pair and of the limit as it is read
+-- what a call that raises promises, with other names for the searched pair and the limit
 pub raises : (old : List ℤ) (set : List Bool) (pair : Pair) (which : Which) (searched : Pair) (limit read : ℤ) (new : List ℤ) → searched ≡ searched_pair which pair → read ≡ limit
     → RaisesPast old set searched.from searched.to read new → RaisesPast old set (searched_pair which pair).from (searched_pair which pair).to limit new
 raises old set pair which searched limit read new e f r =

@@ -1,4 +1,4 @@
--- How large the numbers are that a report tells.
+-- How large the numbers of a report are.
 use Rattle.std.proofs.Common.{ℤ, neg_ℤ, List, get_or, All, Option, Some, None, option_map, arith}
 use Rattle.std.specs.Prelude.{IfSome}
 use Rattle.std.proofs.lemmas.Int.{ints}
@@ -17,7 +17,7 @@ time_printed time h = (omega (arith, ints, h.0, h.1), omega (arith, ints, h.0, h
 pub times_printed : (times : List ℤ) → All IsPrintedTime times → All IsTime times
 times_printed times all = λ k d within. time_printed (get_or times k d) (all k d within)
 
--- and so is the reach of a path
+-- the reach of a path is below 2^61 in absolute value
 reach_time : (sum : ℤ) → IsReach sum → IsTime sum
 reach_time sum h = (omega (arith, ints, h.0, h.1), omega (arith, ints, h.0, h.1))
 

@@ -1,4 +1,4 @@
--- The lines that tell a bound.
+-- The lines of a bound.
 use Rattle.std.proofs.Common.{◌≡◌, ◌<◌, ◌≤◌, length, All, ℕ, ℤ, Bool, true, false, List, [], ◌∷◌, ◌++◌, Option, Some, None, ◌⊎◌, refl, sym, subst, ap, ◌∙◌, inl, inr}
 use Rattle.itv_base.specs.declared.names.EventId.{EventId}
 use Rattle.branch.specs.Answers.{IsGreatestAnswer, Evidence}
@@ -32,13 +32,13 @@ use Rattle.bounds_report.proofs.Answering.{ShowsIn, has_printed, shows_in}
 use Rattle.bounds_report.proofs.Printed.{bound_times}
 use Rattle.bounds_report.proofs.Shifted.{times_nearby}
 
--- the line of the bound
+-- the line of the bound may follow
 pub bound_may : (net : Net) (most : ℕ) (cert : Bool) (basis : List ℤ) (drawn : Drawn) (told : CurrentRow) (side : NextBound) (lines : List ProofLine) (pair : Pair) (which : Which) (value : Bound)
     → IsOf told side pair which → (sized net most cert basis).bound told.course.found told.row side lines value
     → MayFollow (sized net most cert basis) drawn (at_bound told side lines) (bound which value) (behind_bound told side value)
 bound_may net most cert basis drawn told side lines pair which value of fact = inr (value, ap (λ (w : Which). bound w value) (sym of.sort), fact, refl)
 
--- times come behind it
+-- times come behind a bound that the times attain
 behind_is : (net : Net) (pair : Pair) (which : Which) (told : CurrentRow) (side : NextBound) (value : Bound) (list : List ℤ) (set : List Bool) → Attain net pair which value list set
     → behind_bound told side value ≡ at_times told side value
 behind_is net pair which told side (bounds.Closed value) list set a = refl
@@ -53,7 +53,7 @@ attains net pair which told bounds.Unbounded list set f t a = tt
 attains net pair which told (bounds.Within limit None) list set f t a = absurd a
 attains net pair which told (bounds.Within limit (Some found)) list set f t a = rw (f, t) a
 
--- times that are kept may stand behind a bound
+-- kept times may stand behind a bound
 times_fact : (net : Net) (told : CurrentRow) (pair : Pair) (which : Which) (value : Bound) (list : List ℤ) (set : List Bool)
     → told.row.from ≡ pair.from → told.row.to ≡ pair.to → IsWitness net pair which value list set → All IsPrintedTime list × (AreTimes net told.row list × Attains told.row value list)
 times_fact net told pair which value list set f t kept =
@@ -84,7 +84,7 @@ raise_may net most cert basis drawn told side pair which list set of kept = (set
 
 -- ---- the end of the lines of a bound
 
--- a bound of another kind is not unbounded
+-- a bound that is closed or within is not unbounded
 pub is_bounded : (value : Bound) → ((most : ℤ) × (value ≡ bounds.Closed most)) ⊎ ((limit : Option ℤ) × (found : Option ℤ) × (value ≡ bounds.Within limit found)) → value ≡ bounds.Unbounded → ⊥
 is_bounded value (inl (most, e)) u = cc (e, u)
 is_bounded value (inr (limit, found, e)) u = cc (e, u)
@@ -101,13 +101,13 @@ done_is told side (bounds.Closed value) list n = refl
 done_is told side bounds.Unbounded list n = absurd (n refl)
 done_is told side (bounds.Within limit attained) list n = refl
 
--- ---- what is asked of the line of a bound
+-- ---- the claim of the line of a bound
 
 -- each split of the lines of a search for a pair was needed
 abbrev AreNeededFor : Net → List ℤ → Pair → List ProofLine → Type 0
 AreNeededFor net basis p lines = AtEachSplit net (IsNeededToBound net p.from p.to (separation basis p.from p.to)) lines
 
--- so they are in a row of the pair
+-- so each split was needed for a row of the pair
 needed_is : (net : Net) (basis : List ℤ) (r : Row) (side : NextBound) (lines : List ProofLine) → AreNeededFor net basis (searched_pair (which_of side) (record { from = r.from; to = r.to })) lines → IsEachNeeded net basis r side lines
 needed_is net basis r greatest lines h = h
 needed_is net basis r (least_by first) lines h = h
@@ -116,12 +116,12 @@ no_line : (before after : List ProofLine) (line : ProofLine) → [] ≡ before +
 no_line [] after line same = cc
 no_line (b ∷ before) after line same = cc
 
--- no lines have no needless split
+-- without lines there is no needless split
 none_needed : (net : Net) (basis : List ℤ) (r : Row) (side : NextBound) → IsEachNeeded net basis r side []
 none_needed net basis r greatest = λ before after number chosen cases is left. absurd (no_line before after (Split number) is)
 none_needed net basis r (least_by first) = λ before after number chosen cases is left. absurd (no_line before after (Split number) is)
 
--- behind lines that show it
+-- a bound behind lines that show it
 bound_fact : (net : Net) (most : ℕ) (cert : Bool) (basis : List ℤ) (told : CurrentRow) (side : NextBound) (pair : Pair) (which : Which) (searched : List ProofLine) (value : Bound) → told.course.found ≡ findings.Consistent
     → IsOf told side pair which → ShowsIn net most pair which searched value → AreNeededFor net basis (searched_pair which pair) searched → HasPrintedTimes value
     → (sized net most cert basis).bound told.course.found told.row side (printed cert searched) value
@@ -130,7 +130,7 @@ bound_fact net most cert basis told side pair which searched value found of show
     let each : AreNeededFor net basis (searched_pair (which_of side) (record { from = told.row.from; to = told.row.to })) searched = rw (of.sort, of.from, of.to) needed in
     ((h, subst (λ (word : FindingWord). IsBoundOf net word told.row side value) (sym found) s.0, (searched, refl, (s.1, needed_is net basis told.row side searched each))), bound_times value h)
 
--- behind a search, by its answer on the searched pair
+-- a bound behind a search, by the answer on the searched pair
 pub answer_fact : (net : Net) (most : ℕ) (cert : Bool) (basis : List ℤ) (told : CurrentRow) (side : NextBound) (pair : Pair) (which : Which) (left : Evidence)
     (answer : GreatestAnswer) (value : Bound) (searched : Pair) → told.course.found ≡ findings.Consistent → IsOf told side pair which → searched ≡ searched_pair which pair
     → IsGreatestAnswer (search_of net searched most) left answer → AreNeededFor net basis searched left.lines → left.leaves ≤ most → value ≡ bound_of which answer → All IsClose left.times
@@ -155,7 +155,7 @@ open_bound net told side pair which limit found of is =
     let h : IsLimitOf net (record { from = told.row.from; to = told.row.to }) (which_of side) limit = rw (of.sort, of.from, of.to) is in
     (limit_is net told.row side limit h, rw found refl)
 
--- without one
+-- a bound without a search
 pub limit_fact : (net : Net) (most : ℕ) (cert : Bool) (basis : List ℤ) (told : CurrentRow) (side : NextBound) (pair : Pair) (which : Which) (value : Bound) → told.course.found ≡ findings.Unsettled
     → IsOf told side pair which → IsOpenBound net pair which value → (sized net most cert basis).bound told.course.found told.row side [] value
 limit_fact net most cert basis told side pair which value found of is =
@@ -167,6 +167,6 @@ limit_fact net most cert basis told side pair which value found of is =
 pub limit_done : (net : Net) (pair : Pair) (which : Which) (told : CurrentRow) (side : NextBound) (value : Bound) → IsOpenBound net pair which value → behind_bound told side value ≡ bounded told side value
 limit_done net pair which told side value is = rw is.is_open refl
 
--- no separation is told by it
+-- a bound of which only the limit is known has no found value
 pub none_told : (net : Net) (pair : Pair) (which : Which) (value : Bound) → IsOpenBound net pair which value → HasFoundValue value → ⊥
 none_told net pair which value is h = subst HasFoundValue is.is_open h

@@ -13,7 +13,7 @@ use Rattle.bounds_report.specs.declared.tally.Tally.{Tally}
 use Rattle.bounds_report.specs.Step.Ready.{IsReady, IsTally, behind_known, behind_rows, tally_course}
 use Rattle.bounds_report.specs.Step.Told.{WroteVerdicts}
 
--- some rows are told
+-- some rows are written
 pub record RowsTold (facts : LineClaims) (drawn : Drawn) (found : FindingWord) (rows : List Row) (number : ℕ) (tally : Tally) (first desk : Desk) (old new : SinkView) : Type 0 where
   pub ready : IsReady drawn.net found desk
   pub known : desk.work.known ≡ first.work.known
@@ -34,19 +34,19 @@ rows_more rows number row e = rw add-one (more rows number row e)
         one x row rows e = ap (λ (r : Row). r ∷ rows) (cc e)
     more (x ∷ rows) (suc number) row e = more rows number row e
 
--- none is left
+-- no row is left
 pub rows_none : (rows : List Row) (number : ℕ) → length rows ≤ number → drop number rows ≡ []
 rows_none [] zero h = refl
 rows_none [] (suc number) h = refl
 rows_none (row ∷ rows) zero h = absurd (omega arith)
 rows_none (row ∷ rows) (suc number) h = rows_none rows number (omega arith)
 
--- behind a finding that no times satisfy
+-- behind an inconsistent finding there are no rows
 pub rows_skipped : (word : FindingWord) (tally : Tally) (count : ℕ) → word ≡ findings.Inconsistent → tally_course word tally ≡ course_of word → behind_known word ≡ behind_rows word tally count
 rows_skipped word tally count e h =
     subst (λ (w : FindingWord). behind_known w ≡ behind_rows w tally count) (sym e) (ap (λ (course : ReportTally). at_end (end_word course)) (sym (subst (λ (w : FindingWord). tally_course w tally ≡ course_of w) e h)))
 
--- behind a finding that some times may satisfy
+-- behind any other finding the rows begin
 pub rows_begin : (word : FindingWord) → (word ≡ findings.Consistent) ⊎ (word ≡ findings.Unsettled) → at_rows word ≡ behind_known word
 rows_begin word (inl e) = rw e refl
 rows_begin word (inr e) = rw e refl

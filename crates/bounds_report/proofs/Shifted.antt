@@ -25,11 +25,11 @@ time-shifted times by event in' = get_or-map (λ time. time +ℤ by) times event
 pub separation-shifted : (times : List ℤ) (by : ℤ) (from to : EventId) → from.0 < length times → to.0 < length times → separation times from to ≡ separation (shifted times by) from to
 separation-shifted times by from to in_from in_to = rw (time-shifted times by from in_from, time-shifted times by to in_to) (omega (arith, ints))
 
--- the event that is taken from all is at 0
+-- the event whose time is taken from all times is at 0
 pub at_zero : (times list : List ℤ) (origin : EventId) → origin.0 < length times → IsShiftedTo origin times list → time_of list origin ≡ pos 0
 at_zero times list origin in' is = rw (is, time-shifted times (neg_ℤ (time_of times origin)) origin in') (omega (arith, ints))
 
--- satisfying times do so when they are shifted
+-- times that satisfy still do when they are shifted
 pub satisfies-shifted : (net : Net) (times : List ℤ) (by : ℤ) → IsNet net → Satisfies times net → Satisfies (shifted times by) net
 satisfies-shifted net times by is_net h = satisfies_same net times (shifted times by) is_net (length-shifted times by ∙ h.count)
     (λ from to in_from in_to. separation-shifted times by from to (subst (λ n. from.0 < n) (sym h.count) in_from) (subst (λ n. to.0 < n) (sym h.count) in_to)) h
@@ -60,7 +60,7 @@ separation_close times from to close in_from in_to =
     let near : IsNearby (separation times from to) = nearby_close times close from to in_from in_to in
     (omega (arith, ints, near.0, near.1), omega (arith, ints, near.0, near.1))
 
--- nearby times of which one is at 0 may be printed
+-- nearby times may be printed, if one of them is 0
 pub times_nearby : (times : List ℤ) (origin : EventId) → AreNearby times → origin.0 < length times → time_of times origin ≡ pos 0 → All IsPrintedTime times
 times_nearby times origin near in' at k d within =
     let event : EventId = record { 0 = k } in
@@ -78,7 +78,7 @@ times_nearby times origin near in' at k d within =
 
 -- ---- raising
 
--- a ray is one when its times are shifted
+-- a ray is still a ray when its times are shifted
 pub ray-shifted : (net : Net) (from to : EventId) (times : List ℤ) (set : List Bool) (by : ℤ) → IsNet net → IsRay net from to times set → IsRay net from to (shifted times by) set
 ray-shifted net from to times set by is_net ray = record {
   count = ray.count;

@@ -58,7 +58,7 @@ end_in-append (verdict word ∷ a) b none = end_in-append a b none
 end_in-append (slack value ∷ a) b none = end_in-append a b none
 end_in-append (ending word ∷ a) b none = absurd (cc none)
 
--- lines of proofs have neither
+-- lines of proofs have no verdicts and no end
 no_verdicts : (lines : List ProofLine) → verdicts_in (map proof lines) ≡ []
 no_verdicts [] = refl
 no_verdicts (line ∷ lines) = no_verdicts lines
@@ -71,7 +71,7 @@ no_end_in (line ∷ lines) = no_end_in lines
 line_text : (line : Entry) → entry_text line ≡ report_text (line ∷ [])
 line_text line = sym (append-nil (entry_text line))
 
--- the text of lines of a proof is that of lines of a report
+-- the text of lines of a proof is the text of the same lines in a report
 proof_text-lines : (lines : List ProofLine) → proof_text lines ≡ report_text (map proof lines)
 unfolding words_of
 proof_text-lines [] = refl
@@ -84,7 +84,7 @@ module _ {facts : LineClaims} {drawn : Drawn} where
   pub told_none : (here : ReportState) (told : SinkView) → WroteVerdicts facts drawn here here [] told told
   told_none here told = record { lines = []; reads = refl; grew = grown-nil told; words_are = refl; no_end = refl }
 
-  -- one line is put that may follow
+  -- one line that may follow is put
   pub told_line : {here next : ReportState} {old new : SinkView} (line : Entry) → MayFollow facts drawn here line next → new ≡ grown old (entry_text line) → end_in (line ∷ []) ≡ None
       → WroteVerdicts facts drawn here next (verdicts_in (line ∷ [])) old new
   told_line {next = next} {old = old} line may put none = record {
@@ -110,11 +110,11 @@ module _ {facts : LineClaims} {drawn : Drawn} where
     no_end = end_in-append a.lines b.lines a.no_end ∙ b.no_end;
   }
 
-  -- lines lead to what is the same place
+  -- the last report state of lines that were put, by an equal one
   pub told_at : {here mid last : ReportState} {old new : SinkView} {words : List Verdict} → mid ≡ last → WroteVerdicts facts drawn here mid words old new → WroteVerdicts facts drawn here last words old new
   told_at {here = here} {old = old} {new = new} {words = words} e t = subst (λ (at : ReportState). WroteVerdicts facts drawn here at words old new) e t
 
-  -- or from what is the same place
+  -- the first report state of lines that were put, by an equal one
   pub told_from : {here mid last : ReportState} {old new : SinkView} {words : List Verdict} → mid ≡ here → WroteVerdicts facts drawn mid last words old new → WroteVerdicts facts drawn here last words old new
   told_from {last = last} {old = old} {new = new} {words = words} e t = subst (λ (at : ReportState). WroteVerdicts facts drawn at last words old new) e t
 
@@ -138,7 +138,7 @@ module _ {facts : LineClaims} {drawn : Drawn} where
   goes_then to words new (Ok x) a b = told_then a b
   goes_then to words new (Err e) a b = stopped_then (wrote_of a) b
 
-  -- a step failed, and so does what called it
+  -- a step failed, and so its caller fails
   pub goes_up : {B E : Type 0} {here : ReportState} {old new : SinkView} (to : B → ReportState) (words : B → List Verdict) (result : Result B E) → IsErr result → WroteFront facts drawn here old new
       → WritesVerdicts facts drawn here to words old new result
   goes_up to words (Ok x) is stopped = absurd (cc is)
@@ -148,7 +148,7 @@ module _ {facts : LineClaims} {drawn : Drawn} where
   pub stops_then : {here mid : ReportState} {old now new : SinkView} {xs : List Verdict} → WroteVerdicts facts drawn here mid xs old now → WroteFront facts drawn mid now new → WroteFront facts drawn here old new
   stops_then a b = stopped_then (wrote_of a) b
 
--- lines that lead in a network do so in the same one
+-- lines that were put for a network were put for an equal network
 pub told_net : {net other : Net} (most : ℕ) (cert : Bool) (basis : List ℤ) {drawn : Drawn} {here last : ReportState} {words : List Verdict} {old new : SinkView} → net ≡ other
     → WroteVerdicts (sized net most cert basis) drawn here last words old new → WroteVerdicts (sized other most cert basis) drawn here last words old new
 told_net most cert basis {drawn = drawn} {here = here} {last = last} {words = words} {old = old} {new = new} e t =

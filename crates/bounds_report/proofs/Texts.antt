@@ -1,4 +1,4 @@
--- Each line that may follow in a report that is written has a text.
+-- Each line of a report that the job writes has a text.
 use Rattle.std.proofs.Common.{◌≡◌, ◌<◌, ◌≤◌, ◌^◌, ℕ, zero, suc, ℤ, pos, negsuc, neg_ℤ, ◌-ℤ◌, ◌<ℤ◌, Bool, List, [], ◌∷◌, ◌++◌, length, All, Option, Some, None, slice_get, unwrap_or, sym, subst, ◌∙◌, inl, inr, arith}
 use Rattle.std.specs.Prelude.{IfSome}
 use Rattle.std.proofs.lemmas.Int.{ints}
@@ -85,12 +85,12 @@ all_last (line ∷ lines) more all =
     let rest = all_last lines more (all_tail IsProofLine line (lines ++ more ∷ []) all) in
     (all_cons IsProofLine line lines (all_head IsProofLine line (lines ++ more ∷ []) all) rest.0, rest.1)
 
--- ---- what is known at a place, and what is owed there
+-- ---- what is known in a report state, and what is to show there
 
 abbrev IsFine : Net → Row → Type 0
 IsFine net r = IsKind r.kind × (r.from.0 < net.events) × (r.to.0 < net.events)
 
--- the row that is told, and the later ones
+-- the current row and the later ones
 abbrev AreFine : Net → CurrentRow → Type 0
 AreFine net told = IsFine net told.row × All (IsFine net) told.later
 

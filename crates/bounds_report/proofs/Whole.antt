@@ -50,7 +50,7 @@ counts is_kind (verdict word ∷ a) =
 counts is_kind (slack value ∷ a) = counts is_kind a
 counts is_kind (ending word ∷ a) = counts is_kind a
 
--- ---- what is asked
+-- ---- the line claims
 
 sized_implies : (net : Net) (most : ℕ) (cert : Bool) (basis : List ℤ) → Implies (sized net most cert basis) (written net most cert basis)
 sized_implies net most cert basis = record {
@@ -80,7 +80,7 @@ Begins drawn most cert old new = (text : List ℕ) × MayHaveBegun drawn most ce
 pub begins_front : (drawn : Drawn) (most : ℕ) (cert : Bool) (old new : SinkView) → CutShort old new (report_text (front most)) → Begins drawn most cert old new
 begins_front drawn most cert old new cut = (report_text (front most), record { lines = front most; last = at_events; known = []; reads = front_reads drawn most cert [] [] at_events refl; tells = refl; is_text = refl }, cut)
 
--- a later one was
+-- a later put was cut short
 pub begins_rest : (drawn : Drawn) (most : ℕ) (cert : Bool) (basis : List ℤ) (old now new : SinkView) → now ≡ grown old (report_text (front most)) → WroteFront (sized drawn.net most cert basis) drawn at_events now new
     → Begins drawn most cert old new
 begins_rest drawn most cert basis old now new put s = (
@@ -148,7 +148,7 @@ module _ (drawn : Drawn) (most : ℕ) (cert : Bool) (basis : List ℤ) (old now 
 
 -- ---- the lines of events
 
--- they lead past all names
+-- the lines of events lead past all names
 events_lead : (facts : LineClaims) (drawn : Drawn) (number : ℕ) (names : List Name) → LinesLead facts drawn (at_event number names) (events_from number names) (at_event (number + length names) [])
 events_lead facts drawn number [] = ap (λ n. at_event n []) (sym (add-zero number))
 events_lead facts drawn number (name ∷ names) =
@@ -168,7 +168,7 @@ all_events_lead facts drawn count same =
     let counted : 0 + length drawn.names ≡ count = omega (arith, same) in
     (at_event 0 drawn.names, (refl, refl), subst (λ n. LinesLead facts drawn (at_event 0 drawn.names) (events_from 0 drawn.names) (at_event n [])) counted (events_lead facts drawn 0 drawn.names))
 
--- what a put of them promises
+-- what a put of the lines of events promises
 pub events_go : {E : Type 0} (facts : LineClaims) (drawn : Drawn) (count : ℕ) (old new : SinkView) (result : Result ⊤ E) → length drawn.names ≡ count
     → Puts old new (report_text (event_lines drawn.names)) result → WritesVerdicts facts drawn at_events (λ _. at_event count []) (λ _. []) old new result
 events_go facts drawn count old new (Ok x) same put = record {

@@ -23,7 +23,7 @@ use Rattle.bounds_report.specs.Reports.{IsWrittenReport}
 use Rattle.bounds_report.specs.Written.{ArePrinted, IsEachNeeded, written}
 use Rattle.bounds_report.proofs.Printed.{bound_within, times_printed}
 
--- lines that are all printed
+-- lines of proofs that are all printed
 all_printed : (lines : List ProofLine) (Shows : List ProofLine → Type 0) → ArePrinted true lines Shows → Shows lines
 all_printed lines Shows p = subst Shows (sym p.1) p.2
 
@@ -89,7 +89,7 @@ written_is_bare drawn most lines w =
 pub written_is_checked : WrittenIsChecked
 written_is_checked drawn most lines w = reads_weaker (written drawn.net most true w.known) (checked drawn.net) drawn lines at_heading at_last (checked_of drawn.net most w.known) w.reads
 
--- with them or without them it is a right report
+-- with the lines of proofs or without them, a written report is right
 pub written_is_right : (drawn : Drawn) (most : ℕ) (cert : Bool) (lines : List Entry) → IsWrittenReport drawn most cert lines → IsRightReport drawn lines
 written_is_right drawn most cert lines w = reads_weaker (written drawn.net most cert w.known) (right drawn.net) drawn lines at_heading at_last (right_of drawn.net most cert w.known) w.reads
 

@@ -9,24 +9,24 @@ use Rattle.right_report.specs.Shown.{IsBareReport, IsShownReport}
 use Rattle.right_report.specs.Texts.{IsAcceptedText}
 use Rattle.bounds_report.specs.Reports.{MayHaveBegun, HasRowRanges, IsWrittenReport}
 
--- a report that is written with the lines of proofs shows its numbers
+-- a report with the lines of proofs shows its numbers
 abbrev pub WrittenIsShown : Type 0
 WrittenIsShown = (drawn : Drawn) (most : ℕ) (lines : List Entry) → IsWrittenReport drawn most true lines → IsShownReport drawn most lines
 
--- and one without them is a right report whose numbers could be shown
+-- a report without the lines of proofs is right, and such lines exist for its numbers
 abbrev pub WrittenIsBare : Type 0
 WrittenIsBare = (drawn : Drawn) (most : ℕ) (lines : List Entry) → IsWrittenReport drawn most false lines → IsBareReport drawn most lines
 
--- each line of one with the lines of proofs meets the check
+-- in a report with the lines of proofs, each line meets the check
 abbrev pub WrittenIsChecked : Type 0
 WrittenIsChecked = (drawn : Drawn) (most : ℕ) (lines : List Entry) → IsWrittenReport drawn most true lines → IsChecked drawn lines
 
--- so its text is accepted, where the names of the events and the ranges of the rows have their form
+-- the check accepts the text of a report with the lines of proofs, if the names of the events and the ranges of the rows have their form
 abbrev pub WrittenIsAccepted : Type 0
 WrittenIsAccepted = (drawn : Drawn) (most : ℕ) (lines : List Entry) → IsWrittenReport drawn most true lines → All IsName drawn.names → HasRowRanges drawn
     → IsAcceptedText drawn (report_text lines)
 
--- what the job may have begun to write is the text of lines that begin a right report, with the lines of proofs or without them
+-- what the job may have begun to write is the text of lines; the lines begin a right report, with the lines of proofs or without them
 abbrev pub BegunIsRight : Type 0
 BegunIsRight = (drawn : Drawn) (most : ℕ) (cert : Bool) (text : List ℕ) → MayHaveBegun drawn most cert text
     → (lines : List Entry) × BeginsRightReport drawn lines × (text ≡ report_text lines)

@@ -38,12 +38,12 @@ verdict_count is_kind lines = count_by (is_verdict is_kind) lines
 
 -- ---- reports
 
--- the ranges that the rows demand have their form
+-- the ranges of the requirements have their form
 abbrev pub HasRowRanges : Drawn → Type 0
 HasRowRanges drawn = All (λ (r : Row). IsKind r.kind) drawn.rows
 
--- a whole report of a budget, with the lines of proofs or without them, and its known times; its lines have texts where the names of the
--- events and the ranges of the rows have their form
+-- a whole report with its budget and its known times, with the lines of proofs or without them; each line has a text if the names of the events and
+-- the ranges of the rows have their form
 pub record IsWrittenReport (drawn : Drawn) (most : ℕ) (cert : Bool) (lines : List Entry) : Type 0 where
   pub known : List ℤ
   pub reads : LinesLead (written drawn.net most cert known) drawn at_heading lines at_last
@@ -57,14 +57,14 @@ pub record Sums (summary : Summary) (lines : List Entry) : Type 0 where
   pub fails : summary.fails ≡ verdict_count is_fail lines
   pub undecided : summary.undecided ≡ verdict_count is_undecided lines
 
--- what the job answers and writes: the text of a report, and what this comes to
+-- what the job answers and writes: the text of a report, and the summary of its lines
 pub record Reports (drawn : Drawn) (most : ℕ) (cert : Bool) (summary : Summary) (text : List ℕ) : Type 0 where
   pub lines : List Entry
   pub is_written : IsWrittenReport drawn most cert lines
   pub sums : Sums summary lines
   pub is_text : text ≡ report_text lines
 
--- what it may have begun to write: the text of lines that begin such a report
+-- what the job may have begun to write: the text of lines that begin such a report
 pub record MayHaveBegun (drawn : Drawn) (most : ℕ) (cert : Bool) (text : List ℕ) : Type 0 where
   pub lines : List Entry
   pub last : ReportState

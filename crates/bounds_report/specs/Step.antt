@@ -1,3 +1,4 @@
+-- Words of contracts within this crate.
 pub mod Kept
 pub mod Searched
 pub mod Told

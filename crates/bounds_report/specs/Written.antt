@@ -1,5 +1,5 @@
--- What job bounds asks of the lines that it writes: each is right, and the numbers of the search are shown by lines of proofs, which
--- are printed where they are wanted, and split only where that is needed. All numbers are as small as printed ones are.
+-- What job bounds claims of the lines that it writes. Each line is right. Lines of proofs show the numbers of a search; they are printed if `cert`
+-- asks for them, and they split only where this is needed. All times may be printed.
 use Rattle.std.specs.Prelude.{◌≡◌, ℕ, ℤ, Bool, true, false, List, [], All, IfSome}
 use Rattle.branch.specs.Needed.{IsNeededToBound, IsNeededToFind}
 use Rattle.drawn.specs.declared.row.Row.{Row}
@@ -15,27 +15,27 @@ use Rattle.right_report.specs.Right.Facts.{right}
 use Rattle.right_report.specs.Right.Following.{LineClaims}
 use Rattle.right_report.specs.Shown.{ShowsBound, ShowsFinding}
 
--- the lines that are printed of those of a search
+-- which lines of a search are printed: all or none
 abbrev pub printed : Bool → List ProofLine → List ProofLine
 printed true lines = lines
 printed false lines = []
 
--- these lines are printed of some that a search wrote down, which show a number
+-- a search wrote down lines that show a number; all of them are printed, or none
 abbrev pub ArePrinted : Bool → List ProofLine → (List ProofLine → Type 0) → Type 0
 ArePrinted cert lines Shows = (searched : List ProofLine) × (lines ≡ printed cert searched) × Shows searched
 
--- each number of a bound is a printed time, and a limit is within the reach of a path
+-- each number of a bound is small enough to be printed, and its limit is within the reach of a path
 abbrev pub HasPrintedTimes : Bound → Type 0
 HasPrintedTimes (bounds.Closed value) = IsPrintedTime value
 HasPrintedTimes bounds.Unbounded = Unit {0}
 HasPrintedTimes (bounds.Within limit attained) = IfSome limit IsReach × IfSome attained IsPrintedTime
 
--- each split of the lines of a bound was needed, where the search began with these known times
+-- each split of the lines of a bound was needed in a search that began with these known times
 abbrev pub IsEachNeeded : Net → List ℤ → Row → NextBound → List ProofLine → Type 0
 IsEachNeeded net known r greatest lines = AtEachSplit net (IsNeededToBound net r.from r.to (separation known r.from r.to)) lines
 IsEachNeeded net known r (least_by most) lines = AtEachSplit net (IsNeededToBound net r.to r.from (separation known r.to r.from)) lines
 
--- what is asked, with the known times that are printed behind a consistent finding
+-- the line claims of job bounds; `known` are the times that are printed behind a consistent finding
 abbrev pub written : Net → ℕ → Bool → List ℤ → LineClaims
 written net most cert known = record {
   finding = λ lines word. (right net).finding lines word

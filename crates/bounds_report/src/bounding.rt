@@ -1,4 +1,4 @@
-//! Telling one bound of a row.
+//! Writing one bound of a row.
 
 ghost use Rattle.std.specs.Prelude.{◌≡◌, ◌<◌, ℕ, ℤ, Bool, [], List, All, IfOk, IsSomeAnd, OnOk};
 ghost use Rattle.branch.specs.Answers.{IsGreatestAnswer, evidence};
@@ -26,8 +26,8 @@ use line_words::LineBuffer;
 use requirements::Bound;
 use slack_report::{Item, Which, write_item};
 
-/// Searches for the bound of an extreme, and tells it with the lines of its proof, where they are wanted, the times that attain it, and the set
-/// of events that shows it unbounded. The times and the set are kept.
+/// Searches for the bound of an extreme, and writes its lines: the lines of its proof if `wanted` asks for them, the bound, the times that attain it,
+/// and, if it is unbounded, the set of events that shows this. `kept` has the times and the set from then on.
 pub fn tell_bound<K: Sink>(
     extreme: Extreme,
     net: &Network,
@@ -61,7 +61,8 @@ pub fn tell_bound<K: Sink>(
     Ok(value)
 }
 
-// Keeps the times that the last search left, with the from-event of the pair at 0, and the set of events where the bound is unbounded.
+// Keeps the times that the last search left, with the from-event of the pair at 0. Where the bound is unbounded, keeps the set of events that shows
+// this too.
 fn keep(
     net: &Network,
     pair: Pair,
@@ -90,7 +91,7 @@ fn keep(
     }
 }
 
-// The bound of a pair that an answer on its searched pair tells.
+// The bound of a pair by the answer of the search on its searched pair.
 fn bound_of(which: Which, answer: GreatestAnswer) -> Bound
     requires times { HasTimes (greatest_by answer) }
     ensures bound { result ≡ bound_of which answer }
@@ -103,7 +104,7 @@ fn bound_of(which: Which, answer: GreatestAnswer) -> Bound
     }
 }
 
-// The greatest bound that an answer tells.
+// The greatest bound that an answer gives.
 fn greatest_in(answer: GreatestAnswer) -> Bound
     ensures { result ≡ greatest_by answer }
 {
@@ -117,7 +118,7 @@ fn greatest_in(answer: GreatestAnswer) -> Bound
     }
 }
 
-// Tells a bound, the times that attain it, and the set of events that shows it unbounded.
+// Writes a bound, the times that attain it, and, if it is unbounded, the set of events that shows this.
 fn put_bound<K: Sink>(
     which: Which,
     value: Bound,

@@ -11,8 +11,8 @@ use line_words::LineBuffer;
 use slack_report::LINE_ROOM;
 use std::alloc::Global;
 
-/// All memory that a report is written with: that of the searches, what is kept of those for the greatest and for the least bound of
-/// a row, and room for a line.
+/// All memory that a report is written with: the memory of the searches, what is kept of the search for the greatest bound of a row and of the search
+/// for the least, and room for a line.
 #[derive(Drop)]
 pub struct Desk {
     pub work: Work,

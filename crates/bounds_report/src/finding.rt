@@ -1,4 +1,4 @@
-//! Telling the finding.
+//! Writing the finding.
 
 ghost use Rattle.std.specs.Prelude.{◌≡◌, ◌<◌, ℕ, ℤ, Bool, [], List, All, IfOk, IfSome, IsSomeAnd};
 ghost use Rattle.branch.specs.Work.{IsClose};
@@ -19,7 +19,7 @@ use event_graph::Network;
 use itv_base::{EventId, PutFailed, Sink};
 use slack_report::{FindingWord, Item, write_item};
 
-/// Looks for times that satisfy a network, and tells the finding and those times.
+/// Looks for times that satisfy a network. Writes the finding and the times, if there are any.
 pub fn tell_finding<K: Sink>(
     net: &Network,
     wanted: Wanted,
@@ -51,7 +51,7 @@ fn word_of(found: SearchFinding) -> FindingWord
     }
 }
 
-// Tells the known times behind a consistent finding.
+// Writes the known times behind a consistent finding.
 fn tell_times<K: Sink>(
     word: FindingWord,
     net: &Network,
@@ -75,7 +75,7 @@ fn tell_times<K: Sink>(
     }
 }
 
-// Takes the known times, with event 0 at 0.
+// Keeps the known times, with event 0 at 0.
 fn take_known(net: &Network, work: &Work, kept: &mut BoundWitness)
     requires room { IsRoomFor net.now kept.old }
     requires known { IsSomeAnd work.now.known (λ times. Satisfies times net.now) }

@@ -8,7 +8,7 @@ use event_graph::move_all;
 use itv_base::{EventId, NoMemory};
 use std::alloc::Global;
 
-/// Times of all events in picoseconds, and for each event whether it is of a set that can be raised by any number.
+/// Times of all events in picoseconds, and for each event whether it is in the set of events that can be raised by any number.
 #[derive(Debug, Drop)]
 pub struct BoundWitness {
     pub times: Vec<i64>,
@@ -16,7 +16,7 @@ pub struct BoundWitness {
 }
 
 impl BoundWitness {
-    /// Places for so many events.
+    /// Places for a number of events, with all times 0 and no event in the set.
     pub fn new(alloc: Global, events: u32) -> Result<BoundWitness, NoMemory>
         ensures times { IfOk result (λ kept. length kept.times.items ≡ events) }
         ensures set { IfOk result (λ kept. length kept.set.items ≡ events) }
@@ -28,7 +28,7 @@ impl BoundWitness {
     }
 }
 
-/// Takes times, less that of an event which is there. All are times that a search left.
+/// Copies times, each less the time of event `origin`. All times come from a search.
 pub fn take_times(out: &mut [i64], times: &[i64], origin: EventId)
     requires count { length times.now ≡ length out.old }
     requires event { origin.0 < length times.now }

@@ -1,4 +1,4 @@
-//! Laws of the reports that the job writes. The functions do nothing; what they ensure holds of all drawn networks.
+//! Laws of the reports that the job writes. The functions have no code; their contracts hold for all drawn networks.
 #![tactic(auto, using(crate::proofs::WrittenLaws::written_is_shown, crate::proofs::WrittenLaws::written_is_bare))]
 
 ghost use Rattle.bounds_report.specs.Laws.{BegunIsRight, WrittenIsAccepted, WrittenIsBare, WrittenIsChecked, WrittenIsShown};
@@ -8,24 +8,22 @@ pub fn written_is_shown()
     ensures law { WrittenIsShown }
 {}
 
-/// A report without the lines of proofs is right, and there are such lines for each of its numbers.
+/// A report without the lines of proofs is right, and such lines exist for each of its numbers.
 pub fn written_is_bare()
     ensures law { WrittenIsBare }
 {}
 
-/// In a report with the lines of proofs each line meets the check.
+/// In a report with the lines of proofs, each line meets the check.
 pub fn written_is_checked()
     ensures law { WrittenIsChecked }
 {}
 
-/// The text of a report with the lines of proofs is accepted by the check, where the names of the events and the ranges of the rows
-/// have their form.
+/// The check accepts the text of a report with the lines of proofs, if the names of the events and the ranges of the rows have their form.
 pub fn written_is_accepted()
     ensures law { WrittenIsAccepted }
 {}
 
-/// What the job may have begun to write, of which a front is there when a put failed, is the text of lines that begin a right report,
-/// with the lines of proofs or without them.
+/// Where a put failed, a front of some text is there. The text is of lines that begin a right report, with the lines of proofs or without them.
 pub fn begun_is_right()
     ensures law { BegunIsRight }
 {}

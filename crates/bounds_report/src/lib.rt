@@ -1,6 +1,5 @@
-//! Job bounds: from a drawn network and a budget to a report.
-//! The contract of the crate: what `write_bounds` writes is a right report of the network, whose finding and bounds are shown by
-//! lines of proofs, printed or left out; where a put failed, a front of such a report.
+//! Job bounds: from a drawn network and a budget to a report. The contract of the crate: `write_bounds` writes a right report of the network. Lines
+//! of proofs, printed or left out, show its finding and its bounds. Where a put failed, a front of such a report is written.
 #![tactic(auto)]
 
 mod bounding;

@@ -1,4 +1,4 @@
-//! Telling the bounds of a row behind an unsettled finding: the root bounds.
+//! Writing the bounds of a row behind an unsettled finding: the root bounds.
 
 ghost use Rattle.std.specs.Prelude.{◌≡◌, ◌<◌, ℕ, ℤ, Bool, [], List, IfOk, OnOk};
 ghost use Rattle.branch.specs.Work.{IsMadeFor};
@@ -20,7 +20,7 @@ use line_words::LineBuffer;
 use requirements::{BothBounds, Bound};
 use slack_report::{Item, Which, write_item};
 
-/// Tells both bounds of a pair of which nothing was searched.
+/// Writes both bounds of a pair by its root bounds alone, without a search.
 pub fn tell_limits<K: Sink>(
     pair: Pair,
     net: &Network,
@@ -48,7 +48,7 @@ pub fn tell_limits<K: Sink>(
     Ok(BothBounds { least, greatest })
 }
 
-// The root bound of a pair, as its greatest or its least bound.
+// The root bound of the searched pair, as the greatest or the least bound of a pair.
 fn limit_of(which: Which, pair: Pair, net: &Network, work: &mut Work) -> Bound
     requires made { IsMadeFor net.now work.old }
     requires always { (times : List ℤ) × MeetsAlways times net.now }
@@ -74,7 +74,7 @@ fn limit_of(which: Which, pair: Pair, net: &Network, work: &mut Work) -> Bound
     }
 }
 
-// Tells a bound of which only the limit is known.
+// Writes a bound of which only the limit is known.
 fn put_limit<K: Sink>(
     which: Which,
     value: Bound,

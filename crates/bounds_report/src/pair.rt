@@ -6,7 +6,7 @@ ghost use Rattle.bounds_report.specs.Step.Kept.{searched_pair};
 use itv_base::EventId;
 use slack_report::Which;
 
-/// Two events, whose separation is the time of `to` less that of `from`.
+/// Two events. Their separation is the time of `to` less the time of `from`.
 #[derive(Clone, Copy, Debug)]
 pub struct Pair {
     pub from: EventId,
@@ -21,7 +21,7 @@ pub struct Extreme {
 }
 
 impl Pair {
-    /// The pair whose greatest separation gives a bound of this one: for the least bound it is the reversed pair.
+    /// The pair whose greatest separation gives a bound of this pair: for the greatest bound this pair, for the least bound the reversed one.
     pub fn searched(self, which: Which) -> Pair
         ensures pair { result ≡ searched_pair which self }
     {

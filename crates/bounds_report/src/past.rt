@@ -23,7 +23,7 @@ use line_words::LineBuffer;
 use requirements::{BothBounds, Bound, Verdict, raise_past};
 use slack_report::{Item, Which, write_item};
 
-/// Behind the verdict of a row, tells times that break the requirement if it is a fail.
+/// Behind a verdict that is a fail, writes times that break the requirement. Behind any other verdict writes nothing.
 pub fn tell_past<K: Sink>(
     word: Verdict,
     range: Range,
@@ -112,7 +112,7 @@ fn negated(end: i64) -> i64
     -end
 }
 
-// Tells times past a limit, which is one of the separation of the searched pair.
+// Writes times past a limit on the separation of the searched pair.
 fn tell_passed<K: Sink>(
     extreme: Extreme,
     limit: i64,
@@ -135,7 +135,7 @@ fn tell_passed<K: Sink>(
     write_item(&Item::Times(&kept.times), buffer, sink)
 }
 
-// Sees to it that the times that are kept of a bound are past a limit.
+// Makes the kept times of a bound go past a limit: if the bound is unbounded, raises them; else they are past the limit already.
 fn pass_limit(
     which: Which,
     limit: i64,
@@ -160,7 +160,7 @@ fn pass_limit(
     }
 }
 
-// Raises the set of events until the separation of the searched pair is past a limit, and takes the from-event back to 0.
+// Raises the set of events until the separation of the searched pair is past a limit, and then moves all times so that the from-event is at 0.
 fn raise(which: Which, limit: i64, pair: Pair, net: &Network, times: &mut [i64], set: &[bool])
     requires net { IsNet net.now }
     requires limit { IsEnd (Some limit) }

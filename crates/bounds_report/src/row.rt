@@ -1,4 +1,4 @@
-//! Telling a row.
+//! Writing a row.
 
 ghost use Rattle.std.specs.Prelude.{◌≡◌, ◌<◌, ◌+◌, ◌||◌, ◌∷◌, ℕ, ℤ, Bool, [], List, IfOk, IsSomeAnd, OnOk};
 ghost use Rattle.std.specs.Option.{option_to_list};
@@ -27,7 +27,7 @@ use requirements::{BothBounds, Verdict};
 use right_report::is_within;
 use slack_report::{FindingWord, Which};
 
-/// Tells a row: what is asked, both bounds, and the verdict if a range is demanded.
+/// Writes a row: its own line, both bounds, and for a requirement the verdict.
 pub fn tell_row<K: Sink>(
     number: u32,
     row: &Row,
@@ -61,7 +61,7 @@ pub fn tell_row<K: Sink>(
     })
 }
 
-// Tells the verdict of a row, if a range is demanded.
+// Writes the verdict of a row, if the row is a requirement.
 fn tell_demand<K: Sink>(
     kind: &RowKind,
     pair: Pair,
@@ -93,14 +93,14 @@ fn tell_demand<K: Sink>(
     }
 }
 
-// Whether one of two bounds was left open.
+// Whether one of two bounds is `Within`.
 fn is_left_open(both: &BothBounds) -> bool
     ensures { result ≡ (is_within both.now.least || is_within both.now.greatest) }
 {
     is_within(both.least) || is_within(both.greatest)
 }
 
-// Tells both bounds of a pair.
+// Writes both bounds of a pair.
 fn tell_bounds<K: Sink>(
     found: FindingWord,
     pair: Pair,
@@ -135,7 +135,7 @@ fn tell_bounds<K: Sink>(
     }
 }
 
-// Tells both bounds of a pair, each by a search.
+// Writes both bounds of a pair, each by a search.
 fn tell_searched<K: Sink>(
     pair: Pair,
     net: &Network,

@@ -1,4 +1,4 @@
-//! Telling all rows.
+//! Writing all rows.
 
 ghost use Rattle.std.specs.Prelude.{◌≡◌, ◌<◌, [], List, IfOk, OnErr, length};
 ghost use Rattle.requirements.specs.declared.verdict.Verdict.{Verdict};
@@ -17,7 +17,7 @@ use itv_base::{PutFailed, Sink};
 use jobs::row_at;
 use slack_report::{FindingWord, Item, write_item};
 
-/// Tells how many rows there are, and each of them; behind an inconsistent finding nothing.
+/// Writes how many rows there are, and each row. Behind an inconsistent finding writes nothing.
 pub fn tell_rows<K: Sink>(
     found: FindingWord,
     drawn: &DrawnNetwork,
@@ -41,7 +41,7 @@ pub fn tell_rows<K: Sink>(
     }
 }
 
-// Tells how many rows there are, and each of them.
+// Writes how many rows there are, and each row.
 fn tell_each<K: Sink>(
     found: FindingWord,
     drawn: &DrawnNetwork,

@@ -1,4 +1,4 @@
-//! Searches, whose lines of proofs are printed where they are wanted.
+//! Searches, which print the lines of their proofs if `wanted` asks for them.
 
 ghost use Rattle.std.specs.Prelude.{◌≡◌, ◌<◌, ◌↔◌, All, IsSome, IsSomeAnd, IfOk, IfSome, OnOk, OnErr, Ok, true, List};
 ghost use Rattle.event_graph.specs.Proof.{ProofLine};
@@ -16,7 +16,7 @@ use event_graph::{Network, ScribeFailed};
 use itv_base::{PutFailed, Sink};
 use line_words::LineBuffer;
 
-/// Looks for times that satisfy a network, and prints the lines of the proof where they are wanted.
+/// Looks for times that satisfy a network, and prints the lines of the proof if `wanted` asks for them.
 pub fn find_times<K: Sink>(
     work: &mut Work,
     net: &Network,
@@ -41,7 +41,7 @@ pub fn find_times<K: Sink>(
     }
 }
 
-/// Finds the greatest separation of a pair, and prints the lines of the proof where they are wanted.
+/// Finds the greatest separation of a pair, and prints the lines of the proof if `wanted` asks for them.
 pub fn greatest_of<K: Sink>(
     work: &mut Work,
     net: &Network,
@@ -72,7 +72,7 @@ pub fn greatest_of<K: Sink>(
     }
 }
 
-// ---- with the lines
+// ---- with the lines of proofs
 
 fn find_printing<K: Sink>(
     work: &mut Work,
@@ -128,7 +128,7 @@ fn greatest_printing<K: Sink>(
     }
 }
 
-// ---- without them
+// ---- without the lines of proofs
 
 fn find_quietly(work: &mut Work, net: &Network, budget: u64) -> SearchFinding
     requires made { IsMadeFor net.now work.old }

@@ -10,14 +10,14 @@ ghost use Rattle.right_report.specs.Right.At.{course_of, end_word};
 use requirements::Verdict;
 use slack_report::{EndWord, FindingWord};
 
-/// What a row comes to: its verdict, if it has one, and whether a bound of it was left open.
+/// What a row comes to: its verdict, if it has one, and whether one of its bounds is `Within`.
 #[derive(Clone, Copy, Debug)]
 pub struct RowEnd {
     pub verdict: Option<Verdict>,
     pub is_within: bool,
 }
 
-/// How many requirements passed, failed and were left undecided so far, and whether some bound was left open.
+/// How many requirements pass, fail and are undecided so far, and whether some bound is `Within`.
 #[derive(Clone, Copy, Debug)]
 pub struct Tally {
     pub passes: u32,
@@ -41,7 +41,7 @@ impl Tally {
         }
     }
 
-    /// Takes in what one more row comes to.
+    /// Counts one more row.
     pub fn after(self, end: RowEnd) -> Tally
         requires room { self.passes + self.fails + self.undecided < 2 ^ 32 - 1 }
         ensures counted { (words : List Word) → IsTally self words
@@ -74,7 +74,7 @@ impl Tally {
         }
     }
 
-    /// The word at the end of a report, behind a finding and these rows.
+    /// The word at the end of a report with this finding and these rows.
     pub fn end_word(self, found: FindingWord) -> EndWord
         ensures word { result ≡ end_word (tally_course found self) }
     {

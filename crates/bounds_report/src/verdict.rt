@@ -1,4 +1,4 @@
-//! Telling the verdict on a row.
+//! Writing the verdict on a row.
 
 ghost use Rattle.std.specs.Prelude.{◌≡◌, ◌<◌, ◌+◌, ◌∷◌, ℕ, ℤ, Bool, [], List, OnOk};
 ghost use Rattle.requirements.specs.Bounds.{HasTimes};
@@ -17,7 +17,7 @@ use itv_base::{PutFailed, Range, Sink};
 use requirements::{BothBounds, Verdict, judge, slack};
 use slack_report::{Item, Which, write_item};
 
-/// Tells the verdict on a requirement by the two bounds of its pair, times that break it, and the slacks.
+/// Writes the verdict on a requirement by the two bounds of its pair, times that break it if it fails, and the slacks.
 pub fn tell_verdict<K: Sink>(
     range: Range,
     pair: Pair,

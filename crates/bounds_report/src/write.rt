@@ -26,9 +26,8 @@ use line_words::LineBuffer;
 use slack_report::{Item, write_item};
 use std::alloc::Global;
 
-/// Writes the report of a drawn network: whether some times satisfy it, and the bounds and the verdict of each of its rows. Each
-/// search closes at most `budget` cases. With `cert` the lines of their proofs stand before what they show. All memory is taken
-/// before the first put.
+/// Writes the report of a drawn network: the finding, and for each row its bounds, with the verdict if it is a requirement. Each search closes at
+/// most `budget` cases. With `cert` the lines of proofs are printed before the lines that they show. The call takes all memory before the first put.
 pub fn write_bounds<K: Sink>(
     alloc: Global,
     drawn: &DrawnNetwork,
@@ -48,7 +47,7 @@ pub fn write_bounds<K: Sink>(
     Ok(tell_report(drawn, wanted, &mut desk, sink)?)
 }
 
-// Tells the whole report.
+// Writes the whole report.
 fn tell_report<K: Sink>(
     drawn: &DrawnNetwork,
     wanted: Wanted,
@@ -79,7 +78,7 @@ fn tell_report<K: Sink>(
     })
 }
 
-// The heading, and how many cases each search may close.
+// Writes the heading, and how many cases each search may close.
 fn put_front<K: Sink>(budget: u64, buffer: &mut LineBuffer, sink: &mut K) -> Result<(), PutFailed>
     ensures puts { Puts (K.told sink.old) (K.told sink.new) (report_text (heading ∷ entry_budget budget ∷ [])) result }
 {
@@ -87,7 +86,7 @@ fn put_front<K: Sink>(budget: u64, buffer: &mut LineBuffer, sink: &mut K) -> Res
     write_item(&Item::Budget { budget }, buffer, sink)
 }
 
-// How many events there are, and their names.
+// Writes how many events there are, and their names.
 fn put_events<K: Sink>(
     drawn: &DrawnNetwork,
     buffer: &mut LineBuffer,

@@ -9,7 +9,7 @@ pub length-first_joins : (pin : PinJoins) (k : ℕ) → length (first_joins pin 
 length-first_joins pin zero = refl
 length-first_joins pin (suc k) = length-append (first_joins pin k) (join_at pin k ∷ []) ∙ ap (λ n. n + 1) (length-first_joins pin k) ∙ add-one k
 
--- one pin more
+-- one more pin
 pub length-joins-more : (pins : List PinJoins) (i : ℕ) (pin : PinJoins) → i < length pins
     → length (joins_of_pins (take (i + 1) pins)) ≡ length (joins_of_pins (take i pins)) + (get_or pins i pin).marks
 length-joins-more pins i pin within =

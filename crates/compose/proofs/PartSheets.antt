@@ -15,7 +15,7 @@ use Rattle.wave_string.specs.Kinds.{may_join}
 abbrev pub seen : List (Bor SheetContents) → List SheetContents
 seen sheets = map (λ (s : Bor SheetContents). s.now) sheets
 
--- one part more, whose sheet was found
+-- one more part, whose sheet was found
 pub sheets_more : {X : Type 0} (h : X → Option SheetContents) (parts : List X) (i : ℕ) (part : X) (found new : List (Bor SheetContents)) (sheet : Bor SheetContents) → i < length parts → part ≡ get_or parts i part
     → seen found ≡ filter_map h (take i parts) → h part ≡ Some sheet.now → new ≡ found ++ sheet ∷ [] → seen new ≡ filter_map h (take (i + 1) parts)
 sheets_more h parts i part found new sheet within read so_far is grew =

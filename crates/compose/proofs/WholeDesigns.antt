@@ -1,4 +1,4 @@
--- What is composed of a whole netlist and whole sheets is a design.
+-- A whole netlist and whole sheets make a design.
 use Rattle.std.proofs.Common.{◌≡◌, ℕ, zero, suc, ◌+◌, ◌<◌, ◌≤◌, Bool, true, false, cond, ◌==◌, ltb, List, [], ◌∷◌, ◌++◌, length, take, All, Option, Some, None, IfSome, position, unwrap_or, Result, Ok, Err, IfOk, refl, sym, ◌∙◌, arith}
 use Rattle.std.specs.Prelude.{find, ok_or, option_map, slice_get, IsSomeAnd, ⊤}
 use Rattle.std.specs.List.{position_or_len}
@@ -38,7 +38,7 @@ use Rattle.compose.specs.Wires.{ends_of, mark_named, wire_link, wire_links, with
 
 -- ---- answers
 
--- what holds after a second step of which the first is known
+-- what holds after a second step, if the first one is known
 after_step : {A B F : Type 0} (Q : B → Type 0) (read : Result A F) (f : A → Result B F) → ((x : A) → read ≡ Ok x → IfOk (f x) Q) → IfOk (read >>= f) Q
 after_step Q (Ok x) f then = then x refl
 after_step Q (Err fault) f then = tt
@@ -54,7 +54,7 @@ IfOk-ok_or P (Some x) fault h = h
 All-slice_get : {X : Type 0} (P : X → Type 0) (xs : List X) (i : ℕ) (x : X) → All P xs → slice_get xs i ≡ Some x → P x
 All-slice_get P xs i x all read = rw (get_or_from_slice_get xs i x x read) at (all i x (slice_get_within xs i x read))
 
--- what all elements have, the one that is found has
+-- what holds for all elements holds for the one that is found
 find_all : {X : Type 0} (P : X → Type 0) (p : X → Bool) (xs : List X) → All P xs → IfSome (find p xs) P
 find_all P p [] all = tt
 find_all P p (x ∷ xs) all = cond_both (p x) (Some x) (find p xs) (λ o. IfSome o P) (λ _. All-head P x xs all) (λ _. find_all P p xs (All-tail P x xs all))
@@ -68,7 +68,7 @@ position_within p xs =
 mark_count_cons : (sheet : SheetContents) (sheets : List SheetContents) → mark_count (sheet ∷ sheets) ≡ length sheet.marks + mark_count sheets
 mark_count_cons sheet sheets = sum_by-cons (λ (s : SheetContents). length s.marks) sheet sheets
 
--- the number of a mark that is there is below that of all marks
+-- the number of a mark is less than the number of marks
 number_below : (sheets : List SheetContents) (part mark : ℕ) → IsSomeAnd (slice_get sheets part) (λ (sheet : SheetContents). mark < length sheet.marks)
     → mark_count (take part sheets) + mark < mark_count sheets
 number_below [] part mark there = absurd there
@@ -251,7 +251,7 @@ module _ (parts : List Part) (sheets : List SheetContents) where
 
 -- ---- the design
 
--- what is composed of a whole netlist on whole sheets, one for each part, is a design
+-- a whole netlist and whole sheets, one for each part, make a design
 pub composed_whole : (netlist : Netlist) (sheets : List SheetContents) → IsNetlist netlist → All IsWhole sheets → length sheets ≡ length netlist.parts → IfOk (composed_on netlist sheets) IsDesign
 unfolding composed_on
 composed_whole netlist sheets h whole long =

@@ -52,7 +52,7 @@ rules_fault : (read : Result (List Link) JoinFault) (fault : JoinFault) → read
 rules_fault (Ok links) fault e = absurd cc
 rules_fault (Err d) fault e = cc
 
--- a fault of the wires that are left is one of their rules and rows
+-- a fault of the wires that are left is a fault of their rules and rows
 pub wires_full : (parts : List Part) (sheets : List SheetContents) (wires : List (Option Wire)) (n : ℕ) (links : List Link) (fault : GroupFault) → IsReadingFault is_memory (walk (with_wire parts sheets) n links (drop n wires)) (join_fault fault)
     → IsReadingFault is_memory (rules_and_rows (walk (with_wire parts sheets) n links (drop n wires))) (join_fault fault)
 wires_full parts sheets wires n links fault h =

@@ -1,4 +1,4 @@
--- The design of a netlist and its sheets, or the first fault: the nets are looked at before the wires.
+-- The design of a netlist and its sheets, or the first fault. Faults of nets come before faults of wires.
 use Rattle.std.specs.Prelude.{map, List, Result, Ok}
 use Rattle.itv_base.specs.Reading.{◌>>=◌}
 use Rattle.netlist.specs.declared.part.Part.{Part}
@@ -11,8 +11,8 @@ use Rattle.compose.specs.Nets.{joins_of}
 use Rattle.compose.specs.Sheets.{SheetMap, sheets_of}
 use Rattle.compose.specs.Wires.{wire_links}
 
--- The design of a netlist whose parts are drawn on these sheets. The wires are grouped into rules as the edges of a sheet are,
--- as links between the numbers of their marks.
+-- The design of a netlist whose parts are drawn on these sheets. The wires are links between the numbers of their marks, and are grouped into rules
+-- as the edges of a sheet are.
 unfoldable pub composed_on : NetlistContents → List sheet.SheetContents → Result Composed JoinFault
 composed_on netlist sheets = do
   joins ← joins_of netlist.parts sheets netlist.nets

@@ -1,4 +1,4 @@
--- What a design holds, and what holds of every design.
+-- What a design has, and what holds for every design.
 use Rattle.std.specs.Prelude.{◌≡◌, ◌<◌, ◌≤◌, ℕ, List, length, All, IsSomeAnd, slice_get}
 use Rattle.itv_base.specs.declared.limits.TheConstants.{MAX_CYCLES, MAX_PARTS}
 use Rattle.sheet.specs.Contents.{SheetContents}
@@ -9,9 +9,8 @@ use Rattle.compose.specs.declared.mark.DesignMark.{DesignMark}
 use Rattle.compose.specs.declared.joins.Join.{Join}
 use Rattle.compose.specs.Numbers.{mark_count}
 
--- The number of cycles, the names and the sheets of the parts in order, the joins of the nets, and the rules and rows of the
--- wires, between the numbers of the design's marks. All joins are here, however many there are: they are kept pin by pin, which
--- takes little memory.
+-- The number of cycles, the names and the sheets of the parts in order, the joins of the nets, and the rules and rows of the wires, between the
+-- numbers of the design's marks. All joins are here, however many there are. The code keeps them pin by pin, which takes little memory.
 pub record Composed : Type 0 where
   pub cycles : ℕ
   pub parts : List (List ℕ)
@@ -27,8 +26,8 @@ IsMarkOf sheets mark = IsSomeAnd (slice_get sheets mark.part) (λ sheet. mark.ma
 abbrev pub IsJoinOf : List SheetContents → Join → Type 0
 IsJoinOf sheets join = IsMarkOf sheets join.from × IsMarkOf sheets join.to
 
--- one cycle or more, each part with a name and a sheet, all that joins name is there, and rules and rows are between the numbers
--- of the marks
+-- there is at least one cycle, each part has a name and a sheet, joins are between marks that are there, and rules and rows are between numbers of
+-- marks
 pub record IsDesign (d : Composed) : Type 0 where
   pub some : 1 ≤ d.cycles
   pub cycles : d.cycles ≤ MAX_CYCLES

@@ -16,7 +16,7 @@ is_memory (WireNoMark wire) = false
 is_memory (TooManyCauses wire) = false
 is_memory NoMemory = true
 
--- the fault of a wire that is one cause too many of its group
+-- the fault of wires as a fault of the netlist: a wire is one cause too many for its rule, or memory was not found
 abbrev pub join_fault : GroupFault → JoinFault
 join_fault (group.TooManyCauses n) = TooManyCauses n
 join_fault group.NoMemory = NoMemory

@@ -1,11 +1,11 @@
--- The joins of nets, as they are kept pin by pin.
+-- The joins of nets. The code keeps them pin by pin.
 use Rattle.std.specs.Prelude.{ℕ, zero, suc, ◌+◌, List, [], ◌∷◌, ◌++◌}
 use Rattle.std.specs.List.{flat_map}
 use Rattle.compose.specs.declared.mark.DesignMark.{DesignMark}
 use Rattle.compose.specs.declared.joins.Join.{Join}
 use Rattle.compose.specs.declared.joins.PinJoins.{PinJoins}
 
--- the mark of the same part that stands so many numbers behind
+-- the mark of the same part whose number is greater by `k`
 abbrev pub mark_behind : DesignMark → ℕ → DesignMark
 mark_behind mark k = record { part = mark.part; mark = mark.mark + k }
 
@@ -13,7 +13,7 @@ mark_behind mark k = record { part = mark.part; mark = mark.mark + k }
 abbrev pub join_at : PinJoins → ℕ → Join
 join_at pin k = record { from = mark_behind pin.driver k; to = mark_behind pin.driven k; delay = pin.delay; origin = pin.origin }
 
--- the joins of the first marks of the two pins
+-- the joins of the first `k` marks of the two pins
 abbrev pub first_joins : PinJoins → ℕ → List Join
 first_joins pin zero = []
 first_joins pin (suc k) = first_joins pin k ++ join_at pin k ∷ []

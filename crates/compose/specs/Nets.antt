@@ -58,20 +58,20 @@ terminals_of parts sheets n pins = walk (with_terminal parts sheets n) 0 [] pins
 
 -- ---- joins
 
--- pin k has as many marks as the driver
+-- pin k has as many marks as the driver, or its fault
 abbrev pub same_count : Terminal → ℕ → ℕ → ⊤ → Terminal → Result ⊤ JoinFault
 same_count driver n k done other = if other.count == driver.count then Ok tt else Err (MarkCounts n k driver.count other.count)
 
--- the kind of a mark by its number
+-- the kind of the mark with this number; bare where there is no such mark
 abbrev pub kind_at : List Mark → ℕ → MarkKind
 kind_at marks m = unwrap_or (option_map (λ (mark : Mark). mark.kind) (slice_get marks m)) Bare
 
--- mark m of the driver and mark m of pin k may be joined
+-- mark m of the driver may be joined to mark m of pin k, or the fault of this
 abbrev pub kinds_fit : List SheetContents → Terminal → Terminal → ℕ → ℕ → ℕ → ⊤ → Result ⊤ JoinFault
 kinds_fit sheets driver other n k m done =
     if may_join (kind_at (marks_at sheets driver.part) (driver.first + m)) (kind_at (marks_at sheets other.part) (other.first + m)) then Ok tt else Err (KindsDiffer n k m)
 
--- the marks of the driver and those of pin k of net n, joined one by one
+-- the marks of the driver and the marks of pin k of net n, joined one by one
 abbrev pub pins_joined : ℕ → ℕ → Terminal → Ends → Terminal → PinJoins
 pins_joined n k driver delay other = record {
   driver = record { part = driver.part; mark = driver.first };
@@ -81,13 +81,13 @@ pins_joined n k driver delay other = record {
   origin = FromPin n k;
 }
 
--- the marks of pin k joined, where the kinds of all of them fit
+-- the joins with all joins of pin k behind them, if the kinds of all its marks fit
 abbrev pub with_pin : List SheetContents → Terminal → Ends → ℕ → ℕ → List Join → Terminal → Result (List Join) JoinFault
 with_pin sheets driver delay n k done other = do
   _ ← walk_to (kinds_fit sheets driver other n k) 0 tt driver.count
   Ok (done ++ pin_joins (pins_joined n k driver delay other))
 
--- The joins of net n, whose pins are found: all pins have as many marks as the driver, and then each pin is joined.
+-- the joins with all joins of net n behind them, by its pins; all pins have as many marks as the first one, which drives each other one
 abbrev pub with_terminals : List SheetContents → Ends → ℕ → List Join → List Terminal → Result (List Join) JoinFault
 with_terminals sheets delay n done [] = Ok done
 with_terminals sheets delay n done (driver ∷ others) = do
@@ -99,6 +99,6 @@ with_net parts sheets n done net = do
   terminals ← terminals_of parts sheets n net.pins
   with_terminals sheets net.delay n done terminals
 
--- the joins of nets, net by net and in a net pin by pin
+-- the joins of nets: net by net, and within a net pin by pin
 abbrev pub joins_of : List Part → List SheetContents → List JoinedPins → Result (List Join) JoinFault
 joins_of parts sheets nets = walk (with_net parts sheets) 0 [] nets

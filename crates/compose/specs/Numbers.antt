@@ -1,5 +1,5 @@
--- The marks of a design, numbered part by part and on each part as on its sheet, and joins between those numbers, as if one
--- cycle of the design were one large sheet.
+-- The marks of a design, numbered part by part, and within a part as on its sheet; and joins between these numbers. So one cycle of the design is
+-- like one large sheet.
 use Rattle.std.specs.Prelude.{ℕ, ◌+◌, List, [], ◌∷◌, length, sum_by, take}
 use Rattle.itv_base.specs.declared.names.RuleKind.TheVariants.{Lin}
 use Rattle.sheet.specs.Rule.{SheetRule}
@@ -11,7 +11,7 @@ use Rattle.compose.specs.declared.joins.Join.{Join}
 abbrev pub mark_count : List SheetContents → ℕ
 mark_count sheets = sum_by (λ sheet. length sheet.marks) sheets
 
--- the number of a mark: those of the parts before its own come first
+-- the number of a mark; the marks of earlier parts have lower numbers
 abbrev pub number_of : List SheetContents → DesignMark → ℕ
 number_of sheets mark = mark_count (take mark.part sheets) + mark.mark
 

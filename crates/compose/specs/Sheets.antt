@@ -14,7 +14,7 @@ use Rattle.compose.specs.declared.sheet_key.SheetKey.{SheetKey}
 abbrev pub key_of : Part → SheetKey
 key_of part = record { sheet = part.sheet; grade = part.grade }
 
--- two keys have the same name of a sheet, and the same grade or none
+-- two keys have the same name of a sheet, and the same grade or both no grade
 abbrev pub same_key : SheetKey → SheetKey → Bool
 same_key a b = bytes_eq a.sheet b.sheet && option_eq bytes_eq a.grade b.grade
 

@@ -1,4 +1,4 @@
--- The rules and rows of wires, or the first fault. Wires are numbered from 0, comments among them.
+-- The rules and rows of wires, or the first fault. Wires are numbered from 0, and comments are counted too.
 use Rattle.std.specs.Prelude.{ℕ, ◌==◌, if◌then◌else◌, List, [], ◌∷◌, ◌++◌, Option, Some, None, position, ok_or, option_map, Result, Ok, Err}
 use Rattle.itv_base.specs.Reading.{◌>>=◌, walk}
 use Rattle.itv_base.specs.Range.{Ends}
@@ -20,7 +20,7 @@ use Rattle.compose.specs.Numbers.{number_of}
 abbrev pub mark_named : List SheetContents → ℕ → ℕ → Option DesignMark
 mark_named sheets part name = option_map (λ mark. record { part = part; mark = mark }) (position (λ (mark : Mark). mark.name == name) (marks_at sheets part))
 
--- the marks that wire n goes between: both parts are looked for before both marks
+-- the marks that wire n joins, or its fault; a missing part comes before a missing mark
 abbrev pub ends_of : List Part → List SheetContents → ℕ → Wire → Result WireEnds JoinFault
 ends_of parts sheets n wire = do
   from_part ← ok_or (part_named parts wire.from_part) (WireNoPart n)
@@ -33,11 +33,11 @@ ends_of parts sheets n wire = do
 abbrev pub wire_label : Wire → LooseLabel Ends
 wire_label wire = record { kind = wire.kind; shift = wire.shift; tag = wire.tag; ends = wire.range; note = None }
 
--- Wire n is a link between the numbers of its marks.
+-- wire n as a link between the numbers of its marks
 abbrev pub wire_link : List SheetContents → ℕ → Wire → WireEnds → Link
 wire_link sheets n wire ends = record { from = number_of sheets ends.from; to = number_of sheets ends.to; origin = FromWire n; label = wire_label wire }
 
--- the links with wire n behind them; a comment gives none
+-- the links with wire n behind them, or its fault; a comment adds no link
 abbrev pub with_wire : List Part → List SheetContents → ℕ → List Link → Option Wire → Result (List Link) JoinFault
 with_wire parts sheets n done None = Ok done
 with_wire parts sheets n done (Some wire) = do

@@ -16,14 +16,13 @@ use itv_base::{NoMemory, Texts};
 use netlist::{Netlist, Part};
 use std::alloc::Global;
 
-/// The design of a netlist and its sheets, or the first fault in the order of [`JoinFault`]. The sheet of each part at its speed grade
-/// is among the sheets, which the design borrows.
+/// The design of a netlist and its sheets, or the first fault in the order of [`JoinFault`]. `sheets` has to have the sheet of each part at its speed
+/// grade. The design borrows the sheets.
 ///
-/// The first pin of a net drives each other one: mark k of the driver is joined to mark k of the other pin, with the net's
-/// delay. Wires are grouped into rules as the edges of a sheet are: the latest causes of one target with one tag are those of
-/// one rule, and so are the earliest ones.
+/// The first pin of a net drives each other pin: mark k of the driver is joined to mark k of the other pin, with the net's delay. Wires are grouped
+/// into rules as the edges of a sheet are: latest causes of one target with one tag form one rule, and so do earliest causes.
 ///
-/// `NoMemory` may come in place of a design or a fault. After any fault no design was made.
+/// `NoMemory` may come in place of a design or a fault. After any fault there is no design.
 pub fn compose<'a>(
     alloc: Global,
     netlist: &Netlist,

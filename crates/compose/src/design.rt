@@ -1,4 +1,4 @@
-//! A design as it was composed.
+//! A design.
 
 ghost use Rattle.std.specs.Prelude.{◌≡◌, ◌<◌, Some, length, slice_get};
 ghost use Rattle.compose.specs.Design.{IsDesign};
@@ -8,8 +8,8 @@ use itv_base::Texts;
 use sheet::{Rules, Sheet, SheetRows};
 use std::marker::Model;
 
-/// A design: its cycles, its parts with their names and sheets, the joins of its nets, and the rules and rows of its wires.
-/// Rules and rows are between the numbers of the design's marks. It borrows the sheets and copies none of them.
+/// A design: its cycles, its parts with their names and sheets, the joins of its nets, and the rules and rows of its wires. Rules and rows are
+/// between the numbers of the design's marks. A design borrows its sheets and copies none.
 #[derive(Debug, Drop)]
 pub struct Design<'a> {
     pub(crate) cycles: u32,
@@ -55,7 +55,7 @@ impl<'a> Design<'a> {
         self.sheets[part as usize]
     }
 
-    /// The joins of the nets: net by net, in a net pin by pin, for a pin mark by mark.
+    /// The joins of the nets: net by net, within a net pin by pin, within a pin mark by mark.
     pub fn joins(&self) -> &Joins
         ensures joins { result.now ≡ self.now.joins }
     {

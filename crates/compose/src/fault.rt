@@ -9,31 +9,32 @@ use sheet::GroupFault;
 use std::alloc::AllocFailed;
 use thiserror::Error;
 
-/// The first fault of a netlist with its sheets. The nets are looked at in order: of each its pins, whether each is there (the
-/// part before the pin), then whether each has as many marks as the first, then mark by mark whether the kinds may be joined.
-/// After all nets the wires are looked at in order: both parts before both marks. Nets, pins of a net, marks of a pin and wires
-/// are told by their number from 0, comments among the wires too.
+/// The first fault of a netlist with its sheets. The nets are checked in order, each in three steps. First each pin has to be there, its part before
+/// the pin itself. Then each pin has to have as many marks as the first one. Then, pin by pin and mark by mark, the kinds of the marks have to fit.
+/// After all nets the wires are checked in order, both parts before both marks. Nets, pins of a net, marks of a pin and wires have numbers from 0,
+/// and comments are counted among the wires.
 #[derive(Clone, Copy, Debug, PartialEq, Eq, Error)]
 pub enum JoinFault {
-    /// Of a net and its pin: no part has the name that the pin has.
+    /// The numbers of a net and its pin. No part has the name that the pin has.
     #[error("pin {1} of net {0} is of no part")]
     NoPart(u64, u64),
-    /// Of a net and its pin: the sheet of the part has no pin with the name.
+    /// The numbers of a net and its pin. The sheet of the part has no pin with this name.
     #[error("pin {1} of net {0} is not on its sheet")]
     NoPin(u64, u64),
-    /// Of a net and its pin: the first pin has so many marks, and this one so many others.
+    /// The numbers of a net and its pin, how many marks the first pin has, and how many this pin has. The counts differ.
     #[error("pin {1} of net {0} has {3} marks in place of {2}")]
     MarkCounts(u64, u64, u32, u32),
-    /// Of a net, its pin and a mark: one of the first pin's mark and this pin's mark of this number is a rise, the other a fall.
+    /// The numbers of a net, its pin and a mark. Of the two marks with this number, on the first pin and on this pin, one is a rise and the other a
+    /// fall.
     #[error("mark {2} of pin {1} of net {0} turns the other way")]
     KindsDiffer(u64, u64, u32),
-    /// No part has one of the two part names of the wire.
+    /// The number of a wire. No part has one of the two part names of the wire.
     #[error("wire {0} names no part")]
     WireNoPart(u64),
-    /// One of the two marks of the wire is not on the sheet of its part.
+    /// The number of a wire. One of its two marks is not on the sheet of its part.
     #[error("wire {0} names no mark")]
     WireNoMark(u64),
-    /// The wire would be one cause too many of its rule.
+    /// The number of a wire. It would be one cause too many for its rule.
     #[error("wire {0} is one cause too many")]
     TooManyCauses(u64),
     #[error("out of memory")]

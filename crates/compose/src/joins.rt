@@ -9,8 +9,8 @@ use origin::Origin;
 use std::alloc::Global;
 use std::marker::Model;
 
-/// A join: the mark `from` drives the mark `to` of the same cycle, with a delay in picoseconds. Its origin says which pin of which
-/// net has the mark `to`.
+/// A join: the mark `from` drives the mark `to` in the same cycle, with a delay in picoseconds. `origin` says which pin of which net has the mark
+/// `to`.
 #[derive(Clone, Copy, Debug, PartialEq, Eq)]
 pub struct Join {
     pub from: DesignMark,
@@ -19,8 +19,8 @@ pub struct Join {
     pub origin: Origin,
 }
 
-/// The joins of one pin of a net: mark k of the driving pin drives mark k of this pin, for each of their `marks` marks, with
-/// the net's delay. `driver` and `driven` are the first marks of the two pins, and `origin` says which pin this is.
+/// The joins of one pin of a net: mark k of the driving pin drives mark k of this pin, with the net's delay. Each of both pins has `marks` marks.
+/// `driver` and `driven` are the first marks of the two pins, and `origin` says which pin this is.
 #[derive(Clone, Copy, Debug, PartialEq, Eq)]
 pub struct PinJoins {
     pub driver: DesignMark,
@@ -46,7 +46,7 @@ impl PinJoins {
     }
 }
 
-// The mark of the same part that stands so many numbers behind.
+// The mark of the same part whose number is greater by `k`.
 fn mark_behind(mark: DesignMark, k: u32) -> DesignMark
     requires { mark.mark + k < 2 ^ 32 }
     ensures { result ≡ record { part = mark.part; mark = mark.mark + k } }
@@ -57,8 +57,8 @@ fn mark_behind(mark: DesignMark, k: u32) -> DesignMark
     }
 }
 
-/// The joins of nets: net by net, in a net pin by pin, for a pin mark by mark. A netlist of four megabytes may have tens of
-/// millions of them, so they are kept pin by pin. Contracts see the list of all joins.
+/// The joins of nets: net by net, within a net pin by pin, within a pin mark by mark. A netlist of four megabytes may have tens of millions of joins,
+/// so this type keeps them pin by pin. Contracts see the list of all joins.
 #[derive(Debug, Drop)]
 pub struct Joins {
     pins: Vec<PinJoins>,
@@ -75,7 +75,7 @@ impl Model for Joins {
 }
 
 impl Joins {
-    /// No joins. It takes no memory yet.
+    /// No joins. No memory is taken yet.
     pub fn new(alloc: Global) -> Joins
         ensures empty { result ≡ [] }
     {
@@ -84,7 +84,7 @@ impl Joins {
         }
     }
 
-    /// Puts the joins of a pin at the end. Where memory is not found the joins are unchanged.
+    /// Puts the joins of a pin at the end. After `NoMemory` the joins are as they were.
     pub fn push(&mut self, pin: PinJoins) -> Result<(), NoMemory>
         ensures ok { OnOk result (self.new ≡ self.old ++ pin_joins pin) }
         ensures err { OnErr result (self.new ≡ self.old) }
@@ -93,7 +93,7 @@ impl Joins {
         Ok(())
     }
 
-    /// The pins, whose joins are all joins in order.
+    /// The pins. Their joins one after another are all joins in order.
     pub fn pins(&self) -> &[PinJoins]
         ensures pins { joins_of_pins result.now ≡ self.now }
     {

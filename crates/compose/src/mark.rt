@@ -1,6 +1,6 @@
 //! The marks of a design.
 
-/// A mark of a design: the number of its part, and its number on the part's sheet, both from 0.
+/// A mark of a design: the number of its part, and the number of the mark on the part's sheet, both from 0.
 #[derive(Clone, Copy, Debug, PartialEq, Eq)]
 pub struct DesignMark {
     pub part: u32,

@@ -17,7 +17,7 @@ use sheet::{MAX_MARKS, Mark, Sheet};
 use std::alloc::Global;
 use wave_string::{MarkKind, may_join};
 
-/// The joins of nets, net by net and in a net pin by pin, or the first fault.
+/// The joins of nets, net by net and within a net pin by pin, or the first fault.
 pub fn join_nets(
     alloc: Global,
     parts: &[Part],
@@ -53,7 +53,7 @@ fn push_net(
     push_terminals(joins, sheets, net.delay(), n, &terminals)
 }
 
-// Joins the pins of net n, of which the first one drives.
+// Joins the pins of net n. The first pin drives.
 fn push_terminals(
     joins: &mut Joins,
     sheets: &[&Sheet],
@@ -104,7 +104,7 @@ fn push_pins(
     Ok(())
 }
 
-// Joins the driver and pin k, where the kinds of their marks fit.
+// Joins the driver and pin k, if the kinds of their marks fit.
 fn push_pin(
     joins: &mut Joins,
     sheets: &[&Sheet],
@@ -168,7 +168,7 @@ fn check_kinds(
     Ok(())
 }
 
-/// The marks on the sheet of a part, none where there is no such part.
+/// The marks on the sheet of a part, or no marks if there is no such part.
 pub fn marks_at<'a, 'b>(sheets: &'b [&'a Sheet], part: u32) -> &'b [Mark]
     ensures marks { result.now ≡ marks_at (map (λ s. s.now) sheets.now) part }
     ensures few { length result.now ≤ MAX_MARKS }
@@ -179,7 +179,7 @@ pub fn marks_at<'a, 'b>(sheets: &'b [&'a Sheet], part: u32) -> &'b [Mark]
     sheet_at(sheets, part as usize).marks().as_slice()
 }
 
-// The kind of a mark by its number, that of a bare one where there is no such mark.
+// The kind of the mark with this number, or bare if there is no such mark.
 fn kind_at(marks: &[Mark], m: u32) -> MarkKind
     ensures { result ≡ kind_at marks.now m }
 {

@@ -1,4 +1,4 @@
-//! What the sheets of parts are told apart by.
+//! Keys of sheets.
 
 ghost use Rattle.std.specs.Prelude.{◌≡◌, option_map, IfOk};
 ghost use Rattle.compose.specs.Sheets.{key_of};
@@ -7,7 +7,7 @@ use itv_base::{NoMemory, Text};
 use netlist::Part;
 use std::alloc::Global;
 
-/// What the sheet of a part is told by: the name of the sheet, and the speed grade that the part is drawn at, if it has one.
+/// The key of a part's sheet: the name of the sheet, and the speed grade of the part, if it has one.
 #[derive(Debug, PartialEq, Eq, Hash, Drop)]
 pub struct SheetKey {
     pub sheet: Text,

@@ -1,4 +1,4 @@
-//! The pins that nets name, found among the parts.
+//! The pins that nets name, as pins of parts.
 
 ghost use Rattle.std.specs.Prelude.{◌≡◌, ◌+◌, ◌<◌, ◌≤◌, All, IfOk, IfSome, Some, find, length, map, option_map, slice_get};
 ghost use Rattle.std.specs.Str.{bytes_eq};
@@ -14,7 +14,7 @@ use netlist::{Part, PinText};
 use sheet::{MAX_MARKS, Pin, Sheet};
 use std::alloc::Global;
 
-/// A pin of a design: the number of its part, and its marks on the part's sheet, those from number `first` on, `count` of them.
+/// A pin of a design: the number of its part, and its marks on the part's sheet. There are `count` marks, from number `first` on.
 #[derive(Clone, Copy, Debug, PartialEq, Eq)]
 pub struct Terminal {
     pub part: u32,
@@ -22,7 +22,7 @@ pub struct Terminal {
     pub count: u32,
 }
 
-/// The pins of net n in order, or the first that is not there.
+/// The pins of net n in order, or the fault of the first pin that is not there.
 pub fn terminals_of(
     alloc: Global,
     parts: &[Part],
@@ -100,7 +100,7 @@ fn terminal_named(sheet: &Sheet, part: u32, name: &Text) -> Option<Terminal>
     None
 }
 
-// The pins of a sheet, whose marks are on it.
+// The pins of a sheet. The marks of each pin are on the sheet.
 fn pins_of(sheet: &Sheet) -> &[Pin]
     ensures pins { result.now ≡ sheet.now.pins }
     ensures within { All (λ (pin : PinSeen). pin.first + pin.count ≤ MAX_MARKS) result.now }

@@ -19,21 +19,21 @@ use origin::Origin;
 use sheet::{Link, MAX_MARKS, Mark, Places, Rules, Sheet, SheetRows, push_link, push_row};
 use std::alloc::Global;
 
-/// What wires give, between the numbers of their marks.
+/// The rules and the rows of wires, between the numbers of their marks.
 #[derive(Debug, Drop)]
 pub struct NumberedWires {
     pub rules: Rules,
     pub rows: SheetRows,
 }
 
-/// The marks that a wire goes between.
+/// The two marks that a wire joins.
 #[derive(Clone, Copy, Debug, PartialEq, Eq)]
 pub struct WireEnds {
     pub from: DesignMark,
     pub to: DesignMark,
 }
 
-/// The rules and the rows of wires, or the first fault of a wire. A comment among the wires gives nothing.
+/// The rules and the rows of wires, or the first fault of a wire. A comment among the wires adds nothing.
 pub fn read_wires(
     alloc: Global,
     parts: &[Part],
@@ -70,7 +70,7 @@ pub fn read_wires(
     })
 }
 
-// The marks that wire n goes between.
+// The two marks that wire n joins, or its fault.
 fn ends_of(parts: &[Part], sheets: &[&Sheet], n: u64, wire: &Wire) -> Result<WireEnds, JoinFault>
     requires parts { length parts.now ≡ length sheets.now }
     requires few { length parts.now ≤ MAX_PARTS }
@@ -131,7 +131,7 @@ fn number_of(sheets: &[&Sheet], mark: DesignMark) -> u32
     marks_before(sheets, mark.part) + mark.mark
 }
 
-// How many marks the parts before one have.
+// How many marks the parts before number `part` have.
 fn marks_before(sheets: &[&Sheet], part: u32) -> u32
     requires few { part ≤ MAX_PARTS }
     requires part { part ≤ length sheets.now }

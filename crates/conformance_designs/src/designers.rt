@@ -16,15 +16,15 @@ fn drawings_for_wavedrom_are_read(rt: HostRuntime) -> Result<(), Fail> {
                 "",
                 "",
             ),
-            // a group, an empty object, a comment edge and `config`. Nothing bounds b from a: the lane says only that b is not before.
+            // a group, an empty object, a comment edge and `config`; nothing bounds b from a, as the lane says only that b is not before a
             (
                 r#"{"signal":[["bus",{"name":"A","wave":"0.1","node":"a.b","phase":0.5},{}],{"node":"...c"}],
                 "edge":["a~>q see note","a->b @ask"],"config":{"hscale":2}}"#,
                 "abc",
                 "ask a b\nmax unbounded\ntimes ?\nraise 1 2\nmin 0\ntimes ?\n",
             ),
-            // Arrows of all shapes, of which one has a delay. Events that nothing bounds from b stand at 120 with d; each lane's second
-            // event is not before its first, and d is 120 after b.
+            // Arrows of all shapes; one of them has a delay. An event that nothing bounds from b is at 120, as d is. The second event of each lane is
+            // not before its first, and d is 120 after b.
             (
                 r#"{"signal":[
                 {"name":"A","wave":"01........0....","node":".a........j"},
@@ -37,8 +37,8 @@ fn drawings_for_wavedrom_are_read(rt: HostRuntime) -> Result<(), Fail> {
                 "ajbichdgef",
                 "ask b d\nmax 120\ntimes ?\nmin 0\ntimes ?\n",
             ),
-            // Groups in groups, spacers, gaps, a head, a foot, a period and a phase. From the clock to the acknowledgement 1000 and 5000
-            // add up; back, the write is not after the acknowledgement, and the clock has no latest time after the write.
+            // Groups in groups, spacers, gaps, a head, a foot, a period and a phase. From the clock to the acknowledgement 1000 and 5000 add up. The
+            // other way round the write is not after the acknowledgement, and the clock may come any time after the write.
             (
                 r#"{"head":{"text":"a write","tick":0},
                 "signal":[

@@ -45,7 +45,7 @@ fn the_first_fault_of_a_tree_is_told(rt: HostRuntime) -> Result<(), Fail> {
                 r#"{"signal":[{"node":"aa"}],"edge":["ab @ask",7]}"#,
                 "refused file 0 EdgeNotText 1\n",
             ),
-            // of a key that is written twice the last value counts
+            // where a key is written twice, the last value counts
             (r#"{"signal":[],"signal":7}"#, "refused file 0 NoSignal\n"),
         ],
     )

@@ -5,7 +5,7 @@ use itv_cli::Outcome;
 use std::alloc::Global;
 use std::test::Fail;
 
-// A sheet of two grades, whose one rule names a parameter.
+// A sheet with two grades. Its one rule names a parameter.
 const SHEET: &str =
     r#"{"signal":[{"name":"D","node":"a"},{"name":"Q","node":"b"}],"edge":["a->b @lin $tCO","a->b @ask"],
     "itv_grades":{"fast":{"tCO":[100,250]},"slow":{"tCO":[200,400]}}}"#;
@@ -14,7 +14,7 @@ const SHEET: &str =
 const PLAIN: &str =
     r#"{"signal":[{"name":"D","node":"a"},{"name":"Q","node":"b"}],"edge":["a->b @lin [0,1]"]}"#;
 
-// Each netlist of one cycle, told by its version and its parts, over the sheets `s` and `t`, is refused by this line.
+// For each row, the netlist of one cycle with this version and these parts, over the sheets `s` and `t`, is refused with this line.
 fn refused(alloc: Global, table: &[(&str, &str, &str, &str)]) -> Result<(), Fail> {
     for (version, parts, sheet, line) in table {
         let netlist = format!(in alloc; r#"{{"itv":{version},"cycles":1,"parts":[{parts}]}}"#)?;
@@ -27,7 +27,7 @@ fn refused(alloc: Global, table: &[(&str, &str, &str, &str)]) -> Result<(), Fail
     Ok(())
 }
 
-// Each table of grades, beside the part U1 without a grade on a sheet without parameters, is refused by this line.
+// Each table of grades is refused with this line. It stands in a sheet that names no parameter, and the part U1 of this sheet has no grade.
 fn tables_end(alloc: Global, table: &[(&str, &str)]) -> Result<(), Fail> {
     for (grades, line) in table {
         let sheet = format!(in alloc;
@@ -62,7 +62,7 @@ fn a_grade_gives_the_parameters_of_a_part(rt: HostRuntime) -> Result<(), Fail> {
                 "ask U1.a@0 U1.b@0\nmax 400\ntimes ?\nmin 200\ntimes ?\nask U2.a@0 U2.b@0\nmax 250\ntimes ?\nmin 100\ntimes ?\n\
                 ask U3.a@0 U3.b@0\nmax 400\ntimes ?\nmin 200\ntimes ?\n",
             ),
-            // an open end; of a name that is written twice the last value counts
+            // an open end; where a name is written twice, the last value counts
             (
                 r#"{"itv":2,"cycles":1,"parts":[{"name":"U1","sheet":"s","grade":"g"}]}"#,
                 r#"{"signal":[{"node":"a"},{"node":"b"}],"edge":["a->b @req $p a note","a->b @lin $p"],
@@ -71,7 +71,7 @@ fn a_grade_gives_the_parameters_of_a_part(rt: HostRuntime) -> Result<(), Fail> {
                 ("U1.a U1.b", 1),
                 "req U1.a@0 U1.b@0 [*,9]\nmax 9\ntimes ?\nmin unbounded\ntimes ?\nraise ?\nverdict pass\nslack * 0\n",
             ),
-            // a latest rule with a tag, of which one cause names a parameter; an ask has none, so what follows it is a note
+            // a latest rule with a tag, one cause of which names a parameter; an ask has no parameter, so what follows it is a note
             (
                 r#"{"itv":2,"cycles":1,"parts":[{"name":"U1","sheet":"s","grade":"g"}]}"#,
                 r#"{"signal":[{"node":"a"},{"node":"b"},{"node":"j"}],"edge":["a->b @lin [100,300]","a->j @late:rd $tAA","b->j @late:rd [200,400]",
@@ -80,8 +80,7 @@ fn a_grade_gives_the_parameters_of_a_part(rt: HostRuntime) -> Result<(), Fail> {
                 ("U1.a U1.b U1.j", 1),
                 "ask U1.a@0 U1.j@0\nmax 700\ntimes ?\nmin 500\ntimes ?\n",
             ),
-            // one sheet that names no parameter, with a grade and without one, and twice without one; of a grade that is written twice the last
-            // counts
+            // one sheet that names no parameter: with a grade, and twice without one; where a grade is written twice, the last one counts
             (
                 r#"{"itv":2,"cycles":1,"parts":[{"name":"U1","sheet":"s","grade":"g"},{"name":"U2","sheet":"s"},{"name":"U3","sheet":"s"}]}"#,
                 r#"{"signal":[{"node":"a"},{"node":"b"}],"edge":["a->b @lin [3,5]","a->b @ask"],"itv_grades":{"g":{"p":[1,2]},"g":{}}}"#,
@@ -109,7 +108,7 @@ fn a_grade_gives_the_parameters_of_a_part(rt: HostRuntime) -> Result<(), Fail> {
     )
 }
 
-// In version 1 no part has a grade, and what stands there is passed over, whatever it is.
+// In version 1 no part has a grade, and the key is passed over, whatever its value is.
 #[test]
 fn version_1_passes_over_grades(rt: HostRuntime) -> Result<(), Fail> {
     let rows = "ask U1.a@0 U1.b@0\nmax 250\ntimes ?\nmin 0\ntimes ?\n";
@@ -153,7 +152,7 @@ fn version_1_passes_over_grades(rt: HostRuntime) -> Result<(), Fail> {
     files_end(rt.alloc(), &[("s", SHEET)], &["s"], end)
 }
 
-// A grade that is not there comes before all faults of the sheet, and a parameter that is not there before the marks of its edge.
+// A missing grade is reported before all other faults of the sheet, and a missing parameter before the marks of its edge.
 #[test]
 fn grades_and_parameters_are_there(rt: HostRuntime) -> Result<(), Fail> {
     let bad =
@@ -207,7 +206,7 @@ fn grades_and_parameters_are_there(rt: HostRuntime) -> Result<(), Fail> {
                 edges,
                 "refused file 1 NoParam 0",
             ),
-            // the sheet's faults come once for each grade, in the order in which the parts name them
+            // a sheet is checked once for each grade, in the order in which the parts name the grades
             (
                 "2",
                 r#"{"name":"U1","sheet":"s","grade":"h"},{"name":"U2","sheet":"s","grade":"g"}"#,
@@ -237,7 +236,7 @@ fn grades_and_parameters_are_there(rt: HostRuntime) -> Result<(), Fail> {
     )
 }
 
-// The form of all grades is looked at before any range, also where no part has a grade. Numbers go by the bytes of the names.
+// The form of all grades is checked before any range, also where no part has a grade. Grades and parameters are numbered by the bytes of their names.
 #[test]
 fn grades_have_their_form(rt: HostRuntime) -> Result<(), Fail> {
     tables_end(
@@ -285,7 +284,7 @@ fn grades_have_their_form(rt: HostRuntime) -> Result<(), Fail> {
                 r#"{"fast":{"tCO":[100,250]},"slow":{"tCO":[5,3]}}"#,
                 "refused file 1 Limits 1 0 EmptyRange",
             ),
-            // `Z` comes before `_`, and this before `a`
+            // `Z` comes before `_`, and `_` before `a`
             (
                 r#"{"a":{"p":[5,3]},"Z":{},"_":{}}"#,
                 "refused file 1 Limits 2 0 EmptyRange",
@@ -342,7 +341,7 @@ fn grades_of_parts_are_names(rt: HostRuntime) -> Result<(), Fail> {
     )
 }
 
-// The labels of wires are those of version 1.
+// The labels of wires have the form of version 1.
 #[test]
 fn wires_name_no_parameters(rt: HostRuntime) -> Result<(), Fail> {
     let netlist =

@@ -10,7 +10,7 @@ const SHEET: &str =
     r#"{"signal":[{"name":"Y","wave":"01","node":".y"},{"name":"Z","wave":"10","node":".z"},
     {"name":"W","wave":"010","node":".vw"},{"name":"C","wave":"p.","node":"c"},{"wave":"01","node":".n"},{"name":"N","wave":"01"}]}"#;
 
-// Each tail of a netlist of the parts A and B, both with this sheet, is refused by this line.
+// Each tail of a netlist is refused with this line. The netlist has the parts A and B, both with this sheet.
 fn joins_end(alloc: Global, table: &[(&str, &str)]) -> Result<(), Fail> {
     for (tail, line) in table {
         let netlist = format!(in alloc;
@@ -37,10 +37,10 @@ fn the_first_fault_of_the_joins_is_told(rt: HostRuntime) -> Result<(), Fail> {
                 r#""nets":[{"pins":["A.Y","B.X"]}]"#,
                 "refused design NoPin 0 1",
             ),
-            // a lane without marks is no pin, and names are told apart by case
+            // a lane without marks is no pin, and capital and small letters differ in names
             (r#""nets":[{"pins":["A.N"]}]"#, "refused design NoPin 0 0"),
             (r#""nets":[{"pins":["A.y"]}]"#, "refused design NoPin 0 0"),
-            // pin by pin: the lane of pin 0 is told before the part of pin 1
+            // pin by pin: the lane of pin 0 is reported before the part of pin 1
             (
                 r#""nets":[{"pins":["A.X","D.Y"]}]"#,
                 "refused design NoPin 0 0",
@@ -61,7 +61,7 @@ fn the_first_fault_of_the_joins_is_told(rt: HostRuntime) -> Result<(), Fail> {
                 r#""nets":[{"pins":["A.C","B.Y","B.Z"]}]"#,
                 "refused design KindsDiffer 0 2 0",
             ),
-            // in one net all pins come before all counts, and these before all kinds
+            // within one net all pins come before all counts, and all counts before all kinds
             (
                 r#""nets":[{"pins":["A.Y","B.W","D.Y"]}]"#,
                 "refused design NoPart 0 2",
@@ -95,7 +95,7 @@ fn the_first_fault_of_the_joins_is_told(rt: HostRuntime) -> Result<(), Fail> {
     )
 }
 
-// The 65th wire into one group is refused, and groups of other targets, kinds and tags don't count.
+// The 65th wire into one group is refused. Wires into groups of other targets, kinds and tags do not count.
 #[test]
 fn a_group_of_wires_has_at_most_64_causes(rt: HostRuntime) -> Result<(), Fail> {
     let alloc = rt.alloc();
@@ -116,7 +116,7 @@ fn a_group_of_wires_has_at_most_64_causes(rt: HostRuntime) -> Result<(), Fail> {
     joins_end(alloc, &[(tail.as_str(), "refused design WireNoPart 67")])
 }
 
-// The first pin drives, each other pin follows by the delay, mark by mark and in one cycle.
+// The first pin drives. Each other pin follows by the delay, mark by mark and within one cycle.
 #[test]
 fn a_net_delays_each_mark_of_its_other_pins(rt: HostRuntime) -> Result<(), Fail> {
     let out = r#"{"signal":[{"name":"Y","node":"ab"}]}"#;
@@ -136,7 +136,7 @@ fn a_net_delays_each_mark_of_its_other_pins(rt: HostRuntime) -> Result<(), Fail>
                 ask U1.a@0 U2.x@0\nmax 250\ntimes ?\nmin 100\ntimes ?\n\
                 ask U1.b@0 U2.y@0\nmax 250\ntimes ?\nmin 100\ntimes ?\n",
             ),
-            // without a delay both come at once, with an open end there is no bound, and a pin that stands alone says nothing
+            // without a delay both marks come at once; with an open end there is no bound; a net of one pin says nothing
             (
                 r#"{"itv":1,"cycles":1,"parts":[{"name":"U1","sheet":"s"},{"name":"U2","sheet":"t"},{"name":"U3","sheet":"t"}],
                 "nets":[{"pins":["U1.Y","U2.A"]},{"pins":["U1.Y","U3.A"],"delay":[-5,null]},{"pins":["U2.A"]}],
@@ -151,7 +151,7 @@ fn a_net_delays_each_mark_of_its_other_pins(rt: HostRuntime) -> Result<(), Fail>
     )
 }
 
-// A pin in several nets, and twice in one net, is joined by each; a part may be joined to itself.
+// A pin may be in several nets, and twice in one net; each time it is joined. A part may be joined to itself.
 #[test]
 fn each_join_is_a_rule(rt: HostRuntime) -> Result<(), Fail> {
     let out = r#"{"signal":[{"name":"Y","node":"a"},{"name":"B","node":"b"}]}"#;
@@ -182,7 +182,7 @@ fn each_join_is_a_rule(rt: HostRuntime) -> Result<(), Fail> {
     )
 }
 
-// Rules of wires are grouped apart from those of sheets, by target, kind and tag.
+// Rules of wires are grouped by target, kind and tag, apart from the rules of sheets.
 #[test]
 fn wires_are_rules_between_parts(rt: HostRuntime) -> Result<(), Fail> {
     let out = r#"{"signal":[{"name":"Y","node":"ab"}],"edge":["a->b @lin [100,300]"]}"#;
@@ -213,14 +213,14 @@ fn wires_are_rules_between_parts(rt: HostRuntime) -> Result<(), Fail> {
     )
 }
 
-// Events stand cycle by cycle, part by part, mark by mark. A rule or row is there in the cycles in which all its sources are.
+// Events come cycle by cycle, part by part, mark by mark. A cycle has a rule or a row if no source of it is before the first cycle.
 #[test]
 fn cycles_repeat_what_reaches_no_cycle_before_the_first(rt: HostRuntime) -> Result<(), Fail> {
     joined(
         rt.alloc(),
         &[
-            // a latest rule of mixed shifts is there from the cycle on in which both causes are: from cycle 2. So j is bounded in
-            // cycle 2 alone. There a@2 and b@0 are 40 apart, since a comes 20 later in each cycle and b with a.
+            // A latest rule of mixed shifts is there from the first cycle on in which both causes are there, which is cycle 2. So j is bounded in
+            // cycle 2 alone. There a@2 and b@0 are 40 apart, since a comes 20 later in each cycle, and b with a.
             (
                 r#"{"itv":1,"cycles":3,"parts":[{"name":"U1","sheet":"s"}]}"#,
                 r#"{"signal":[{"node":"abj"}],"edge":["a->a @lin+1 [20,20]","a->b @lin [0,0]","a->j @late [5,10]",

@@ -52,7 +52,7 @@ fn a_file_that_is_cut_anywhere_is_not_json(rt: HostRuntime) -> Result<(), Fail> 
     bytes_end(rt.alloc(), bytes, (Outcome::AllPass, FIRST_REPORT))
 }
 
-// A text as often as is said, one after another.
+// A text `count` times, one after another.
 fn times(alloc: Global, text: &str, count: u32) -> Result<String, Fail> {
     let mut all = String::new(alloc);
     for _ in 0..count {
@@ -103,7 +103,7 @@ fn a_file_has_at_most_4194304_bytes(rt: HostRuntime) -> Result<(), Fail> {
     bytes_end(alloc, file.as_slice(), (Outcome::AllPass, FIRST_REPORT))?;
     file.push(b' ')?;
     bytes_end(alloc, file.as_slice(), too_long)?;
-    // also where it is no JSON
+    // also if the file is no JSON
     file.clear();
     file.resize(4_194_305, b' ')?;
     bytes_end(alloc, file.as_slice(), too_long)

@@ -9,7 +9,7 @@ use std::test::Fail;
 // A row from `a` to `b` that nothing bounds.
 const OPEN: &str = "ask a b\nmax unbounded\ntimes ?\nraise 1\nmin unbounded\ntimes ?\nraise 0\n";
 
-// Each label on the edge before `a->b @ask`. It may name the limit of an end, and so may what is written.
+// Each label stands on the edge before `a->b @ask`. A label may name the limit of an end, and so may the text that is written.
 fn labels_end(alloc: Global, table: &[(&str, Outcome, &str)]) -> Result<(), Fail> {
     for (label, outcome, written) in table {
         let edges = format!(in alloc; r#""a->b {label}","a->b @ask""#)?;
@@ -241,7 +241,7 @@ fn the_first_faulty_edge_is_told(rt: HostRuntime) -> Result<(), Fail> {
                 Refused,
                 "refused file 0 NoMark 1 q",
             ),
-            // in an edge the shape comes before the label, the label before the marks, and the from-mark before the to-mark
+            // within an edge the shape comes before the label, the label before the marks, and the from-mark before the to-mark
             (r#""q->r @ask""#, Refused, "refused file 0 NoMark 0 q"),
             (
                 r#""q->r @lin [2,1]""#,
@@ -269,7 +269,7 @@ fn the_first_faulty_edge_is_told(rt: HostRuntime) -> Result<(), Fail> {
     )
 }
 
-// Each kind of rule with one cause is its range, and a cycle before the first one has no events.
+// A rule with one cause means its range, whatever its kind. There are no events before the first cycle.
 #[test]
 fn rules_of_all_kinds_are_answered(rt: HostRuntime) -> Result<(), Fail> {
     labels_end(

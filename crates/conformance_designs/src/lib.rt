@@ -1,5 +1,5 @@
-//! What designs come to: sheets and netlists with the reports or the refusals that were worked out for them by hand, by `run` over files
-//! in memory. The tables go from the bytes of a file over its lanes, labels and joins to the worked rows.
+//! What `run` answers to designs, over files in memory: sheets and netlists with their reports or refusals, which were worked out by hand. The tables
+//! go from the bytes of a file over its lanes, labels and joins to the worked rows.
 #![tactic(auto)]
 
 #[cfg(test)]

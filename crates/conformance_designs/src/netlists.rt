@@ -1,4 +1,4 @@
-//! Netlists that are none: each fault in its place, and the first of two.
+//! Files that are no netlist: each fault at its place, and the first of two faults.
 
 use conformance_kit::{files_end, with_ends};
 use itv_cli::Outcome;
@@ -8,7 +8,7 @@ use std::test::Fail;
 // A sheet with two pins of one mark each.
 const SHEET: &str = r#"{"signal":[{"name":"D","node":"a"},{"name":"Q","node":"b"}]}"#;
 
-// Each netlist, over a shelf that has the sheets `s` and `t`, is refused by this line.
+// Each netlist, over a shelf that has the sheets `s` and `t`, is refused with this line.
 fn netlists_end(alloc: Global, table: &[(&str, &str)]) -> Result<(), Fail> {
     for (netlist, line) in table {
         let files = [("n", *netlist), ("s", SHEET), ("t", SHEET)];
@@ -19,7 +19,7 @@ fn netlists_end(alloc: Global, table: &[(&str, &str)]) -> Result<(), Fail> {
     Ok(())
 }
 
-// The same, of a netlist of one cycle with the part U1, told by what stands behind its parts, which may name the limit of an end.
+// The same for a netlist of one cycle with the part U1, by the text behind its parts. The text may name the limit of an end.
 fn tails_end(alloc: Global, table: &[(&str, &str)]) -> Result<(), Fail> {
     for (tail, line) in table {
         let netlist = format!(in alloc;
@@ -31,7 +31,7 @@ fn tails_end(alloc: Global, table: &[(&str, &str)]) -> Result<(), Fail> {
     Ok(())
 }
 
-// A whole number is one that JSON writes as such and that fits 64 bits with a sign.
+// A whole number is written as such in JSON, and fits 64 bits with a sign.
 #[test]
 fn the_version_and_the_cycles_are_whole_numbers(rt: HostRuntime) -> Result<(), Fail> {
     netlists_end(
@@ -55,7 +55,7 @@ fn the_version_and_the_cycles_are_whole_numbers(rt: HostRuntime) -> Result<(), F
             ),
             (r#"{"itv":null,"signal":[]}"#, "refused file 0 Version"),
             (r#"{"itv":true}"#, "refused file 0 Version"),
-            // of a key that is written twice the last value counts
+            // where a key is written twice, the last value counts
             (r#"{"itv":1,"itv":3}"#, "refused file 0 Version"),
             (r#"{"itv":1}"#, "refused file 0 Cycles"),
             (
@@ -137,7 +137,7 @@ fn parts_have_their_form(rt: HostRuntime) -> Result<(), Fail> {
                 r#"{"itv":1,"cycles":1,"parts":[{"name":"A","sheet":"s"},{"name":"B","sheet":"s"},{"name":"A","sheet":"t"}]}"#,
                 "refused file 0 DoublePart 2",
             ),
-            // a part that stands twice is told before a later one that is none, and after an earlier one
+            // a second part of one name is reported before a later item that is no part, and after an earlier one
             (
                 r#"{"itv":1,"cycles":1,"parts":[{"name":"A","sheet":"s"},{"name":"A","sheet":"s"},7]}"#,
                 "refused file 0 DoublePart 1",
@@ -186,7 +186,7 @@ fn nets_have_their_form(rt: HostRuntime) -> Result<(), Fail> {
                 r#""nets":[{"pins":["U1.D"],"delay":[0.0,1]}]"#,
                 "refused file 0 Net 0",
             ),
-            // one more than 64 bits with a sign hold is no whole number, the last that they hold is too wide
+            // a number just past 64 bits with a sign is no whole number; the last one within them is too wide
             (
                 r#""nets":[{"pins":["U1.D"],"delay":[9223372036854775808,0]}]"#,
                 "refused file 0 Net 0",
@@ -203,7 +203,7 @@ fn nets_have_their_form(rt: HostRuntime) -> Result<(), Fail> {
                 r#""nets":[{"pins":["U1.D"]},{"pins":["U1.D"],"delay":[2,1]}]"#,
                 "refused file 0 Delay 1 EmptyRange",
             ),
-            // net by net: the range of net 0 is told before the form of net 1
+            // net by net: the range of net 0 is reported before the form of net 1
             (
                 r#""nets":[{"pins":["U1.D"],"delay":[2,1]},7]"#,
                 "refused file 0 Delay 0 EmptyRange",
@@ -263,7 +263,7 @@ fn wires_have_their_form(rt: HostRuntime) -> Result<(), Fail> {
     )
 }
 
-// The faults of one list stand before those of the next, and all of the netlist before those of the sheets.
+// Each list is checked before the next one, and the whole netlist before the sheets.
 #[test]
 fn the_first_fault_of_a_netlist_is_told(rt: HostRuntime) -> Result<(), Fail> {
     netlists_end(
@@ -293,8 +293,8 @@ fn the_first_fault_of_a_netlist_is_told(rt: HostRuntime) -> Result<(), Fail> {
     )
 }
 
-// Sheets are files 1, 2 and so on in the order in which the parts mention them first, each once, and each is read whole before the
-// next one is fetched.
+// Sheets are files 1, 2 and so on, each once, in the order in which the parts first mention them. Each sheet is read whole before the next one is
+// fetched.
 #[test]
 fn sheets_are_read_in_the_order_of_their_first_mention(rt: HostRuntime) -> Result<(), Fail> {
     let alloc = rt.alloc();
@@ -324,7 +324,7 @@ fn sheets_are_read_in_the_order_of_their_first_mention(rt: HostRuntime) -> Resul
             Outcome::Refused,
             "refused file 2 NoMark 0 a\n",
         ),
-        // a sheet of a netlist may have the key of netlists
+        // the file of a sheet may have the key `itv`
         (
             r#"{"itv":9,"signal":[{"name":"D","node":"a"}]}"#,
             r#"{"signal":7}"#,

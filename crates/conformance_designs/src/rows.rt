@@ -1,4 +1,4 @@
-//! The worked rows: files with the reports that were worked out for them by hand. What is open in a row is told by `?`.
+//! The worked rows: files with their reports, which were worked out by hand. `?` stands for what a row leaves open.
 
 use conformance_kit::{
     BOARD, CIRCLE, CONTRADICTS, EARLIEST, FIRST, FIRST_REPORT, LATEST, MEMORY, MET, MISSED,
@@ -18,7 +18,7 @@ fn the_first_row_and_the_empty_sheet_are_reported_whole(rt: HostRuntime) -> Resu
     bytes_end(alloc, br#"{"signal":[]}"#, (Outcome::AllPass, empty))
 }
 
-// An open end, a requirement that is met, one that is missed by 1, and one on a side that nothing bounds.
+// An open end, a requirement that is met, one that is missed by 1, and one on a side where nothing bounds it.
 #[test]
 fn linear_rows(rt: HostRuntime) -> Result<(), Fail> {
     all_answered(
@@ -60,8 +60,8 @@ fn linear_rows(rt: HostRuntime) -> Result<(), Fail> {
     )
 }
 
-// A latest rule: j comes when both delays are over. A linear reading would give at most 400 from b to j. Then the same sheet with
-// the earliest of the two, and an event that is a cause of itself.
+// A latest rule: j comes as soon as both delays are over. A linear reading would give at most 400 from b to j. Then the same sheet with the earliest
+// of the two, and an event that is a cause of itself.
 #[test]
 fn rows_on_latest_and_earliest(rt: HostRuntime) -> Result<(), Fail> {
     all_answered(
@@ -86,8 +86,8 @@ fn rows_on_latest_and_earliest(rt: HostRuntime) -> Result<(), Fail> {
     )
 }
 
-// A chain of latest pairs: each letter is at most 10 after the one before, and that is the later of its causes from the second on.
-// There are 2^24 choices of causes, of which the search closes a few cases.
+// A chain of latest pairs. Each letter has two causes: the letter before it, with at most 10, and a, with at most 5. Where all letters are as late as
+// they can be, the letter before decides. There are 2^24 choices of causes. The search closes only a few cases.
 #[test]
 fn the_row_on_a_chain_of_latest_pairs(rt: HostRuntime) -> Result<(), Fail> {
     let alloc = rt.alloc();
@@ -144,9 +144,9 @@ fn rows_on_netlists(rt: HostRuntime) -> Result<(), Fail> {
     files_end(alloc, &files, &["n"], refused)
 }
 
-// A processor reads a memory with two access times. The data comes at most 8,000 + 300 + 12,000 + 300 = 20,600 after the clock's edge,
-// which leaves 4,400 of 25,000 before the next one: 1,400 more than the set-up. At least it comes 2,000 + 100 + 3,000 + 100 = 5,200
-// after the edge, which leaves 19,800.
+// A processor reads a memory with two access times. The data comes at most 8,000 + 300 + 12,000 + 300 = 20,600 after the clock's edge. This leaves
+// 4,400 of 25,000 before the next edge, 1,400 more than the set-up. The data comes at least 2,000 + 100 + 3,000 + 100 = 5,200 after the edge, which
+// leaves 19,800.
 #[test]
 fn the_row_of_ordinary_use(rt: HostRuntime) -> Result<(), Fail> {
     joined(

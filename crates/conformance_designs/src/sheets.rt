@@ -1,4 +1,4 @@
-//! Drawings that are no sheet, and what the lanes of a sheet say.
+//! Drawings that are no sheet, and what the lanes of a sheet mean.
 
 use conformance_kit::{all_answered, all_refused};
 use std::test::Fail;
@@ -41,7 +41,7 @@ fn the_first_fault_of_the_lanes_is_told(rt: HostRuntime) -> Result<(), Fail> {
                 r#"{"signal":[{"name":"A","node":"a"},{"name":"A"},{"name":"A","node":"b"},{"name":"A","node":"c"}]}"#,
                 "refused file 0 DoublePin 2\n",
             ),
-            // two faults: a bad node is told before marks that stand twice, and these before pins
+            // two faults: a bad node is reported before a mark that stands twice, and this before pins
             (
                 r#"{"signal":[{"node":"aa"},{"node":"é"}]}"#,
                 "refused file 0 BadNode 1\n",
@@ -75,8 +75,8 @@ fn lanes_of_one_name_may_stand_without_marks(rt: HostRuntime) -> Result<(), Fail
     )
 }
 
-// On a lane with a name and a wave no mark comes before an earlier one, so from b to a the greatest separation is 0. On any other
-// lane, and between lanes, nothing bounds it, and a can be raised alone.
+// On a lane with a name and a wave no mark comes before an earlier one, so the greatest separation from b to a is 0. On any other lane, and between
+// lanes, nothing bounds it, and a can be raised alone.
 #[test]
 fn marks_of_a_named_wave_come_in_order(rt: HostRuntime) -> Result<(), Fail> {
     let alloc = rt.alloc();
@@ -109,7 +109,7 @@ fn marks_of_a_named_wave_come_in_order(rt: HostRuntime) -> Result<(), Fail> {
     Ok(())
 }
 
-// Every character may stand in a wave, also one that WaveDrom doesn't know.
+// Any character may stand in a wave, even one that WaveDrom does not know.
 #[test]
 fn waves_of_all_kinds_are_taken(rt: HostRuntime) -> Result<(), Fail> {
     let alloc = rt.alloc();

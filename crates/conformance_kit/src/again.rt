@@ -9,7 +9,7 @@ use std::alloc::Global;
 use std::str;
 use std::test::Fail;
 
-/// A report is read back as one, and its items are written again as they stood, byte for byte.
+/// A report can be read, and its items are written again byte for byte as they stood.
 pub fn is_written_again(alloc: Global, text: &str) -> Result<(), Fail> {
     let report = read_report(alloc, text.as_bytes())?;
     let mut buffer = LineBuffer::new(alloc, LINE_ROOM)?;

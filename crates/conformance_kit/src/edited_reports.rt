@@ -1,4 +1,4 @@
-//! Reports that job check is given, and edits of their lines.
+//! Reports for job check, and edits of their lines.
 
 use crate::files::shelf_of;
 use crate::runs::run_ends;
@@ -6,7 +6,7 @@ use itv_cli::Outcome;
 use std::alloc::Global;
 use std::test::Fail;
 
-/// Each report on a design is refused at this line, or accepted where it is 0.
+/// Job check refuses each report on a design at this line, counted from 1, or accepts it where the line is 0.
 pub fn reports_end(alloc: Global, design: &str, table: &[(&str, usize)]) -> Result<(), Fail> {
     for (report, line) in table {
         let mut shelf = shelf_of(alloc, &[("s", design), ("r", report)])?;
@@ -23,7 +23,7 @@ pub fn reports_end(alloc: Global, design: &str, table: &[(&str, usize)]) -> Resu
     Ok(())
 }
 
-/// A text with its line of a number from 1 replaced by lines, which have their ends, or are none.
+/// A text with other lines in place of one line, which is counted from 1. The other lines have their line ends; there may be none.
 pub fn edited(alloc: Global, text: &str, number: usize, lines: &str) -> Result<String, Fail> {
     let mut edited = String::new(alloc);
     for (before, line) in text.lines().enumerate() {
@@ -37,7 +37,8 @@ pub fn edited(alloc: Global, text: &str, number: usize, lines: &str) -> Result<S
     Ok(edited)
 }
 
-/// Each edit of a report on a design: the number of a line from 1, the lines in its place, and where the report is refused.
+/// Each edit of a report on a design: the number of a line, from 1, the lines in its place, and the line at which job check refuses the report, or 0
+/// where it accepts it.
 pub fn edits_end(
     alloc: Global,
     design: &str,

@@ -4,8 +4,8 @@ use itv_base::END_LIMIT;
 use std::alloc::Global;
 use std::test::Fail;
 
-/// A text with the limit of a finite end for each `MOST`, twice and three times that for each `TWICE` and `THRICE`, and the number beyond
-/// the limit for each `PAST`.
+/// A text with a number for each of four words: the limit of a finite end for `MOST`, twice the limit for `TWICE`, three times the limit for
+/// `THRICE`, and the first number past the limit for `PAST`.
 pub fn with_ends(alloc: Global, text: &str) -> Result<String, Fail> {
     let mut written = String::from_str(alloc, text)?;
     for (name, number) in [

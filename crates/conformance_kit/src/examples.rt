@@ -4,7 +4,7 @@
 pub const FIRST: &str =
     r#"{"signal":[{"name":"D","node":"a"},{"name":"Q","node":"b"}],"edge":["a->b @lin [0,250]","a->b @ask"]}"#;
 
-/// Its report. The line that ends with `?` is open, as [`first_difference`](crate::first_difference) takes it.
+/// The report of [`FIRST`]. The line that ends with `?` is open, as [`first_difference`](crate::first_difference) says.
 pub const FIRST_REPORT: &str = "itv report 1
 budget 100000
 events 2
@@ -21,7 +21,7 @@ times 0 0
 end pass
 ";
 
-/// Its report with proofs. Each bound has a path of one edge.
+/// The report of [`FIRST`] with proofs. Each bound has a path of one edge.
 pub const FIRST_PROVED: &str = "itv report 1
 budget 100000
 events 2
@@ -40,7 +40,7 @@ times 0 0
 end pass
 ";
 
-/// The same without a high end, so that nothing bounds b.
+/// [`FIRST`] without a high end, so nothing bounds b from above.
 pub const OPEN_ABOVE: &str =
     r#"{"signal":[{"name":"D","node":"a"},{"name":"Q","node":"b"}],"edge":["a->b @lin [0,*]","a->b @ask"]}"#;
 
@@ -52,7 +52,7 @@ pub const MET: &str =
 pub const MISSED: &str =
     r#"{"signal":[{"name":"D","node":"a"},{"name":"Q","node":"b"}],"edge":["a->b @lin [0,250]","a->b @req [0,249]"]}"#;
 
-/// A requirement on a side that nothing bounds.
+/// A requirement on a side where nothing bounds it.
 pub const UNMET: &str =
     r#"{"signal":[{"name":"D","node":"a"},{"name":"Q","node":"b"}],"edge":["a->b @lin [0,*]","a->b @req [0,1000]"]}"#;
 
@@ -60,11 +60,11 @@ pub const UNMET: &str =
 pub const LATEST: &str =
     r#"{"signal":[{"node":"a"},{"node":"b"},{"node":"j"}],"edge":["a->b @lin [100,300]","a->j @late [500,700]","b->j @late [200,400]","a->j @ask","b->j @ask"]}"#;
 
-/// The same with the earliest of the two.
+/// The same sheet with an earliest rule.
 pub const EARLIEST: &str =
     r#"{"signal":[{"node":"a"},{"node":"b"},{"node":"j"}],"edge":["a->b @lin [100,300]","a->j @early [500,700]","b->j @early [200,400]","a->j @ask","b->j @ask"]}"#;
 
-/// The latest rule with one row, from b to j at most 600. Cause a is tried first, and it gives the 600 at once; the rules without a choice
+/// The latest rule with one row, from b to j at most 600. The search tries cause a first, which gives the 600 at once. The rules without a choice
 /// give no limit.
 pub const SETTLES: &str =
     r#"{"signal":[{"node":"a"},{"node":"b"},{"node":"j"}],"edge":["a->b @lin [100,300]","a->j @late [500,700]","b->j @late [200,400]","b->j @ask"]}"#;
@@ -77,7 +77,7 @@ pub const CIRCLE: &str =
 pub const CONTRADICTS: &str =
     r#"{"signal":[{"node":"a"},{"node":"b"},{"node":"j"}],"edge":["a->j @late [0,10]","b->j @late [0,10]","a->j @lin [20,30]","b->j @lin [20,30]","a->j @ask"]}"#;
 
-/// Its report with proofs. Each of the two cases has a loop.
+/// The report of [`CONTRADICTS`] with proofs. Each of the two cases has a loop.
 pub const CONTRADICTS_PROVED: &str = "itv report 1
 budget 2
 events 3
@@ -91,7 +91,7 @@ finding inconsistent
 end inconsistent
 ";
 
-/// A net with a delay between two parts of the sheets `s` and `t`, which are [`OUT`] and [`RISES`].
+/// A net with a delay between two parts. Their sheets `s` and `t` are [`OUT`] and [`RISES`].
 pub const PAIR: &str =
     r#"{"itv":1,"cycles":1,"parts":[{"name":"U1","sheet":"s"},{"name":"U2","sheet":"t"}],
     "nets":[{"pins":["U1.Y","U2.A"],"delay":[100,250]}],"edges":["U1.a U2.b @ask"]}"#;
@@ -102,7 +102,7 @@ pub const OUT: &str = r#"{"signal":[{"name":"Y","wave":"01","node":".a"}]}"#;
 /// A sheet with a rising input.
 pub const RISES: &str = r#"{"signal":[{"name":"A","wave":"01","node":".b"}]}"#;
 
-/// A processor reads a memory over two cycles: parts of the sheets `s` and `t`, which are [`PROCESSOR`] and [`MEMORY`], and three nets.
+/// A processor reads a memory over two cycles: two parts and three nets. The sheets `s` and `t` are [`PROCESSOR`] and [`MEMORY`].
 pub const BOARD: &str =
     r#"{"itv":1,"cycles":2,"parts":[{"name":"U1","sheet":"s"},{"name":"U2","sheet":"t"}],
     "nets":[{"pins":["U1.ADDR","U2.ADDR"],"delay":[100,300]},{"pins":["U1.CE","U2.CE"],"delay":[100,300]},

@@ -20,7 +20,7 @@ pub fn shelf_with(alloc: Global, name: &str, bytes: &[u8]) -> Result<ShelfMem, F
     Ok(shelf)
 }
 
-/// A shelf with files, each told by its name and its text.
+/// A shelf with files, each by its name and its text.
 pub fn shelf_of(alloc: Global, files: &[(&str, &str)]) -> Result<ShelfMem, Fail> {
     let mut shelf = ShelfMem::new(alloc)?;
     for (name, file) in files {

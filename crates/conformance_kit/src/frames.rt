@@ -4,7 +4,7 @@ use itv_cli::Outcome;
 use std::alloc::Global;
 use std::test::Fail;
 
-/// The last line of a report with these rows, and the end of its run.
+/// The last line of a report with these rows, and the outcome of its run.
 pub fn end_of(rows: &str) -> (&str, Outcome) {
     let mut is_open = false;
     for line in rows.lines() {
@@ -21,7 +21,7 @@ pub fn end_of(rows: &str) -> (&str, Outcome) {
     }
 }
 
-/// The events of a report: these names, one after another in each cycle.
+/// The lines of a report's events. Each cycle has these names, one after another.
 pub fn events_of(alloc: Global, names: &str, cycles: u32) -> Result<String, Fail> {
     let mut lines = String::new(alloc);
     let mut count = 0u32;
@@ -34,7 +34,7 @@ pub fn events_of(alloc: Global, names: &str, cycles: u32) -> Result<String, Fail
     Ok(format!(in alloc; "events {count}\n{lines}")?)
 }
 
-// The rows of a report, told without their numbers: `ask FROM TO` or `req FROM TO [LOW,HIGH]`, each with the lines of its answer.
+// The lines of a report's rows. `rows` has them without numbers: `ask FROM TO` or `req FROM TO [LOW,HIGH]`, each with the lines of its answer.
 fn rows_of(alloc: Global, rows: &str) -> Result<String, Fail> {
     let mut lines = String::new(alloc);
     let mut count = 0u32;
@@ -49,7 +49,7 @@ fn rows_of(alloc: Global, rows: &str) -> Result<String, Fail> {
     Ok(format!(in alloc; "rows {count}\n{lines}")?)
 }
 
-/// The report of a design whose parts have these marks in this number of cycles, with these rows.
+/// The report of a design with these rows. Its parts have the marks `names` in each of `cycles` cycles.
 pub fn report_of(alloc: Global, names: &str, cycles: u32, rows: &str) -> Result<String, Fail> {
     let events = events_of(alloc, names, cycles)?;
     let lines = rows_of(alloc, rows)?;
@@ -59,7 +59,7 @@ pub fn report_of(alloc: Global, names: &str, cycles: u32, rows: &str) -> Result<
     )?)
 }
 
-/// The report of a design that no times satisfy, with these lines of a proof.
+/// The report of a design that no times satisfy, with the lines `proof`.
 pub fn inconsistent_of(
     alloc: Global,
     names: &str,

@@ -1,6 +1,6 @@
-//! What the tests of the whole program share: example files, files and words in memory, the lines that reports of a design have in
-//! common, and runs that are held to the end and the bytes that are wanted of them. A helper answers a `Fail` that tells the first line
-//! that differs, so a test hands it on by `?`.
+//! What the tests of the whole program share: example files, files and words in memory, the lines that reports of a design have in common, and checks
+//! of runs. A check compares the end of a run and the bytes that it writes with what is wanted. A helper returns a `Fail` that prints the first line
+//! that differs, so a test passes it on by `?`.
 #![tactic(auto)]
 
 mod again;

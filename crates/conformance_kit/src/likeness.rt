@@ -1,9 +1,9 @@
-//! Texts that are held to the lines that are wanted of them.
+//! Comparing texts with wanted lines.
 
 use std::fmt;
 use std::test::Fail;
 
-/// The first line of a text that is not the wanted one: its number from 1, and both lines, where they are there.
+/// The first line of a text that is not as wanted: its number from 1, the line, and the wanted line. Either line may be missing.
 #[derive(Clone, Copy, Debug)]
 pub struct Difference<'a> {
     number: usize,
@@ -24,8 +24,8 @@ impl fmt::Display for Difference<'_> {
     }
 }
 
-/// Where a text is not as wanted. A wanted line that ends with `?` stands for all lines that begin with what stands before it: several
-/// times, several proofs or several sets of events are right there.
+/// The first place where a text is not as wanted. A wanted line that ends with `?` stands for all lines that begin with the text before the `?`. It
+/// is used where several times, proofs or sets of events are right.
 pub fn first_difference<'a>(text: &'a str, wanted: &'a str) -> Option<Difference<'a>> {
     let mut lines = text.split('\n');
     let mut number = 0usize;
@@ -50,7 +50,7 @@ pub fn first_difference<'a>(text: &'a str, wanted: &'a str) -> Option<Difference
     })
 }
 
-// Whether a line is the wanted one.
+// Whether a line is as wanted.
 fn is_like(line: &str, wanted: &str) -> bool {
     match wanted.strip_suffix("?") {
         Some(front) => line.starts_with(front),
@@ -58,7 +58,7 @@ fn is_like(line: &str, wanted: &str) -> bool {
     }
 }
 
-/// Fails with the first line in which a text is not as wanted.
+/// Fails with the first line of a text that is not as wanted.
 pub fn lines_are(text: &str, wanted: &str) -> Result<(), Fail> {
     match first_difference(text, wanted) {
         Some(difference) => Err(Fail::new(difference)),

@@ -1,4 +1,4 @@
-//! Runs over files and a sink in memory, held to their end and to what they write.
+//! Runs over files and a sink in memory, with checks of their end and of what they write.
 
 use crate::again::is_written_again;
 use crate::files::{shelf_of, shelf_with, words_of};
@@ -12,7 +12,7 @@ use std::test::Fail;
 /// Room in bytes for most texts.
 pub const ROOM: u32 = 1_000_000;
 
-/// How the run on some words ends over a sink, to which it appends what it writes.
+/// The outcome of the run on some words. The run appends what it writes to the sink.
 pub fn ended(
     alloc: Global,
     words: &[&str],
@@ -23,8 +23,8 @@ pub fn ended(
     Ok(run(alloc, &texts, shelf, sink))
 }
 
-/// The run on some words ends so, and writes just these lines, of which some may be open. A report among them is read back and written
-/// again as it stands.
+/// The run on some words ends as wanted, and writes these lines and no more. Some of the lines may be open. If the text is a report, it is read and
+/// written again as it stands.
 pub fn run_ends(
     alloc: Global,
     words: &[&str],
@@ -62,7 +62,7 @@ pub fn files_end(
     run_ends(alloc, words, &mut shelf, wanted)
 }
 
-/// The run on a file with these bytes ends so, and writes just these lines.
+/// The run on a file with these bytes ends as wanted, and writes these lines and no more.
 pub fn bytes_end(alloc: Global, bytes: &[u8], wanted: (Outcome, &str)) -> Result<(), Fail> {
     let mut shelf = shelf_with(alloc, "sheet.json", bytes)?;
     run_ends(alloc, &["sheet.json"], &mut shelf, wanted)
@@ -75,12 +75,12 @@ pub fn written_by(alloc: Global, words: &[&str], shelf: &mut ShelfMem) -> Result
     Ok(String::from_str(alloc, str::from_utf8(sink.bytes())?)?)
 }
 
-/// The report with proofs that a run writes of a design is accepted by the job that checks reports.
+/// Job check accepts the report with proofs that a run writes of a design.
 pub fn is_accepted(alloc: Global, design: &str, shelf: &mut ShelfMem) -> Result<(), Fail> {
     is_accepted_under(alloc, "100000", design, shelf)
 }
 
-/// The same under a budget.
+/// The same with a budget.
 pub fn is_accepted_under(
     alloc: Global,
     budget: &str,

@@ -1,9 +1,9 @@
-//! Sheets made of their nodes and edges.
+//! Sheets by their nodes and edges.
 
 use std::alloc::Global;
 use std::test::Fail;
 
-/// A sheet with a node for each character, on lanes of their own, and with these edges.
+/// A sheet with these edges and a lane for each character. The character is the node of its lane.
 pub fn sheet_of(alloc: Global, nodes: &str, edges: &str) -> Result<String, Fail> {
     let mut lanes = String::new(alloc);
     for node in nodes.chars() {

@@ -1,4 +1,4 @@
-//! Tables of files, each with the end of its run and what it writes.
+//! Tables of files, each with the end of its run and what the run writes.
 
 use crate::files::{shelf_of, shelf_with};
 use crate::frames::{end_of, inconsistent_of, lone_names, lone_rows, report_of};
@@ -7,7 +7,7 @@ use itv_cli::Outcome;
 use std::alloc::Global;
 use std::test::Fail;
 
-/// Each file of a table is reported by its marks and its rows, in one cycle, and the proofs of its report are accepted.
+/// Each file of a table has a report of one cycle with these marks and rows, and job check accepts its report with proofs.
 pub fn all_answered(alloc: Global, table: &[(&str, &str, &str)]) -> Result<(), Fail> {
     for (file, marks, rows) in table {
         let names = lone_names(alloc, marks)?;
@@ -22,7 +22,7 @@ pub fn all_answered(alloc: Global, table: &[(&str, &str, &str)]) -> Result<(), F
     Ok(())
 }
 
-/// A sheet with these marks, in one cycle, that no times satisfy is reported so, and the proof of its report is accepted.
+/// The report of a sheet with these marks, in one cycle, is inconsistent, and job check accepts its report with proofs.
 pub fn contradicts(alloc: Global, file: &str, marks: &str) -> Result<(), Fail> {
     let names = lone_names(alloc, marks)?;
     let report = inconsistent_of(alloc, names.as_str(), 1, "")?;
@@ -32,10 +32,10 @@ pub fn contradicts(alloc: Global, file: &str, marks: &str) -> Result<(), Fail> {
     is_accepted(alloc, "sheet.json", &mut shelf)
 }
 
-/// A netlist with sheets `s` and `t`, its marks and cycles, and the rows of its report.
+/// A netlist, its sheets `s` and `t`, its marks and its number of cycles, and the rows of its report.
 pub type Joined<'a> = (&'a str, &'a str, &'a str, (&'a str, u32), &'a str);
 
-/// Each design of a table is reported by its rows, and the proofs of its report are accepted.
+/// Each design of a table has a report with these rows, and job check accepts its report with proofs.
 pub fn joined(alloc: Global, table: &[Joined<'_>]) -> Result<(), Fail> {
     for (netlist, s, t, (names, cycles), rows) in table {
         let report = report_of(alloc, names, *cycles, rows)?;
@@ -47,7 +47,7 @@ pub fn joined(alloc: Global, table: &[Joined<'_>]) -> Result<(), Fail> {
     Ok(())
 }
 
-/// Each file of a table is refused by this line.
+/// Each file of a table is refused with this text.
 pub fn all_refused(alloc: Global, table: &[(&str, &str)]) -> Result<(), Fail> {
     for (file, line) in table {
         bytes_end(alloc, file.as_bytes(), (Outcome::Refused, line))?;
@@ -55,8 +55,8 @@ pub fn all_refused(alloc: Global, table: &[(&str, &str)]) -> Result<(), Fail> {
     Ok(())
 }
 
-/// Each list of edges, as JSON writes its elements, on lanes without names that bear `a` and `b`, and the end of its run.
-/// A report is told by its rows, a refusal by its line.
+/// Each list of edges, as the elements of a list in JSON, on lanes without names that have the marks `a` and `b`. The run ends with this outcome.
+/// What it writes stands in the table by the rows of the report, or by the line of the refusal.
 pub fn edges_end(alloc: Global, table: &[(&str, Outcome, &str)]) -> Result<(), Fail> {
     for (edges, outcome, written) in table {
         let file = format!(in alloc;

@@ -14,17 +14,17 @@ append_nothing : (xs : List EdgeName) → xs ++ [] ≡ xs
 append_nothing [] = refl
 append_nothing (x ∷ xs) = ap (λ (ys : List EdgeName). x ∷ ys) (append_nothing xs)
 
--- at the top nothing is left
+-- at the top no edge is left
 pub nothing_left : (net : Net) (actual parent : Parents) (from to at : ℕ) (names written left : List EdgeName) → IsOneClimb net actual parent from names to → IsClimb net parent at left to → written ++ left ≡ names → at ≡ to → written ≡ names
 nothing_left net actual parent from to at names written [] one climb is top = sym (append_nothing written) ∙ is
 nothing_left net actual parent from to at names written (name ∷ left) one climb is top = absurd (none-some name (sym one.top ∙ ap parent (sym top) ∙ climb.0))
 
--- before it there is a parent, whose edge is there
+-- before the top there is a parent, and its edge is there
 pub there_is : (net : Net) (actual parent : Parents) (from to at : ℕ) (names left : List EdgeName) → IsOneClimb net actual parent from names to → IsClimb net parent at left to → (at ≡ to → ⊥) → (name : EdgeName) × (e : Edge) × (actual at ≡ Some name) × (edge net name ≡ Some e)
 there_is net actual parent from to at names [] one climb off = absurd (off climb)
 there_is net actual parent from to at names (name ∷ left) one climb off = (name, climb.1.0, one.agrees at name climb.0, climb.1.1)
 
--- so the actual parent is that
+-- so it is the actual parent
 pub parent_is : (net : Net) (actual parent : Parents) (from to at : ℕ) (names left : List EdgeName) (name : EdgeName) → IsOneClimb net actual parent from names to → IsClimb net parent at left to → (at ≡ to → ⊥) → actual at ≡ Some name → parent at ≡ Some name
 parent_is net actual parent from to at names [] name one climb off is = absurd (off climb)
 parent_is net actual parent from to at names (other ∷ left) name one climb off is = climb.0 ∙ sym (one.agrees at other climb.0) ∙ is

@@ -109,14 +109,14 @@ length-append_le : {X : Type 0} (xs ys : List X) → length xs ≤ length (xs ++
 length-append_le [] ys = omega arith
 length-append_le (x ∷ xs) ys = let rest = length-append_le xs ys in omega arith
 
--- so has any climb
+-- any climb has fewer edges than there are events
 pub climb_short : (net : Net) (parent : Parents) (n : ℕ) (x r : ℕ) (es : List EdgeName) → StartBelow net parent n → ((v : ℕ) → v < n → IsRooted net parent v) → x < n → IsClimb net parent x es r → length es < n
 climb_short net parent n x r es below rooted within climb =
     let top = rooted r (climb_within net parent n x r es below within climb) in
     let short = top_climb_short net parent n x top.root (es ++ top.way) below within (climb-append net parent x r top.root es top.way climb top.climb) top.top in
     omega (arith, length-append_le es top.way)
 
--- an event without a parent leads nowhere else
+-- from an event without a parent no climb leads to another event
 pub no_way_on : (net : Net) (parent : Parents) (at target : ℕ) → parent at ≡ None → (at ≡ target → ⊥) → (es : List EdgeName) → IsClimb net parent at es target → ⊥
 no_way_on net parent at target top off [] climb = off climb
 no_way_on net parent at target top off (name ∷ es) climb = none-some name (sym top ∙ climb.0)
@@ -131,7 +131,7 @@ way_on net parent at target name e held is off (other ∷ es) climb =
 
 -- ---- after one parent has changed
 
--- the parents are as they were but at one event
+-- the parents are as they were, save for one event
 pub record ChangesAt (old new : Parents) (v : ℕ) (name : EdgeName) : Type 0 where
   pub here : new v ≡ Some name
   pub others : (u : ℕ) → u ≢ v → new u ≡ old u
@@ -153,7 +153,7 @@ top_kept : (net : Net) (old new : Parents) (v : ℕ) (name : EdgeName) → Chang
 top_kept net old new v name changes x r es off climb top =
     changes.others r (λ same. let P : ℕ → Type 0 = λ y. IsClimb net old x es y in off es (subst P same climb)) ∙ top
 
--- v hangs from an edge, so it is rooted where the start of the edge is, off v
+-- v has the edge as its parent, so v is rooted where the start of the edge is, if the climb from there does not meet v
 rooted_at : (net : Net) (old new : Parents) (v : ℕ) (name : EdgeName) (e : Edge) → ChangesAt old new v name → edge net name ≡ Some e → IsRooted net old e.from.0 → ((fs : List EdgeName) → IsClimb net old e.from.0 fs v → ⊥) → IsRooted net new v
 rooted_at net old new v name e changes is rooted off = record {
   root = rooted.root;
@@ -165,7 +165,7 @@ rooted_at net old new v name e changes is rooted off = record {
 rooted_more : (net : Net) (parent : Parents) (x : ℕ) (name : EdgeName) (e : Edge) → parent x ≡ Some name → edge net name ≡ Some e → IsRooted net parent e.from.0 → IsRooted net parent x
 rooted_more net parent x name e held is rooted = record { root = rooted.root; way = name ∷ rooted.way; climb = (held, (e, is, rooted.climb)); top = rooted.top }
 
--- each climb ends still, at its old top or through v
+-- each climb still ends, at its old top or through v
 rooted_kept : (net : Net) (old new : Parents) (v : ℕ) (name : EdgeName) → ChangesAt old new v name → IsRooted net new v → (x r : ℕ) (es : List EdgeName) → IsClimb net old x es r → old r ≡ None → IsRooted net new x
 rooted_kept net old new v name changes rooted x r [] climb top =
     elim (cases_eq x v) [
@@ -179,7 +179,7 @@ rooted_kept net old new v name changes rooted x r (first ∷ es) climb top =
       | inr off ↦ rooted_more net new x first climb.1.0 (changes.others x off ∙ climb.0) climb.1.1 rest
     ]
 
--- all climbs end still
+-- all climbs still end
 pub all_rooted : (net : Net) (old new : Parents) (v : ℕ) (name : EdgeName) (e : Edge) (n : ℕ) → ChangesAt old new v name → edge net name ≡ Some e → ((x : ℕ) → x < n → IsRooted net old x) → e.from.0 < n
     → ((fs : List EdgeName) → IsClimb net old e.from.0 fs v → ⊥) → (x : ℕ) → x < n → IsRooted net new x
 all_rooted net old new v name e n changes is rooted within off x below =

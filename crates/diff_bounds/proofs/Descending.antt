@@ -80,7 +80,7 @@ arc_is net choice e is_net is = record { is = is; within = edge_within net choic
 abbrev pub choice_arc : EdgeName → Edge → Arc
 choice_arc choice e = record { name = choice; edge = e }
 
--- the choice is of the scope
+-- the choice is an edge of the scope
 choice_among : (net : Net) (edges : List EdgeName) (choice : EdgeName) (e : Edge) → edge net choice ≡ Some e → IsAmong (whole net (edges ++ choice ∷ [])) choice e
 choice_among net edges choice e is = record { is = is; current = inr (Contains-push edges choice); from = omega arith }
 
@@ -136,7 +136,7 @@ uppers_added net b choice e source st w stands is from marks stack ran =
       }),
     )
 
--- without a source the feasible times are all
+-- without a source a graph has settled where its feasible times have
 pub unsourced_settled : (net : Net) (b : Standing) (choice : EdgeName) (e : Edge) (new : List Stamp) → Stands net b → b.source ≡ None → RunHasFallen (whole net (chosen_of b ++ choice ∷ [])) (feasible_run net e.from 0) b.trail.current.stamps new
     → IsFeasible (whole net (chosen_of b ++ choice ∷ [])) new → IsSettled (whole net (chosen_of b ++ choice ∷ [])) b.source new
 unsourced_settled net b choice e new stands from ran feasible =

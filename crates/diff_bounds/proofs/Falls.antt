@@ -66,7 +66,7 @@ scope_same net s run a b u v falls = ap (λ (x : Stack). scope_of net x run) fal
 
 -- ---- one fall
 
--- the labels after it
+-- the labels after one fall
 pub record FallenAt (label label' : GraphLabels) (to : ℕ) (sum : ℤ) : Type 0 where
   pub here : label' to ≡ Some sum
   pub others : (u : ℕ) → u ≢ to → label' u ≡ label u
@@ -75,13 +75,13 @@ pub record FallenAt (label label' : GraphLabels) (to : ℕ) (sum : ℤ) : Type 0
 pub fallen_at : (s : Scope) (run : Run) (stamps : List Stamp) (name : EdgeName) (e : Edge) (f : OneFall s run stamps name e) → FallenAt (labels_from stamps run.base) (labels_from (after_fall s run stamps name e f) run.base) e.to.0 (f.under.near +ℤ e.weight)
 fallen_at s run stamps name e f = record { here = label_here s run stamps name e f; others = label_there s run stamps name e f; lower = f.under.lower }
 
--- the edge itself is followed then
+-- the edge of a fall is followed after it
 pub follows_itself : (label label' : GraphLabels) (e : Edge) (near : ℤ) → FallenAt label label' e.to.0 (near +ℤ e.weight) → label e.from.0 ≡ Some near → e.from.0 ≢ e.to.0 → Follows label' e
 follows_itself label label' e near fallen start off = λ other at.
     let same : near ≡ other = same_Some near other (sym start ∙ sym (fallen.others e.from.0 off) ∙ at) in
     record { far = near +ℤ e.weight; here = fallen.here; within = omega (arith, ints) }
 
--- so is any edge that was, unless it starts where the label has fallen
+-- an edge that was followed still is, unless it starts where the label has fallen
 follows_on : (label label' : GraphLabels) (to : ℕ) (sum : ℤ) (e : Edge) → FallenAt label label' to sum → e.from.0 ≢ to → Follows label e → Follows label' e
 follows_on label label' to sum e fallen off follows = λ near at.
     let was = follows near (sym (fallen.others e.from.0 off) ∙ at) in

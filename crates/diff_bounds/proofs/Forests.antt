@@ -87,7 +87,7 @@ climb_weight s label parent held v r (name ∷ es) below climb =
     let least : (h.near +ℤ h.e.weight) ≤ℤ h.far = h.below in
     omega (arith, ints)
 
--- the top of a climb from an event with a label has one
+-- if an event has a label, so has the top of a climb from it
 pub climb_labelled : (s : Scope) (label : GraphLabels) (parent : Parents) → AllHeld s label parent → (v r : ℕ) (es : List EdgeName) (x : ℤ) → v < s.net.events → IsClimb s.net parent v es r → label v ≡ Some x → (y : ℤ) × (label r ≡ Some y)
 climb_labelled s label parent held v r [] x below climb at = (x, ap label (sym climb) ∙ at)
 climb_labelled s label parent held v r (name ∷ es) x below climb at =
@@ -106,7 +106,7 @@ climb_walk s label parent held v r (name ∷ es) below climb =
     subst P (sym (reverse_onto es name []))
     (walk-append s.net (event r) (event h.e.from.0) (event v) (reverse es) (name ∷ []) rest.0 last, All-push (IsCurrent s.net s.chosen) (reverse es) name rest.1 h.among.current)
 
--- a climb loses and gains at most the limit of a weight an edge
+-- the absolute value of a climb's sum is at most the limit of weights times the number of its edges
 pub climb_low : (s : Scope) (label : GraphLabels) (parent : Parents) → AllHeld s label parent → (v r : ℕ) (es : List EdgeName) → v < s.net.events → IsClimb s.net parent v es r
     → pos 0 ≤ℤ (path_sum s.net es +ℤ pos (weight_limit * length es))
 climb_low s label parent held v r [] below climb = omega (arith, ints)
@@ -129,7 +129,7 @@ climb_high s label parent held v r (name ∷ es) below climb =
     let high : h.e.weight ≤ℤ pos weight_limit = h.within.high in
     omega (arith, ints)
 
--- labels fall no lower than the least start and the limit an event
+-- labels fall below the least first label by at most the limit of weights times the number of events
 pub label_low : (s : Scope) (start label : GraphLabels) (parent : Parents) (low : ℕ) → IsForest s start label parent → ((v : ℕ) → v < s.net.events → pos 0 ≤ℤ (number (start v) +ℤ pos low)) → (v : ℕ) → v < s.net.events
     → pos 0 ≤ℤ (number (label v) +ℤ pos (low + weight_limit * s.net.events))
 label_low s start label parent low forest starts v below =
@@ -223,7 +223,7 @@ forest_kept s start label label' parent parent' name e forest f off = record {
 abbrev pub StopIsTop : Option EventId → Parents → Type 0
 StopIsTop stop parent = (x : EventId) → stop ≡ Some x → parent x.0 ≡ None
 
--- a climb that begins at the stop leads to it alone
+-- a climb that begins at the stop leads nowhere else
 pub stays : (net : Net) (parent : Parents) (stop : Option EventId) (x : EventId) (r : ℕ) (es : List EdgeName) → StopIsTop stop parent → stop ≡ Some x → IsClimb net parent x.0 es r → (stop ≡ Some (event r) → ⊥) → ⊥
 stays net parent stop x r es top is climb off =
     elim (cases_eq x.0 r) [
@@ -231,7 +231,7 @@ stays net parent stop x r es top is climb off =
       | inr apart ↦ no_way_on net parent x.0 r (top x is) apart es climb
     ]
 
--- a climb to another event than the stop uses no edge that leaves the stop, so the potential bounds its sum from below
+-- a climb to an event that is not the stop uses no edge that leaves the stop, so the potential bounds its sum from below
 pub climb_potential : (s : Scope) (stop : Option EventId) (potential : ℕ → ℤ) (label : GraphLabels) (parent : Parents) → IsPotential s stop potential → AllHeld s label parent → StopIsTop stop parent
     → (u v : ℕ) (es : List EdgeName) → u < s.net.events → IsClimb s.net parent u es v → (stop ≡ Some (event v) → ⊥) → (potential u -ℤ potential v) ≤ℤ path_sum s.net es
 climb_potential s stop potential label parent meets held top u v [] below climb off =
@@ -279,7 +279,7 @@ fresh_is_parent old label parent v name at =
       | inr not ↦ absurd (none-some name (sym (cond-false (is_lower (label v) (old v)) (parent v) None not) ∙ at))
     ]
 
--- at first there are none
+-- at first there are no fresh parents
 pub fresh_none : (s : Scope) (old : GraphLabels) (parent : Parents) → IsForest s old old (fresh old old parent)
 fresh_none s old parent = record {
   rooted = λ v below. record { root = v; way = []; climb = refl; top = fresh_same old old parent v refl };
@@ -301,7 +301,7 @@ fresh_changes old label label' parent parent' to sum name fallen lower here othe
       ∙ ap (λ (p : Option EdgeName). cond (is_lower (label u) (old u)) p None) (changes.others u off);
 }
 
--- the labels have fallen still
+-- the labels have still fallen
 pub all_fallen : (old label label' : GraphLabels) (to : ℕ) (sum : ℤ) → AllFallen old label → is_lower (Some sum) (label to) ≡ true → label' to ≡ Some sum → ((u : ℕ) → u ≢ to → label' u ≡ label u) → AllFallen old label'
 all_fallen old label label' to sum fallen lower here others v =
     let P : Option ℤ → Type 0 = λ o. (o ≡ old v) ⊎ (is_lower o (old v) ≡ true) in

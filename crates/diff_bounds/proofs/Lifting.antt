@@ -16,7 +16,7 @@ LiftsBelow events stamps count lift =
 above_some : (o : Option ℤ) (time lift label : ℤ) → IfSome o (λ l. l ≤ℤ (time +ℤ lift)) → o ≡ Some label → label ≤ℤ (time +ℤ lift)
 above_some o time lift label above is = let P : Option ℤ → Type 0 = λ x. IfSome x (λ l. l ≤ℤ (time +ℤ lift)) in subst P is above
 
--- the number is as great as one more event asks
+-- the number is great enough for one more event
 pub lift_more : (events : ℕ) (stamps : List Stamp) (count : ℕ) (lift lift' : ℤ) (label : Option ℤ) (time : ℤ) → label ≡ (stamp_at stamps count).label → time ≡ number (labels_from stamps events count) → lift ≤ℤ lift' → IfSome label (λ l. l ≤ℤ (time +ℤ lift'))
     → LiftsBelow events stamps count lift → LiftsBelow events stamps (count + 1) lift'
 lift_more events stamps count lift lift' label time is time_is more above below event number_at within at =

@@ -146,7 +146,7 @@ popped_linked arcs earlier latest a e linked =
 pub popped_on : (arcs arcs' : List Arc) (earlier earlier' latest : List (Option ℕ)) (a : Arc) (e : Option ℕ) → AreLinked arcs earlier latest → arcs ≡ arcs' ++ a ∷ [] → earlier ≡ earlier' ++ e ∷ [] → AreLinked arcs' earlier' (set latest a.edge.from.0 e)
 popped_on arcs arcs' earlier earlier' latest a e linked is links = popped_linked arcs' earlier' latest a e (rw (is, links) at linked)
 
--- ---- edges are taken away until so many are left
+-- ---- edges are taken away until a number of edges is left
 
 pub kept_front : (arcs : List Arc) (count : ℕ) → count < length arcs → take count (take (length arcs - 1) arcs) ≡ take count arcs
 kept_front arcs count more = take-take count (length arcs - 1) arcs (omega arith)

@@ -56,7 +56,7 @@ MeetsNamed net times name = (e : Edge) → edge net name ≡ Some e → Meets ti
 weight-at : (net : Net) (name : EdgeName) (e : Edge) → edge net name ≡ Some e → weight_of (edge net name) ≡ e.weight
 weight-at net name e is = ap weight_of is
 
--- along a walk whose edges the times meet, they rise by at most its sum
+-- along a walk whose edges the times meet, the times rise by at most the sum of the walk
 pub walk_bounds : (net : Net) (times : List ℤ) (walk : List EdgeName) (a b : EventId) → All (MeetsNamed net times) walk → IsWalk net a walk b → separation times a b ≤ℤ path_sum net walk
 walk_bounds net times [] a b met walk =
     let same : time_of times a ≡ time_of times b = ap (time_of times) walk in omega (arith, ints)

@@ -167,7 +167,7 @@ causes_more net old mid new constraint count before first second lower upper =
     here cause same Lower = subst (λ (i : ℕ). HasName net new (record { constraint = constraint; cause = i; side = Lower })) (sym same) (kept_name net mid new _ second lower)
     here cause same Upper = subst (λ (i : ℕ). HasName net new (record { constraint = constraint; cause = i; side = Upper })) (sym same) upper
 
--- a cause is below the number of causes, or is the one of a linear constraint
+-- the number of a cause is below the number of causes, or the constraint is linear and the cause is its one cause
 cause_within : (kind : RuleKind) (cause length count : ℕ) → cause < length → IsCauseCount kind length → named_causes kind length ≡ count → cause < max count 1
 cause_within Lin cause length count below is named = omega arith
 cause_within Late cause length count below is named = omega arith
@@ -195,7 +195,7 @@ constraints_more net old new count before grows here =
       | inr apart ↦ kept_name net old new _ grows (before constraint cause (omega arith) side)
     ]
 
--- all of them
+-- the lists have the edges of all constraints
 pub all_constraints : (net : Net) (out : List (List Arc)) → AreArcsSoFar net out → HasConstraintsBelow net out (length net.constraints) → AreAlwaysArcs net out
 all_constraints net out are below = record {
   count = are.count;

@@ -122,7 +122,7 @@ from_map arcs name k below is =
     let d : Arc = record { name = name; edge = record { from = record { 0 = 0 }; to = record { 0 = 0 }; weight = pos 0 } } in
     (get_or arcs k d, Contains-get_or arcs k d within, sym (get_or-map (λ (x : Arc). x.name) arcs k d name within) ∙ is)
 
--- so are the chosen ones
+-- the chosen edges out of an event are of the scope
 pub chosen_among : (net : Net) (st : Stack) (run : Run) (arcs : List Arc) (v : ℕ) → AreChosenArcs net st.current.edges arcs → run.first ≤ v → All (IsAmongFrom (scope_of net st run) v) arcs
 chosen_among net st run arcs v are counts k d below starts = record {
   is = (are.each k d below).is;
@@ -131,7 +131,7 @@ chosen_among net st run arcs v are counts k d below starts = record {
   from = let P : ℕ → Type 0 = λ n. run.first ≤ n in subst P (sym starts) counts;
 }
 
--- an edge of the scope has a light one among those that were tried
+-- each edge of the scope has a light one among the edges that were tried
 pub found_among : (net : Net) (st : Stack) (run : Run) (out : List (List Arc)) (arcs : List Arc) (name : EdgeName) (e : Edge) → AreAlwaysArcs net out → AreChosenArcs net st.current.edges arcs → IsAmong (scope_of net st run) name e
     → HasLight (at_event out e.from.0) e ⊎ Contains arcs (record { name = name; edge = e })
 found_among net st run out arcs name e always chosen among = of_current among.current
@@ -158,12 +158,12 @@ done_light : (run : Run) (stamps : List Stamp) (marks : List Bool) (a e : Edge) 
 done_light run stamps marks a e from to light (inl follows) = inl (follows_light (labels_from stamps run.base) a e from to light follows)
 done_light run stamps marks a e from to light (inr waits) = inr (ap (is_waiting marks) (sym from) ∙ waits)
 
--- after an event was taken, the edges that start elsewhere are done still
+-- after an event was taken, the edges that start elsewhere are still done
 done_elsewhere : (run : Run) (v : ℕ) (stamps : List Stamp) (marks marks' : List Bool) (e : Edge) → marks' ≡ set marks v false → e.from.0 ≢ v → IsDone run stamps marks e → IsDone run stamps marks' e
 done_elsewhere run v stamps marks marks' e is off (inl follows) = inl follows
 done_elsewhere run v stamps marks marks' e is off (inr waits) = inr (ap (λ (m : List Bool). is_waiting m e.from.0) is ∙ get_or-set_other marks v e.from.0 false false off ∙ waits)
 
--- after an event was taken, and its edges were tried, all are done
+-- after an event was taken, and its edges were tried, all edges are done
 pub done_again : (net : Net) (run : Run) (out : List (List Arc)) (arcs : List Arc) (v : ℕ) (t₀ t t₁ t₂ : Stack) (p p' p₁ p₂ : Waiting) → AreAlwaysArcs net out → AreChosenArcs net t₀.current.edges arcs
     → AllDone (scope_of net t₀ run) run t.current.stamps p.marks → p'.marks ≡ set p.marks v false
     → Falls (scope_of net t₀ run) run t t₁ p' p₁ → All (IsDoneFrom run v t₁.current.stamps p₁.marks) (at_event out v)

@@ -40,7 +40,7 @@ all_done_over net run a st st' u u' rest falls done name e among =
       | inr follows ↦ falls.done e among.from (inl follows)
     ]
 
--- an event below which a climb leads to a label has one
+-- if a climb from an event leads to an event with a label, the first event has one too
 labelled_below : (s : Scope) (start label : GraphLabels) (parent : Parents) → IsForest s start label parent → (v r : ℕ) (es : List EdgeName) (z : ℤ) → v < s.net.events → IsClimb s.net parent v es r → label r ≡ Some z → (y : ℤ) × (label v ≡ Some y)
 labelled_below s start label parent forest v r [] z below climb at = (z, ap label climb ∙ at)
 labelled_below s start label parent forest v r (name ∷ es) z below climb at = let h = forest.held v name below climb.0 in (h.far, h.here)
@@ -67,7 +67,7 @@ follows_number label e z at follows =
     let far : number (label e.to.0) ≡ there.far = number-at (label e.to.0) there.far there.here in
     omega (arith, ints)
 
--- the feasible times are a potential for all edges but those that start at the event
+-- the feasible times are a potential for all edges, save for the edges that start at the event
 pub old_potential : (s : Scope) (from : EventId) (stamps : List Stamp) (base : ℕ) → IsNet s.net → IsPoised s from zeros stamps base → IsPotential s (Some from) (λ v. number (labels_from stamps base v))
 old_potential s from stamps base is_net poised name e among off =
     let within = edge_within s.net name e is_net among.is in
@@ -77,7 +77,7 @@ old_potential s from stamps base is_net poised name e among off =
       | inr follows ↦ follows_number (labels_from stamps base) e there.0 there.1 follows
     ]
 
--- settled feasible times are one for all edges
+-- settled feasible times are a potential for all edges
 pub new_potential : (s : Scope) (label : GraphLabels) (parent : Parents) → IsNet s.net → IsForest s zeros label parent → HaveSettled s label → IsPotential s None (λ v. number (label v))
 new_potential s label parent is_net forest settled name e among off =
     let within = edge_within s.net name e is_net among.is in

@@ -19,7 +19,7 @@ use Rattle.diff_bounds.proofs.Forests.{StopIsTop, climb_potential, climb_walk, c
 
 -- ---- old parents and fresh ones together
 
--- labels that fell on from those of a forest, and have settled
+-- labels that fell on from the labels of a forest, and have settled
 pub record FellOn (s : Scope) (start old label : GraphLabels) (before parent : Parents) : Type 0 where
   pub was : IsForest s start old before
   pub fell : IsForest s old label (fresh old label parent)
@@ -95,7 +95,7 @@ all_rooted s start old label before parent f v below =
       | inr lower ↦ record { root = up.root; way = []; climb = refl; top = sym (fresh_fallen old label parent up.root lower) ∙ up.top }
     ])
 
--- an old parent holds still
+-- an old parent still holds
 held_on : (s : Scope) (start old label : GraphLabels) (before parent : Parents) → FellOn s start old label before parent → (v : ℕ) (name : EdgeName) → label v ≡ old v → IsHeld s old v name → IsHeld s label v name
 held_on s start old label before parent f v name same h = record {
   e = h.e;

@@ -43,7 +43,7 @@ length_adds : (below edges : List EdgeName) → AddsOne below edges → length e
 length_adds below edges (inl same) = let e : length edges ≡ length below = ap length same in omega arith
 length_adds below edges (inr (name, same)) = let e : length edges ≡ length below + 1 = ap length same ∙ length_push below name in omega arith
 
--- it has no more edges than there are graphs below it
+-- the current graph has no more chosen edges than there are graphs below it
 pub edges_few : (net : Net) (source : Option EventId) (g : Graph) (graphs : List Graph) → AreSettled net source g graphs → length g.edges ≤ length graphs
 edges_few net source g [] settled = let e : length g.edges ≡ 0 = ap length settled.1 in omega arith
 edges_few net source g (h ∷ graphs) settled =
@@ -148,7 +148,7 @@ stands_reach net b stands v below =
 
 -- ---- times
 
--- the times of bounds from a source are lifted ones
+-- the times of bounds from a source are lifted times
 times_lifted : (net : Net) (b : Standing) (times : List ℤ) → Stands net b → (are : AreTimesOf b times) → AreTimes net.events (lifted_by (upper_of b) (labels_from b.trail.current.stamps net.events) are.lift) times
 times_lifted net b times stands are =
     let P : ℕ → Type 0 = λ n. AreTimes n (lifted_by (upper_of b) (labels_from b.trail.current.stamps n) are.lift) times in
@@ -162,7 +162,7 @@ times_above net b times stands are =
 lifted-none : (o : Option ℤ) (time : ℤ) → o ≡ None → lifted o time ≡ time
 lifted-none o time is = ap (λ (x : Option ℤ). lifted x time) is
 
--- without a source they are feasible ones, put off by one number
+-- the times of bounds without a source are feasible times, put off by one number
 unsourced_meet : (net : Net) (edges : List EdgeName) (stamps : List Stamp) (lift : ℤ) (times : List ℤ) → IsNet net → IsSettled (whole net edges) None stamps → AreTimes net.events (lifted_by (labels_from stamps 0) (labels_from stamps net.events) lift) times
     → MeetsCurrent net edges times
 unsourced_meet net edges stamps lift times is_net settled are =
@@ -276,7 +276,7 @@ pub some_is : (o : Option ℤ) → IsSome o → (z : ℤ) × (o ≡ Some z)
 some_is None some = absurd (cc some)
 some_is (Some z) some = (z, refl)
 
--- the source is at 0
+-- the source has the label 0
 pub stands_source : (net : Net) (b : Standing) (source : EventId) → Stands net b → b.source ≡ Some source → upper_of b source.0 ≡ Some (pos 0)
 stands_source net b source stands from =
     let bounding = stands_bounding net b source stands from in

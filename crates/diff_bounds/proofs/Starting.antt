@@ -69,7 +69,7 @@ poised_wider net a b first first' from start stamps base more less others labels
     of_among name e (inl same) = inl same
     of_among name e (inr among) = inr (labels.settled name e among)
 
--- the edges that start at one event more
+-- the edges that start at one more event
 next_others : (net : Net) (chosen : List EdgeName) (first first' : ℕ) → first ≡ first' + 1 → (name : EdgeName) (e : Edge) → IsAmong (scope_by net chosen first') name e → (e.from.0 ≡ first') ⊎ IsAmong (scope_by net chosen first) name e
 next_others net chosen first first' is name e among =
     let from = among.from in
@@ -132,7 +132,7 @@ none_among net chosen name e is_net among =
     let below = within.from in
     omega arith
 
--- labels without parents that are those at the start are a forest
+-- without parents, labels that are the first labels are a forest
 pub bare_forest : (s : Scope) (start label : GraphLabels) (parent : Parents) → ((v : ℕ) → v < s.net.events → parent v ≡ None) → ((v : ℕ) → v < s.net.events → label v ≡ start v) → IsForest s start label parent
 bare_forest s start label parent bare same = record {
   rooted = λ v below. record { root = v; way = []; climb = refl; top = bare v below };

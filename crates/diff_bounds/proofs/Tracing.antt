@@ -14,12 +14,12 @@ use Rattle.diff_bounds.specs.Step.Waiting.{Waiting}
 use Rattle.diff_bounds.proofs.Falls.{falls_not}
 use Rattle.diff_bounds.proofs.Parts.{Tried, falls_first, tried_among, tried_falls}
 
--- how many edges lie before a place and at it
+-- how many edges lie up to a place, with the edge at the place
 abbrev pub edges_to : Option ℕ → ℕ
 edges_to None = 0
 edges_to (Some place) = suc place
 
--- what was tried of some edges: all from a count on, and the next one is the latest before it that starts at the event
+-- what was tried of some edges: all edges from a count on; the next edge is the latest before the count that starts at the event
 pub record Traced (net : Net) (run : Run) (from : ℕ) (arcs : List Arc) (t₀ t : Stack) (p₀ p : Waiting) (next : Option ℕ) : Type 0 where
   pub falls : Falls (scope_of net t₀ run) run t₀ t p₀ p
   pub count : ℕ
@@ -36,7 +36,7 @@ traced_not net run from arcs t p next latest = record {
   done = λ k d low high. absurd (omega arith);
 }
 
--- none of them need have been tried
+-- the same as edges that were tried from the first one on, where none need have been
 pub traced_tried : (net : Net) (run : Run) (from : ℕ) (arcs : List Arc) (t₀ t : Stack) (p₀ p : Waiting) (next : Option ℕ) → Traced net run from arcs t₀ t p₀ p next → Tried net run from arcs t₀ t p₀ p 0
 traced_tried net run from arcs t₀ t p₀ p next traced = record { falls = traced.falls; done = λ k d low high. absurd (omega arith) }
 
@@ -77,7 +77,7 @@ traced_on net run from arcs t₀ t t' p₀ p p' place a next traced among at fal
           ];
     }
 
--- where none is left all were tried
+-- where no edge is left, all were tried
 pub traced_all : (net : Net) (run : Run) (from : ℕ) (arcs : List Arc) (t₀ t : Stack) (p₀ p : Waiting) → Traced net run from arcs t₀ t p₀ p None → All (IsDoneFrom run from t.current.stamps p.marks) arcs
 traced_all net run from arcs t₀ t p₀ p traced k d high =
     elim (cases_lt k traced.count) [ inl before ↦ λ there. absurd (traced.latest k d (omega arith) before there) | inr past ↦ traced.done k d past high ]

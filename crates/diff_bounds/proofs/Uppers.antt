@@ -163,7 +163,7 @@ has_path s source label parent v z forest below at =
       short = omega (arith, length-reverse climb.0);
     }
 
--- the source is at 0, where it has a parent at all
+-- the source has the label 0
 pub source_zero : (s : Scope) (source : EventId) (label : GraphLabels) (parent : Parents) → IsForest s (at_source source) label parent → source.0 < s.net.events → label source.0 ≡ Some (pos 0)
 source_zero s source label parent forest origin =
     let up = forest.rooted source.0 origin in
@@ -233,7 +233,7 @@ lift_enough upper feasible (suc count) v label below at =
           omega (arith, ints)
     ]
 
--- so is any greater number
+-- any greater number is great enough too
 pub above_all : (n : ℕ) (upper feasible : GraphLabels) (by : ℤ) → pos (lift_below upper feasible n) ≤ℤ by → IsAboveAll n upper feasible by
 above_all n upper feasible by most v label below at =
     let enough : label ≤ℤ (number (feasible v) +ℤ pos (lift_below upper feasible n)) = lift_enough upper feasible n v label below at in
@@ -269,7 +269,7 @@ greatest net chosen source upper feasible parent b v z below at =
       most = λ others met. separation_most net chosen source upper feasible parent v z others b below at met;
     }
 
--- a label is the greatest separation, and where there is none it is unbounded
+-- a label is the greatest separation; where there is no label, the separation is unbounded
 pub is_upper : (net : Net) (chosen : List EdgeName) (source : EventId) (upper feasible : GraphLabels) (parent : Parents) → IsBounding net chosen source upper feasible parent → (v : ℕ) (label : Option ℤ) → v < net.events → upper v ≡ label
     → IsUpper net chosen source (event v) label
 is_upper net chosen source upper feasible parent b v None below at = unbounded net chosen source upper feasible parent b v below at

@@ -8,16 +8,16 @@ use Rattle.event_graph.specs.Network.{Net}
 use Rattle.diff_bounds.specs.declared.arc.Arc.{Arc}
 use Rattle.diff_bounds.specs.Labels.{IsEdgeWithin}
 
--- the edge is that of its name, between events of the network
+-- the edge has this name, and is between events of the network
 pub record IsArc (net : Net) (a : Arc) : Type 0 where
   pub is : edge net a.name ≡ Some a.edge
   pub within : IsEdgeWithin net.events a.edge
 
--- among some edges, there is one to the same event whose weight is no greater
+-- some edges have one that leads to the same event with no greater weight
 abbrev pub HasLight : List Arc → Edge → Type 0
 HasLight arcs e = (a : Arc) × Contains arcs a × (a.edge.to ≡ e.to) × (a.edge.weight ≤ℤ e.weight)
 
--- a list for each event, of always-edges that start there; of those that lead to one event it has one of least weight
+-- a list for each event, of always-edges that start there; where always-edges lead to one event, the list has one of least weight
 pub record AreAlwaysArcs (net : Net) (out : List (List Arc)) : Type 0 where
   pub count : length out ≡ net.events
   pub each : (event : ℕ) → All (IsArc net) (at_event out event)

@@ -1,4 +1,4 @@
--- The edges of a graph, which are the always-edges of a network and the edges that were chosen, and what they allow.
+-- The edges of a graph: the always-edges of a network and the chosen edges. And what these edges allow.
 use Rattle.std.specs.Prelude.{◌≡◌, ◌≤◌, ℤ, pos, ◌<ℤ◌, ◌⊎◌, List, [], ◌∷◌, ◌++◌, length, cond, All, Contains, Option, Some, None, is_some}
 use Rattle.itv_base.specs.declared.names.EdgeName.{EdgeName}
 use Rattle.itv_base.specs.declared.names.EventId.{EventId}
@@ -8,11 +8,11 @@ use Rattle.event_graph.specs.Edges.{IsAlways, Meets, edge}
 use Rattle.event_graph.specs.Network.{Net}
 use Rattle.event_graph.specs.Proof.{IsWalk, path_sum}
 
--- the name of an always-edge, or one that was chosen
+-- the name of an always-edge or of a chosen edge
 abbrev pub IsCurrent : Net → List EdgeName → EdgeName → Type 0
 IsCurrent net chosen name = IsAlways net name ⊎ Contains chosen name
 
--- as many times as events, which meet each current edge
+-- one time for each event; the times meet each current edge
 pub record MeetsCurrent (net : Net) (chosen : List EdgeName) (times : List ℤ) : Type 0 where
   pub count : length times ≡ net.events
   pub each : (name : EdgeName) (e : Edge) → IsCurrent net chosen name → edge net name ≡ Some e → Meets times e

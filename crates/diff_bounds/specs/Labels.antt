@@ -1,4 +1,4 @@
--- Labels of events, which fall along edges, and the edges over which they came.
+-- Labels of events, which fall along edges, and the edge by which each label came.
 use Rattle.std.specs.Prelude.{◌≡◌, ◌<◌, ◌≤◌, ℕ, ℤ, pos, neg_ℤ, ◌+ℤ◌, ◌≤ℤ◌, ◌⊎◌, Bool, true, false, List, [], ◌∷◌, Option, Some, None, slice_index_or, int_lt, ◌+◌}
 use Rattle.itv_base.specs.declared.names.EdgeName.{EdgeName}
 use Rattle.event_graph.specs.declared.edge.Edge.{Edge}
@@ -9,11 +9,11 @@ use Rattle.trail.specs.Stack.{empty_stamp}
 use Rattle.diff_bounds.specs.Current.{IsCurrent}
 use Rattle.event_graph.specs.Limits.{weight_limit}
 
--- the label of each event, or none where it was not reached
+-- the label of each event, or none for an event that was not reached
 abbrev pub GraphLabels : Type 0
 GraphLabels = ℕ → Option ℤ
 
--- the edge over which the label of each event came, or none where it came over none
+-- the edge by which the label of each event came, or none for a label that came by no edge
 abbrev pub Parents : Type 0
 Parents = ℕ → Option EdgeName
 
@@ -33,7 +33,7 @@ abbrev pub number : Option ℤ → ℤ
 number None = pos 0
 number (Some label) = label
 
--- a label is less than one that stands, or the first
+-- a label is less than the label that stands, or no label stands
 abbrev pub is_lower : Option ℤ → Option ℤ → Bool
 is_lower None standing = false
 is_lower (Some label) None = true
@@ -46,7 +46,7 @@ pub record IsEdgeWithin (events : ℕ) (e : Edge) : Type 0 where
   pub low : neg_ℤ (pos weight_limit) ≤ℤ e.weight
   pub high : e.weight ≤ℤ pos weight_limit
 
--- a network, the edges that were chosen, and the first event whose edges count
+-- the edges that count: the current edges of a network that start at event `first` or at a later event
 pub record Scope : Type 0 where
   pub net : Net
   pub chosen : List EdgeName
@@ -58,19 +58,19 @@ pub record IsAmong (s : Scope) (name : EdgeName) (e : Edge) : Type 0 where
   pub current : IsCurrent s.net s.chosen name
   pub from : s.first ≤ e.from.0
 
--- climbing from an event to the starts of these edges, each the parent of the event that was reached before, leads to another event
+-- a climb goes from an event over its parent to the start of this edge, and so on, up to the event at the top
 abbrev pub IsClimb : Net → Parents → ℕ → List EdgeName → ℕ → Type 0
 IsClimb net parent event [] top = event ≡ top
 IsClimb net parent event (name ∷ names) top = (parent event ≡ Some name) × ((e : Edge) × (edge net name ≡ Some e) × IsClimb net parent e.from.0 names top)
 
--- climbing from an event ends, at an event without a parent
+-- a climb from an event ends at an event without a parent
 pub record IsRooted (net : Net) (parent : Parents) (event : ℕ) : Type 0 where
   pub root : ℕ
   pub way : List EdgeName
   pub climb : IsClimb net parent event way root
   pub top : parent root ≡ None
 
--- the label of an event came over an edge: it has not fallen since, but that at the start of the edge may have
+-- the label of an event came by an edge; it has not fallen since then, but the label at the start of the edge may have fallen
 pub record IsHeld (s : Scope) (label : GraphLabels) (event : ℕ) (name : EdgeName) : Type 0 where
   pub e : Edge
   pub among : IsAmong s name e
@@ -82,20 +82,20 @@ pub record IsHeld (s : Scope) (label : GraphLabels) (event : ℕ) (name : EdgeNa
   pub here : label event ≡ Some far
   pub below : (near +ℤ e.weight) ≤ℤ far
 
--- how labels stand that fell from those at the start over the edges of a scope: each came over its parent, and without a parent it is
--- the one at the start; no climb by parents is endless
+-- labels that fell from first labels over the edges of a scope: a label with a parent came by it, a label without one is still the first label, and
+-- each climb by parents ends
 pub record IsForest (s : Scope) (start label : GraphLabels) (parent : Parents) : Type 0 where
   pub rooted : (event : ℕ) → event < s.net.events → IsRooted s.net parent event
   pub held : (event : ℕ) (name : EdgeName) → event < s.net.events → parent event ≡ Some name → IsHeld s label event name
   pub roots : (event : ℕ) → event < s.net.events → parent event ≡ None → label event ≡ start event
 
--- an edge leads to an event whose label is no more than the weight above a number
+-- an edge leads to an event with a label, which is at most a number plus the weight of the edge
 pub record IsFollowed (label : GraphLabels) (e : Edge) (near : ℤ) : Type 0 where
   pub far : ℤ
   pub here : label e.to.0 ≡ Some far
   pub within : far ≤ℤ (near +ℤ e.weight)
 
--- an edge from an event with a label is followed
+-- an edge is followed, if there is a label at its start
 abbrev pub Follows : GraphLabels → Edge → Type 0
 Follows label e = (near : ℤ) → label e.from.0 ≡ Some near → IsFollowed label e near
 
@@ -103,6 +103,6 @@ Follows label e = (near : ℤ) → label e.from.0 ≡ Some near → IsFollowed l
 abbrev pub HaveSettled : Scope → GraphLabels → Type 0
 HaveSettled s label = (name : EdgeName) (e : Edge) → IsAmong s name e → Follows label e
 
--- a stamp is as it was, or has a first or a lower label
+-- a stamp is as it was, or it has a lower label, or the first label in its slot
 abbrev pub HasFallen : Stamp → Stamp → Type 0
 HasFallen old new = (new ≡ old) ⊎ (is_lower new.label old.label ≡ true)

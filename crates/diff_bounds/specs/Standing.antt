@@ -1,4 +1,4 @@
--- What bounds are, what stands, and what their calls do.
+-- What contracts see of bounds, when a graph stands, and what the calls do.
 use Rattle.std.specs.Prelude.{◌≡◌, ◌+◌, ◌<◌, ◌≤◌, ℕ, ℤ, ◌+ℤ◌, ◌≤ℤ◌, Bool, List, ◌∷◌, length, take, Option, Some, None, is_none, IsTrue, slice_get}
 use Rattle.itv_base.specs.declared.limits.TheConstants.{MAX_EVENTS}
 use Rattle.itv_base.specs.declared.names.EdgeName.{EdgeName}
@@ -13,8 +13,8 @@ use Rattle.diff_bounds.specs.Current.{with_choice}
 use Rattle.diff_bounds.specs.Labels.{HasFallen, labels_from, number, stamp_at}
 use Rattle.diff_bounds.specs.Settled.{AreSettled, IsRootGraph, bottom}
 
--- the number of events, the always-edges by the event where they start, the chosen edges, the stack of graphs, how many events may
--- wait, whether the feasible times of the first graph have settled, the source, and the walk that was found last
+-- the number of events, the always-edges by the event where they start, the chosen edges, the stack of graphs, how many events the queue is made for,
+-- whether the feasible times of the first graph have settled, the source, and the walk that was found last
 pub record Standing : Type 0 where
   pub events : ℕ
   pub out : List (List Arc)
@@ -37,7 +37,7 @@ standing_in b = record {
   walk = take b.count b.walk.items;
 }
 
--- there is room for all that may come
+-- there is room for all edges of a walk, all chosen edges and a guess, and the number of events is within its limit
 pub record HasRoom (b : Inside) : Type 0 where
   pub walk : length b.walk.items ≡ b.events
   pub count : b.count ≤ b.events
@@ -46,7 +46,7 @@ pub record HasRoom (b : Inside) : Type 0 where
   pub guess : length b.guess ≡ b.events
   pub events : b.events ≤ MAX_EVENTS
 
--- the bounds were made for a network: the trail has two slots for each of its events, and a level for each constraint to split
+-- the bounds are made for a network: the trail has two slots for each event, and a level for each constraint with two or more causes
 pub record IsMadeFor (net : Net) (b : Standing) : Type 0 where
   pub is_net : IsNet net
   pub events : b.events ≡ net.events
@@ -62,41 +62,41 @@ pub record Stands (net : Net) (b : Standing) : Type 0 where
   pub graphs : AreSettled net b.source b.trail.current b.trail.below
   pub chosen : AreChosenArcs net b.trail.current.edges b.arcs
 
--- the edges that were chosen in the current graph, the latest one last
+-- the chosen edges of the current graph, the latest one last
 abbrev pub chosen_of : Standing → List EdgeName
 chosen_of b = b.trail.current.edges
 
--- the label of an event from the source: its slot in the trail is its number
+-- the label of an event from the source; its slot in the trail is the number of the event
 abbrev pub upper_of : Standing → ℕ → Option ℤ
 upper_of b event = labels_from b.trail.current.stamps 0 event
 
--- the feasible time of an event: its slot follows those of the labels from the source
+-- the feasible time of an event; its slot is in the second half
 abbrev pub feasible_of : Standing → ℕ → ℤ
 feasible_of b event = number (labels_from b.trail.current.stamps b.events event)
 
--- a label, or a time where there is none
+-- a label, or a time where there is no label
 abbrev pub lifted : Option ℤ → ℤ → ℤ
 lifted None time = time
 lifted (Some label) time = label
 
--- a number by which feasible times are put off: no label from the source is above the feasible time of its event and the number
+-- a number that makes feasible times late enough: no label from the source is above the feasible time of its event plus this number
 abbrev pub IsLift : Standing → ℤ → Type 0
 IsLift b lift = (event : ℕ) (label : ℤ) → event < b.events → upper_of b event ≡ Some label → label ≤ℤ (feasible_of b event +ℤ lift)
 
--- times that bounds tell: each event with a label from the source has that time, and the others have their feasible times, all put off
--- by one number
+-- the times that `times_into` writes: an event with a label from the source has this label as its time; each other event has its feasible time plus
+-- one number, which is the same for all
 pub record AreTimesOf (b : Standing) (times : List ℤ) : Type 0 where
   pub count : length times ≡ b.events
   pub lift : ℤ
   pub is_lift : IsLift b lift
   pub each : (event : EventId) → event.0 < b.events → time_of times event ≡ lifted (upper_of b event.0) (feasible_of b event.0 +ℤ lift)
 
--- a flag for each event, which tells that it has no label from the source
+-- a flag for each event: whether it has no label from the source
 pub record IsRayOf (b : Standing) (set : List Bool) : Type 0 where
   pub count : length set ≡ b.events
   pub each : (event : EventId) → event.0 < b.events → slice_get set event.0 ≡ Some (is_none (upper_of b event.0))
 
--- a descent put one graph on the stack: with the choice where it has an edge, and with each stamp as it was or lower
+-- a descent put one graph on the stack: its edges are the old ones, and the choice if this names an edge; each stamp is as it was or lower
 pub record HasDescended (net : Net) (choice : EdgeName) (old new : Standing) : Type 0 where
   pub levels : new.trail.levels ≡ old.trail.levels
   pub below : new.trail.below ≡ old.trail.current ∷ old.trail.below

@@ -1,3 +1,4 @@
+-- Words of contracts within this crate.
 pub mod Listing
 pub mod Waiting
 pub mod Chosen

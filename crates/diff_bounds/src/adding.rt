@@ -16,8 +16,8 @@ use crate::pending::Pending;
 use event_graph::{ByEvent, Network};
 use trail::Trail;
 
-/// Lets the feasible times settle over one more edge, where all others are followed already. The answer is an edge that closes a loop
-/// of negative sum through its start, if there is one.
+/// Lets the feasible times settle over one more edge. All other edges are followed already. The answer is an edge that closes a loop of negative sum
+/// through the start of the new edge, if there is one.
 pub fn add_to_feasible(
     net: &Network,
     out: &ByEvent<Arc>,
@@ -43,8 +43,7 @@ pub fn add_to_feasible(
     fall_over(net, out, chosen, run, arc, trail, pending)
 }
 
-/// Lets the labels from the source settle over one more edge, where all others are followed already and the feasible times have
-/// settled.
+/// Lets the labels from the source settle over one more edge. All other edges are followed already, and the feasible times have settled.
 pub fn add_to_uppers(
     net: &Network,
     out: &ByEvent<Arc>,
@@ -75,8 +74,8 @@ pub fn add_to_uppers(
     }
 }
 
-// Lets labels fall over one edge, and on from where it leads, where all edges are followed but this one. The answer is an edge that
-// would lower the label at the stop, if there is one.
+// Lets labels fall over one edge, and on from where it leads. All other edges are followed already. The answer is an edge that would lower the label
+// at the stop, if there is one.
 fn fall_over(
     net: &Network,
     out: &ByEvent<Arc>,

@@ -1,4 +1,4 @@
-//! Bounds on the separations of events from a source, on one graph that is changed and given back.
+//! Bounds on the separations of events from a source, over a graph that takes one more edge at a time and gives it back.
 
 ghost use Rattle.std.specs.Prelude.{◌≡◌, ◌<◌, ◌≤◌, ◌↔◌, ⊤, ℕ, ℤ, pos, [], List, IfOk, IfSome, IsSome, Some, All, length};
 ghost use mathlib.Core.Option.{none};
@@ -31,14 +31,13 @@ use std::alloc::Global;
 use std::marker::Model;
 use trail::Trail;
 
-/// Bounds on a network: the greatest separations of its events from a source, in picoseconds, and times that attain them, over the
-/// times that meet the **current edges**. These are the always-edges of the network and the edges that were chosen.
+/// Bounds on a network: the greatest separations of its events from a source, in picoseconds, and times that attain them. Only times that meet the
+/// **current edges** count. The current edges are the always-edges of the network and the chosen edges.
 ///
-/// They are made for one network, and a graph stands from a [`start`](Bounds::start) that fits until the next start. A
-/// [`descend`](Bounds::descend) adds an edge, and a [`retreat`](Bounds::retreat) gives the graph back as it stood before. The graphs
-/// are kept in one [`Trail`], with the labels of each event from the source in the first half of its slots, and feasible times in the
-/// second half: so a level costs what it changes. Labels fall along edges, those first that have fallen furthest, and the feasible
-/// times, as potentials, show in advance that they settle.
+/// Bounds are made for one network. A graph stands from a [`start`](Bounds::start) that fits until the next start. A [`descend`](Bounds::descend)
+/// adds an edge, and a [`retreat`](Bounds::retreat) gives the graph back as it stood before. One [`Trail`] keeps the graphs, so a level costs what it
+/// changes. The first half of its slots has the label of each event from the source, the second half the feasible times. Labels fall along edges. The
+/// event whose label has fallen furthest comes first. The feasible times are potentials, which show in advance that the labels settle.
 #[derive(Debug, Drop)]
 pub struct Bounds {
     events: u32,
@@ -51,7 +50,7 @@ pub struct Bounds {
     settled: bool,
     source: Option<EventId>,
     walk: Vec<EdgeName>,
-    // How many edges the walk has that was found last.
+    // How many edges the last walk that was found has.
     count: usize,
 }
 
@@ -72,8 +71,7 @@ const NO_EDGE: EdgeName = EdgeName {
 };
 
 impl Bounds {
-    /// Bounds for a network. All memory that they will ever need is taken here, and `NoMemory` is the answer where it is not found.
-    /// No graph stands yet.
+    /// Bounds for a network. This call takes all memory that they will ever need, or returns `NoMemory`. No graph stands yet.
     pub fn new(alloc: Global, net: &Network) -> Result<Bounds, NoMemory>
         ensures { IfOk result (λ bounds. IsMadeFor net.now bounds) }
     {
@@ -133,10 +131,10 @@ impl Bounds {
         Fit::Fits
     }
 
-    /// Adds an edge of the network as a new level. All edges that were current stay current in it. Where there is no edge of this name,
-    /// the new level has the same edges. A graph has to stand, with fewer levels above the start than there are constraints with two or
-    /// more causes. The answer is `Loop` if and only if no times meet the edges of the new level. After `Loop` the new level is taken
-    /// back, and all but the [`walk`](Bounds::walk) is as it was.
+    /// Adds an edge of the network as a new level. All edges that were current stay current in it. Where there is no edge of this name, the new level
+    /// has the same edges. A graph has to stand. It has to have fewer levels above the start than there are constraints with two or more causes. The
+    /// answer is `Loop` if and only if no times meet the edges of the new level. After `Loop` the new level is taken back, and all but the
+    /// [`walk`](Bounds::walk) is as it was.
     pub fn descend(&mut self, net: &Network, choice: EdgeName) -> Fit
         requires stands { Stands net.now self.old }
         requires levels { length self.old.trail.below < self.old.trail.levels }
@@ -181,8 +179,8 @@ impl Bounds {
         Fit::Fits
     }
 
-    /// Gives back the graph as it stood before the last [`descend`](Bounds::descend) that fitted and was not given back yet. A level
-    /// above the start has to stand.
+    /// Gives back the graph as it stood before the last [`descend`](Bounds::descend) that fitted and was not taken back yet. There has to be such a
+    /// level above the start.
     pub fn retreat(&mut self)
         requires stands { (net : Net) × Stands net self.old }
         requires level { 0 < length self.old.trail.below }
@@ -209,11 +207,11 @@ impl Bounds {
         label_in(&self.trail, event.0)
     }
 
-    /// Writes one time for each event, in picoseconds. The times meet the current edges. An event whose [`upper`](Bounds::upper) is a
-    /// number has that number as its time. So from a source the time of the source is 0, and the times attain all these numbers at
-    /// once. Each other event has its feasible time plus the lift. The lift is one number of picoseconds for all events, for which no
-    /// [`upper`](Bounds::upper) is greater than the feasible time of its event plus the lift. No time is below 0 by more than the reach
-    /// of a path, or above 0 by more than twice the reach of a path. A graph has to stand.
+    /// Writes one time for each event, in picoseconds. The times meet the current edges. An event whose [`upper`](Bounds::upper) is a number has that
+    /// number as its time. So from a source the time of the source is 0, and the times attain all these numbers at once. Each other event has its
+    /// feasible time plus the lift. The lift is one number of picoseconds, the same for all events: no [`upper`](Bounds::upper) is greater than the
+    /// feasible time of its event plus the lift. No time is below 0 by more than the reach of a path, or above 0 by more than twice the reach of a
+    /// path. A graph has to stand.
     pub fn times_into(&self, out: &mut [i64])
         requires stands { (net : Net) × Stands net self.now }
         requires count { length out.old ≡ self.now.events }
@@ -230,9 +228,9 @@ impl Bounds {
         write_times(&self.trail, self.events, lift, out);
     }
 
-    /// Writes for each event whether its [`upper`](Bounds::upper) is `None`. The times of [`times_into`](Bounds::times_into) still meet
-    /// the current edges where the times of all events whose [`upper`](Bounds::upper) is `None` are raised by one number of picoseconds,
-    /// however large. A graph has to stand from a source.
+    /// Writes for each event whether its [`upper`](Bounds::upper) is `None`. Take the times of [`times_into`](Bounds::times_into), and raise the
+    /// times of all these events by one number of picoseconds, however large: the times still meet the current edges. A graph has to stand from a
+    /// source.
     pub fn ray_into(&self, out: &mut [bool])
         requires stands { (net : Net) × Stands net self.now }
         requires source { IsSome self.now.source }
@@ -276,26 +274,25 @@ impl Bounds {
         }
     }
 
-    /// The walk that the last call with the bounds as `&mut` found. Such a call finds a walk where it is [`start`](Bounds::start) or
-    /// [`descend`](Bounds::descend) and answers `Loop`, and where it is [`path`](Bounds::path) or [`find_path`](Bounds::find_path). After
-    /// any other call that takes the bounds as `&mut` nothing is promised of the walk.
+    /// The walk that the last call with the bounds as `&mut` found. [`path`](Bounds::path) and [`find_path`](Bounds::find_path) find a walk, and so
+    /// do [`start`](Bounds::start) and [`descend`](Bounds::descend) where they answer `Loop`. After any other call that takes the bounds as `&mut`
+    /// nothing is promised of the walk.
     pub fn walk(&self) -> &[EdgeName]
         ensures { result.now ≡ self.now.walk }
     {
         &self.walk[..self.count]
     }
 
-    /// The same as [`walk`](Bounds::walk). After an answer `Loop` the walk is closed, and each of its edges is a current edge or the
-    /// edge that was to be added. The sum of the walk is negative. The walk has at most as many edges as there are events. All this holds
-    /// until the next call that takes the bounds as `&mut`.
+    /// The same as [`walk`](Bounds::walk). After an answer `Loop` the walk is closed, and each of its edges is a current edge or the edge that the
+    /// call was to add. The sum of the walk is negative. The walk has at most as many edges as there are events. All this holds until the next call
+    /// that takes the bounds as `&mut`.
     pub fn loop_walk(&self) -> &[EdgeName]
         ensures { result.now ≡ self.now.walk }
     {
         self.walk()
     }
 
-    /// The stack of graphs. A graph lists the chosen edges, and the label in the slot of an event's number is its
-    /// [`upper`](Bounds::upper).
+    /// The stack of graphs. A graph lists the chosen edges. The slot of an event's number has its [`upper`](Bounds::upper) as its label.
     pub fn trail(&self) -> &Trail
         ensures { result.now ≡ self.now.trail }
     {

@@ -8,8 +8,8 @@ use itv_base::{EventId, NoMemory};
 use std::alloc::Global;
 use std::marker::Model;
 
-/// The chosen edges, the oldest one first. Those that start at one event are reached from the latest of them, each from the one
-/// chosen after it. Contracts see the edges, for how many events they are kept, and for how many edges there is room.
+/// The chosen edges, the oldest one first. The edges that start at one event are linked: the latest one is found first, and each leads to the one
+/// chosen before it. Contracts see the edges, the number of events, and the number of edges for which there is room.
 #[derive(Debug, Drop)]
 pub struct ChosenEdges {
     arcs: Vec<Arc>,
@@ -59,7 +59,7 @@ impl ChosenEdges {
         self.latest[start] = Some(place);
     }
 
-    /// Keeps so many edges, the oldest ones.
+    /// Keeps the `count` oldest edges and takes all others away.
     pub fn truncate(&mut self, count: usize)
         ensures { self.new ≡ record self.old { arcs = take count self.old.arcs } }
     {
@@ -68,7 +68,7 @@ impl ChosenEdges {
         }
     }
 
-    /// Takes the edge at the end away, if there is one.
+    /// Takes the latest edge away, if there is one.
     pub fn pop(&mut self)
         ensures { self.new ≡ record self.old { arcs = take (length self.old.arcs - 1) self.old.arcs } }
     {
@@ -85,7 +85,7 @@ impl ChosenEdges {
         self.latest[event.0 as usize]
     }
 
-    /// The place of the latest edge, before the one at a place, that starts at the same event, if there is one.
+    /// The place, counted from 0, of the latest edge that starts at the same event as the edge at a place and comes before it, if there is one.
     pub fn earlier(&self, place: usize) -> Option<usize>
         requires { place < length self.now.arcs }
         ensures { IsEarlier self.now.arcs place result }
@@ -93,7 +93,7 @@ impl ChosenEdges {
         self.earlier[place]
     }
 
-    /// The edge at a place.
+    /// The edge at a place, counted from 0.
     pub fn arc(&self, place: usize) -> &Arc
         requires { place < length self.now.arcs }
         ensures { slice_get self.now.arcs place ≡ Some result.now }

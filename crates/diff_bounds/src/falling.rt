@@ -16,13 +16,13 @@ use event_graph::{ByEvent, Network};
 use itv_base::{EventId, MAX_EVENTS};
 use trail::{Stamp, Trail};
 
-// More than any two labels differ by.
+// More than the difference of any two labels.
 const FAR: i64 = 1 << 60;
 
 /// What one fall of labels works on.
 #[derive(Clone, Copy, Debug)]
 pub struct Run {
-    /// The slot of the label of event 0; those of the other events follow it.
+    /// The slot of the label of event 0. The slots of the other events follow it.
     pub base: u32,
     /// The first event whose edges count.
     pub first: u32,
@@ -35,14 +35,14 @@ pub struct Run {
 pub enum Relaxation {
     /// The label at the end is low enough.
     Kept,
-    /// The label at the end has fallen, by this number: it is less than 0.
+    /// The label at the end has fallen by this number, which is less than 0.
     Fell(i64),
-    /// The label at the end, which is that at the stop, would fall.
+    /// The edge ends at the stop, and its label would fall.
     Stops,
 }
 
-/// Lets labels fall until all edges are followed, where each edge is followed or waits at first. The answer is an edge that would
-/// lower the label at the stop, if there is one.
+/// Lets labels fall until all edges are followed. Before the call each edge is followed, or the event at its start waits. The answer is an edge that
+/// would lower the label at the stop, if there is one.
 ///
 /// The events whose labels have fallen wait in a queue for their edges to be followed, as in the algorithm of Bellman and Ford.
 pub fn fall(
@@ -77,7 +77,7 @@ pub fn fall(
     None
 }
 
-// Relaxes edges that all start at one event. The answer is the first one that would lower the label at the stop.
+// Relaxes edges that all start at one event. The answer is the first edge that would lower the label at the stop.
 fn relax_from(
     net: &Network,
     run: Run,
@@ -105,8 +105,7 @@ fn relax_from(
     None
 }
 
-// Relaxes the chosen edges that start at an event, the latest one first. The answer is the first one that would lower the label at
-// the stop.
+// Relaxes the chosen edges that start at an event, the latest one first. The answer is the first edge that would lower the label at the stop.
 fn relax_chosen(
     net: &Network,
     run: Run,
@@ -137,8 +136,8 @@ fn relax_chosen(
     None
 }
 
-/// Relaxes an edge of the scope, given the label at its start, and lets the event at its end wait where its label has fallen. The
-/// answer is whether it would lower the label at the stop.
+/// Relaxes an edge of the scope; `near` is the label at its start. If the label at its end falls, the event there waits from now on. The answer is
+/// whether the edge would lower the label at the stop.
 pub fn follow(
     net: &Network,
     run: Run,
@@ -168,7 +167,7 @@ pub fn follow(
     }
 }
 
-// Lets an event whose label has fallen wait, if its edges count.
+// Lets an event wait, if its edges count. Its label has fallen.
 fn wait(first: u32, event: EventId, by: i64, pending: &mut Pending)
     requires { event.0 < length pending.old.marks }
     ensures { Pushes first event.0 pending.old pending.new }
@@ -178,7 +177,8 @@ fn wait(first: u32, event: EventId, by: i64, pending: &mut Pending)
     }
 }
 
-// Lowers the label at the end of an edge to the label at its start, which is given, and the weight, unless it is at the stop.
+// Relaxes an edge; `near` is the label at its start. Where `near` plus the weight is less than the label at the end, or there is no label, this sum
+// is the new label there. The label at the stop stays as it is.
 fn relax(net: &Network, run: Run, near: i64, arc: &Arc, trail: &mut Trail) -> Relaxation
     requires within { IsEdgeWithin net.now.events arc.now.edge }
     requires slots { run.base + net.now.events ≤ length trail.old.current.stamps }
@@ -206,7 +206,7 @@ fn relax(net: &Network, run: Run, near: i64, arc: &Arc, trail: &mut Trail) -> Re
     Relaxation::Fell(by)
 }
 
-// By how much a label of an event falls to another one. A first label falls from far above the feasible time. Only the order in which
+// By how much the label of an event falls where it gets a new one. A first label falls from far above the feasible time. Only the order in which
 // events wait rests on this number.
 fn fall_between(
     net: &Network,
@@ -243,7 +243,7 @@ pub fn label_in(trail: &Trail, slot: u32) -> Option<i64>
     trail.stamp(slot).label
 }
 
-// The label that comes a weight after another.
+// A label plus a weight.
 fn delayed(label: i64, weight: i64) -> i64
     requires label { IsNear label }
     requires weight_low { neg_ℤ (pos weight_limit) ≤ℤ weight }
@@ -253,7 +253,7 @@ fn delayed(label: i64, weight: i64) -> i64
     label + weight
 }
 
-// Whether a label is less than one that stands, or the first.
+// Whether a label is less than the label that stands, or no label stands.
 fn lowers(label: i64, standing: Option<i64>) -> bool
     ensures { result ≡ is_lower (Some label) standing }
 {

@@ -1,6 +1,6 @@
 //! A guess of times that meet all always-edges of a network.
 //!
-//! How it comes about is not proved. It serves only where its times have been seen to meet the edges.
+//! No proof says how the guess comes about. The code checks that its times meet the edges, and uses it only then.
 
 ghost use Rattle.std.specs.Prelude.{◌≡◌, ◌<◌, ◌≤◌, All, IfOk, IsTrue, length, pos, slice_index_or};
 ghost use Rattle.event_graph.specs.Edges.{Meets};
@@ -20,7 +20,7 @@ pub struct Guess {
     times: Vec<i64>,
     // The events in the order in which their edges are followed.
     order: Vec<EventId>,
-    // For each event how many edges of negative weight lead there from events that are not in the order yet.
+    // For each event how many edges of negative weight lead there from events whose edges have not been followed yet.
     due: Vec<u32>,
 }
 
@@ -35,11 +35,11 @@ impl Model for Guess {
     ghost invariant = { HasCounts };
 }
 
-// How often the edges of all events are followed, there and back, before the times are given up.
+// How often the edges of all events are followed, there and back, at most.
 const TURNS: u32 = 8;
 
 impl Guess {
-    /// The time 0 for each of so many events. Takes all memory that is ever needed, or answers `NoMemory`.
+    /// The time 0 for each event. Takes all memory that is ever needed, or answers `NoMemory`.
     pub fn new(alloc: Global, events: u32) -> Result<Guess, NoMemory>
         ensures { IfOk result (λ guess. length guess ≡ events) }
     {
@@ -53,9 +53,9 @@ impl Guess {
 
     /// Makes a guess for a network, with a time for each of its events. The answer is whether these times meet all always-edges.
     ///
-    /// Times fall from 0 as the edges of one event after another are followed. Where there are times that meet all edges, no edges of
-    /// negative weight lead around: then each event comes behind those from which such edges lead there, and a chain settles in the
-    /// first turn, whichever way it leads.
+    /// Times fall from 0 as the edges of one event after another are followed. Where times meet all edges, no cycle has edges of negative weight
+    /// alone. So the events have an order in which each edge of negative weight leads from an earlier event to a later one. Along this order and
+    /// back, a chain settles in the first turn, whichever way it leads.
     pub fn make(&mut self, net: &Network, out: &ByEvent<Arc>) -> bool
         requires out { AreAlwaysArcs net.now out.now }
         requires count { length self.old ≡ net.now.events }
@@ -79,8 +79,8 @@ impl Guess {
     }
 }
 
-// Orders the events: each one comes behind those from which edges of negative weight lead there. The answer is whether all have come
-// into the order, which they do where no such edges lead around.
+// Orders the events so that each edge of negative weight leads from an earlier event to a later one. The answer is whether all events are in the
+// order. They are if no cycle has edges of negative weight alone.
 fn sort(net: &Network, out: &ByEvent<Arc>, order: &mut [EventId], due: &mut [u32]) -> bool
     requires out { AreAlwaysArcs net.now out.now }
     requires due { length due.old ≡ net.now.events }
@@ -111,7 +111,7 @@ fn count_due(net: &Network, out: &ByEvent<Arc>, due: &mut [u32])
     }
 }
 
-// Counts edges of negative weight at the events where they lead.
+// Counts the edges of negative weight among these edges, each at the event where it leads.
 fn add_due(arcs: &[Arc], due: &mut [u32])
     requires { All (IsBetween (length due.old)) arcs.now }
     ensures { length due.new ≡ length due.old }
@@ -124,7 +124,7 @@ fn add_due(arcs: &[Arc], due: &mut [u32])
     }
 }
 
-// Puts the events to which no edge of negative weight leads into the order, and counts them.
+// Puts the events to which no edge of negative weight leads into the order. The answer is how many events are in the order.
 fn place_first(net: &Network, due: &[u32], order: &mut [EventId]) -> usize
     requires due { length due.now ≡ net.now.events }
     requires order { AreEvents net.now.events order.old }
@@ -140,7 +140,7 @@ fn place_first(net: &Network, due: &[u32], order: &mut [EventId]) -> usize
     count
 }
 
-// Puts an event into the order behind so many others, if there is room, and counts the events there.
+// Puts an event into the order behind `count` others, if there is room. The answer is how many events are in the order now.
 fn place(event: EventId, order: &mut [EventId], count: usize) -> usize
     requires count { count ≤ length order.old }
     requires event { event.0 < length order.old }
@@ -157,8 +157,8 @@ fn place(event: EventId, order: &mut [EventId], count: usize) -> usize
     }
 }
 
-// Follows edges that start at an event in the order: an event where one of negative weight leads comes into the order too, if all such
-// edges that lead there have been followed now. The answer is how many events there are.
+// Follows the edges that start at an event of the order. Where one of negative weight leads to an event, and no other such edge is due there, this
+// event comes into the order too. The answer is how many events are in the order now.
 fn release(arcs: &[Arc], order: &mut [EventId], count: usize, due: &mut [u32]) -> usize
     requires count { count ≤ length order.old }
     requires due { length due.old ≡ length order.old }
@@ -178,7 +178,7 @@ fn release(arcs: &[Arc], order: &mut [EventId], count: usize, due: &mut [u32]) -
     placed
 }
 
-// Counts one edge less that is due at an event. The answer is whether none is left.
+// Counts down the edges that are due at an event. The answer is whether none is left.
 fn take_due(event: EventId, due: &mut [u32]) -> bool
     requires { event.0 < length due.old }
     ensures { length due.new ≡ length due.old }
@@ -188,7 +188,7 @@ fn take_due(event: EventId, due: &mut [u32]) -> bool
     left == 0
 }
 
-// Lets times fall over the edges of all events, until none falls or the turns are used up.
+// Lets times fall over the edges of all events, until no time falls or all turns are used.
 fn follow_in_turns(net: &Network, out: &ByEvent<Arc>, order: &[EventId], times: &mut [i64])
     requires out { AreAlwaysArcs net.now out.now }
     requires order { AreEvents net.now.events order.now }
@@ -202,7 +202,7 @@ fn follow_in_turns(net: &Network, out: &ByEvent<Arc>, order: &[EventId], times: 
     }
 }
 
-// Lets times fall over the edges of all events, there and back along the order. The answer is whether one has fallen.
+// Lets times fall over the edges of all events, there and back along the order. The answer is whether a time has fallen.
 fn follow_twice(net: &Network, out: &ByEvent<Arc>, order: &[EventId], times: &mut [i64]) -> bool
     requires out { AreAlwaysArcs net.now out.now }
     requires order { AreEvents net.now.events order.now }
@@ -224,7 +224,7 @@ fn follow_twice(net: &Network, out: &ByEvent<Arc>, order: &[EventId], times: &mu
     has_fallen
 }
 
-// Lets times fall over edges. The answer is whether one has fallen.
+// Lets times fall over edges. The answer is whether a time has fallen.
 fn follow(arcs: &[Arc], times: &mut [i64]) -> bool
     requires { All (IsBetween (length times.old)) arcs.now }
     ensures { length times.new ≡ length times.old }
@@ -263,7 +263,7 @@ fn meet_each(arcs: &[Arc], times: &[i64]) -> bool
     arcs.iter().all(|arc| meet(arc, times))
 }
 
-// Whether times meet an edge. Where their separation is no number of 64 bits they are taken not to.
+// Whether times meet an edge. The answer is `false` where the separation of its events does not fit in 64 bits.
 fn meet(arc: &Arc, times: &[i64]) -> bool
     requires { IsBetween (length times.now) arc.now }
     ensures { IsTrue result → Meets times.now arc.now.edge }

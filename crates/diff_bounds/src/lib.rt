@@ -1,6 +1,6 @@
-//! Bounds on one graph, to which one edge after another is added and taken back: the greatest separations of all events from a
-//! source, over the times that meet the always-edges of a network and the chosen edges. The contract of the crate: while a graph
-//! stands, `upper` is the greatest separation of an event, and `start` and `descend` answer `Loop` exactly where no times meet the edges.
+//! Bounds on one graph, which takes one edge after another and gives it back: the greatest separations of all events from a source, over the times
+//! that meet the always-edges of a network and the chosen edges. The contract of the crate: while a graph stands, `upper` is the greatest separation
+//! of an event, and `start` and `descend` answer `Loop` if and only if no times meet the edges.
 #![tactic(auto)]
 
 mod adding;

@@ -10,8 +10,8 @@ use event_graph::{ByEvent, Network};
 use itv_base::{EdgeName, EventId, NoMemory, Side};
 use std::alloc::Global;
 
-/// The always-edges of a network, by the event where they start. Of the edges that lead from one event to another the list has one of
-/// least weight. Takes all memory that is needed, or answers `NoMemory`.
+/// The always-edges of a network, by the event where they start. Where several of them lead from one event to another, the list has one of least
+/// weight. Takes all memory that is needed, or answers `NoMemory`.
 pub fn out_edges(alloc: Global, net: &Network) -> Result<ByEvent<Arc>, NoMemory>
     requires { IsNet net.now }
     ensures { IfOk result (AreAlwaysArcs net.now) }
@@ -68,8 +68,7 @@ fn push_edge(net: &Network, name: EdgeName, lists: &mut ByEvent<Arc>) -> Result<
     Ok(())
 }
 
-// Adds an edge to those that start at the same event. Where one of them leads to the same event as it does, just the lighter of the
-// two stays.
+// Adds an edge to the list of the event where it starts. If the list has an edge to the same event, only the lighter of the two stays.
 fn push_arc(arc: Arc, lists: &mut ByEvent<Arc>) -> Result<(), NoMemory>
     requires { arc.edge.from.0 < length lists.old }
     ensures { OnOk result (JoinsAt arc lists.old lists.new) }

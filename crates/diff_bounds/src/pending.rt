@@ -8,15 +8,15 @@ use itv_base::{EventId, NoMemory};
 use std::alloc::Global;
 use std::marker::Model;
 
-/// The events that wait for their edges to be followed, of which the one comes first whose label has fallen furthest since it began to
-/// wait. An event waits once at most. Contracts see a flag for each event, which tells that it waits, and how many events wait.
+/// The events that wait for their edges to be followed. The event whose label has fallen furthest since it began to wait comes first. An event waits
+/// once at most. Contracts see a flag for each event, which says whether it waits, and how many events wait.
 ///
-/// Where the labels were settled before some edges that start at one event were added, that is the order of Dijkstra's algorithm with
-/// the old labels as potentials (Johnson 1977): an event that was taken does not fall again. Nothing rests on this but the time.
+/// Where labels had settled, and then edges that start at one event were added, this is the order of Dijkstra's algorithm with the old labels as
+/// potentials: an event that was taken does not fall again. Only the time that a fall takes rests on this.
 #[derive(Debug, Drop)]
 pub struct Pending {
     heap: Vec<Waiter>,
-    // The place of each event that waits in the heap.
+    // The place in the heap of each event that waits.
     places: Vec<usize>,
     marks: Vec<bool>,
 }
@@ -32,7 +32,7 @@ impl Model for Pending {
 }
 
 impl Pending {
-    /// A queue for a number of events, none of which waits. Takes all the memory that it ever needs, or answers `NoMemory`.
+    /// A queue for a number of events. No event waits yet. Takes all the memory that it ever needs, or answers `NoMemory`.
     pub fn new(alloc: Global, events: u32) -> Result<Pending, NoMemory>
         ensures { IfOk result (λ p. p ≡ record { marks = replicate events false; count = 0 }) }
     {
@@ -52,8 +52,8 @@ impl Pending {
         while let Some(_event) = self.pop() {}
     }
 
-    /// Lets an event wait whose label has fallen by a number, or is to come into the order as if it had. Where it waits already it has
-    /// fallen further.
+    /// Lets an event wait. Its label has fallen by `by`, or it takes its place in the queue as if so. If the event waits already, `by` is added to
+    /// its fall.
     pub fn push(&mut self, event: EventId, by: i64)
         requires { event.0 < length self.old.marks }
         ensures marks { self.new.marks ≡ slice_set self.old.marks event.0 true }

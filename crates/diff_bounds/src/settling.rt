@@ -33,11 +33,11 @@ const ZERO: Stamp = Stamp {
     parent: None,
 };
 
-/// Makes the current graph the first one, with its feasible times, which are worked out where they have not settled yet. The answer
-/// is an edge that closes a loop of negative sum, if there is one.
+/// Makes the first graph the current one, and works out its feasible times where they have not settled yet. The answer is an edge that closes a loop
+/// of negative sum, if there is one.
 ///
-/// Where a guess of times meets all always-edges, the feasible times settle over all of them at once. Else they settle event by event,
-/// which finds a loop where there is one. The feasible times are the same both ways.
+/// Where a guess of times meets all always-edges, the feasible times settle over all of them at once. Else they settle event by event, which finds a
+/// loop if there is one. Both ways give the same feasible times.
 pub fn settle_root(
     settled: bool,
     net: &Network,
@@ -102,8 +102,8 @@ fn begin(trail: &mut Trail, events: u32)
     }
 }
 
-// Lets the feasible times of the first graph settle over all always-edges at once, where a guess meets these edges. All events wait, and
-// the one comes first whose feasible time is the least far above the guess: so no event falls again after it was taken.
+// Lets the feasible times of the first graph settle over all always-edges at once, where a guess meets these edges. All events wait. The event whose
+// feasible time is the least far above the guess comes first, so no event falls again after it was taken.
 fn settle_at_once(
     net: &Network,
     out: &ByEvent<Arc>,
@@ -138,7 +138,8 @@ fn settle_at_once(
     }
 }
 
-// Lets all events wait, as if their labels had fallen to 0 from as far above 0 as the guess is below it.
+// Lets all events wait. Each starts with the number by which 0 is above its guess. The falls of its label are added later, so the number stays how
+// far the label is above the guess.
 fn push_all(events: u32, guess: &Guess, pending: &mut Pending)
     requires guess { length guess.now ≡ events }
     requires marks { length pending.old.marks ≡ events }
@@ -152,8 +153,8 @@ fn push_all(events: u32, guess: &Guess, pending: &mut Pending)
     }
 }
 
-// Lets the feasible times of the first graph settle over the always-edges, which are added event by event, the last event first. The
-// answer is an edge that closes a loop of negative sum, if there is one.
+// Lets the feasible times of the first graph settle over the always-edges. The edges are added event by event, the last event first. The answer is an
+// edge that closes a loop of negative sum, if there is one.
 fn settle_all(
     net: &Network,
     out: &ByEvent<Arc>,
@@ -186,8 +187,8 @@ fn settle_all(
     None
 }
 
-// Lets the feasible times settle over the edges that start at an event, where all others are followed already. The edges of events
-// below `first` do not count. The answer is an edge that closes a loop of negative sum through the event, if there is one.
+// Lets the feasible times settle over the edges that start at an event. All other edges are followed already. The edges of events below `first` do
+// not count. The answer is an edge that closes a loop of negative sum through the event, if there is one.
 fn settle_feasible(
     net: &Network,
     out: &ByEvent<Arc>,
@@ -214,7 +215,7 @@ fn settle_feasible(
     fall_from(net, out, chosen, run, from, trail, pending)
 }
 
-/// Labels the events from a source anew, where there is one, in a first graph whose feasible times have settled.
+/// Works out the labels from a source anew, in a first graph whose feasible times have settled. Without a source there are no labels.
 pub fn reach(
     net: &Network,
     out: &ByEvent<Arc>,
@@ -241,7 +242,7 @@ pub fn reach(
     }
 }
 
-// Takes the labels in the first half of the slots away.
+// Clears the labels in the first half of the slots.
 fn clear_uppers(trail: &mut Trail, events: u32)
     requires { length trail.old.current.stamps ≡ events + events }
     ensures stack { trail.new ≡ with_stamps trail.old trail.new.current.stamps }
@@ -252,8 +253,8 @@ fn clear_uppers(trail: &mut Trail, events: u32)
     }
 }
 
-// Lets the labels from the source settle over the edges that start at an event, where all others are followed already and the
-// feasible times have settled.
+// Lets the labels from the source settle over the edges that start at an event. All other edges are followed already, and the feasible times have
+// settled.
 fn settle_uppers(
     net: &Network,
     out: &ByEvent<Arc>,
@@ -284,8 +285,8 @@ fn settle_uppers(
     }
 }
 
-// Lets labels fall from an event on, where all edges are followed but those that start there. The answer is an edge that would lower
-// the label at the stop, if there is one.
+// Lets labels fall from an event on. All edges are followed already, save for the edges that start there. The answer is an edge that would lower the
+// label at the stop, if there is one.
 fn fall_from(
     net: &Network,
     out: &ByEvent<Arc>,

@@ -1,4 +1,4 @@
-//! Times that labels tell.
+//! Times by labels.
 
 ghost use Rattle.std.specs.Prelude.{◌≡◌, ◌+◌, ◌*◌, ◌<◌, ◌≤◌, ℕ, ℤ, pos, ◌+ℤ◌, ◌≤ℤ◌, All, IfSome, Some, length, slice_index_or};
 ghost use Rattle.std.specs.Prelude.{is_none, slice_get, slice_set};
@@ -12,7 +12,8 @@ ghost use Rattle.diff_bounds.specs.Step.Timing.{AreInReach, LiftsAll};
 use crate::falling::label_in;
 use trail::Trail;
 
-/// A number by which the feasible times are put off, so that no label from the source is above the time of its event.
+/// The least number from 0 on that makes feasible times late enough: no label from the source is above the feasible time of its event plus this
+/// number.
 pub fn least_lift(trail: &Trail, events: u32) -> i64
     requires slots { events + events ≤ length trail.now.current.stamps }
     requires most { length trail.now.current.stamps ≤ 2 * MAX_EVENTS }
@@ -29,7 +30,7 @@ pub fn least_lift(trail: &Trail, events: u32) -> i64
     lift
 }
 
-// The greater of a number and of how far a label, if there is one, is above a time.
+// The greater of two numbers: `lift`, and how far a label is above a time, if there is a label.
 fn lift_above(lift: i64, label: Option<i64>, time: i64) -> i64
     requires label { IfSome label IsReach }
     requires time { IsReach time }
@@ -53,7 +54,7 @@ fn feasible_in(trail: &Trail, events: u32, event: u32) -> i64
     label_in(trail, events + event).unwrap_or(0)
 }
 
-/// Writes the time of each event: its label from the source, or where there is none its feasible time, put off by a number.
+/// Writes the time of each event: its label from the source, or its feasible time plus `lift` where there is no label.
 pub fn write_times(trail: &Trail, events: u32, lift: i64, out: &mut [i64])
     requires slots { events + events ≤ length trail.now.current.stamps }
     requires most { length trail.now.current.stamps ≤ 2 * MAX_EVENTS }
@@ -96,7 +97,7 @@ fn time_in(trail: &Trail, events: u32, event: u32, lift: i64) -> i64
     }
 }
 
-// A time that is put off by a number.
+// A time plus `lift`.
 fn later(time: i64, lift: i64) -> i64
     requires time { IsReach time }
     requires early { time ≤ℤ pos 0 }

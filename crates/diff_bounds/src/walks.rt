@@ -11,7 +11,7 @@ use event_graph::Network;
 use itv_base::{EdgeName, EventId};
 use trail::Trail;
 
-/// Writes down the loop that an edge closes, the edge last, and counts its edges.
+/// Writes down the loop that an edge closes, with this edge last. The answer is how many edges the loop has.
 pub fn loop_into(net: &Network, trail: &Trail, arc: Arc, walk: &mut [EdgeName]) -> usize
     requires slots { net.now.events + net.now.events ≤ length trail.now.current.stamps }
     requires most { length trail.now.current.stamps ≤ 2 * MAX_EVENTS }
@@ -25,7 +25,7 @@ pub fn loop_into(net: &Network, trail: &Trail, arc: Arc, walk: &mut [EdgeName]) 
     count + 1
 }
 
-/// Writes down the walk from the top of a climb to its start, and counts its edges.
+/// Writes down the walk from the top of a climb to its start. The answer is how many edges the walk has.
 pub fn path_into(
     net: &Network,
     trail: &Trail,
@@ -48,7 +48,7 @@ pub fn path_into(
     count
 }
 
-// Writes down the edges of a climb, from its start to its top, and counts them.
+// Writes down the edges of a climb, from its start to its top. The answer is how many edges it has.
 fn climb_into(
     net: &Network,
     trail: &Trail,

@@ -109,7 +109,7 @@ holds_by net word from to (bounds.Closed value) times set is = is.greatest
 holds_by net word from to bounds.Unbounded times set is = ray_is_unbounded net from to times set is.ray
 holds_by net word from to (bounds.Within limit attained) times set is = (is.root, is.attained)
 
--- and with what stands behind it
+-- a greatest bound with what stands behind it is right
 explained_holds : (net : Net) (word : FindingWord) (from to : EventId) (found : BoundFound) → IsExplained net word (record { from = from; to = to }) found
     → IsGreatestBound net from to (bound_of found)
 explained_holds net word from to (Closed value chain) is = is.1
@@ -128,7 +128,7 @@ greatest_of net word row (bounds.Closed value) times set is = (is.found, is.grea
 greatest_of net word row bounds.Unbounded times set is = is.found
 greatest_of net word row (bounds.Within limit attained) times set is = (is.root, is.told)
 
--- and a least one, by the reversed pair
+-- a least bound of a row, by the reversed pair
 pub least_of : (net : Net) (word : FindingWord) (row : Row) (most value : Bound) (times : List ℤ) (set : List Bool)
     → IsGreatestBy net word (record { from = row.to; to = row.from }) value times set → IsBoundOf net word row (least_by most) (reversed value)
 least_of net word row most (bounds.Closed value) times set is =
@@ -137,7 +137,7 @@ least_of net word row most bounds.Unbounded times set is = is.found
 least_of net word row most (bounds.Within limit attained) times set is =
     (subst (IsRootBound net row.to row.from) (no_neg limit) is.root, attained_turned word attained is.told)
 
--- with what stands behind them
+-- both with what stands behind them
 pub greatest_found : (net : Net) (word : FindingWord) (row : Row) (found : BoundFound) → IsExplained net word (record { from = row.from; to = row.to }) found
     → IsBoundFound net word row greatest found
 greatest_found net word row (Closed value chain) is = record { holds = explained_holds net word row.from row.to (Closed value chain) is; right = (is.0, is.1); behind = is.2 }

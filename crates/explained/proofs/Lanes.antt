@@ -22,7 +22,7 @@ use Rattle.explained.specs.Step.Telling.{IsRowTold}
 use Rattle.explained.proofs.Behind.{greatest_found, least_found}
 use Rattle.explained.proofs.Standing.{is_finding}
 
--- what is told by both bounds of a row is told of what is found of it
+-- the bounds apart that are right by both bounds of a row are right in what is found of it
 pub told_of : (apart : Net) (row : Row) (kind : RowKind) (found : RowFound) → IsRowTold apart row kind (record { least = bound_of found.least; greatest = bound_of found.greatest }) found.apart
     → IsApartOf apart row kind found
 told_of apart row kinds.Ask found told = told
@@ -39,7 +39,7 @@ both_found net word row most fewest allows first second = record {
   least = second.right;
 }
 
--- what is found of a row, by the searches of its pair and of the reversed one, and by what is told of it in the network apart
+-- what is found of a row: by the searches of its pair and of the reversed one, and by its bounds in the network apart
 pub row_found : (drawn : Drawn) (net apart : Net) (word later : FindingWord) (row : Row) (turned : Pair) (most searched fewest : BoundFound) (both : BothBounds) (told : Option BothBounds)
     → net ≡ drawn.net → apart ≡ net_apart drawn → later ≡ word → turned ≡ record { from = row.to; to = row.from } → fewest ≡ reversed_found searched
     → both ≡ record { least = bound_of fewest; greatest = bound_of most } → FindingAllows drawn.net word
@@ -68,7 +68,7 @@ rows_more drawn word [] (f ∷ found) row last before is = absurd before
 rows_more drawn word (r ∷ rows) [] row last before is = absurd before
 rows_more drawn word (r ∷ rows) (f ∷ found) row last before is = (before.0, rows_more drawn word rows found row last before.1 is)
 
--- the first rows are found, so many of them
+-- the first `count` rows are found
 pub record AreSoFar (drawn : Drawn) (word : FindingWord) (count : ℕ) (rows : List Row) (found : List RowFound) (desk : Desk) : Type 0 where
   pub ready : IsReady drawn desk
   pub same : desk.searches.word ≡ word

@@ -51,7 +51,7 @@ reversed_settled (bounds.Within limit attained) settled = settled
 
 -- ---- apart
 
--- a constraint more doesn't make the choices fewer
+-- one more constraint does not make the choices fewer
 times_some : (factor apart choices : ℕ) → 1 ≤ factor → apart ≤ choices → apart ≤ factor * choices
 times_some factor apart choices some fewer = omega (arith, mul-le-mul_left choices some, mul_comm choices factor, fewer)
 
@@ -68,7 +68,7 @@ fewer_choices events (c ∷ cs) (drew ∷ os) all =
     fewer_next (keeps_order drew) c (constraints_apart cs os) cs (choices_of-some c.kind (length c.causes) (All-head (IsConstraint events) c cs all).count)
     (fewer_choices events cs os (All-tail (IsConstraint events) c cs all))
 
--- a budget that suffices in the drawn network suffices in the one apart
+-- a budget that suffices in the drawn network suffices in the network apart
 pub suffices_apart : (drawn : Drawn) (budget : ℕ) (apart : Option Apart) → IsNet drawn.net → net_in drawn.net apart ≡ net_apart drawn
     → IfSome apart (λ (a : Apart). a.searches.budget ≡ budget) → cause_choices drawn.net.constraints ≤ budget → SufficesApart apart
 suffices_apart drawn budget None is_net is same enough = tt
@@ -81,7 +81,7 @@ suffices_apart drawn budget (Some a) is_net is same enough =
 
 -- ---- rows
 
--- where the budget of a desk is enough, so far it is and the rows are settled
+-- if the budget of a desk was enough at first, it still is, and the rows so far are settled
 abbrev pub SoFar : Net → Desk → Desk → List RowFound → Type 0
 SoFar net first desk found = IsEnoughFor net first → IsEnoughFor net desk × All IsRowSettled found
 

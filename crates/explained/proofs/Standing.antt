@@ -1,4 +1,4 @@
--- Findings, of a network and of the one apart from the order of lanes.
+-- Findings, of a drawn network and of its network apart from the order of lanes.
 use Rattle.std.proofs.Common.{◌≡◌, ℕ, ℤ, Bool, List, length, Option, Some, None, refl, sym, subst, ◌∙◌}
 use Rattle.std.specs.Prelude.{IfSome, IsSomeAnd}
 use Rattle.event_graph.specs.Network.{Net}
@@ -49,13 +49,13 @@ is_finding net findings.Unsettled allows = allows
 
 -- ---- apart
 
--- what the drawn network allows its network apart allows
+-- what the finding of the drawn network allows, it allows in the network apart
 pub allows_apart : (drawn : Drawn) (word : FindingWord) → FindingAllows drawn.net word → FindingAllows (net_apart drawn) word
 allows_apart drawn findings.Consistent allows = (allows.0, apart_is_wider drawn allows.0 allows.1)
 allows_apart drawn findings.Inconsistent allows = allows
 allows_apart drawn findings.Unsettled allows = (allows.0, always_is_wider drawn allows.0 allows.1)
 
--- what holds of the network apart holds of the one in its memory
+-- what holds of the network apart holds of the network in its memory
 pub in_memory : (P : Net → Type 0) (drawn : Drawn) (apart : Option Apart) → net_in drawn.net apart ≡ net_apart drawn → P (net_apart drawn) → IfSome apart (λ (a : Apart). P a.net)
 in_memory P drawn None is p = tt
 in_memory P drawn (Some a) is p = subst P (sym is) p

@@ -16,7 +16,7 @@ use Rattle.explained.specs.Apart.{ApartIsWider, constraints_apart, keeps_order, 
 
 -- ---- one constraint more
 
--- some constraints apart, and one more, unless it keeps an order
+-- some constraints, and one more unless it keeps an order
 abbrev one_more : Bool → List Constraint → Constraint → List Constraint
 one_more keeps apart c = if keeps then apart else apart ++ c ∷ []
 
@@ -52,18 +52,18 @@ same_front (suc k) [] (o ∷ os) same = absurd (omega (arith, same))
 same_front (suc k) (c ∷ cs) [] same = absurd (omega (arith, same))
 same_front (suc k) (c ∷ cs) (o ∷ os) same = ap suc (same_front k cs os (omega (arith, same)))
 
--- of the first constraints, and one more
+-- the network apart of the first constraints, and of one more
 apart_next : (cs : List Constraint) (os : List (List Origin)) (k : ℕ) (c : Constraint) (drew : List Origin) → length os ≡ length cs → slice_get cs k ≡ Some c
     → slice_get os k ≡ Some drew
     → constraints_apart (take (k + 1) cs) (take (k + 1) os) ≡ one_more (keeps_order drew) (constraints_apart (take k cs) (take k os)) c
 apart_next cs os k c drew same at_c at_drew =
     rw (take_next cs k c at_c, take_next os k drew at_drew) (apart-append (take k cs) (take k os) c drew (same_front k cs os same))
 
--- the network of the first constraints apart
+-- the network apart of the first constraints
 abbrev pub front_apart : Net → List (List Origin) → ℕ → Net
 front_apart net origins k = record { events = net.events; constraints = constraints_apart (take k net.constraints) (take k origins) }
 
--- whether the constraint of a number keeps an order
+-- whether the constraint with this number keeps an order
 abbrev pub IsOrder : List (List Origin) → ℕ → Bool → Type 0
 IsOrder origins number keeps = IsSomeAnd (slice_get origins number) (λ drew. keeps ≡ keeps_order drew)
 
@@ -84,14 +84,14 @@ order_next net origins k keeps (Some c) (Some drew) at_o at_p same within order 
   apart_next net.constraints origins k c drew same at_o at_p ∙ ap (λ b. one_more b (constraints_apart (take k net.constraints) (take k origins)) c) (sym order),
 )
 
--- one that keeps an order is left out
+-- a constraint that keeps an order is left out
 pub left_out : (net : Net) (origins : List (List Origin)) (k : ℕ) → OriginsFit net origins → k < length net.constraints → IsOrder origins k true
     → front_apart net origins (k + 1) ≡ front_apart net origins k
 left_out net origins k fit within order =
     let n = order_next net origins k true (slice_get net.constraints k) (slice_get origins k) refl refl (fit_length net origins fit) within order in
     ap (λ (cs : List Constraint). record { events = net.events; constraints = cs }) n.2
 
--- there is room for each of them
+-- there is room for each constraint that is copied
 fewer_apart : (cs : List Constraint) (origins : List (List Origin)) → length (constraints_apart cs origins) ≤ length cs
 fewer_apart [] origins = omega arith
 fewer_apart (c ∷ cs) [] = omega arith
@@ -104,7 +104,7 @@ fewer_apart (c ∷ cs) (drew ∷ origins) = by_order (keeps_order drew) (constra
 pub front_fits : (net : Net) (origins : List (List Origin)) (k : ℕ) → k ≤ length net.constraints → length (front_apart net origins k).constraints ≤ k
 front_fits net origins k within = omega (arith, fewer_apart (take k net.constraints) (take k origins), length-take-le k net.constraints within)
 
--- another is copied
+-- a constraint that keeps no order is copied
 pub copied_next : (net : Net) (origins : List (List Origin)) (k : ℕ) (old new : Net) → OriginsFit net origins → k < length net.constraints → IsOrder origins k false
     → old ≡ front_apart net origins k → IsSomeAnd (slice_get net.constraints k) (λ c. new ≡ with_constraint old c) → new ≡ front_apart net origins (k + 1)
 copied_next net origins k old new fit within order before copied =
@@ -120,9 +120,9 @@ front_whole net origins k fit all =
     let same : length origins ≡ length net.constraints = fit_length net origins fit in
     rw (take_all k net.constraints all, take_all k origins (omega (arith, same, all))) refl
 
--- ---- where none keeps an order
+-- ---- where no constraint keeps an order
 
--- the first constraints are all apart
+-- no constraint so far keeps an order: the first constraints all stay
 abbrev pub IsWhole : Net → List (List Origin) → ℕ → Type 0
 IsWhole net origins k = constraints_apart (take k net.constraints) (take k origins) ≡ take k net.constraints
 
@@ -142,14 +142,14 @@ whole_apart drawn k fit all whole =
 
 -- ---- what the network apart asks
 
--- the constraints from one on, apart: where one is found behind the first, it is among those
+-- where a constraint of the network apart is found behind the first, it is among the constraints behind the first
 found_in : (first : Constraint) (cs apart : List Constraint) (c : Constraint) → ((j : ℕ) → slice_get apart j ≡ Some c → (i : ℕ) × (slice_get cs i ≡ Some c)) → (keeps : Bool) (k : ℕ)
     → slice_get (if keeps then apart else first ∷ apart) k ≡ Some c → (i : ℕ) × (slice_get (first ∷ cs) i ≡ Some c)
 found_in first cs apart c later true k here = let w = later k here in (suc w.0, w.1)
 found_in first cs apart c later false zero here = (zero, here)
 found_in first cs apart c later false (suc k) here = let w = later k here in (suc w.0, w.1)
 
--- each of its constraints is one of the drawn network's
+-- each constraint of the network apart is a constraint of the drawn network
 pub apart_within : (cs : List Constraint) (os : List (List Origin)) (k : ℕ) (c : Constraint) → slice_get (constraints_apart cs os) k ≡ Some c → (j : ℕ) × (slice_get cs j ≡ Some c)
 apart_within [] os k c at = absurd (cc at)
 apart_within (first ∷ cs) [] k c at = (k, at)
@@ -161,7 +161,7 @@ each_found P cs each = λ k d within.
     let f = found_below cs k within in
     subst P (sym (get_or_from_slice_get cs k f.0 d f.1)) (each k f.0 f.1)
 
--- so times that satisfy the drawn network satisfy it
+-- so times that satisfy the drawn network satisfy the network apart
 pub apart_is_wider : ApartIsWider
 apart_is_wider drawn times sat = record {
   count = sat.count;
@@ -169,7 +169,7 @@ apart_is_wider drawn times sat = record {
       (λ k c at. let w = apart_within drawn.net.constraints drawn.origins k c at in All-found (Holds times) drawn.net.constraints w.0 c w.1 sat.each);
 }
 
--- an always-edge, by what it asks of the constraint of its number
+-- an always-edge, by the constraint of its number alone
 always_at : (net other : Net) (name : EdgeName) (e : Edge) (number : ℕ) → slice_get other.constraints number ≡ slice_get net.constraints name.constraint → IsAlways net name
     → edge net name ≡ Some e → (IsAlways other (record name { constraint = number })) × (edge other (record name { constraint = number }) ≡ Some e)
 always_at net other name e number same always is = (rw same always, rw same is)
@@ -183,7 +183,7 @@ always_apart drawn times meets name e (Some c) at always is =
     let there = always_at (net_apart drawn) drawn.net name e w.0 (w.1 ∙ sym at) always is in
     meets.each (record name { constraint = w.0 }) e there.0 there.1
 
--- and times that meet the always-edges of the drawn network meet those of the network apart
+-- times that meet the always-edges of the drawn network meet the always-edges of the network apart
 pub always_is_wider : (drawn : Drawn) (times : List ℤ) → MeetsAlways times drawn.net → MeetsAlways times (net_apart drawn)
 always_is_wider drawn times meets = record {
   count = meets.count;

@@ -35,7 +35,7 @@ use Rattle.explained.specs.declared.row.RowFound.{RowFound}
 
 -- ---- the finding
 
--- some times satisfy; or the constraints of a set contradict each other by themselves; or the always-edges allow times
+-- some times satisfy; or the constraints of a set contradict each other by themselves; or, unsettled, some times meet all always-edges
 abbrev pub IsFindingFound : Net → Finding → Type 0
 IsFindingFound net Consistent = (times : List ℤ) × Satisfies times net
 IsFindingFound net (Inconsistent set) = (length set.items ≡ length net.constraints) × IsContradiction net set.items
@@ -48,8 +48,8 @@ word_of Unsettled = findings.Unsettled
 
 -- ---- a bound
 
--- the edges behind a greatest separation: at satisfying times that attain it they lead from the one event to the other, and each is met with
--- equality
+-- the edges behind a greatest separation: some satisfying times attain it, and meet each edge with equality; the edges lead from the one event to the
+-- other
 pub record Explains (net : Net) (from to : EventId) (value : ℤ) (names : List EdgeName) : Type 0 where
   pub times : List ℤ
   pub satisfied : Satisfies times net
@@ -60,7 +60,7 @@ pub record Explains (net : Net) (from to : EventId) (value : ℤ) (names : List 
 abbrev pub CanRise : Net → EventId → EventId → List Bool → Type 0
 CanRise net from to set = (times : List ℤ) × Satisfies times net × IsRay net from to times set
 
--- What stands behind a bound. For a least separation it is that of the reversed pair, whose greatest one is minus it.
+-- what stands behind a bound; behind a least separation stands what is behind the greatest one of the reversed pair, which is minus it
 abbrev pub IsBehind : Net → Row → NextBound → BoundFound → Type 0
 IsBehind net row greatest (Closed value chain) = Explains net row.from row.to value chain.items
 IsBehind net row (least_by most) (Closed value chain) = Explains net row.to row.from (neg_ℤ value) chain.items
@@ -68,18 +68,18 @@ IsBehind net row greatest (Unbounded set) = CanRise net row.from row.to set.item
 IsBehind net row (least_by most) (Unbounded set) = CanRise net row.to row.from set.items
 IsBehind net row side (Within limit attained) = Unit {0}
 
--- the bound in a table of verdicts and slacks
+-- the bound alone, without what makes it so
 abbrev pub bound_of : BoundFound → Bound
 bound_of (Closed value chain) = bounds.Closed value
 bound_of (Unbounded set) = bounds.Unbounded
 bound_of (Within limit attained) = bounds.Within limit attained
 
--- a bound of a row on one side is right: the separation is the greatest or the least one, or there is none, or what was attained is so
+-- a bound of a row on one side is right
 abbrev pub BoundHolds : Net → Row → NextBound → Bound → Type 0
 BoundHolds net row greatest value = IsGreatestBound net row.from row.to value
 BoundHolds net row (least_by most) value = IsLeastBound net row.from row.to value
 
--- a bound that is right, also behind a finding, and what stands behind it
+-- a bound is right, by itself and behind a finding, and what stands behind it is so too
 pub record IsBoundFound (net : Net) (word : FindingWord) (row : Row) (side : NextBound) (found : BoundFound) : Type 0 where
   pub holds : BoundHolds net row side (bound_of found)
   pub right : IsBoundOf net word row side (bound_of found)
@@ -93,7 +93,7 @@ verdict_in range found = verdict_of range (bound_of found.least) (bound_of found
 abbrev pub verdict_by : Ends → BothBounds → Verdict
 verdict_by range both = verdict_of range both.least both.greatest
 
--- both bounds of a row in a network, right, also behind a right finding
+-- both bounds of a row are right in a network, by themselves and behind a right finding
 pub record AreRowBounds (net : Net) (row : Row) (both : BothBounds) : Type 0 where
   pub holds : IsGreatestBound net row.from row.to both.greatest × IsLeastBound net row.from row.to both.least
   pub word : FindingWord
@@ -101,8 +101,8 @@ pub record AreRowBounds (net : Net) (row : Row) (both : BothBounds) : Type 0 whe
   pub greatest : IsBoundOf net word row greatest both.greatest
   pub least : IsBoundOf net word row (least_by both.greatest) both.least
 
--- A requirement that passes also passes by bounds that are right in the network apart from the order of lanes; or such bounds are told, by
--- which it doesn't.
+-- a requirement that passes in the drawn network passes in the network apart too, by bounds that are right there; or the bounds that are given are
+-- right there, and it does not pass by them
 abbrev pub RestsOnOrder : Net → Row → Ends → Option BothBounds → Type 0
 RestsOnOrder apart row range None = (both : BothBounds) × AreRowBounds apart row both × (verdict_by range both ≡ verdicts.Pass)
 RestsOnOrder apart row range (Some both) = AreRowBounds apart row both × (verdict_by range both ≡ verdicts.Pass → ⊥)
@@ -113,12 +113,13 @@ IsApart apart row range verdicts.FailHigh told = told ≡ None
 IsApart apart row range verdicts.FailLow told = told ≡ None
 IsApart apart row range verdicts.Undecided told = told ≡ None
 
--- of a row that only asks nothing is told
+-- a row that only asks has no bounds apart
 abbrev pub IsApartOf : Net → Row → RowKind → RowFound → Type 0
 IsApartOf apart row kinds.Ask found = found.apart ≡ None
 IsApartOf apart row (kinds.Req range) found = IsApart apart row range (verdict_in range found) found.apart
 
--- what is found of a row: both of its bounds with what stands behind them, and whether its verdict rests on the order of a lane
+-- what is found of a row: both of its bounds, with what stands behind them, and, if its verdict rests on the order of a lane, both bounds without
+-- this order
 pub record IsRowFound (drawn : Drawn) (word : FindingWord) (row : Row) (found : RowFound) : Type 0 where
   pub greatest : IsBoundFound drawn.net word row greatest found.greatest
   pub least : IsBoundFound drawn.net word row (least_by (bound_of found.greatest)) found.least
@@ -131,7 +132,7 @@ AreRowsFound drawn word [] (found ∷ others) = ⊥
 AreRowsFound drawn word (row ∷ rows) [] = ⊥
 AreRowsFound drawn word (row ∷ rows) (found ∷ others) = IsRowFound drawn word row found × AreRowsFound drawn word rows others
 
--- what is found of each row; behind an inconsistent finding nothing
+-- what is found of each row; behind an inconsistent finding there is nothing
 abbrev pub AreFound : Drawn → Finding → List RowFound → Type 0
 AreFound drawn Consistent found = AreRowsFound drawn findings.Consistent drawn.rows found
 AreFound drawn (Inconsistent set) found = found ≡ []
@@ -139,18 +140,18 @@ AreFound drawn Unsettled found = AreRowsFound drawn findings.Unsettled drawn.row
 
 -- ---- what a budget is enough for
 
--- the search for a bound ended: the bound is closed, or there is none
+-- the search for a bound has ended by itself: the bound is closed or unbounded
 abbrev pub IsBoundSettled : Bound → Type 0
 IsBoundSettled (bounds.Closed value) = Unit {0}
 IsBoundSettled bounds.Unbounded = Unit {0}
 IsBoundSettled (bounds.Within limit attained) = ⊥
 
--- so with both bounds that are told apart from the order of lanes
+-- both bounds without the order of lanes are settled, if there are such
 abbrev pub AreSettledApart : Option BothBounds → Type 0
 AreSettledApart None = Unit {0}
 AreSettledApart (Some both) = IsBoundSettled both.greatest × IsBoundSettled both.least
 
--- all bounds that are told of a row are settled
+-- all bounds that are found of a row are settled
 pub record IsRowSettled (found : RowFound) : Type 0 where
   pub greatest : IsBoundSettled (bound_of found.greatest)
   pub least : IsBoundSettled (bound_of found.least)
@@ -160,9 +161,9 @@ pub record IsRowSettled (found : RowFound) : Type 0 where
 abbrev pub SettlesWithin : Net → ℕ → Finding → List RowFound → Type 0
 SettlesWithin net budget finding found = cause_choices net.constraints ≤ budget → (finding ≡ Unsettled → ⊥) × All IsRowSettled found
 
--- ---- which follows
+-- ---- what follows
 
--- each number of the bounds is below 2^61 in absolute value
+-- each number of the bounds, if there are any, is below 2^61 in absolute value
 abbrev pub HasTimesApart : Option BothBounds → Type 0
 HasTimesApart None = Unit {0}
 HasTimesApart (Some both) = HasTimes both.least × HasTimes both.greatest

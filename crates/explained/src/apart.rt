@@ -1,4 +1,4 @@
-//! The network of a drawn one apart from the order of lanes.
+//! The network apart from the order of lanes.
 
 ghost use Rattle.std.specs.Prelude.{◌≡◌, ◌<◌, false, IfOk, IsSomeAnd, MatchOption, length, slice_get};
 ghost use Rattle.explained.specs.Apart.{keeps_order, net_apart};
@@ -9,8 +9,8 @@ use itv_base::NoMemory;
 use origin::Origin;
 use std::alloc::Global;
 
-/// The network of a drawn one without the constraints that keep the order of a lane, or `None` where no constraint keeps one, so that
-/// it is the network itself.
+/// The network of a drawn network without the constraints that keep the order of a lane. The answer is `None` where no constraint keeps one; the
+/// network apart is the network itself then.
 pub fn network_apart(alloc: Global, drawn: &DrawnNetwork) -> Result<Option<Network>, NoMemory>
     ensures apart { IfOk result (λ apart. MatchOption apart (net_apart drawn.now ≡ drawn.now.net) (λ net. net ≡ net_apart drawn.now)) }
 {
@@ -42,7 +42,7 @@ fn keeps_some_order(drawn: &DrawnNetwork) -> bool
     false
 }
 
-// Whether the constraint of a number keeps the order of a lane.
+// Whether the constraint with this number keeps the order of a lane.
 fn keeps_order_at(origins: &Origins, number: u32) -> bool
     requires there { number < length origins.now }
     ensures order { IsSomeAnd (slice_get origins.now number) (λ drew. result ≡ keeps_order drew) }

@@ -6,20 +6,21 @@ ghost use Rattle.event_graph.specs.Times.{IsTime};
 use itv_base::EdgeName;
 use requirements::Bound;
 
-/// The greatest or the least separation of a row, in picoseconds, with what makes it so. For a least separation this is what makes
-/// minus it the greatest one of the reversed pair.
+/// The greatest or the least separation of a row, in picoseconds, with what makes it so. A least separation is minus the greatest separation of the
+/// reversed pair, and what makes it so is said of this pair.
 #[derive(Debug, Drop)]
 pub enum BoundFound {
-    /// The separation, and edges that lead from one event of the pair to the other, whose weights sum to it.
+    /// The separation, and a chain of edges from one event of the pair to the other, whose weights sum to it.
     Closed {
         value: i64,
         chain: Vec<EdgeName>,
     },
-    /// There is none. For each event whether it is of a set that can be put off by any number.
+    /// The separation has no bound. `set` has for each event whether it is in a set of events that can be put off by any number.
     Unbounded {
         set: Vec<bool>,
     },
-    /// The budget ended the search: the limit that the always-edges set, if any, and the best separation that was attained, if any.
+    /// The budget ended the search. `limit` is the limit by the always-edges, if there is one. `attained` is the best separation that was attained,
+    /// if there is one.
     Within {
         limit: Option<i64>,
         attained: Option<i64>,
@@ -45,7 +46,7 @@ impl BoundFound {
         }
     }
 
-    /// The bound of the reversed pair on the other side, with the same behind it. Its numbers are below 2^61 in absolute value.
+    /// The bound on the other side of the reversed pair, with the same chain or set. Its numbers are below 2^61 in absolute value.
     pub fn reversed(self) -> BoundFound
         requires times { HasTimes (bound_of self) }
         ensures found { result ≡ reversed_found self }

@@ -19,9 +19,8 @@ use event_graph::Network;
 use requirements::{BothBounds, Bound};
 use slack_report::FindingWord;
 
-/// The greatest bound of a pair of events of a network that is not inconsistent: behind a consistent finding what a search tells, and
-/// behind an unsettled one the root bound. It leaves the times that attain a closed bound, and the events to raise where the pair is
-/// unbounded.
+/// The greatest bound of a pair of events of a network that is not inconsistent. Behind a consistent finding it comes from a search. Behind an
+/// unsettled one it is the root bound. The search leaves times that attain a closed bound, and the events to raise where the pair is unbounded.
 pub fn greatest_bound(net: &Network, pair: Pair, searches: &mut Searches) -> Bound
     requires settled { IsNotInconsistent net.now searches.old }
     requires from { pair.from.0 < net.now.events }
@@ -42,7 +41,7 @@ pub fn greatest_bound(net: &Network, pair: Pair, searches: &mut Searches) -> Bou
     }
 }
 
-// What a search tells of the greatest separation of a pair.
+// The greatest bound of a pair by a search.
 fn searched_bound(net: &Network, pair: Pair, budget: u64, work: &mut Work) -> Bound
     requires made { IsMadeFor net.now work.old }
     requires known { IsSomeAnd work.old.known (λ times. Satisfies times net.now) }
@@ -59,7 +58,7 @@ fn searched_bound(net: &Network, pair: Pair, budget: u64, work: &mut Work) -> Bo
     bound_by(answer)
 }
 
-// The bound that an answer tells.
+// The greatest bound that an answer gives.
 fn bound_by(answer: GreatestAnswer) -> Bound
     ensures { result ≡ bound_by answer }
 {
@@ -73,7 +72,7 @@ fn bound_by(answer: GreatestAnswer) -> Bound
     }
 }
 
-// The root bound of a pair, of which nothing was searched.
+// The root bound of a pair, without a search.
 fn limit_of(net: &Network, pair: Pair, work: &mut Work) -> Bound
     requires made { IsMadeFor net.now work.old }
     requires always { (times : List ℤ) × MeetsAlways times net.now }

@@ -15,15 +15,15 @@ use itv_base::NoMemory;
 use slack_report::FindingWord;
 use std::alloc::Global;
 
-/// The network of a drawn one apart from the order of lanes, and the memory for its searches.
+/// The network apart from the order of lanes, and the memory for its searches.
 #[derive(Debug, Drop)]
 pub struct Apart {
     pub net: Network,
     pub searches: Searches,
 }
 
-/// The memory for the searches of a drawn network and for its chains, and that for its network apart, where some constraint keeps an
-/// order.
+/// The memory for the searches of a drawn network and for its chains. Where some constraint keeps the order of a lane, it has the network apart and
+/// the memory for its searches too.
 #[derive(Debug, Drop)]
 pub struct Desk {
     pub searches: Searches,
@@ -32,7 +32,7 @@ pub struct Desk {
 }
 
 impl Desk {
-    /// Takes all memory that the searches ever need, or answers `NoMemory`. Nothing is settled yet.
+    /// Takes all memory that the searches ever need, or answers `NoMemory`. Nothing is searched yet.
     pub fn new(alloc: Global, drawn: &DrawnNetwork, budget: u64) -> Result<Desk, NoMemory>
         requires budget { 1 ≤ budget }
         ensures made { IfOk result (λ desk. IsFor drawn.now.net desk.searches) }
@@ -49,7 +49,7 @@ impl Desk {
     }
 }
 
-// The network apart with its memory, or `None` where it is the network itself.
+// The network apart with its memory, or `None` where it is the drawn network itself.
 fn new_apart(alloc: Global, drawn: &DrawnNetwork, budget: u64) -> Result<Option<Apart>, NoMemory>
     requires budget { 1 ≤ budget }
     ensures apart { IfOk result (λ apart. net_in drawn.now.net apart ≡ net_apart drawn.now) }
@@ -65,8 +65,8 @@ fn new_apart(alloc: Global, drawn: &DrawnNetwork, budget: u64) -> Result<Option<
     }
 }
 
-/// Finds in the network apart what the finding of the drawn network leaves open: behind a consistent one whether the budget suffices to
-/// find times there too. Behind an unsettled one it is left unsettled.
+/// Makes the finding of the network apart. Behind a consistent finding of the drawn network it looks for times there too, within the budget. Behind
+/// an unsettled one the network apart stays unsettled.
 pub fn settle_apart(word: FindingWord, apart: &mut Option<Apart>)
     requires fresh { IfSome apart.old (λ a. IsFresh a.net a.searches) }
     requires allows { IfSome apart.old (λ a. FindingAllows a.net word) }

@@ -1,4 +1,4 @@
-//! Finding what stands behind a greatest bound.
+//! Greatest bounds, with what makes them so.
 
 ghost use Rattle.std.specs.Prelude.{◌≡◌, ◌<◌, IfOk};
 ghost use Rattle.requirements.specs.Bounds.{HasTimes};

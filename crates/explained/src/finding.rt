@@ -3,9 +3,9 @@
 /// Whether some times satisfy a network.
 #[derive(Debug, Drop)]
 pub enum Finding {
-    /// Some times do.
+    /// Some times satisfy it.
     Consistent,
-    /// None do. For each constraint whether it is of a set of constraints that contradict each other by themselves.
+    /// No times satisfy it. The list has for each constraint whether it is in a set of constraints that contradict each other by themselves.
     Inconsistent(Vec<bool>),
     /// The budget ended the search.
     Unsettled,

@@ -1,4 +1,4 @@
-//! A law of the network apart from the order of lanes. The function does nothing; what it ensures holds of all drawn networks.
+//! A law of the network apart from the order of lanes. The function has no code; its contract holds for all drawn networks.
 
 ghost use Rattle.explained.specs.Apart.{ApartIsWider};
 

@@ -1,6 +1,6 @@
-//! What is found of a drawn network and of its rows, with what makes it so: behind a number a chain of edges, behind a
-//! contradiction the constraints that contradict each other, and where a verdict rests on the order of a lane, the bounds without it.
-//! The contract of the crate: all that `explain` finds is right.
+//! What is found of a drawn network and of its rows, with what makes it so: for a number a chain of edges, for a contradiction the constraints that
+//! contradict each other, and for a verdict that rests on the order of a lane, the bounds without this order. The contract of the crate: all that
+//! `explain` finds is right.
 #![tactic(auto)]
 
 mod apart;

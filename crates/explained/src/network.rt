@@ -1,4 +1,4 @@
-//! Finding all that is asked of a network.
+//! What is found of a network and of all its rows.
 
 ghost use Rattle.std.specs.Prelude.{◌≡◌, ◌≤◌, All, IfOk, length};
 ghost use Rattle.itv_base.specs.declared.limits.TheConstants.{MAX_BUDGET};
@@ -18,15 +18,16 @@ use itv_base::NoMemory;
 use slack_report::FindingWord;
 use std::alloc::Global;
 
-/// What is found of a network and of each of its rows, in order; behind an inconsistent finding nothing is found of the rows.
+/// What is found of a network and of each of its rows, in order. Behind an inconsistent finding `rows` is empty.
 #[derive(Debug, Drop)]
 pub struct NetworkFound {
     pub finding: Finding,
     pub rows: Vec<RowFound>,
 }
 
-/// Finds whether some times satisfy a drawn network, and both bounds of each of its rows, with what makes it so. Each search closes
-/// at most `budget` cases; with a budget that is no less than the number of cause choices nothing is left open. A row that passes is searched once more without the order of lanes, where some constraint keeps one.
+/// Finds whether some times satisfy a drawn network, and both bounds of each of its rows, with what makes it so. Each search closes at most `budget`
+/// cases. If the budget is no less than the number of cause choices, neither the finding nor a bound is left open. Where some constraint keeps the
+/// order of a lane, a row that passes is searched once more without such orders.
 ///
 /// `NoMemory` may come in place of an answer.
 pub fn explain(alloc: Global, drawn: &DrawnNetwork, budget: u64) -> Result<NetworkFound, NoMemory>
@@ -44,7 +45,7 @@ pub fn explain(alloc: Global, drawn: &DrawnNetwork, budget: u64) -> Result<Netwo
     found_behind(alloc, drawn, &marking, &mut desk)
 }
 
-// What is found behind the search for times, with the constraints that it marked.
+// What is found after the search for times. `marking` has the constraints that contradict each other, if this search found so.
 fn found_behind(
     alloc: Global,
     drawn: &DrawnNetwork,

@@ -4,7 +4,7 @@ ghost use Rattle.std.specs.Prelude.{◌≡◌};
 
 use itv_base::EventId;
 
-/// Two events, whose separation is the time of `to` less that of `from`.
+/// Two events. Their separation is the time of `to` less the time of `from`.
 #[derive(Clone, Copy, Debug)]
 pub struct Pair {
     pub from: EventId,
@@ -12,7 +12,7 @@ pub struct Pair {
 }
 
 impl Pair {
-    /// The pair the other way round: minus its greatest separation is the least one of this pair.
+    /// The pair the other way round. Minus its greatest separation is the least separation of this pair.
     pub fn reversed(self) -> Pair
         ensures pair { result ≡ record { from = self.to; to = self.from } }
     {

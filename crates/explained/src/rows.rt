@@ -1,4 +1,4 @@
-//! Finding all that is asked of the rows.
+//! What is found of all rows.
 
 ghost use Rattle.std.specs.Prelude.{◌≡◌, ◌<◌, ◌≤◌, All, IfOk, length, slice_get, IsSomeAnd};
 ghost use Rattle.drawn.specs.Drawn.{IsRowOf};
@@ -33,7 +33,7 @@ pub fn explain_rows(
     explain_each(alloc, drawn, desk)
 }
 
-// Finds both bounds of each row, behind the finding of the network apart.
+// Finds both bounds of each row. The finding of the network apart has been made.
 fn explain_each(
     alloc: Global,
     drawn: &DrawnNetwork,
@@ -53,7 +53,7 @@ fn explain_each(
     Ok(found)
 }
 
-// Finds both bounds of a row, and whether its verdict rests on the order of a lane.
+// Finds both bounds of a row. If its verdict rests on the order of a lane, finds the bounds without this order too.
 fn explain_row(
     alloc: Global,
     drawn: &DrawnNetwork,

@@ -26,7 +26,7 @@ pub struct Searches {
 }
 
 impl Searches {
-    /// Takes all the memory that the searches ever need, or answers `NoMemory`. Nothing is settled yet.
+    /// Takes all memory that the searches ever need, or answers `NoMemory`. Nothing is searched yet.
     pub fn new(alloc: Global, net: &Network, budget: u64) -> Result<Searches, NoMemory>
         requires budget { 1 ≤ budget }
         ensures fresh { IfOk result (IsFresh net.now) }
@@ -40,7 +40,7 @@ impl Searches {
     }
 }
 
-/// Looks for times that satisfy a network. Where there are none the constraints that are marked contradict each other.
+/// Looks for times that satisfy a network. If there are none, the constraints that `marking` has contradict each other.
 pub fn find_marking(net: &Network, searches: &mut Searches, marking: &mut Marking)
     requires made { IsFor net.now searches.old }
     requires count { length marking.old ≡ length net.now.constraints }
@@ -80,7 +80,7 @@ fn word_of(found: SearchFinding) -> FindingWord
     }
 }
 
-/// Finds the greatest separation of a pair of events, from known times on. It leaves times that attain what it tells, and the events
+/// Finds the greatest separation of a pair of events; some satisfying times are known. The search leaves times that attain its answer, and the events
 /// to raise where the pair is unbounded.
 pub fn greatest_of(net: &Network, pair: Pair, budget: u64, work: &mut Work) -> GreatestAnswer
     requires made { IsMadeFor net.now work.old }

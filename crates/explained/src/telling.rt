@@ -15,8 +15,8 @@ use drawn::Row;
 use itv_base::{Range, RowKind};
 use requirements::{BothBounds, Verdict, judge};
 
-/// What is told of a row apart from the order of lanes, by both of its bounds: of a requirement that passes with that order alone both
-/// bounds without it, and of any other row nothing.
+/// Both bounds of a row in the network apart, or `None`. A requirement has them if it passes in the drawn network, and does not pass by them. `both`
+/// are its bounds in the drawn network.
 pub fn told_apart(row: &Row, both: &BothBounds, apart: &mut Option<Apart>) -> Option<BothBounds>
     requires settled { IfSome apart.old (λ a. IsNotInconsistent a.net a.searches) }
     requires row { IfSome apart.old (λ a. IsRowOf a.net row.now) }
@@ -35,7 +35,7 @@ pub fn told_apart(row: &Row, both: &BothBounds, apart: &mut Option<Apart>) -> Op
                 return None;
             }
             match apart {
-                // The network apart is the network itself, by whose bounds the row passes.
+                // The network apart is the network itself, where the row passes.
                 None => None,
                 Some(apart) => broken_apart(row, range, apart),
             }
@@ -43,7 +43,7 @@ pub fn told_apart(row: &Row, both: &BothBounds, apart: &mut Option<Apart>) -> Op
     }
 }
 
-// Both bounds of a row in the network apart, where it doesn't pass by them.
+// Both bounds of a row in the network apart, if the row does not pass by them.
 fn broken_apart(row: &Row, range: Range, apart: &mut Apart) -> Option<BothBounds>
     requires settled { IsNotInconsistent apart.old.net apart.old.searches }
     requires row { IsRowOf apart.old.net row.now }

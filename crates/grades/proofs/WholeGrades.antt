@@ -39,7 +39,7 @@ with_grade_whole g done grade all =
 pub walk_whole : (told : List Grade) → IfOk (walk with_grade 0 [] told) AreRanges
 walk_whole told = IfOk-walk (All HasRanges) with_grade with_grade_whole 0 [] told (All-nil HasRanges)
 
--- the grades of a walk that came to its end give ranges
+-- if the walk comes to its end, its grades give ranges
 pub ranged_whole : (told grades : List Grade) → walk with_grade 0 [] told ≡ Ok grades → AreRanges grades
 ranged_whole told grades is = IfOk-at_ok AreRanges is (walk_whole told)
 
@@ -56,9 +56,9 @@ of_whole tree =
 pub grades_whole : (tree : Data) (grades : List Grade) → grades_of tree ≡ Ok grades → AreRanges grades
 grades_whole tree grades is = IfOk-at_ok AreRanges is (of_whole tree)
 
--- ---- what is looked up
+-- ---- looking up
 
--- what holds of all elements holds of the first one that passes a test
+-- what holds for all elements holds for the first one that passes a test
 find_holds : {X : Type 0} (P : X → Type 0) (test : X → Bool) (xs : List X) → All P xs → IfSome (find test xs) P
 find_holds P test [] all = tt
 find_holds P test (x ∷ xs) all =

@@ -21,7 +21,7 @@ use Rattle.grades.specs.declared.grade.Parameter.{Parameter}
 abbrev pub range_in : Grade → List ℕ → Option Ends
 range_in grade name = option_map (λ (p : Parameter). p.range) (find (λ (p : Parameter). bytes_eq name p.name) grade.parameters)
 
--- the grade of a name
+-- the first grade with a name
 abbrev pub grade_called : List Grade → List ℕ → Option Grade
 grade_called grades name = find (λ (g : Grade). bytes_eq name g.name) grades
 
@@ -32,31 +32,30 @@ HasRanges grade = All (λ (p : Parameter). IsRange p.range) grade.parameters
 abbrev pub AreRanges : List Grade → Type 0
 AreRanges grades = All HasRanges grades
 
--- ---- their form
+-- ---- the form of grades
 
 abbrev pub ends_told : Data → Option Ends
 ends_told d = option_and_then ends_by (list_of d)
 
--- a parameter has the form of a name, and a list of two ends
+-- a parameter: a member whose key has the form of a name, and whose value is a list of two ends
 abbrev pub parameter_of : List ℕ × Data → Option Parameter
 parameter_of at = if is_name at.0 then option_map (λ ends. record { name = at.0; range = ends }) (ends_told at.1) else None
 
--- a grade has the form of a name, and an object of which each member is a parameter
+-- a grade: a member whose key has the form of a name, and whose value is an object of parameters
 abbrev pub grade_of : List ℕ × Data → Option Grade
 grade_of at = if is_name at.0 then option_map (λ parameters. record { name = at.0; parameters = parameters }) (option_and_then (all_of parameter_of) (members_of at.1)) else None
 
 abbrev pub grades_in : Data → Option (List Grade)
 grades_in d = option_and_then (all_of grade_of) (members_of d)
 
--- the grades as they are written; without the key there are none
+-- the grades as they are written; there are none without the key
 abbrev pub grades_told : Option Data → Option (List Grade)
 grades_told None = Some []
 grades_told (Some d) = grades_in d
 
--- ---- their ranges
+-- ---- the ranges of grades
 
--- The ends of parameter p of grade g, if they are a range. One that is beyond the limit is told before ends that are the wrong way
--- round.
+-- the ends of parameter p of grade g, if they are a range; an end past the limit is reported before ends that are the wrong way round
 abbrev pub range_for : ℕ → ℕ → Ends → Result Ends GradesFault
 range_for g p ends = if has_wide ends then Err (Limits g p TooWide) else (if is_reversed ends then Err (Limits g p EmptyRange) else Ok ends)
 
@@ -70,7 +69,7 @@ with_grade g done grade = do
   parameters ← walk (with_parameter g) 0 [] grade.parameters
   Ok (done ++ record { name = grade.name; parameters = parameters } ∷ [])
 
--- the grades of a tree, of which the form is looked at before any range
+-- the grades of a tree, or their first fault; the form of all grades is checked before any range
 unfoldable pub grades_of : Data → Result (List Grade) GradesFault
 grades_of tree = do
   told ← ok_or (grades_told (get (codes "itv_grades") tree)) Grades

@@ -1,4 +1,4 @@
-//! Why the grades of a tree are none.
+//! Faults of the grades of a tree.
 
 ghost use Rattle.std.specs.Prelude.{◌≡◌};
 ghost use Rattle.grades.specs.declared.fault.GradesFault.TheVariants.{NoMemory};
@@ -7,14 +7,14 @@ use itv_base::{NoMemory as OutOfMemory, RangeFault};
 use std::alloc::AllocFailed;
 use thiserror::Error;
 
-/// The first fault of the grades of a tree: their form as a whole is looked at before any range. Grades and parameters are numbered
-/// from 0 in the byte order of their names.
+/// The first fault of the grades of a tree. The form of all grades is checked before any range. Grades and parameters are numbered from 0 in the byte
+/// order of their names.
 #[derive(Clone, Copy, Debug, PartialEq, Eq, Error)]
 pub enum GradesFault {
-    /// `itv_grades` is there and no object from names to objects from names to lists of two, each a whole number or null.
+    /// `itv_grades` is there and has not the form: an object from names to objects from names to lists of two ends, each a whole number or null.
     #[error("`itv_grades` has not the form of speed grades")]
     Grades,
-    /// The two ends of a parameter are no range: the number of the grade, that of the parameter in it, and why.
+    /// The two ends of a parameter are no range: the number of the grade, the number of the parameter in it, and the reason.
     #[error("parameter {1} of grade {0} is no range")]
     Limits(u64, u64, RangeFault),
     #[error("out of memory")]

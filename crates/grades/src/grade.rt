@@ -2,7 +2,7 @@
 
 use itv_base::{Listing, Range, Text};
 
-/// A parameter of a grade: its name, 1 to 16 letters of ASCII, digits or `_`, and the range that stands for it, in picoseconds.
+/// A parameter of a grade: its name, which is 1 to 16 ASCII letters, digits or `_`, and its range in picoseconds.
 #[derive(Debug, Drop)]
 pub struct Parameter {
     pub name: Text,
@@ -12,7 +12,7 @@ pub struct Parameter {
 /// Parameters in the byte order of their names.
 pub type Parameters = Listing<Parameter>;
 
-/// A speed grade: its name, of the form of a parameter's, and its parameters.
+/// A speed grade: its name, which has the form of a parameter's name, and its parameters.
 #[derive(Debug, Drop)]
 pub struct Grade {
     pub name: Text,

@@ -1,4 +1,4 @@
-//! Grades as they are written, their ends not yet known to be ranges.
+//! Grades as they are written. Their ends are not yet known to be ranges.
 
 ghost use Rattle.std.specs.Prelude.{◌≡◌, IfOk, codes, option_and_then};
 ghost use Rattle.serde_json.specs.Find.{get};
@@ -49,7 +49,7 @@ impl Model for LooseGrade {
 /// Grades in the byte order of their names.
 pub type LooseGrades = Listing<LooseGrade>;
 
-/// The grades of a tree, none where it has no such key; nothing where another thing stands there.
+/// The grades of a tree. There are none without the key `itv_grades`. The answer is `None` where its value has not the form of grades.
 pub fn told_grades(alloc: Global, tree: &Value) -> Result<Option<LooseGrades>, NoMemory>
     ensures { IfOk result (λ grades. grades ≡ grades_told (get (codes "itv_grades") (view tree.now))) }
 {
@@ -59,7 +59,7 @@ pub fn told_grades(alloc: Global, tree: &Value) -> Result<Option<LooseGrades>, N
     }
 }
 
-// The grades of an object.
+// The grades of a value, or `None` where it has not the form of grades.
 fn listed_grades(alloc: Global, value: &Value) -> Result<Option<LooseGrades>, NoMemory>
     ensures { IfOk result (λ grades. grades ≡ grades_in (view value.now)) }
 {
@@ -69,7 +69,7 @@ fn listed_grades(alloc: Global, value: &Value) -> Result<Option<LooseGrades>, No
     }
 }
 
-// The grades of the members of an object, if each of them is one.
+// The grades of the members of an object, or `None` where a member is no grade.
 fn grades_in(alloc: Global, map: &Map<String, Value>) -> Result<Option<LooseGrades>, NoMemory>
     ensures { IfOk result (λ grades. grades ≡ all_of grade_of (members (members_view map.now.entries))) }
 {
@@ -83,7 +83,7 @@ fn grades_in(alloc: Global, map: &Map<String, Value>) -> Result<Option<LooseGrad
     Ok(Some(grades))
 }
 
-// The grade of a member, if it is one.
+// The grade of a member, or `None` where it is no grade.
 fn told_grade(alloc: Global, name: &str, value: &Value) -> Result<Option<LooseGrade>, NoMemory>
     ensures { IfOk result (λ grade. grade ≡ grade_of (name.now, view value.now)) }
 {
@@ -102,7 +102,7 @@ fn told_grade(alloc: Global, name: &str, value: &Value) -> Result<Option<LooseGr
     }))
 }
 
-// The parameters of the members of an object, if each of them is one.
+// The parameters of the members of an object, or `None` where a member is no parameter.
 fn parameters_in(
     alloc: Global,
     map: &Map<String, Value>,
@@ -119,7 +119,7 @@ fn parameters_in(
     Ok(Some(parameters))
 }
 
-// The parameter of a member, if it is one.
+// The parameter of a member, or `None` where it is no parameter.
 fn told_parameter(
     alloc: Global,
     name: &str,

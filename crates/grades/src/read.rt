@@ -18,11 +18,10 @@ use std::alloc::Global;
 
 /// The grades of a tree, or their first fault in the order of [`GradesFault`].
 ///
-/// `itv_grades` is an object from the names of grades to objects from the names of parameters to lists of two ends in picoseconds,
-/// each a whole number or null, which is open. A name is 1 to 16 letters of ASCII, digits or `_`. A tree without the key has no
-/// grades.
+/// `itv_grades` is an object from the names of grades to objects from the names of parameters to lists of two ends in picoseconds, each a whole
+/// number or null. Null is an open end. A name is 1 to 16 ASCII letters, digits or `_`. A tree without the key has no grades.
 ///
-/// `NoMemory` may come in place of the grades or a fault. After any fault nothing was made.
+/// `NoMemory` may come in place of the grades or a fault. After any fault there are no grades.
 pub fn read_grades(alloc: Global, tree: &Value) -> Result<Grades, GradesFault>
     ensures answer { AgreesWith is_memory (λ grades. grades) result (grades_of (view tree.now)) }
 {
@@ -33,7 +32,7 @@ pub fn read_grades(alloc: Global, tree: &Value) -> Result<Grades, GradesFault>
     Ok(Grades { grades })
 }
 
-// The grades with their ranges, or the first one that is none.
+// The grades with their ranges, or the first fault of a range.
 fn ranged_grades(alloc: Global, told: &[LooseGrade]) -> Result<Listing<Grade>, GradesFault>
     ensures { AgreesWith is_memory (λ grades. grades) result (walk with_grade 0 [] told.now) }
 {
@@ -44,7 +43,7 @@ fn ranged_grades(alloc: Global, told: &[LooseGrade]) -> Result<Listing<Grade>, G
     Ok(grades)
 }
 
-// Puts grade g at the end.
+// Puts grade g at the end, or returns the first fault of its ranges.
 fn push_grade(
     alloc: Global,
     grades: &mut Listing<Grade>,
@@ -61,7 +60,7 @@ fn push_grade(
     Ok(())
 }
 
-// The parameters of grade g with their ranges, or the first one that is none.
+// The parameters of grade g with their ranges, or the first fault of a range.
 fn ranged_parameters(
     alloc: Global,
     g: u64,
@@ -76,7 +75,7 @@ fn ranged_parameters(
     Ok(parameters)
 }
 
-// Puts parameter p of grade g at the end.
+// Puts parameter p of grade g at the end, or returns the fault of its range.
 fn push_parameter(
     alloc: Global,
     parameters: &mut Parameters,
@@ -94,7 +93,7 @@ fn push_parameter(
     Ok(())
 }
 
-// The range of the two ends of parameter p of grade g.
+// The range of the two ends of parameter p of grade g, or its fault.
 fn range_for(g: u64, p: u64, ends: EndPair) -> Result<Range, GradesFault>
     ensures { AgreesWith is_memory (λ range. range) result (range_for g p (ends_view ends)) }
 {

@@ -39,7 +39,7 @@ impl Grades {
         }
     }
 
-    /// The grade of a name, if there is one.
+    /// The grade with a name, if there is one.
     pub fn grade(&self, name: &str) -> Option<&Grade>
         ensures grade { option_map (λ g. g.now) result ≡ grade_called self.now name.now }
         ensures ranges { AreRanges self.now }
@@ -47,8 +47,8 @@ impl Grades {
         grade_in(self.grades.as_slice(), name)
     }
 
-    /// The range that a grade gives for the name of a parameter, in picoseconds: nothing where there is no such grade, or where it
-    /// has no such parameter.
+    /// The range, in picoseconds, that a grade gives for the name of a parameter. The answer is `None` where there is no such grade, or where it has
+    /// no such parameter.
     pub fn range_of(&self, grade: &str, name: &str) -> Option<Range>
         ensures range { result ≡ option_and_then (λ g. range_in g name.now) (grade_called self.now grade.now) }
     {
@@ -58,7 +58,7 @@ impl Grades {
         }
     }
 
-    /// Whether there is a grade of a name.
+    /// Whether there is a grade with a name.
     pub fn has(&self, grade: &str) -> bool
         ensures has { result ≡ is_some (grade_called self.now grade.now) }
     {
@@ -67,7 +67,7 @@ impl Grades {
 }
 
 impl Grade {
-    /// The range that the grade gives for the name of a parameter, in picoseconds, if it has one of this name.
+    /// The range, in picoseconds, that the grade gives for the name of a parameter, if it has this parameter.
     pub fn range_of(&self, name: &str) -> Option<Range>
         ensures range { result ≡ range_in self.now name.now }
     {
@@ -78,7 +78,7 @@ impl Grade {
     }
 }
 
-// The first grade of a name.
+// The first grade with a name.
 fn grade_in<'a>(grades: &'a [Grade], name: &str) -> Option<&'a Grade>
     ensures { option_map (λ g. g.now) result ≡ grade_called grades.now name.now }
 {
@@ -90,7 +90,7 @@ fn grade_in<'a>(grades: &'a [Grade], name: &str) -> Option<&'a Grade>
     None
 }
 
-// The first parameter of a name.
+// The first parameter with a name.
 fn parameter_in<'a>(parameters: &'a [Parameter], name: &str) -> Option<&'a Parameter>
     ensures { option_map (λ p. p.now) result
         ≡ find (λ (p : ParameterSeen). bytes_eq name.now p.name) parameters.now }

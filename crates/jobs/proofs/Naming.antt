@@ -1,4 +1,4 @@
--- The lines of events from one on.
+-- The lines of events from a number on.
 use Rattle.std.proofs.Common.{◌≡◌, ◌+◌, ◌<◌, ℕ, ◌∷◌, ◌++◌, length, get_or, drop, refl, ap, add-one, drop-cons, unwrap_or}
 use Rattle.std.proofs.lemmas.Option.{slice_get-get_or}
 use Rattle.slack_report.specs.Entry.{event}

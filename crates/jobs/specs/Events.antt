@@ -8,7 +8,7 @@ use Rattle.slack_report.specs.Entry.{Entry, event, events}
 abbrev pub event_of : ℕ → EventId
 event_of number = record { 0 = number }
 
--- the lines of events with these names, the first of which has a number
+-- the lines of events with these names; the first event has this number
 abbrev pub events_from : ℕ → List Name → List Entry
 events_from number [] = []
 events_from number (name ∷ names) = event number name ∷ events_from (number + 1) names

@@ -4,8 +4,8 @@ use Rattle.itv_base.specs.Outside.{CutShort, SinkView, grown}
 use Rattle.jobs.specs.declared.unanswered.Unanswered.{Unanswered}
 use Rattle.jobs.specs.declared.unanswered.Unanswered.TheVariants.{PutFailed, NoMemory}
 
--- A job wrote a text that it may give with its answer. Where a put failed it wrote a front of a text that it may begin, and where
--- memory was not found nothing.
+-- a job that has an answer wrote a text that goes with it; where a put failed, the job wrote a front of a text that it may begin; where memory was
+-- not found, it wrote nothing
 abbrev pub JobWrote : {A : Type 0} → (A → List ℕ → Type 0) → (List ℕ → Type 0) → SinkView → SinkView → Result A Unanswered → Type 0
 JobWrote Answers Begins old new (Ok answer) = (text : List ℕ) × Answers answer text × (new ≡ grown old text)
 JobWrote Answers Begins old new (Err PutFailed) = (text : List ℕ) × Begins text × CutShort old new text

@@ -1,14 +1,14 @@
-//! How a job ends that wrote all that it had to say.
+//! How a job ends when all of its text is written.
 
 ghost use Rattle.std.specs.Prelude.{◌≡◌};
 ghost use Rattle.jobs.specs.Ending.{answer_of};
 
 use slack_report::EndWord;
 
-/// How a job ends that wrote all that it had to say.
+/// How a job ends when all of its text is written.
 #[derive(Clone, Copy, Debug, PartialEq, Eq)]
 pub enum Answer {
-    /// Nothing that was written is bad news.
+    /// No line of the text is bad news.
     AllPass,
     /// Some requirement is broken.
     SomeFail,
@@ -16,13 +16,13 @@ pub enum Answer {
     Inconsistent,
     /// The budget ended a search, and no requirement is known to be broken.
     Undecided,
-    /// The report that was to be checked is refused.
+    /// The job refuses the report that it was to check.
     CheckRefused,
-    /// The job refuses the design for what its search found, and the line that says so was written.
+    /// The job refuses the design for what its search found, and has written the line that says so.
     DesignRefused,
 }
 
-/// What a job answers by the word at the end of its text.
+/// What a job answers, by the word at the end of its text.
 pub fn answer_of(word: EndWord) -> Answer
     ensures { result ≡ answer_of word }
 {

@@ -12,7 +12,7 @@ use itv_base::{EventId, PutFailed, Sink};
 use line_words::LineBuffer;
 use slack_report::{Item, write_item};
 
-/// How many events there are, and a line with the name of each, in order. Each line is put by one put where it fits the buffer.
+/// Writes how many events there are, and a line with the name of each, in order. A line that fits the buffer is one put.
 pub fn put_events<K: Sink>(
     drawn: &DrawnNetwork,
     buffer: &mut LineBuffer,
@@ -25,7 +25,7 @@ pub fn put_events<K: Sink>(
     put_names(drawn, buffer, sink)
 }
 
-// The lines of all events.
+// Writes the lines of all events.
 fn put_names<K: Sink>(
     drawn: &DrawnNetwork,
     buffer: &mut LineBuffer,
@@ -39,7 +39,7 @@ fn put_names<K: Sink>(
     Ok(())
 }
 
-// The line of an event.
+// Writes the line of an event.
 fn put_event<K: Sink>(
     drawn: &DrawnNetwork,
     number: u32,

@@ -1,6 +1,5 @@
-//! What all jobs share: how a job ended, which the program tells by its exit status, or why it has no answer; and the lines of
-//! events and rows.
-//! The contract that each job states of what it answers and writes is the word `JobWrote`.
+//! What all jobs share: how a job ends, or why it has no answer, which the program reports by its exit status; and the lines of events and rows. Each
+//! job states by `JobWrote` what it answers and writes.
 #![tactic(auto)]
 
 mod answer;

@@ -1,4 +1,4 @@
-//! The rows of a drawn network, and the line of one.
+//! The rows of a drawn network, and the line of a row.
 
 ghost use Rattle.std.specs.Prelude.{◌≡◌, ◌<◌, Some, length, slice_get};
 ghost use Rattle.itv_base.specs.Outside.{Puts};
@@ -11,7 +11,7 @@ use itv_base::{PutFailed, Sink};
 use line_words::LineBuffer;
 use slack_report::{Item, write_item};
 
-/// The row of a number, counted from 0, which is there.
+/// The row with this number, counted from 0. There has to be such a row.
 pub fn row_at(drawn: &DrawnNetwork, number: u32) -> &Row
     requires number { number < length drawn.now.rows }
     ensures row { slice_get drawn.now.rows number ≡ Some result.now }
@@ -20,7 +20,7 @@ pub fn row_at(drawn: &DrawnNetwork, number: u32) -> &Row
     drawn.rows().get(u64::from(number))
 }
 
-/// The line that says what is asked of a row, by its number. It is put by one put where it fits the buffer.
+/// Writes the first line of a row: its number, its kind and its events. A line that fits the buffer is one put.
 pub fn put_row<K: Sink>(
     number: u32,
     row: &Row,

@@ -21,7 +21,7 @@ use Rattle.matrix_report.specs.Matrix.{AnswersMatrix, AreRootEntries, BeginsMatr
 use Rattle.jobs.specs.Events.{event_of}
 use Rattle.matrix_report.specs.Step.{entries_of, numbers_of}
 
--- what stands at a place behind a function, past the end too
+-- an element of a mapped list, past the end too
 at_map : {A B : Type 0} (f : A → B) (xs : List A) (i : ℕ) (d : A) → get_or (map f xs) i (f d) ≡ f (get_or xs i d)
 at_map f [] i d = refl
 at_map f (x ∷ xs) zero d = refl
@@ -30,7 +30,7 @@ at_map f (x ∷ xs) (suc i) d = at_map f xs i d
 entry_is : (rows : List (List ℤ)) (from to : EventId) → entry_in (entries_of rows) from to ≡ entry_of rows from to
 entry_is rows from to = ap (λ row. get_or row to.0 None) (at_map numbers_of rows from.0 []) ∙ at_map number_of (get_or rows from.0 []) to.0 ABSENT
 
--- the entries of the root bounds of all pairs are such
+-- a stored matrix of root bounds has the entries of the root bounds of all pairs
 pub root_entries : (net : Net) (rows : List (List ℤ)) → AreRootBounds net rows → AreRootEntries net (entries_of rows)
 root_entries net rows are = record {
   count = length-map rows numbers_of ∙ are.square.count;
@@ -38,7 +38,7 @@ root_entries net rows are = record {
   bounds = λ from to from_below to_below. subst (IsRootBound net from to) (sym (entry_is rows from to)) (are.bounds from to from_below to_below);
 }
 
--- the texts of things from one on
+-- the texts of things from a place on
 texts_more : {A B : Type 0} (text : B → List ℕ) (f : A → B) (xs : List A) (i : ℕ) (d : A) → i < length xs
     → flat_map text (map f (drop i xs)) ≡ text (f (get_or xs i d)) ++ flat_map text (map f (drop (i + 1) xs))
 texts_more text f xs i d h = rw (add-one, drop-cons xs i d h) refl
@@ -49,7 +49,7 @@ pub entries_more : (rows : List (List ℤ)) (from to : ℕ) → to < length (get
     ≡ spaced (end_text (entry_of rows (event_of from) (event_of to))) ++ flat_map spaced (map end_text (numbers_of (drop (to + 1) (get_or rows from []))))
 entries_more rows from to h = rw (add-one, drop-cons (get_or rows from []) to ABSENT h) refl
 
--- the lines of rows from one on
+-- the lines of rows from a place on
 pub rows_more : (rows : List (List ℤ)) (from : ℕ) → from < length rows
     → flat_map row_text (entries_of (drop from rows)) ≡ row_text (numbers_of (get_or rows from [])) ++ flat_map row_text (entries_of (drop (from + 1) rows))
 rows_more rows from h = texts_more row_text numbers_of rows from [] h

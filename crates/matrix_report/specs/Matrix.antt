@@ -15,20 +15,19 @@ use Rattle.drawn.specs.Drawn.{Drawn}
 use Rattle.slack_report.specs.Text.{entry_text, report_text}
 use Rattle.jobs.specs.Events.{event_lines}
 
--- a number of picoseconds for each pair of events, or none, row by row: the row of an event has the entries from it
+-- a number of picoseconds, or none, for each pair of events, row by row; the row of an event has the entries from this event
 abbrev pub Entries : Type 0
 Entries = List (List (Option ℤ))
 
--- the entries from an event, by its number
+-- the entries from an event, by the number of the event
 abbrev pub row_of : Entries → ℕ → List (Option ℤ)
 row_of rows from = slice_index_or rows from []
 
--- the entry from an event to an event
+-- the entry from one event to another
 abbrev pub entry_in : Entries → EventId → EventId → Option ℤ
 entry_in rows from to = slice_index_or (row_of rows from.0) to.0 None
 
--- there is an entry for each pair of events: the greatest separation among all times that meet the always-edges, or none where it
--- is unbounded
+-- the entry of each pair of events is the greatest separation of the pair by the times that meet the always-edges, or none where it is unbounded
 pub record AreRootEntries (net : Net) (rows : Entries) : Type 0 where
   pub count : length rows ≡ net.events
   pub counts : (from : ℕ) → from < net.events → length (row_of rows from) ≡ net.events
@@ -36,7 +35,7 @@ pub record AreRootEntries (net : Net) (rows : Entries) : Type 0 where
 
 -- ---- texts
 
--- the line of a row: its entries, with a star for none
+-- the line of a row: its entries, with a star where there is no number
 abbrev pub row_text : List (Option ℤ) → List ℕ
 row_text entries = ended (line_of (codes "row" ∷ map end_text entries))
 
@@ -46,7 +45,7 @@ matrix_text names rows = ended (codes "itv matrix 1") ++ (report_text (event_lin
 
 -- ---- what the job answers
 
--- some times meet the always-edges, and the text is that of the root bounds of all pairs
+-- some times meet the always-edges, and the text is the matrix of the root bounds of all pairs
 pub record IsMatrixText (drawn : Drawn) (text : List ℕ) : Type 0 where
   pub times : (times : List ℤ) × MeetsAlways times drawn.net
   pub rows : Entries
@@ -62,6 +61,6 @@ AnswersMatrix drawn Undecided text = ⊥
 AnswersMatrix drawn CheckRefused text = ⊥
 AnswersMatrix drawn DesignRefused text = ⊥
 
--- what it may have begun to write
+-- what the job may have begun to write
 abbrev pub BeginsMatrix : Drawn → List ℕ → Type 0
 BeginsMatrix drawn text = (answer : Answer) × AnswersMatrix drawn answer text

@@ -1,4 +1,4 @@
--- A matrix as it is stored, seen as the entries of pairs.
+-- A stored matrix as the entries of pairs.
 use Rattle.std.specs.Prelude.{ℤ, List, map, Option}
 use Rattle.minplus.specs.Matrix.{number_of}
 use Rattle.matrix_report.specs.Matrix.{Entries}

@@ -1,4 +1,4 @@
-//! The rows of a matrix, each gathered before it is put.
+//! The rows of a matrix. Each line is gathered before it is put.
 
 ghost use Rattle.std.specs.Prelude.{◌≡◌, ◌<◌, [], length, map, slice_index_or};
 ghost use Rattle.std.specs.List.{flat_map};
@@ -15,7 +15,7 @@ use itv_base::{EventId, PutFailed, Sink, end_text};
 use line_words::{LineBuffer, put_spaced};
 use minplus::Matrix;
 
-// A space and the entry of a pair of events.
+// Puts a space and the entry of a pair of events.
 fn put_entry<K: Sink>(matrix: &Matrix, from: u32, to: u32, sink: &mut K) -> Result<(), PutFailed>
     requires from { from < length matrix.now }
     requires to { to < length (slice_index_or matrix.now from []) }
@@ -27,7 +27,7 @@ fn put_entry<K: Sink>(matrix: &Matrix, from: u32, to: u32, sink: &mut K) -> Resu
     put_spaced(end_text(entry, &mut digits).as_bytes(), sink)
 }
 
-// A space and an entry, for each event.
+// Puts a space and an entry for each event.
 fn put_entries<K: Sink>(
     matrix: &Matrix,
     from: u32,
@@ -45,7 +45,7 @@ fn put_entries<K: Sink>(
     Ok(())
 }
 
-// The line of a row, piece by piece.
+// Puts the line of a row, piece by piece.
 fn put_row<K: Sink>(matrix: &Matrix, from: u32, count: u32, sink: &mut K) -> Result<(), PutFailed>
     requires from { from < length matrix.now }
     requires count { count ≡ length (slice_index_or matrix.now from []) }
@@ -57,7 +57,7 @@ fn put_row<K: Sink>(matrix: &Matrix, from: u32, count: u32, sink: &mut K) -> Res
     sink.put(b"\n")
 }
 
-// The line of a row, by one put where it fits the buffer.
+// Writes the line of a row. It is one put if the line fits the buffer, and else a put for each piece.
 fn write_row<K: Sink>(
     matrix: &Matrix,
     from: u32,
@@ -77,7 +77,7 @@ fn write_row<K: Sink>(
     }
 }
 
-/// The rows of a matrix over a number of events.
+/// Writes the rows of a matrix over `count` events.
 pub fn put_rows<K: Sink>(
     matrix: &Matrix,
     count: u32,

@@ -46,14 +46,14 @@ pub fn write_matrix<K: Sink>(
     }
 }
 
-// The line that no times meet the always-edges.
+// Writes the line that no times meet the always-edges.
 fn put_inconsistent<K: Sink>(buffer: &mut LineBuffer, sink: &mut K) -> Result<(), PutFailed>
     ensures { Puts (K.told sink.old) (K.told sink.new) (entry_text (finding Inconsistent)) result }
 {
     write_item(&Item::Finding(FindingWord::Inconsistent), buffer, sink)
 }
 
-// The heading, the events and the rows.
+// Writes the heading, the events and the rows.
 fn put_matrix<K: Sink>(
     drawn: &DrawnNetwork,
     matrix: &Matrix,

@@ -1,4 +1,4 @@
--- The two lines before a proof are read from their texts, and from no other; no line of a proof is one of them.
+-- The two lines before a proof are read from their texts, and from no other. No line of a proof has one of these texts.
 use Rattle.std.proofs.Common.{◌≡◌, ℕ, ℤ, List, [], ◌∷◌, ◌++◌, codes, Option, Some, None, option_map, refl, sym, ap, subst, ◌∙◌}
 use Rattle.std.specs.Prelude.{◌↔◌}
 use Rattle.std.specs.Str.{IsUtf8}
@@ -34,7 +34,7 @@ view_plain Negated = (refl, (refl, tt))
 claim_plain : (claim : ℤ) → ArePlain (claim_words claim)
 claim_plain claim = (refl, (signed_plain claim, tt))
 
--- a line without its end
+-- lines that are equal with their ends are equal without them
 unended : (text line : List ℕ) → ended text ≡ ended line → text ≡ line
 unended text line e = append_cancel_right text line (10 ∷ []) e
 
@@ -53,7 +53,7 @@ view_again Negated = refl
 view_exact : (text : List ℕ) (view : View) → (view_in text ≡ Some view) ↔ (ended text ≡ view_text view)
 view_exact text view = (view_takes text view, λ h. ap view_in (unended text (line_of (view_words view)) h) ∙ view_again view)
 
--- what was read of the text that the bytes are
+-- what was read of the text of some bytes
 pub view_read : (bytes text : List ℕ) (r : Option View) → text ≡ bytes → r ≡ view_in text → (view : View) → (r ≡ Some view) ↔ (ended bytes ≡ view_text view)
 view_read bytes text r same e view = subst (λ (o : Option View). (o ≡ Some view) ↔ (ended bytes ≡ view_text view)) (sym (e ∙ ap view_in same)) (view_exact bytes view)
 
@@ -85,7 +85,7 @@ pub no_claim : (text : List ℕ) → (IsUtf8 text → ⊥) → (claim : Claim) �
 no_claim text other claim =
     (λ e. absurd (none-some claim e), λ h. absurd (other (rw (unended text (line_of (claim_words claim.value)) h.0) (line_is_text (claim_words claim.value) (claim_plain claim.value)))))
 
--- ---- no line of a proof
+-- ---- no line before a proof is a line of a proof
 
 view_is_no_line : (view : View) → clause_in (view_words view) ≡ None
 unfolding clause_in

@@ -160,7 +160,7 @@ steps_plain : (steps : List WalkStep) → ArePlain (step_words steps)
 steps_plain [] = tt
 steps_plain (step ∷ steps) = (basis_plain step.basis, (number_plain step.through, steps_plain steps))
 
--- the words of a line of a proof: one and others, all of them plain
+-- the words of a line of a proof: a first word and others, all of them plain
 record LineWords (line : ClauseLine) : Type 0 where
   first : Word
   others : List Word
@@ -185,7 +185,7 @@ line_words_are line =
     let w = clause_plain line in
     rw w.parts (split-join w.first w.others w.plain)
 
--- a text that is read is a line's, and a line's text is read
+-- a text that is read is the text of a line, and the text of a line is read
 pub text_is_line : (text : List ℕ) (line : ClauseLine) → line_in text ≡ Some line → SpellsClause text line
 text_is_line text line e =
     let t = clause_takes (split_words text) line e in record {
@@ -197,7 +197,7 @@ pub line_is_read : (text : List ℕ) (line : ClauseLine) → SpellsClause text l
 line_is_read text line spells =
     ap clause_in (ap split_words spells.text_is ∙ line_words_are line) ∙ clause_again line spells.form
 
--- what is no text is no line of a proof
+-- bytes that are no text are no line of a proof
 pub no_clause_line : (text : List ℕ) → (IsUtf8 text → ⊥) → line_in text ≡ None
 no_clause_line text other = none_at (line_in text) refl
   where
@@ -225,6 +225,6 @@ tells_bad text (Ok stored) read bad line spells = cc
 tells_bad text (Err BadLine) read bad line spells = none-some line (sym read ∙ line_is_read text line spells)
 tells_bad text (Err NoMemory) read bad line spells = absurd (cc)
 
--- a text is that of one line at most
+-- at most one line has a given text
 pub lines_differ : (text : List ℕ) (a b : ClauseLine) → SpellsClause text a → SpellsClause text b → a ≡ b
 lines_differ text a b p q = same_Some a b (sym (line_is_read text a p) ∙ line_is_read text b q)

@@ -61,14 +61,14 @@ loop_parts event steps = record { join = many_words (codes "loop") (number_text 
     many_words : (a b : Word) (words : List Word) → (a ++ spaced b) ++ (flat_map spaced words ++ 10 ∷ []) ≡ ended (line_of (a ∷ b ∷ words))
     many_words a b words = rw (join_spaced a (b ∷ words)) (simp append_assoc)
 
--- the claim that was passed on is the one that was given
+-- the pieces of a proof; the claim that is passed on is the given one
 pub proof_parts : (view : View) (claim passed : ℤ) (lines : List ClauseLine) → passed ≡ claim
     → Parts (view_text view) (claim_text passed) (flat_map clause_line_text lines) (proof_text view claim lines)
 proof_parts view claim passed lines e = record { join = ap (λ z. view_text view ++ (claim_text z ++ flat_map clause_line_text lines)) e }
 
 -- ---- lists by their first element and the others
 
--- the steps from one on
+-- the steps from a place on
 pub steps_more : (steps : List WalkStep) (i : ℕ) (d : WalkStep) → i < length steps
     → flat_map spaced (step_words (drop i steps))
     ≡ (spaced (basis_word (get_or steps i d).basis) ++ spaced (number_text (get_or steps i d).through)) ++ flat_map spaced (step_words (drop (i + 1) steps))
@@ -76,7 +76,7 @@ steps_more steps i d h =
     let s = get_or steps i d in
     rw (add-one, drop-cons steps i d h) (sym (append_assoc (spaced (basis_word s.basis)) (spaced (number_text s.through)) (flat_map spaced (step_words (drop (suc i) steps)))))
 
--- the lines from one on
+-- the lines from a place on
 pub lines_more : (lines : List StoredLine) (i : ℕ) (d line : StoredLine) → i < length lines → line ≡ get_or lines i d
     → flat_map clause_line_text (lines_of (drop i lines)) ≡ clause_line_text (stored_line_of line) ++ flat_map clause_line_text (lines_of (drop (i + 1) lines))
 lines_more lines i d line h e = rw (e, add-one, drop-cons lines i d h) refl

@@ -1,4 +1,4 @@
--- Reading steps one after another: those read so far, in front of what is read of the words left.
+-- Reading steps one after another: the steps so far, before what is read of the words that are left.
 use Rattle.std.proofs.Common.{◌≡◌, ℕ, ◌+◌, ◌-◌, ◌<◌, ◌≤◌, List, [], ◌∷◌, ◌++◌, length, take, drop, Bor, Option, Some, None, refl, sym, ap, ◌∙◌, append_assoc, append-nil, arith, length-drop}
 use Rattle.std.proofs.lemmas.List.{drop-drop, drop-map, length-map, take_all}
 use Rattle.line_words.specs.Words.{◌>>=◌, Word}
@@ -22,24 +22,24 @@ front_step : (list : List WalkStep) (step : WalkStep) (o : Option (List WalkStep
 front_step list step None = refl
 front_step list step (Some steps) = ap (λ ys. Some ys) (sym (append_assoc list (step ∷ []) steps))
 
--- the first step is read before those behind it
+-- the first step is read before the steps behind it
 steps_first : (words : List Word) (step : WalkStep) → first_step words ≡ Some step → steps_in words ≡ (steps_in (drop 2 words) >>= λ steps. Some (step ∷ steps))
 steps_first [] step e = absurd (cc)
 steps_first (word ∷ []) step e = absurd (cc)
 steps_first (word ∷ way ∷ words) step e = rw e refl
 
--- no step stands first, though there are words
+-- the first two words are no step, though there are words
 no_step : (words : List Word) → (words ≡ [] → ⊥) → first_step words ≡ None → steps_in words ≡ None
 no_step [] some e = absurd (some refl)
 no_step (word ∷ []) some e = refl
 no_step (word ∷ way ∷ words) some e = rw e refl
 
--- the words from one on, as a range has them
+-- the words from a place on, as a range of the slice
 range_is : (words : List (Bor (List ℕ))) (i : ℕ) → texts (take (length words - i) (drop i words)) ≡ texts (drop i words)
 range_is words i = let count : length (drop i words) ≤ length words - i = omega (arith, length-drop i words) in ap texts (take_all (length words - i) (drop i words) count)
 
 module _ (words : List (Bor (List ℕ))) (i : ℕ) (list : List WalkStep) (total : Option (List WalkStep)) where
-  -- one step more is read
+  -- one more step is read
   pub step_goes : (step : WalkStep) → first_step (texts (take (length words - i) (drop i words))) ≡ Some step → StepsSoFar list (texts (drop i words)) total
       → StepsSoFar (list ++ step ∷ []) (texts (drop (i + 2) words)) total
   step_goes step e s =
@@ -49,7 +49,7 @@ module _ (words : List (Bor (List ℕ))) (i : ℕ) (list : List WalkStep) (total
         so_far = sym (ap (λ ws. in_front (list ++ step ∷ []) (steps_in ws)) next) ∙ sym (front_step list step (steps_in (drop 2 (texts (drop i words))))) ∙ sym first ∙ s.so_far;
       }
 
-  -- no step stands next, though there are words
+  -- the next two words are no step, though there are words
   pub step_stops : i < length words → first_step (texts (take (length words - i) (drop i words))) ≡ None → StepsSoFar list (texts (drop i words)) total → None ≡ total
   step_stops h e s =
       let count : length (texts (drop i words)) ≡ length words - i = length-map (drop i words) (λ (w : Bor (List ℕ)). w.now) ∙ length-drop i words in

@@ -40,7 +40,7 @@ short_inverts =
       again = λ n h. i.again n (to_below n h);
     }
 
--- behind a letter
+-- numbers behind a letter
 lettered_inverts : (letter : Word) → Inverts (lettered_in letter) (λ n. letter ++ number_text n) (λ n. n < 2 ^ 32)
 lettered_inverts letter = record {
   takes = λ word n e.
@@ -66,7 +66,7 @@ side_takes is_met word l e =
     subst (λ (x : Literal). (met_sign is_met ∷ word ≡ literal_word x) × IsLiteralName x) (same_Some (record { constraint = a.0; cause = d.0; is_met = is_met }) l d.2)
     (ap (λ x. met_sign is_met ∷ x) word_is, (first.1, second.1))
 
--- one thing of the text behind a front, or another
+-- what was read: of the text behind a front, or of the whole text in another way
 after_takes : {A : Type 0} (o : Option Word) (f : Word → Option A) (other : Option A) (x : A) (P : Type 0) → after o f other ≡ Some x
     → ((rest : Word) → o ≡ Some rest → f rest ≡ Some x → P) → (other ≡ Some x → P) → P
 after_takes None f other x P e here there = there e
@@ -101,7 +101,7 @@ literal_inverts = record { takes = literal_takes; again = literal_again }
 
 -- ---- where clauses come from
 
--- what was read in one way, or in another
+-- what was read: in one way, or in another
 pub one_of : {A B : Type 0} (f : B → A) (o : Option B) (other : Option A) (x : A) (P : A → Type 0) → or_else (option_map f o) other ≡ Some x
     → ((y : B) → o ≡ Some y → P (f y)) → (other ≡ Some x → P x) → P x
 one_of f o other x P e here there =

@@ -1,4 +1,4 @@
--- What is answered to the text of a line of a proof by clauses.
+-- What a reader answers to the text of a line of a proof by clauses.
 use Rattle.std.specs.Prelude.{◌≡◌, Result, Ok, Err}
 use Rattle.certificate.specs.declared.fault.LineFault.{LineFault}
 use Rattle.certificate.specs.declared.fault.LineFault.TheVariants.{BadLine, NoMemory}

@@ -16,7 +16,7 @@ use Rattle.clauses.specs.Lines.{Assume, ClauseLine, Close, Fall, Know, Loop}
 
 -- ---- which lines have a text
 
--- the numbers of its constraint and of its cause fit 32 bits
+-- the numbers of the literal's constraint and cause fit 32 bits
 abbrev pub IsLiteralName : Literal → Type 0
 IsLiteralName l = (l.constraint < 2 ^ 32) × (l.cause < 2 ^ 32)
 
@@ -31,7 +31,7 @@ IsBasisName (ByKept clause) = clause < 2 ^ 32
 abbrev pub IsStepName : WalkStep → Type 0
 IsStepName step = IsBasisName step.basis × (step.through < 2 ^ 32)
 
--- each number of the line fits 32 bits, and a value 64
+-- each number of the line fits 32 bits, and each value fits 64 bits with a sign
 abbrev pub IsClauseLine : ClauseLine → Type 0
 IsClauseLine (Fall event value basis) = (event.0 < 2 ^ 32) × IsLong value × IsBasisName basis
 IsClauseLine (Know l basis) = IsLiteralName l × IsBasisName basis
@@ -41,7 +41,7 @@ IsClauseLine Close = Unit {0}
 
 -- ---- its text
 
--- `+` before a side that is met, `-` before one that is not
+-- `+` before a side that is met, `-` before a side that is not
 abbrev pub met_sign : Bool → ℕ
 met_sign true = 43
 met_sign false = 45
@@ -50,8 +50,8 @@ met_sign false = 45
 abbrev pub literal_word : Literal → Word
 literal_word l = met_sign l.is_met ∷ (number_text l.constraint ++ (46 ∷ number_text l.cause))
 
--- where a clause comes from: an edge, a literal, `L` or `E` and the number of a latest or an earliest constraint, or `K` and the number of a clause
--- that was kept
+-- where a clause comes from: an edge, a literal, `L` or `E` and the number of a latest or an earliest constraint, or `K` and the number of a kept
+-- clause
 abbrev pub basis_word : Basis → Word
 basis_word (ByEdge edge) = edge_word edge
 basis_word (BySide l) = literal_word l
@@ -59,7 +59,7 @@ basis_word (ByLatest constraint) = 76 ∷ number_text constraint
 basis_word (ByEarliest constraint) = 69 ∷ number_text constraint
 basis_word (ByKept clause) = 75 ∷ number_text clause
 
--- of each step its basis and the number of its way
+-- for each step its basis and the number of its way
 abbrev pub step_words : List WalkStep → List Word
 step_words [] = []
 step_words (step ∷ steps) = basis_word step.basis ∷ number_text step.through ∷ step_words steps
@@ -75,14 +75,14 @@ clause_words Close = codes "close" ∷ []
 abbrev pub clause_line_text : ClauseLine → List ℕ
 clause_line_text line = ended (line_of (clause_words line))
 
--- the text is that of the line, without its end
+-- the text is the text of the line, without its line end
 pub record SpellsClause (text : List ℕ) (line : ClauseLine) : Type 0 where
   pub form : IsClauseLine line
   pub text_is : text ≡ line_of (clause_words line)
 
 -- ---- what stands before the lines of a proof
 
--- whether they are a proof in the network or in its negation
+-- whether the lines are a proof in the network or in its negation
 abbrev pub view_word : View → Word
 view_word Plain = codes "plain"
 view_word Negated = codes "negated"
@@ -90,7 +90,7 @@ view_word Negated = codes "negated"
 abbrev pub view_text : View → List ℕ
 view_text view = ended (line_of (codes "view" ∷ view_word view ∷ []))
 
--- what they prove that no satisfying separation exceeds
+-- the separation that no satisfying times exceed, as the lines prove
 abbrev pub claim_text : ℤ → List ℕ
 claim_text claim = ended (line_of (codes "claim" ∷ signed_text claim ∷ []))
 

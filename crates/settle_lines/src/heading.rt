@@ -11,7 +11,7 @@ use falling::View;
 use itv_base::strip;
 use line_words::long_in;
 
-/// The view that a text is the line of, without its line end; `None` for any other text.
+/// Reads the view from its line, without the line end. The answer is `None` for any other text.
 pub fn read_view(text: &[u8]) -> Option<View>
     ensures exact { (view : View) → (result ≡ Some view) ↔ (ended text.now ≡ view_text view) }
 {
@@ -31,8 +31,8 @@ fn view_in(text: &str) -> Option<View>
     }
 }
 
-/// The claim, in picoseconds, that a text is the line of, without its line end; `None` for any other text, and where the number does not
-/// fit 64 bits.
+/// Reads the claim, in picoseconds, from its line, without the line end. The answer is `None` for any other text, also where the number does not fit
+/// 64 bits.
 pub fn read_claim(text: &[u8]) -> Option<Claim>
     ensures exact { (claim : Claim) → (result ≡ Some claim) ↔ ((ended text.now ≡ claim_text claim.value) × IsLong claim.value) }
 {

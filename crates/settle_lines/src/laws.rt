@@ -1,4 +1,4 @@
-//! Laws on the definitions that the contracts of this crate cite. The function does nothing.
+//! Laws of the definitions that the contracts of this crate cite. The function has no code.
 
 ghost use Rattle.std.specs.Prelude.{◌≡◌, ℕ, ℤ, List};
 ghost use Rattle.clauses.specs.Lines.{ClauseLine};
@@ -6,7 +6,7 @@ ghost use Rattle.falling.specs.declared.view.View.{View};
 ghost use Rattle.line_words.specs.Lines.{ended};
 ghost use Rattle.settle_lines.specs.Text.{SpellsClause, claim_text, view_text};
 
-/// A text is that of one line of a proof at most, and of none where it is one of the two lines that stand before a proof.
+/// At most one line of a proof has a given text. No line of a proof has the text of one of the two lines before a proof.
 pub fn clause_texts_differ()
     ensures lines { (text : List ℕ) → (a b : ClauseLine) → SpellsClause text a → SpellsClause text b → a ≡ b }
     ensures views { (text : List ℕ) → (line : ClauseLine) → (view : View) → SpellsClause text line → ended text ≡ view_text view → ⊥ }

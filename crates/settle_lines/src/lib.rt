@@ -1,5 +1,5 @@
-//! Lines of proofs by clauses as texts, both ways.
-//! The contract: a line has one text, `write_clause_line` writes it, and `read_clause_line` takes exactly these texts.
+//! Lines of proofs by clauses as texts, both ways. The contract: a line has one text, and `write_clause_line` writes it. `read_clause_line` takes
+//! these texts and no others.
 #![tactic(auto)]
 
 mod heading;

@@ -13,7 +13,7 @@ use itoa::Buffer;
 use itv_base::{EventId, PutFailed, Sink, number_text, put_all, signed_text};
 use line_words::put_spaced;
 
-/// The word that a line begins with, a space and the number of an event.
+/// Puts the first word of a line, a space and the number of an event.
 pub fn put_named<K: Sink>(name: &[u8], event: EventId, sink: &mut K) -> Result<(), PutFailed>
     ensures { Puts (K.told sink.old) (K.told sink.new) (name.now ++ spaced (number_text event.0)) result }
 {
@@ -28,7 +28,7 @@ pub fn put_named<K: Sink>(name: &[u8], event: EventId, sink: &mut K) -> Result<(
     )
 }
 
-/// A space and the value that an event falls to.
+/// Puts a space and the value, in picoseconds, to which an event falls.
 pub fn put_value<K: Sink>(fall: EventFall, sink: &mut K) -> Result<(), PutFailed>
     ensures { Puts (K.told sink.old) (K.told sink.new) (spaced (signed_text fall.value)) result }
 {
@@ -36,7 +36,7 @@ pub fn put_value<K: Sink>(fall: EventFall, sink: &mut K) -> Result<(), PutFailed
     put_spaced(signed_text(fall.value, &mut digits).as_bytes(), sink)
 }
 
-/// A space and where a clause comes from, as the last word of a line.
+/// Puts a space, where a clause comes from, and the end of the line.
 pub fn put_basis_end<K: Sink>(basis: Basis, sink: &mut K) -> Result<(), PutFailed>
     ensures { Puts (K.told sink.old) (K.told sink.new) (ended (spaced (basis_word basis))) result }
 {
@@ -44,7 +44,7 @@ pub fn put_basis_end<K: Sink>(basis: Basis, sink: &mut K) -> Result<(), PutFaile
     sink.put(b"\n")
 }
 
-/// Two spaced words for each step: its basis and the number of its way.
+/// Puts two words for each step, each behind a space: its basis and the number of its way.
 pub fn put_steps<K: Sink>(steps: &[WalkStep], sink: &mut K) -> Result<(), PutFailed>
     ensures { Puts (K.told sink.old) (K.told sink.new) (flat_map spaced (step_words steps.now)) result }
 {
@@ -61,7 +61,7 @@ fn put_step<K: Sink>(step: WalkStep, sink: &mut K) -> Result<(), PutFailed>
     put_number(b"", step.through, sink)
 }
 
-// A space and where a clause comes from.
+// Puts a space and where a clause comes from.
 fn put_basis<K: Sink>(basis: Basis, sink: &mut K) -> Result<(), PutFailed>
     ensures { Puts (K.told sink.old) (K.told sink.new) (spaced (basis_word basis)) result }
 {
@@ -74,7 +74,7 @@ fn put_basis<K: Sink>(basis: Basis, sink: &mut K) -> Result<(), PutFailed>
     }
 }
 
-// A space, a letter or none, and a number.
+// Puts a space, a letter or none, and a number.
 fn put_number<K: Sink>(letter: &[u8], number: u32, sink: &mut K) -> Result<(), PutFailed>
     ensures { Puts (K.told sink.old) (K.told sink.new) (spaced (letter.now ++ number_text number)) result }
 {
@@ -89,7 +89,7 @@ fn put_number<K: Sink>(letter: &[u8], number: u32, sink: &mut K) -> Result<(), P
     )
 }
 
-/// A space and a literal, for each.
+/// Puts each literal behind a space.
 pub fn put_literals<K: Sink>(literals: &[Literal], sink: &mut K) -> Result<(), PutFailed>
     ensures { Puts (K.told sink.old) (K.told sink.new) (flat_map spaced (map literal_word literals.now)) result }
 {
@@ -99,7 +99,7 @@ pub fn put_literals<K: Sink>(literals: &[Literal], sink: &mut K) -> Result<(), P
     Ok(())
 }
 
-/// A space and a literal.
+/// Puts a space and a literal.
 pub fn put_literal<K: Sink>(literal: Literal, sink: &mut K) -> Result<(), PutFailed>
     ensures { Puts (K.told sink.old) (K.told sink.new) (spaced (literal_word literal)) result }
 {

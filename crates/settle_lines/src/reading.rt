@@ -18,19 +18,19 @@ use line_words::{behind_word, long_in, split_words, two_words};
 use settle::StoredLine;
 use std::alloc::Global;
 
-/// The line of a proof that a text is, without its line end. Memory is the only other fault.
+/// Reads a line of a proof, without its line end. The faults are `BadLine`, for any other text, and `NoMemory`.
 pub fn read_clause_line(alloc: Global, text: &[u8]) -> Result<StoredLine, LineFault>
-    // What is read is a line of a proof, and the text is its text.
+    // A line that is read has this text.
     ensures ok { IfOk result (λ line. SpellsClause text.now (line_of line)) }
-    // The text of a line is read as that line, unless memory runs out.
+    // The text of a line is read as this line, unless memory runs out.
     ensures only { (line : ClauseLine) → SpellsClause text.now line → IsReadAs result line }
-    // A text that is called bad is no line's.
+    // A text that is called bad is not the text of a line.
     ensures bad { IsErrOf result LineFault.BadLine → (line : ClauseLine) → SpellsClause text.now line → ⊥ }
 {
     read_bytes(alloc, text)
 }
 
-// The line that the bytes are, which need be no text.
+// The line with these bytes, which need not be text.
 fn read_bytes(alloc: Global, text: &[u8]) -> Result<StoredLine, LineFault>
     ensures { IsClauseRead result (line_in text.now) }
 {
@@ -50,7 +50,7 @@ fn read_words(alloc: Global, text: &str) -> Result<StoredLine, LineFault>
     }
 }
 
-// The line of a proof that has the words, if there is one.
+// The line of a proof with these words, if there is one.
 #[tactic(auto, unfolding(crate::specs::Step::Reading::clause_in))]
 fn clause_in(alloc: Global, words: &[&str]) -> Result<Option<StoredLine>, NoMemory>
     ensures { IfOk result (λ o. option_map (λ l. line_of l) o ≡ clause_in (texts words.now)) }
@@ -107,7 +107,7 @@ fn loop_in(alloc: Global, words: &[&str]) -> Result<Option<StoredLine>, NoMemory
     }
 }
 
-// A step at each two words.
+// A step for each two words.
 fn steps_in(alloc: Global, words: &[&str]) -> Result<Option<Vec<WalkStep>>, NoMemory>
     ensures { IfOk result (λ o. option_map (λ v. v.items) o ≡ steps_in (texts words.now)) }
 {
@@ -135,7 +135,7 @@ fn assume_in(alloc: Global, words: &[&str]) -> Result<Option<StoredLine>, NoMemo
     }
 }
 
-// A literal at each word.
+// A literal for each word.
 fn literals_in(alloc: Global, words: &[&str]) -> Result<Option<Vec<Literal>>, NoMemory>
     ensures { IfOk result (λ o. option_map (λ v. v.items) o ≡ many literal_in (texts words.now)) }
 {

@@ -9,7 +9,7 @@ use clauses::{Basis, Literal, WalkStep};
 use itv_base::{EdgeName, Side, split_digits, strip};
 use line_words::short_in;
 
-/// The step that the first two words are.
+/// The step of the first two words.
 pub fn first_step(words: &[&str]) -> Option<WalkStep>
     ensures step { result ≡ first_step (texts words.now) }
     ensures two { IfSome result (λ step. 2 ≤ length words.now) }
@@ -20,7 +20,7 @@ pub fn first_step(words: &[&str]) -> Option<WalkStep>
     }
 }
 
-// A step, by the words of its basis and of its way.
+// A step, by the word of its basis and the word of its way.
 fn step_in(basis: &str, way: &str) -> Option<WalkStep>
     ensures { result ≡ step_in basis.now way.now }
 {
@@ -30,7 +30,7 @@ fn step_in(basis: &str, way: &str) -> Option<WalkStep>
     })
 }
 
-/// The number that the first word is, and the other words.
+/// The first word as a number of 32 bits, and the other words.
 pub fn first_number<'a, 'b>(words: &'b [&'a str]) -> Option<(u32, &'b [&'a str])>
     ensures { option_map (λ p. (p.0, texts p.1.now)) result ≡ first_number (texts words.now) }
 {
@@ -60,7 +60,7 @@ pub fn basis_in(word: &str) -> Option<Basis>
     Some(Basis::ByKept(lettered_in("K", word)?))
 }
 
-// A number behind a letter.
+// A number of 32 bits behind a letter.
 fn lettered_in(letter: &str, word: &str) -> Option<u32>
     ensures { result ≡ lettered_in letter.now word.now }
 {
@@ -78,7 +78,7 @@ pub fn literal_in(word: &str) -> Option<Literal>
     }
 }
 
-// A literal behind its sign.
+// A literal without its sign.
 fn side_in(is_met: bool, word: &str) -> Option<Literal>
     ensures { result ≡ side_in is_met word.now }
 {

@@ -15,8 +15,8 @@ use itv_base::{EventId, PutFailed, Sink, signed_text};
 use line_words::put_words;
 use settle::StoredLine;
 
-/// Writes what stands before the lines of a proof, and the lines: the view, the claim in picoseconds and each line. Where a put failed a
-/// front of it was written, and the sink's count of faults rose.
+/// Writes a proof by clauses: the view, the claim in picoseconds, and each line. If a put failed, a front of it was written, and the sink's count of
+/// faults rose.
 pub fn write_proof<K: Sink>(
     view: View,
     claim: i64,
@@ -50,7 +50,7 @@ fn put_claim<K: Sink>(claim: i64, sink: &mut K) -> Result<(), PutFailed>
     )
 }
 
-// Each line and its end.
+// Puts each line with its end.
 fn put_lines<K: Sink>(lines: &[StoredLine], sink: &mut K) -> Result<(), PutFailed>
     ensures { Puts (K.told sink.old) (K.told sink.new) (flat_map clause_line_text (lines_of lines.now)) result }
 {
@@ -60,7 +60,7 @@ fn put_lines<K: Sink>(lines: &[StoredLine], sink: &mut K) -> Result<(), PutFaile
     Ok(())
 }
 
-/// Writes a line of a proof and its end. Where a put failed a front of it was written, and the sink's count of faults rose.
+/// Writes a line of a proof and its line end. If a put failed, a front of it was written, and the sink's count of faults rose.
 pub fn write_clause_line<K: Sink>(line: &StoredLine, sink: &mut K) -> Result<(), PutFailed>
     ensures puts { Puts (K.told sink.old) (K.told sink.new) (clause_line_text (line_of line.now)) result }
 {

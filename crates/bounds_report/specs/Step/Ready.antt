@@ -1,4 +1,4 @@
--- When all that the rows need is at hand.
+-- When all that the rows need is ready.
 use Rattle.std.specs.Prelude.{◌≡◌, ◌||◌, ℕ, ℤ, pos, All, List, [], Option, Some, None, IsSomeAnd, count_by, nat_lt}
 use Rattle.branch.specs.declared.answer.SearchFinding.{SearchFinding}
 use Rattle.branch.specs.declared.answer.SearchFinding.TheVariants as founds
@@ -19,7 +19,7 @@ use Rattle.bounds_report.specs.declared.tally.RowEnd.{RowEnd}
 use Rattle.bounds_report.specs.declared.tally.Tally.{Tally}
 use Rattle.bounds_report.specs.Step.Kept.{IsRoomFor}
 
--- what a finding leaves
+-- what a finding leaves: known times that satisfy, or, if it is unsettled, times that meet all always-edges
 abbrev pub HasFound : Net → FindingWord → Option (List ℤ) → Type 0
 HasFound net findings.Consistent known = IsSomeAnd known (λ times. Satisfies times net)
 HasFound net findings.Inconsistent known = Unit {0}
@@ -31,17 +31,17 @@ pub record IsSet (net : Net) (desk : Desk) : Type 0 where
   pub greatest : IsRoomFor net desk.greatest
   pub least : IsRoomFor net desk.least
 
--- and a finding has been made
+-- the memory is made for a network, and a finding is made
 pub record IsReady (net : Net) (word : FindingWord) (desk : Desk) : Type 0 where
   pub set : IsSet net desk
   pub found : HasFound net word desk.work.known
 
--- the course behind the verdict of a row, if it has one
+-- the tally behind the verdict of a row, if it has one
 abbrev pub course_with : ReportTally → Option Verdict → ReportTally
 course_with course None = course
 course_with course (Some word) = with_verdict course word
 
--- the course behind a row
+-- the tally behind a row
 abbrev pub course_after : ReportTally → RowEnd → ReportTally
 course_after course end = course_with (record course { within = course.within || end.is_within }) end.verdict
 
@@ -51,7 +51,7 @@ pub record IsTally (tally : Tally) (words : List Verdict) : Type 0 where
   pub fails : tally.fails ≡ count_by is_fail words
   pub undecided : tally.undecided ≡ count_by is_undecided words
 
--- the course of a report behind a finding and some rows
+-- the tally of a report behind a finding and some rows
 abbrev pub tally_course : FindingWord → Tally → ReportTally
 tally_course word tally = record { found = word; fails = nat_lt 0 tally.fails; within = tally.is_within }
 
@@ -61,17 +61,17 @@ word_of founds.Consistent = findings.Consistent
 word_of founds.Inconsistent = findings.Inconsistent
 word_of founds.Unsettled = findings.Unsettled
 
--- times that are printed behind a consistent finding
+-- times that may be printed behind a consistent finding: they satisfy, and event 0 is at 0
 abbrev pub AreKnown : Net → List ℤ → Type 0
 AreKnown net list = All IsPrintedTime list × Satisfies list net × (time_of list (record { 0 = 0 }) ≡ pos 0)
 
--- behind a finding and the times that come with it
+-- the report state behind a finding and the times that come with it
 abbrev pub behind_known : FindingWord → ReportState
 behind_known findings.Consistent = at_rows findings.Consistent
 behind_known findings.Inconsistent = at_end endings.Inconsistent
 behind_known findings.Unsettled = at_rows findings.Unsettled
 
--- behind a finding and all rows, of which there are so many
+-- the report state behind a finding and all rows; `count` is how many rows there are
 abbrev pub behind_rows : FindingWord → Tally → ℕ → ReportState
 behind_rows findings.Consistent tally count = at_row (tally_course findings.Consistent tally) count []
 behind_rows findings.Inconsistent tally count = at_end (end_word (tally_course findings.Inconsistent tally))

@@ -20,13 +20,13 @@ use Rattle.right_report.specs.Right.Following.{LineClaims}
 use Rattle.bounds_report.specs.Written.{printed, written}
 use Rattle.bounds_report.specs.declared.pair.Pair.{Pair}
 
--- what is asked beside, which follows: each number of a bound, its limit too, is below 2^61 in absolute value
+-- the line claims of job bounds, with one more that follows from them: each number of a bound, its limit too, is below 2^61 in absolute value
 abbrev pub sized : Net → ℕ → Bool → List ℤ → LineClaims
 sized net most cert known = record (written net most cert known) {
   bound = λ found r side lines value. (written net most cert known).bound found r side lines value × HasTimes value;
 }
 
--- the known times as they are printed: with event 0 at 0
+-- the known times in the form in which they are printed: with event 0 at 0
 abbrev pub printed_known : Option (List ℤ) → List ℤ
 printed_known known = shifted (unwrap_or known []) (neg_ℤ (time_of (unwrap_or known []) (record { 0 = 0 })))
 
@@ -34,31 +34,31 @@ printed_known known = shifted (unwrap_or known []) (neg_ℤ (time_of (unwrap_or 
 abbrev pub search_of : Net → Pair → ℕ → PairSearch
 search_of net pair budget = record { net = net; from = pair.from; to = pair.to; budget = budget }
 
--- the greatest bound that an answer tells
+-- the greatest bound that an answer gives
 abbrev pub greatest_of : GreatestAnswer → Bound
 greatest_of (answers.Closed value) = bounds.Closed value
 greatest_of answers.Unbounded = bounds.Unbounded
 greatest_of (answers.Enclosed upper attained) = bounds.Within upper (Some attained)
 
--- the bound of a pair that an answer on its searched pair tells
+-- the bound of a pair by the answer of the search on its searched pair
 abbrev pub bound_of : Which → GreatestAnswer → Bound
 bound_of sorts.Max answer = greatest_of answer
 bound_of sorts.Min answer = reversed (greatest_of answer)
 
--- what a finding says of a network by the lines of its search, each split of which was needed
+-- what a finding says of a network by the lines of its search; each split of these lines was needed
 pub record FindsBy (net : Net) (budget : ℕ) (lines : List ProofLine) (leaves : ℕ) (known : Option (List ℤ)) (found : SearchFinding) : Type 0 where
   pub says : Finds net budget lines leaves known found
   pub needed : AtEachSplit net (IsNeededToFind net) lines
 
--- what an answer says of a pair by the lines of its search, each split of which was needed behind a known separation
+-- what an answer says of a pair by the lines of its search; each split of these lines was needed behind a known separation
 pub record AnswersSearch (search : PairSearch) (known : ℤ) (left : Evidence) (answer : GreatestAnswer) : Type 0 where
   pub says : IsGreatestAnswer search left answer
   pub needed : AtEachSplit search.net (IsNeededToBound search.net search.from search.to known) left.lines
 
--- a search told the lines of a proof to a sink, where they are wanted, and what the lines show
+-- a search put the lines of its proof into a sink, if `cert` asks for them; the lines show something
 abbrev pub WroteProof : Bool → SinkView → SinkView → (List ProofLine → Type 0) → Type 0
 WroteProof cert old new Shows = (lines : List ProofLine) × SinkGrew old (printed cert lines) new × Shows lines
 
--- a search was cut short in the lines of a proof
+-- a put failed while a search printed the lines of its proof
 abbrev pub WasCut : SinkView → SinkView → Type 0
 WasCut old new = (lines : List ProofLine) × SinkWasCut old lines new

@@ -1,4 +1,4 @@
--- What a step of the writer promises: the lines that it put lead from a place to another, tell some verdicts, and do not end the report.
+-- What a step of the writer promises: its lines lead from one report state to another, have these verdicts, and do not end the report.
 use Rattle.std.specs.Prelude.{◌≡◌, List, [], ◌∷◌, None, Result, Ok, Err}
 use Rattle.itv_base.specs.Outside.{SinkView, grown}
 use Rattle.requirements.specs.declared.verdict.Verdict.{Verdict}
@@ -18,7 +18,7 @@ verdicts_in [] = []
 verdicts_in (verdict word ∷ lines) = word ∷ verdicts_in lines
 verdicts_in (line ∷ lines) = verdicts_in lines
 
--- lines were put whole that lead from a place to another, tell these verdicts, and do not end the report
+-- whole lines were put; they lead from one report state to another, have these verdicts, and do not end the report
 pub record WroteVerdicts (facts : LineClaims) (drawn : Drawn) (here last : ReportState) (words : List Verdict) (old new : SinkView) : Type 0 where
   pub lines : List Entry
   pub reads : LinesLead facts drawn here lines last
@@ -26,12 +26,13 @@ pub record WroteVerdicts (facts : LineClaims) (drawn : Drawn) (here last : Repor
   pub words_are : verdicts_in lines ≡ words
   pub no_end : end_in lines ≡ None
 
--- a step puts lines that lead to a place and tell verdicts that its answer names, or a front of such lines
+-- a step that succeeds puts lines that lead to the report state `to` and have the verdicts `words`, both by its answer; a step that fails puts a
+-- front of some lines
 abbrev pub WritesVerdicts : {B E : Type 0} → LineClaims → Drawn → ReportState → (B → ReportState) → (B → List Verdict) → SinkView → SinkView → Result B E → Type 0
 WritesVerdicts facts drawn here to words old new (Ok x) = WroteVerdicts facts drawn here (to x) (words x) old new
 WritesVerdicts facts drawn here to words old new (Err e) = WroteFront facts drawn here old new
 
--- a row that is being told is of a pair, and a bound of this sort is next
+-- the current row is of a pair, and its next bound is of this sort
 pub record IsOf (told : CurrentRow) (side : NextBound) (pair : Pair) (which : Which) : Type 0 where
   pub from : told.row.from ≡ pair.from
   pub to : told.row.to ≡ pair.to

@@ -4,7 +4,7 @@ use Rattle.std.specs.List.{AllWithin, HoldsAt}
 use Rattle.diff_bounds.specs.declared.arc.Arc.{Arc}
 use Rattle.diff_bounds.specs.declared.chosen_edges.ChosenEdges.TheInside.{Inside}
 
--- the chosen edges, the oldest one first, for how many events they are kept, and for how many edges there is room
+-- the chosen edges, the oldest one first; the number of events; and the number of edges for which there is room
 pub record Chosen : Type 0 where
   pub arcs : List Arc
   pub events : ℕ
@@ -17,27 +17,27 @@ chosen_in c = record { arcs = c.arcs.items; events = length c.latest.items; room
 abbrev pub StartsAt : ℕ → Arc → Type 0
 StartsAt event a = a.edge.from.0 ≡ event
 
--- or elsewhere
+-- an edge starts at another event
 abbrev pub StartsElsewhere : ℕ → Arc → Type 0
 StartsElsewhere event a = a.edge.from.0 ≢ event
 
--- the place of the last of so many edges that starts at an event, or none where none of them does
+-- the place, among the first `count` edges, of the last edge that starts at an event, or none where no edge does
 abbrev pub IsLatest : List Arc → ℕ → ℕ → Option ℕ → Type 0
 IsLatest arcs event count None = AllWithin (StartsElsewhere event) arcs 0 count
 IsLatest arcs event count (Some place) = (place < count) × HoldsAt (StartsAt event) arcs place × AllWithin (StartsElsewhere event) arcs (suc place) count
 
--- that of the latest edge, before the one at a place, that starts where it does
+-- the place of the latest edge that starts at the same event as the edge at a place, and comes before it
 abbrev pub IsEarlier : List Arc → ℕ → Option ℕ → Type 0
 IsEarlier arcs place earlier = (a : Arc) → slice_get arcs place ≡ Some a → IsLatest arcs a.edge.from.0 place earlier
 
--- of the edges before each one the latest that starts at the same event, and of all edges the latest that starts at each event
+-- `earlier` has for each edge the latest edge before it that starts at the same event; `latest` has for each event the latest edge that starts there
 pub record AreLinked (arcs : List Arc) (earlier latest : List (Option ℕ)) : Type 0 where
   pub count : length earlier ≡ length arcs
   pub starts : All (λ a. a.edge.from.0 < length latest) arcs
   pub before : (place : ℕ) → IsEarlier arcs place (slice_index_or earlier place None)
   pub last : (event : ℕ) → event < length latest → IsLatest arcs event (length arcs) (slice_index_or latest event None)
 
--- the edges are linked, and there is room for all that may come
+-- the edges are linked, and there is room for as many edges as `room` says
 pub record AreKept (c : Inside) : Type 0 where
   pub linked : AreLinked c.arcs.items c.earlier.items c.latest.items
   pub arcs_room : c.room ≤ vec_capacity c.arcs

@@ -21,7 +21,7 @@ use Rattle.diff_bounds.specs.Step.Waiting.{Waiting, is_waiting}
 abbrev pub scope_of : Net → Stack → Run → Scope
 scope_of net stack run = record { net = net; chosen = stack.current.edges; first = run.first }
 
--- the label at the start of an edge and its weight are less than the label at its end, or the first there
+-- the label at the start of an edge plus its weight is less than the label at its end, or the end has no label
 pub record Undercuts (label : GraphLabels) (e : Edge) : Type 0 where
   pub near : ℤ
   pub start : label e.from.0 ≡ Some near
@@ -42,19 +42,19 @@ Relaxes run a old new (Fell by) =
     × (new ≡ record old { current = with_stamp old.current (run.base + a.edge.to.0) (fallen_stamp a.name (u.near +ℤ a.edge.weight)) })
 Relaxes run a old new Stops = (new ≡ old) × Undercuts (labels_from old.current.stamps run.base) a.edge × (run.stop ≡ Some a.edge.to)
 
--- numbers that meet the edges of a scope, but for those that leave the stop
+-- numbers that meet all edges of a scope, save for the edges that leave the stop
 abbrev pub IsPotential : Scope → Option EventId → (ℕ → ℤ) → Type 0
 IsPotential s stop potential = (name : EdgeName) (e : Edge) → IsAmong s name e → (stop ≡ Some e.from → ⊥) → potential e.to.0 ≤ℤ (potential e.from.0 +ℤ e.weight)
 
--- no label of an event is below the greatest weight for each event
+-- no label is below 0 by more than the limit of weights times the number of events
 abbrev pub AreAbove : ℕ → GraphLabels → Type 0
 AreAbove events label = (event : ℕ) (number : ℤ) → event < events → label event ≡ Some number → pos 0 ≤ℤ (number +ℤ pos (weight_limit * events))
 
--- the parents of the labels that have fallen
+-- the parents of the labels that have fallen; other events have none
 abbrev pub fresh : GraphLabels → GraphLabels → Parents → Parents
 fresh old label parent event = cond (is_lower (label event) (old event)) (parent event) None
 
--- labels that have fallen from old ones by fresh parents, none of them at the stop
+-- labels that have fallen from old ones by fresh parents; the label at the stop has not fallen
 pub record RunHasFallen (s : Scope) (run : Run) (old new : List Stamp) : Type 0 where
   pub count : length new ≡ length old
   pub forest : IsForest s (labels_from old run.base) (labels_from new run.base) (fresh (labels_from old run.base) (labels_from new run.base) (parents_from new run.base))
@@ -64,7 +64,7 @@ pub record RunHasFallen (s : Scope) (run : Run) (old new : List Stamp) : Type 0 
   pub near : AreLabelsNear new
   pub stopped : (x : EventId) → run.stop ≡ Some x → labels_from new run.base x.0 ≡ labels_from old run.base x.0
 
--- labels of a run: those that it began with are not far below 0, and a potential shows that there is no loop but through the stop
+-- labels of a run: the old ones are not far below 0, and a potential shows that each loop of negative sum goes through the stop
 pub record IsRunning (s : Scope) (run : Run) (stamps : List Stamp) : Type 0 where
   pub old : List Stamp
   pub above : AreAbove s.net.events (labels_from old run.base)
@@ -72,7 +72,7 @@ pub record IsRunning (s : Scope) (run : Run) (stamps : List Stamp) : Type 0 wher
   pub meets : IsPotential s run.stop potential
   pub ran : RunHasFallen s run old stamps
 
--- whatever the labels ran from, the new ones have too
+-- if a run led from any old labels to the middle ones, it leads from them to the new ones too
 abbrev pub KeepsRuns : Scope → Run → List Stamp → List Stamp → Type 0
 KeepsRuns s run mid new =
     (old : List Stamp) (potential : ℕ → ℤ) → AreAbove s.net.events (labels_from old run.base) → IsPotential s run.stop potential → RunHasFallen s run old mid → RunHasFallen s run old new
@@ -81,12 +81,12 @@ KeepsRuns s run mid new =
 abbrev pub IsDone : Run → List Stamp → List Bool → Edge → Type 0
 IsDone run stamps marks e = Follows (labels_from stamps run.base) e ⊎ (is_waiting marks e.from.0 ≡ true)
 
--- the number, where it is not negative
+-- a number, or 0 for one below 0
 abbrev pub natural_part : ℤ → ℕ
 natural_part (pos n) = n
 natural_part (negsuc n) = 0
 
--- how far a label can still fall: no label comes near the number that is added
+-- a bound on how far a label can still fall; no label comes near the number that is added
 abbrev pub height : Option ℤ → ℕ
 height None = 2 * fall_limit
 height (Some label) = natural_part (label +ℤ pos fall_limit)
@@ -94,7 +94,7 @@ height (Some label) = natural_part (label +ℤ pos fall_limit)
 abbrev pub total_height : List Stamp → ℕ
 total_height stamps = sum_by (λ s. height s.label) stamps
 
--- how much work is left
+-- the measure of the loop: how much work is left
 abbrev pub work_left : List Stamp → ℕ → ℕ
 work_left stamps count = 2 * total_height stamps + count
 
@@ -114,7 +114,7 @@ pub record Falls (s : Scope) (run : Run) (old new : Stack) (waited waits : Waiti
   pub done : (e : Edge) → s.first ≤ e.from.0 → IsDone run old.current.stamps waited.marks e → IsDone run new.current.stamps waits.marks e
   pub work : work_left new.current.stamps waits.count ≤ work_left old.current.stamps waited.count
 
--- the slots and the marks are there
+-- the slots of the run are in the stack, and there is a mark for each event
 pub record IsPlaced (net : Net) (run : Run) (stack : Stack) (waiting : Waiting) : Type 0 where
   pub is_net : IsNet net
   pub slots : run.base + net.events ≤ length stack.current.stamps
@@ -122,14 +122,14 @@ pub record IsPlaced (net : Net) (run : Run) (stack : Stack) (waiting : Waiting) 
   pub most : length stack.current.stamps ≤ 2 * MAX_EVENTS
   pub marks : length waiting.marks ≡ net.events
 
--- an edge closes a loop through the stop
+-- an edge closes a loop through the stop: it would lower the label there
 pub record Closes (s : Scope) (run : Run) (stamps : List Stamp) (a : Arc) : Type 0 where
   pub among : IsAmong s a.name a.edge
   pub arc : IsArc s.net a
   pub undercuts : Undercuts (labels_from stamps run.base) a.edge
   pub to : run.stop ≡ Some a.edge.to
 
--- all edges of a scope are followed, or wait
+-- each edge of a scope is followed, or the event at its start waits
 abbrev pub AllDone : Scope → Run → List Stamp → List Bool → Type 0
 AllDone s run stamps marks = (name : EdgeName) (e : Edge) → IsAmong s name e → IsDone run stamps marks e
 

@@ -4,7 +4,7 @@ use Rattle.itv_base.specs.declared.names.EventId.{EventId}
 use Rattle.diff_bounds.specs.declared.arc.Arc.{Arc}
 use Rattle.diff_bounds.specs.declared.guess.Guess.TheInside.{Inside}
 
--- as many events as a network has, each of them one of its own
+-- a list with as many places as a network has events; at each place there is an event of the network
 pub record AreEvents (events : ℕ) (order : List EventId) : Type 0 where
   pub count : length order ≡ events
   pub within : All (λ (event : EventId). event.0 < events) order

@@ -1,4 +1,4 @@
--- What is known before labels fall over edges that start at one event, and after it.
+-- What is known before and after labels fall over edges that start at one event.
 use Rattle.std.specs.Prelude.{◌≡◌, ◌+◌, ◌<◌, ◌≤◌, ℕ, ℤ, pos, ◌≤ℤ◌, ◌⊎◌, List, [], length, Some, None}
 use Rattle.itv_base.specs.declared.names.EdgeName.{EdgeName}
 use Rattle.itv_base.specs.declared.names.EventId.{EventId}
@@ -20,7 +20,7 @@ scope_by net chosen first = record { net = net; chosen = chosen; first = first }
 abbrev pub scope_from : Net → Stack → ℕ → Scope
 scope_from net stack first = scope_by net stack.current.edges first
 
--- the run over feasible times, with the event where the new edges start as its stop
+-- the run over feasible times; the stop is the event where the new edges start
 abbrev pub feasible_run : Net → EventId → ℕ → Run
 feasible_run net from first = record { base = net.events; first = first; stop = Some from }
 
@@ -32,11 +32,11 @@ upper_run = record { base = 0; first = 0; stop = None }
 abbrev pub zero_stamp : Stamp
 zero_stamp = record { label = Some (pos 0); parent = None }
 
--- all edges of a scope are followed, but for those that start at an event
+-- all edges of a scope are followed, save for the edges that start at an event
 abbrev pub AreOthersFollowed : Scope → EventId → GraphLabels → Type 0
 AreOthersFollowed s from label = (name : EdgeName) (e : Edge) → IsAmong s name e → (e.from.0 ≡ from.0) ⊎ Follows label e
 
--- labels that fell from a start over edges of a scope follow all of these edges but those that start at one event
+-- labels that fell from first labels over edges of a scope; all edges are followed, save for the edges that start at one event
 pub record IsPoised (s : Scope) (from : EventId) (start : GraphLabels) (stamps : List Stamp) (base : ℕ) : Type 0 where
   pub forest : IsForest s start (labels_from stamps base) (parents_from stamps base)
   pub others : AreOthersFollowed s from (labels_from stamps base)
@@ -52,11 +52,11 @@ pub record IsRunReady (net : Net) (out : List (List Arc)) (arcs : List Arc) (run
   pub marks : length waiting.marks ≡ net.events
   pub poised : IsPoised (scope_of net stack run) from start stack.current.stamps run.base
 
--- all edges of a scope are followed, but for one
+-- all edges of a scope are followed, save for one
 abbrev pub AreRestFollowed : Scope → Edge → GraphLabels → Type 0
 AreRestFollowed s added label = (name : EdgeName) (e : Edge) → IsAmong s name e → (e ≡ added) ⊎ Follows label e
 
--- the same where one edge was added: all the others are followed
+-- labels are ready for a run over one added edge: all other edges are followed
 pub record IsAdded (net : Net) (out : List (List Arc)) (arcs : List Arc) (run : Run) (a : Arc) (start : GraphLabels) (stack : Stack) (waiting : Waiting) : Type 0 where
   pub ready : IsRunReady net out arcs run a.edge.from start stack waiting
   pub arc : IsArc net a
@@ -79,7 +79,7 @@ pub record HasCleared (events : ℕ) (old new : List Stamp) : Type 0 where
   pub uppers : (slot : ℕ) → slot < events → stamp_at new slot ≡ empty_stamp
   pub others : (slot : ℕ) → events ≤ slot → stamp_at new slot ≡ stamp_at old slot
 
--- a stack of a first graph alone
+-- the stack has one graph, which is a first graph
 pub record IsFirstGraph (net : Net) (stack : Stack) : Type 0 where
   pub below : stack.below ≡ []
   pub root : IsRootGraph net stack.current

@@ -18,7 +18,7 @@ use Rattle.explained.specs.declared.bound.BoundFound.{BoundFound}
 use Rattle.explained.specs.declared.bound.BoundFound.TheVariants.{Closed, Unbounded, Within}
 use Rattle.explained.specs.declared.pair.Pair.{Pair}
 
--- the bound that an answer tells
+-- the greatest bound that an answer gives
 abbrev pub bound_by : GreatestAnswer → Bound
 bound_by (answers.Closed value) = bounds.Closed value
 bound_by answers.Unbounded = bounds.Unbounded
@@ -32,13 +32,13 @@ pub record IsClosedBy (net : Net) (word : FindingWord) (pair : Pair) (value : �
   pub attained : separation times pair.from pair.to ≡ value
   pub within : All IsTime times
 
--- the events of a set can be raised from satisfying times without end
+-- satisfying times and a set of events: the set can be raised without end, and the separation of the pair grows
 pub record IsUnboundedBy (net : Net) (word : FindingWord) (pair : Pair) (times : List ℤ) (set : List Bool) : Type 0 where
   pub found : word ≡ findings.Consistent
   pub satisfied : Satisfies times net
   pub ray : IsRay net pair.from pair.to times set
 
--- the limit is the root bound, and what was attained is so
+-- the limit is the root bound, and times attain the attained separation, if there is one
 pub record IsOpenBound (net : Net) (word : FindingWord) (pair : Pair) (limit value : Option ℤ) : Type 0 where
   pub root : IsRootBound net pair.from pair.to limit
   pub told : HasAttained word value
@@ -50,13 +50,13 @@ IsGreatestBy net word pair (bounds.Closed value) times set = IsClosedBy net word
 IsGreatestBy net word pair bounds.Unbounded times set = IsUnboundedBy net word pair times set
 IsGreatestBy net word pair (bounds.Within limit attained) times set = IsOpenBound net word pair limit attained
 
--- so with the chain or the set behind it
+-- a greatest bound behind a finding, with the chain or the set that stands behind it
 abbrev pub IsExplained : Net → FindingWord → Pair → BoundFound → Type 0
 IsExplained net word pair (Closed value chain) = (word ≡ findings.Consistent) × IsGreatest net pair.from pair.to value × Explains net pair.from pair.to value chain.items
 IsExplained net word pair (Unbounded set) = (word ≡ findings.Consistent) × CanRise net pair.from pair.to set.items
 IsExplained net word pair (Within limit attained) = IsOpenBound net word pair limit attained
 
--- the bound of the reversed pair on the other side, with what stands behind it
+-- the bound on the other side of the reversed pair, with the same chain or set
 abbrev pub reversed_found : BoundFound → BoundFound
 reversed_found (Closed value chain) = Closed (neg_ℤ value) chain
 reversed_found (Unbounded set) = Unbounded set

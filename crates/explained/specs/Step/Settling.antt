@@ -11,7 +11,7 @@ use Rattle.explained.specs.declared.desk.Desk.{Desk}
 abbrev pub Suffices : Net → Searches → Type 0
 Suffices net searches = cause_choices net.constraints ≤ searches.budget
 
--- the budget suffices, and a finding was made by it
+-- the budget suffices, and the finding is not unsettled
 pub record IsEnough (net : Net) (searches : Searches) : Type 0 where
   pub suffices : Suffices net searches
   pub found : searches.word ≡ findings.Unsettled → ⊥
@@ -23,7 +23,7 @@ SufficesApart apart = IfSome apart (λ (a : Apart). Suffices a.net a.searches)
 abbrev pub IsEnoughApart : Option Apart → Type 0
 IsEnoughApart apart = IfSome apart (λ (a : Apart). IsEnough a.net a.searches)
 
--- findings were made in both networks, by a budget that suffices
+-- the budget suffices in both networks, and neither finding is unsettled
 pub record IsEnoughFor (net : Net) (desk : Desk) : Type 0 where
   pub whole : IsEnough net desk.searches
   pub apart : IsEnoughApart desk.apart

@@ -27,13 +27,13 @@ HasFound net findings.Consistent known = IsSomeAnd known (λ times. Satisfies ti
 HasFound net findings.Inconsistent known = IsInconsistent net
 HasFound net findings.Unsettled known = (times : List ℤ) × MeetsAlways times net
 
--- some times satisfy, or meet the always-edges, as a finding says that is not inconsistent
+-- times that a finding allows: some that satisfy, or some that meet the always-edges; an inconsistent finding allows none
 abbrev pub FindingAllows : Net → FindingWord → Type 0
 FindingAllows net findings.Consistent = (times : List ℤ) × Satisfies times net
 FindingAllows net findings.Inconsistent = ⊥
 FindingAllows net findings.Unsettled = (times : List ℤ) × MeetsAlways times net
 
--- memory that is made for a network, and a search may close some case
+-- the memory is made for a network, and a search may close at least one case
 pub record IsFor (net : Net) (searches : Searches) : Type 0 where
   pub made : IsMadeFor net searches.work
   pub some : 0 < searches.budget
@@ -43,24 +43,24 @@ pub record IsFresh (net : Net) (searches : Searches) : Type 0 where
   pub made : IsFor net searches
   pub unsettled : searches.word ≡ findings.Unsettled
 
--- a finding was made that is not inconsistent
+-- a finding was made, and it is not inconsistent
 pub record IsNotInconsistent (net : Net) (searches : Searches) : Type 0 where
   pub made : IsFor net searches
   pub found : HasFound net searches.word searches.work.known
   pub allows : FindingAllows net searches.word
 
--- the network of the memory for one apart from the order of lanes, or else the network itself
+-- the network apart in some memory, or the network itself where there is no such memory
 abbrev pub net_in : Net → Option Apart → Net
 net_in net None = net
 net_in net (Some apart) = apart.net
 
--- the memory for a drawn network and for its network apart, where it has one that is not itself
+-- the memory is made for a drawn network, and for its network apart if this is another
 pub record IsDeskFor (drawn : Drawn) (desk : Desk) : Type 0 where
   pub chains : desk.chains.events ≡ drawn.net.events
   pub apart : net_in drawn.net desk.apart ≡ net_apart drawn
   pub fresh : IfSome desk.apart (λ (a : Apart). IsFresh a.net a.searches)
 
--- findings were made in both
+-- findings were made in the drawn network and in the network apart; no finding is inconsistent
 pub record IsReady (drawn : Drawn) (desk : Desk) : Type 0 where
   pub settled : IsNotInconsistent drawn.net desk.searches
   pub chains : desk.chains.events ≡ drawn.net.events

@@ -1,4 +1,4 @@
--- What is told of a row apart from the order of lanes.
+-- What is found of a row without the order of lanes.
 use Rattle.std.specs.Prelude.{◌≡◌, Option, None}
 use Rattle.itv_base.specs.declared.row_kind.RowKind.{RowKind}
 use Rattle.itv_base.specs.declared.row_kind.RowKind.TheVariants as kinds
@@ -7,7 +7,7 @@ use Rattle.requirements.specs.declared.bound.BothBounds.{BothBounds}
 use Rattle.drawn.specs.declared.row.Row.{Row}
 use Rattle.explained.specs.Answers.{IsApart, verdict_by}
 
--- what is told of a row by its bounds
+-- the bounds of a row in the network apart, if its verdict rests on the order of a lane; by its bounds in the drawn network
 abbrev pub IsRowTold : Net → Row → RowKind → BothBounds → Option BothBounds → Type 0
 IsRowTold apart row kinds.Ask both told = told ≡ None
 IsRowTold apart row (kinds.Req range) both told = IsApart apart row range (verdict_by range both) told

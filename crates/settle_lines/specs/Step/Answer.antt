@@ -1,4 +1,4 @@
--- What is answered within this crate to the text of a line of a proof by clauses.
+-- What a reader within this crate answers to the text of a line of a proof by clauses.
 use Rattle.std.specs.Prelude.{◌≡◌, Option, Some, None, Result, Ok, Err}
 use Rattle.certificate.specs.declared.fault.LineFault.{LineFault}
 use Rattle.certificate.specs.declared.fault.LineFault.TheVariants.{BadLine, NoMemory}

@@ -21,7 +21,7 @@ use Rattle.clauses.specs.Lines.{Assume, ClauseLine, Close, Fall, Know, Loop}
 abbrev pub short_in : Word → Option ℕ
 short_in word = number_in (2 ^ 32 - 1) word
 
--- a literal behind its sign
+-- a literal without its sign
 abbrev pub side_in : Bool → Word → Option Literal
 side_in is_met word =
     short_in (take_while is_ascii_digit word) >>= λ constraint. stripped (codes ".") (after_while is_ascii_digit word) >>= λ rest. short_in rest >>= λ cause. Some (record { constraint = constraint; cause = cause; is_met = is_met })
@@ -30,7 +30,7 @@ side_in is_met word =
 unfoldable pub literal_in : Word → Option Literal
 literal_in word = after (stripped (codes "+") word) (side_in true) (stripped (codes "-") word >>= side_in false)
 
--- a number behind a letter
+-- a number of 32 bits behind a letter
 abbrev pub lettered_in : Word → Word → Option ℕ
 lettered_in letter word = stripped letter word >>= short_in
 
@@ -42,26 +42,26 @@ basis_in word =
 
 -- ---- words of a line
 
--- the number of 32 bits that the first word is, and the other words
+-- the first word as a number of 32 bits, and the other words
 abbrev pub first_number : List Word → Option (ℕ × List Word)
 first_number [] = None
 first_number (word ∷ words) = short_in word >>= λ n. Some (n, words)
 
--- such a number, and what the words behind it are
+-- the first word as such a number, and what is read of the other words
 abbrev pub number_then : {A : Type 0} → (List Word → Option A) → List Word → Option (ℕ × A)
 number_then read words = first_number words >>= λ p. read p.1 >>= λ x. Some (p.0, x)
 
--- a step, by the words of its basis and of its way
+-- a step, by the word of its basis and the word of its way
 abbrev pub step_in : Word → Word → Option WalkStep
 step_in word way = basis_in word >>= λ basis. short_in way >>= λ through. Some (record { basis = basis; through = through })
 
--- the step that the first two words are
+-- the step of the first two words
 abbrev pub first_step : List Word → Option WalkStep
 first_step [] = None
 first_step (word ∷ []) = None
 first_step (word ∷ way ∷ words) = step_in word way
 
--- a step at each two words
+-- a step for each two words
 abbrev pub steps_in : List Word → Option (List WalkStep)
 steps_in [] = Some []
 steps_in (word ∷ []) = None
@@ -90,7 +90,7 @@ loop_in words = option_map loop_of (keyed (codes "loop") (number_then steps_in) 
 abbrev pub assume_in : List Word → Option ClauseLine
 assume_in words = option_map Assume (keyed (codes "assume") (many literal_in) words)
 
--- nothing stands behind the word
+-- the closing line, if no word stands behind its first
 abbrev pub closing : List Word → Option ClauseLine
 closing [] = Some Close
 closing (word ∷ words) = None
@@ -98,15 +98,15 @@ closing (word ∷ words) = None
 abbrev pub close_in : List Word → Option ClauseLine
 close_in words = keyed (codes "close") closing words
 
--- the line of a proof that has the words
+-- the line of a proof with these words
 unfoldable pub clause_in : List Word → Option ClauseLine
 clause_in words = or_else (fall_in words) (or_else (know_in words) (or_else (loop_in words) (or_else (assume_in words) (close_in words))))
 
--- the line of a proof that a text is, without its end
+-- the line of a proof with this text, which has no line end
 abbrev pub line_in : List ℕ → Option ClauseLine
 line_in text = clause_in (split_words text)
 
--- ---- the two lines before a proof, without their ends
+-- ---- the two lines before a proof, without their line ends
 
 abbrev pub view_in : List ℕ → Option View
 view_in text = if is_word text (codes "view plain") then Some Plain else when (is_word text (codes "view negated")) (Some Negated)

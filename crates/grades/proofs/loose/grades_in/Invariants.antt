@@ -5,6 +5,6 @@ use Rattle.json_tree.proofs.ReadLists.{with_rest}
 use Rattle.grades.specs.Grades.{grade_of}
 use Rattle.grades.proofs.loose.grades_in.Given as goal
 
--- what is read, and what the members that are left give, are what all of them give
+-- what is read so far, and what the members that are left give, are what all members give
 abbrev pub invariant-loop-name : goal.invariant-loop-name
 invariant-loop-name l = with_rest grade_of l.grades (members (members_view l.name-iterator)) ≡ all_of grade_of (members (members_view l.map.entries))

@@ -6,7 +6,7 @@ use Rattle.diff_bounds.proofs.Standings.{stands_reach, upper_greatest}
 use Rattle.diff_bounds.proofs.bounds.Bounds.upper.Goals as goal
 use Rattle.diff_bounds.proofs.bounds.Bounds.upper.Goals.{After-label_in}
 
--- the label in the slot of the event is its upper
+-- the label in the slot of an event is its `upper`
 upper_is : (c : After-label_in) → upper_of c.args.self.now c.args.event.0 ≡ c.label_in.result
 upper_is c =
     let P : Standing → Type 0 = λ b. upper_of b c.args.event.0 ≡ c.label_in.result in
