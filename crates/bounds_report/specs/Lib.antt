@@ -1,3 +1,4 @@
+-- The modules of definitions of this crate.
 pub mod Written
 pub mod Reports
 pub mod Step

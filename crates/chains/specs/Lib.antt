@@ -1,3 +1,4 @@
+-- The modules of definitions of this crate.
 pub mod Chain
 pub mod Closed
 pub mod Named

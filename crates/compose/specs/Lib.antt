@@ -1,3 +1,4 @@
+-- The modules of definitions of this crate.
 pub use Rattle.itv_base.specs.Range
 pub use Rattle.itv_base.specs.Reading
 pub use Rattle.sheet.specs.Links

@@ -1,1 +1,2 @@
+-- The modules of definitions of this crate.
 pub mod Law

@@ -1,3 +1,4 @@
+-- The modules of definitions of this crate.
 pub mod View
 pub mod FallText
 pub mod Text

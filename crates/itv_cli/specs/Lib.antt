@@ -1,3 +1,4 @@
+-- The modules of definitions of this crate.
 pub use Rattle.itv_base.specs.Outside
 pub use Rattle.itv_base.specs.Names
 pub use Rattle.event_graph.specs.Edges

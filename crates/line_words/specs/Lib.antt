@@ -1,3 +1,4 @@
+-- The modules of definitions of this crate.
 pub mod Words
 pub mod Views
 pub mod Numbers

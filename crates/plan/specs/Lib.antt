@@ -1,3 +1,4 @@
+-- The modules of definitions of this crate.
 pub use Rattle.label_grammar.specs.Edge
 pub use Rattle.label_grammar.specs.Wire
 pub use Rattle.compose.specs.Sheets

@@ -1,3 +1,4 @@
+-- The modules of definitions of this crate.
 pub mod Entry
 pub mod Text
 pub mod Order

@@ -1,3 +1,4 @@
+-- The modules of definitions of this crate.
 pub mod Text
 pub mod Whatif
 pub mod Step
